@@ -1,0 +1,2 @@
+pub mod ShelfLaws
+mod TextLemmas
