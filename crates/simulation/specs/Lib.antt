@@ -1,1 +1,4 @@
 pub mod Machine
+pub mod LocalSimulation
+pub mod Law
+pub mod Composition

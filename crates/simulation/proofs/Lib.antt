@@ -1,0 +1,4 @@
+pub mod Runs
+pub mod LawProof
+pub mod Corollaries
+pub mod Compose
