@@ -1,1 +1,4 @@
 pub mod ListedRows
+pub mod ListedLaws
+pub mod ListedSteps
+pub mod WriterSteps

@@ -1,7 +1,7 @@
 //! The edit rules of FORTRAN 77: formats, edit descriptors and list-directed text, both ways.
+//! None of its calls takes memory.
 #![tactic(auto)]
 
-ghost use Rattle.std.specs.Prelude.{◌≡◌};
+pub mod list_writer;
 
-/// The columns of a record of list-directed output.
-pub const RECORD_COLUMNS: usize = 80;
+pub use list_writer::{ListPut, ListValue, ListWriter};
