@@ -1,2 +1,3 @@
+pub mod EditedFields
 pub mod Listed
 pub mod Writer

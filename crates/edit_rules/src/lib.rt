@@ -2,6 +2,9 @@
 //! None of its calls takes memory.
 #![tactic(auto)]
 
+mod columns;
+pub mod edit;
 pub mod list_writer;
 
+pub use edit::{edit_int, edit_logical, edit_text};
 pub use list_writer::{ListPut, ListValue, ListWriter};

@@ -2,6 +2,7 @@
 ghost use Rattle.std.specs.Prelude.{◌≡◌, ℕ, ◌+◌, ◌<◌, ◌≤◌, List, [], ◌∷◌, ◌++◌, length, take, drop};
 ghost use Rattle.std.specs.Fmt.{signed_decimal};
 
+use crate::columns::place;
 use itoa::Buffer;
 
 /// The columns of a record.
@@ -146,12 +147,4 @@ fn show_int(number: i32, into: &mut [u8]) -> usize
     into[0] = b' ';
     place(digits, into, 1);
     digits.len() + 1
-}
-
-// Copies the piece into the line at a column.
-fn place(piece: &[u8], line: &mut [u8], at: usize)
-    requires { at + length piece.now ≤ length line.old }
-    ensures { line.new ≡ take at line.old ++ piece.now ++ drop (at + length piece.now) line.old }
-{
-    line[at..at + piece.len()].copy_from_slice(piece);
 }
