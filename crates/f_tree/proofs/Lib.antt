@@ -1,0 +1,2 @@
+pub mod CNameLaws
+pub mod SyntaxExamples
