@@ -1,2 +1,3 @@
 pub mod ShelfLaws
 mod TextLemmas
+mod MemoryLaws

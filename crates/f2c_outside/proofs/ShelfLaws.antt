@@ -1,13 +1,15 @@
 -- Laws on what a place holds once bytes have been put behind it: nothing changes nothing, and to append
 -- twice is to append once.
 use Rattle.std.proofs.Common.{◌≡◌, ◌≢◌, ℕ, List, [], ◌++◌, Some, None, Option, option_map, Bool, true, false, refl, ap, sym, ◌∙◌, append_assoc}
-use Rattle.std.specs.Prelude.{if◌then◌else◌, bytes_eq}
+use Rattle.std.specs.Prelude.{if◌then◌else◌, bytes_eq, Err, take, length}
+use Rattle.std.proofs.Common.{arith, ◌≤◌, ◌∷◌}
 use Rattle.std.proofs.lemmas.List.{append-nil}
 use Rattle.std.proofs.lemmas.Slice.Eq.{bytes_eq-Decides}
 use mathlib.Core.Path.{fun_ext}
-use Rattle.f2c_outside.specs.Shelf.{Contents, added, begun, with_file, bytes_of, text_or_none}
+use Rattle.f2c_outside.specs.Shelf.{Contents, ShelfState, Put, IsPut, added, begun, with_file, bytes_of, text_or_none}
 use Rattle.f2c_outside.specs.declared.shelves.Place.{Place}
 use Rattle.f2c_outside.specs.declared.shelves.Place.TheVariants.{Input, Output, Fault, File}
+use Rattle.f2c_outside.specs.declared.shelves.ShelfFault.TheVariants.{Failed}
 
 -- a name equals itself
 bytes_eq-same : (name : List ℕ) → bytes_eq name name ≡ true
@@ -124,3 +126,30 @@ bytes_of-begun name bytes contents =
     in ap text_or_none
     (with_file-at name (option_map (λ t. t ++ bytes) (empty name)) empty
     ∙ ap (option_map (λ t. t ++ bytes)) (with_file-at name (Some []) contents.files))
+
+take-none : {X : Type 0} (xs : List X) → take 0 xs ≡ []
+take-none [] = refl
+take-none (x ∷ xs) = refl
+
+-- nothing of a piece went out
+pub put-nothing :
+    (piece : List ℕ) (b a : ShelfState)
+    → a.told ≡ b.told
+    → a.active ≡ b.active
+    → Put piece b a (Err Failed)
+put-nothing piece b a told active =
+    record {
+      active = active;
+      ok = tt;
+      some = tt;
+      err =
+        (0, record {
+          fits = omega arith;
+          put =
+            λ place writes.
+            told
+            ∙ sym (told-nil place b.told)
+            ∙ ap (λ (bytes : List ℕ). option_map (added place bytes) b.told) (sym (take-none piece))
+        });
+      not_missing = λ is. cc
+    }

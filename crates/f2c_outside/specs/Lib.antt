@@ -4,3 +4,6 @@ pub mod Device
 pub mod Units
 pub mod Table
 pub mod Rows
+pub mod Plan
+pub mod Memory
+pub mod Entries

@@ -3,6 +3,8 @@
 #![tactic(auto)]
 
 pub mod devices;
+mod memory_shelf;
+mod plan;
 pub mod shelves;
 pub mod texts;
 pub mod unit_table;
