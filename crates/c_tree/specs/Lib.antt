@@ -3,3 +3,16 @@ pub mod Faults
 pub mod Objects
 pub mod Terms
 pub mod Values
+pub mod Flat
+pub mod Drafts
+pub mod LinkedExpressions
+pub mod FlatForm
+pub mod Declarations
+pub mod Builtins
+pub mod Linking
+pub mod World
+pub mod LibraryArguments
+pub mod Transfers
+pub mod Library
+pub mod Steps
+pub mod Meaning

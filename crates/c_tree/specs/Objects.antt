@@ -1,7 +1,7 @@
 -- Objects, and what is read and stored at a place in one (C89, 3.1.2.5 and 3.3.2). An object is a list of
 -- bytes, or, for a list of the library, an `address` array and a parameter that holds a pointer or a function, a
 -- list of values that has no bytes. Numbers have four bytes, the low one first.
-use Rattle.std.specs.Prelude.{ℕ, ◌+◌, ◌%◌, nat_eq, nat_le, ℤ, pos, Bool, true, false, List, [], ◌∷◌, ◌++◌, map, length, take, drop, Option, Some, None, Result, Ok, Err, slice_get, slice_set, if◌then◌else◌}
+use Rattle.std.specs.Prelude.{ℕ, ◌+◌, ◌%◌, nat_eq, nat_le, ℤ, pos, Bool, true, false, List, [], ◌∷◌, ◌++◌, map, length, take, drop, Option, Some, None, Ok, slice_get, slice_set, if◌then◌else◌}
 use Rattle.std.specs.Ordering.{int_eq}
 use Rattle.std.specs.Int.{w32, to_le_bytes, from_le_bytes, cast_signed, cast_unsigned}
 use Rattle.c_tree.specs.declared.outcome.CValue.{CValue}

@@ -1,0 +1,57 @@
+-- What all functions of a run share: the objects, the external units and the transfer in progress; and how a
+-- run ends that meets no fault.
+use Rattle.std.specs.Prelude.{ℕ, ℤ, List, Option}
+use Rattle.edit_rules.specs.Listed.{ListedValue}
+use Rattle.f2c_outside.specs.Units.{Units}
+use Rattle.c_tree.specs.Objects.{Object}
+
+pub data Direction : Type 0 where
+  Output : Direction
+  Input : Direction
+
+-- how values are written or read: by a format, whose text was copied at the start, or list-directed
+pub data Layout : Type 0 where
+  Formatted : List ℕ → Layout
+  Listed : Layout
+
+-- an internal file: the object and the offset of its first record, the bytes of a record, how many records it
+-- has, and how many of them are behind
+pub record InternalFile : Type 0 where
+  pub object : ℕ
+  pub offset : ℕ
+  pub size : ℕ
+  pub count : ℕ
+  pub position : ℕ
+
+pub data Medium : Type 0 where
+  Unit : ℤ → Medium
+  Internal : InternalFile → Medium
+
+-- a transfer in progress: whether an error, and whether an end, is answered to the caller, where it is not 0; the
+-- values so far; and how many of its records are written
+pub record Transfer : Type 0 where
+  pub direction : Direction
+  pub layout : Layout
+  pub medium : Medium
+  pub on_error : ℤ
+  pub on_end : ℤ
+  pub values : List ListedValue
+  pub written : ℕ
+
+pub record World : Type 0 where
+  pub objects : List Object
+  pub units : Units
+  pub transfer : Option Transfer
+
+-- how a run ends: at the end of the main program or by STOP without a text, by STOP with a text, or by the number
+-- of an input or output statement that does not ask for it
+pub data Ending : Type 0 where
+  Plain : Ending
+  Stop : List ℕ → Ending
+  Io : ℤ → Ending
+
+-- what a call of the library gives: a number, no value, or the end of the run
+pub data Reply : Type 0 where
+  Gives : ℤ → World → Reply
+  Void : World → Reply
+  Stops : Ending → World → Reply
