@@ -1,2 +1,7 @@
 pub mod CNameLaws
+pub mod CutLemmas
+pub mod LineLemmas
+pub mod LongFileLemmas
+pub mod RefusalLemmas
+pub mod SpellingLemmas
 pub mod SyntaxExamples

@@ -15,6 +15,11 @@ unfoldable pub lines : List ℕ → List (List ℕ)
 lines [] = []
 lines (b ∷ rest) = if b == 10 then (b ∷ []) ∷ lines rest else before_lines b (lines rest)
 
+-- How many lines end in a text.
+unfoldable pub line_ends : List ℕ → ℕ
+line_ends [] = 0
+line_ends (b ∷ rest) = if b == 10 then suc (line_ends rest) else line_ends rest
+
 -- The end of a line: a line feed, or a carriage return and a line feed.
 unfoldable pub is_line_end : List ℕ → Bool
 is_line_end bytes = bytes_eq bytes (10 ∷ []) || bytes_eq bytes (13 ∷ 10 ∷ [])

@@ -2,9 +2,9 @@
 --
 -- A file is a list of bytes. Files are numbered from 0 and cards from 1. What is built so far has one row of refusals, `not built yet`: it
 -- holds at each card that is not of the form that is built.
-use Rattle.std.specs.Prelude.{◌≡◌, ◌≢◌, ℕ, suc, ◌<◌, ◌≤◌, Bool, true, false, not, ◌&&◌, ◌==◌, List, [], ◌∷◌, length, take, drop, replicate, count_by, slice_get, Some, None, is_some}
+use Rattle.std.specs.Prelude.{◌≡◌, ◌≢◌, ℕ, suc, ◌<◌, ◌≤◌, Bool, true, false, not, ◌&&◌, ◌==◌, List, [], ◌∷◌, length, take, drop, replicate, slice_get, Some, None, is_some}
 use Rattle.std.specs.List.{list_all}
-use Rattle.f_tree.specs.CardKinds.{lines, columns}
+use Rattle.f_tree.specs.CardKinds.{lines, line_ends, columns}
 use Rattle.f_tree.specs.StatementsOfFile.{Statement, statement, statements_of_file}
 use Rattle.f_tree.specs.StatementKind.{StatementKind, End, kind_of}
 use Rattle.f_tree.specs.Spelling.{Spells}
@@ -76,9 +76,9 @@ pub record HasForm (place : ℕ) (last : Bool) (line : List ℕ) (kind : Stateme
 abbrev pub IsOfForm : ℕ → Bool → List ℕ → Type 0
 IsOfForm place last line = (kind : StatementKind) × (tree : Stmt) × HasForm place last line kind tree
 
--- The number of the card that has the byte at a place: the line ends before it, and one.
+-- The number of the card that has the byte at a place, counted from 0.
 unfoldable pub card_of_byte : List ℕ → ℕ → ℕ
-card_of_byte bytes place = suc (count_by (λ b. b == 10) (take place bytes))
+card_of_byte bytes place = suc (line_ends (take place bytes))
 
 -- A card at which a file is not of the form that is built.
 pub data CardFault (bytes : List ℕ) (card : ℕ) : Type 0 where

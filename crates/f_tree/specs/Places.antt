@@ -1,0 +1,91 @@
+-- Where control goes: the place of a label, the arms of a block, what is passed without a step, and
+-- the loops that a branch leaves. ANSI X3.9-1978, sections 11.1 to 11.11.
+-- All of it is read off the flat list of a unit's statements, counted from 0.
+use Rattle.std.specs.Prelude.{ℕ, zero, suc, ◌+◌, nat_eq, nat_lt, nat_le, Bool, true, false, ◌&&◌, ◌||◌, not, List, [], ◌∷◌, length, drop, filter, Option, Some, None, slice_get, if◌then◌else◌}
+use Rattle.f_tree.specs.Values.{Act, NoMeaning, Checked, Gives, Fails}
+use Rattle.f_tree.specs.Facts.{Head, ToLoop, Form, Passes, On, Mark, Plain, Opens, Arm, Closes, Line, ProgramUnit, Frame}
+use Rattle.f_tree.specs.World.{Round, View, Now, Doing, Turning}
+
+unfoldable pub has_label : Option ℕ → ℕ → Bool
+has_label None l = false
+has_label (Some k) l = nat_eq k l
+
+unfoldable pub label_from : ℕ → List Line → ℕ → Option ℕ
+label_from i [] l = None
+label_from i (line ∷ lines) l = if has_label line.label l then Some i else label_from (suc i) lines l
+
+-- the statement with a label
+unfoldable pub place_of_label : ProgramUnit → ℕ → Option ℕ
+place_of_label u l = label_from 0 u.lines l
+
+-- from a place in a block, with so many inner blocks open: the next ELSE IF, ELSE or END IF of the block itself
+unfoldable pub arm_from : ℕ → ℕ → List Line → Option ℕ
+arm_from i depth [] = None
+arm_from i depth (line ∷ lines) = elim line.mark [
+    Plain ↦ arm_from (suc i) depth lines
+  | Opens ↦ arm_from (suc i) (suc depth) lines
+  | Arm ↦ if nat_eq depth 0 then Some i else arm_from (suc i) depth lines
+  | Closes ↦ elim depth [ zero ↦ Some i | suc d ↦ arm_from (suc i) d lines ] ]
+
+-- where control goes when the condition at a place does not hold
+unfoldable pub arm_after : ProgramUnit → ℕ → Option ℕ
+arm_after u at = arm_from (suc at) 0 (drop (suc at) u.lines)
+
+-- what comes at a place, given the terminal statement of the innermost loop: the statements that take no
+-- step are passed; behind an arm that is done the rest of its block is, with so many inner blocks open
+pub record Landing : Type 0 where
+  pub at : ℕ
+  pub now : Now
+
+unfoldable pub is_place : Option ℕ → ℕ → Bool
+is_place None i = false
+is_place (Some k) i = nat_eq k i
+
+unfoldable mutual
+  pub settle : ℕ → Option ℕ → Option ℕ → List Line → Checked Landing
+  settle i skipping terminal [] = Fails NoMeaning
+  settle i None terminal (line ∷ lines) = elim line.mark [
+      Arm ↦ settle (suc i) (Some 0) terminal lines
+    | _ ↦ elim line.form [
+          Passes ↦ if is_place terminal i then Gives (record { at = i; now = Turning }) else settle (suc i) None terminal lines
+        | On head operands ↦ Gives (record { at = i; now = Doing (On head operands) }) ] ]
+  settle i (Some depth) terminal (line ∷ lines) = elim line.mark [
+      Plain ↦ settle (suc i) (Some depth) terminal lines
+    | Opens ↦ settle (suc i) (Some (suc depth)) terminal lines
+    | Arm ↦ settle (suc i) (Some depth) terminal lines
+    | Closes ↦ elim depth [ zero ↦ settle (suc i) None terminal lines | suc d ↦ settle (suc i) (Some d) terminal lines ] ]
+
+-- the terminal statement of the innermost loop
+unfoldable pub innermost_last : List Round → Option ℕ
+innermost_last [] = None
+innermost_last (round ∷ rounds) = Some round.last
+
+unfoldable pub landed : Frame → List Round → Checked Landing → Checked View
+landed f rounds (Gives l) = Gives (record { frame = f; at = l.at; now = l.now; loops = rounds })
+landed f rounds (Fails act) = Fails act
+
+-- a procedure that has come to a place
+unfoldable pub arrived : ProgramUnit → Frame → List Round → ℕ → Checked View
+arrived u f rounds i = landed f rounds (settle i None (innermost_last rounds) (drop i u.lines))
+
+-- a procedure that is done with the statement at a place: behind the terminal statement of a loop comes its increment
+unfoldable pub passed : ProgramUnit → Frame → List Round → ℕ → Checked View
+passed u f rounds i =
+    if is_place (innermost_last rounds) i then Gives (record { frame = f; at = i; now = Turning; loops = rounds })
+    else arrived u f rounds (suc i)
+
+-- is a place in the range of a loop
+unfoldable pub is_in_range : ℕ → Round → Bool
+is_in_range i round = nat_lt round.first i && nat_le i round.last
+
+-- a branch to a place keeps the loops in whose range it is
+unfoldable pub branched : ProgramUnit → Frame → List Round → Option ℕ → Checked View
+branched u f rounds None = Fails NoMeaning
+branched u f rounds (Some i) = arrived u f (filter (is_in_range i) rounds) i
+
+unfoldable pub gone_to : ProgramUnit → Frame → List Round → ℕ → Checked View
+gone_to u f rounds label = branched u f rounds (place_of_label u label)
+
+unfoldable pub places_opened : Unit {0}
+unfolding has_label label_from place_of_label arm_from arm_after is_place settle innermost_last landed arrived passed is_in_range branched gone_to
+places_opened = tt

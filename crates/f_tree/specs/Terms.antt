@@ -1,0 +1,95 @@
+-- Expressions as the meaning sees them: each name is told apart, each value that is read is a fetch
+-- of a place, and operands already valued are values. ANSI X3.9-1978, section 6.
+use Rattle.std.specs.Prelude.{ℕ, ℤ, Bool, List, [], ◌∷◌}
+use Rattle.f_tree.specs.declared.names.Basic.{Basic}
+use Rattle.f_tree.specs.Values.{Bytes, Datum}
+
+-- operators before one operand (6.1.3, 6.4.2)
+pub data Prefix : Type 0 where
+  Negate : Prefix
+  Complement : Prefix
+
+-- operators between two operands (6.1, 6.3, 6.4); a power and a concatenation are no such operators
+pub data Operator : Type 0 where
+  Add : Operator
+  Subtract : Operator
+  Multiply : Operator
+  Divide : Operator
+  IsLess : Operator
+  IsLessOrEqual : Operator
+  IsEqual : Operator
+  IsNotEqual : Operator
+  IsGreater : Operator
+  IsGreaterOrEqual : Operator
+  Both : Operator
+  Either : Operator
+  Same : Operator
+  Different : Operator
+
+-- functions over a list of operands: the intrinsic functions (15.10), and the power (6.1.1)
+pub data Function : Type 0 where
+  Power : Function
+  Truncation : Function
+  Magnitude : Function
+  Remainder : Function
+  SignTransfer : Function
+  PositiveDifference : Function
+  Largest : Function
+  Smallest : Function
+  CharacterCode : Function
+  CharacterOfCode : Function
+  TextLength : Function
+  IndexOf : Function
+  LexicallyGreaterOrEqual : Function
+  LexicallyGreater : Function
+  LexicallyLessOrEqual : Function
+  LexicallyLess : Function
+
+-- what a reference wants of the procedure that it names
+pub data Wanted : Type 0 where
+  AsSubroutine : Wanted
+  -- a function of this type, and of this length where it is CHARACTER
+  AsFunction : Basic → ℕ → Wanted
+
+pub record Callee : Type 0 where
+  pub name : Bytes
+  pub want : Wanted
+
+mutual
+  pub data Term : Type 0 where
+    Val : Datum → Term
+    -- the value at a place
+    Fetch : Term → Term
+    -- a whole variable or array, or a procedure, by its name
+    At : Bytes → Term
+    Element : Bytes → Terms → Term
+    -- a substring of a place: its first character and its last; a last one that is `Nothing` is the place's own
+    Part : Term → Term → Term → Term
+    -- a concatenation: the pieces are places or values
+    Joined : Terms → Term
+    Before : Prefix → Term → Term
+    Between : Operator → Term → Term → Term
+    Intrinsically : Function → Terms → Term
+    -- a reference to a function
+    Refer : Callee → Terms → Term
+    -- a statement function: its arguments, valued once from the left, and its expression
+    Bind : Terms → Term → Term
+    -- the value of an argument of the innermost `Bind` around it, counted from 0
+    Bound : ℕ → Term
+
+  pub data Terms : Type 0 where
+    NoMore : Terms
+    More : Term → Terms → Terms
+
+-- operands that are valued, before those that are not
+unfoldable pub valued_then : List Datum → Terms → Terms
+valued_then [] later = later
+valued_then (d ∷ ds) later = More (Val d) (valued_then ds later)
+
+unfoldable pub terms : List Term → Terms
+terms [] = NoMore
+terms (t ∷ ts) = More t (terms ts)
+
+unfoldable pub terms_opened : Unit {0}
+unfolding valued_then terms
+terms_opened = tt
