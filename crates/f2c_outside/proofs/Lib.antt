@@ -1,3 +1,4 @@
 pub mod ShelfLaws
 mod TextLemmas
 mod MemoryLaws
+mod TapeLaws

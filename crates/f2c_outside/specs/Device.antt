@@ -1,7 +1,7 @@
 -- What a device holds, and what each of its calls does to it.
 -- A device is what an external unit is connected to: a sequence of records and a position among them
 -- (ANSI X3.9-1978, 12.1 and 12.2). Where it tells its records, those before a call decide those after it.
-use Rattle.std.specs.Prelude.{◌≡◌, ℕ, ◌+◌, ◌-◌, ◌<◌, ◌≤◌, List, [], ◌∷◌, ◌++◌, length, take, drop, Option, option_map, is_some, Result, IfSome, IfOk, OnOk, IsErr, IsSomeAnd, slice_get}
+use Rattle.std.specs.Prelude.{◌≡◌, ℕ, ◌+◌, ◌-◌, ◌<◌, ◌≤◌, List, [], ◌∷◌, ◌++◌, length, take, drop, Option, option_map, is_some, Result, Bool, true, false, IfSome, IfOk, OnOk, OnErr, IsSomeAnd, slice_get}
 use Rattle.f2c_outside.specs.Shelf.{Rose}
 use Rattle.f2c_outside.specs.declared.devices.Got.{Got}
 use Rattle.f2c_outside.specs.declared.devices.Got.TheVariants.{Line, End, Long, Failed}
@@ -11,11 +11,12 @@ use Rattle.f2c_outside.specs.declared.devices.DeviceFault.{DeviceFault}
 abbrev pub Records : Type 0
 Records = List (List ℕ)
 
--- the records where the device tells them, how many of them stand before its position, and how many of
--- its calls have failed
+-- the records where the device tells them, how many of them stand before its position, whether `finish` has
+-- succeeded since a record was last written or cut off, and how many of its calls have failed
 pub record DeviceState : Type 0 where
   pub told : Option Records
   pub position : ℕ
+  pub finished : Bool
   pub faults : ℕ
 
 -- the position is among the records or behind the last
@@ -40,6 +41,7 @@ AtPosition d P = IfSome d.told (λ records. IsSomeAnd (slice_get records d.posit
 pub record IsLine (n : ℕ) (b a : DeviceState) (old new : List ℕ) : Type 0 where
   pub told : a.told ≡ b.told
   pub position : a.position ≡ b.position + 1
+  pub finished : a.finished ≡ b.finished
   pub fits : n ≤ length old
   pub bytes : AtPosition b (λ line. (length line ≡ n) × (new ≡ line ++ drop n old))
 
@@ -47,6 +49,7 @@ pub record IsLine (n : ℕ) (b a : DeviceState) (old new : List ℕ) : Type 0 wh
 pub record IsLong (n : ℕ) (b a : DeviceState) (old new : List ℕ) : Type 0 where
   pub told : a.told ≡ b.told
   pub position : a.position ≡ b.position + 1
+  pub finished : a.finished ≡ b.finished
   pub longer : length old < n
   pub bytes : AtPosition b (λ line. length line ≡ n)
   pub slice : new ≡ old
@@ -55,6 +58,7 @@ pub record IsLong (n : ℕ) (b a : DeviceState) (old new : List ℕ) : Type 0 wh
 pub record IsAtEnd (b a : DeviceState) (old new : List ℕ) : Type 0 where
   pub told : a.told ≡ b.told
   pub position : a.position ≡ b.position
+  pub finished : a.finished ≡ b.finished
   pub at_end : IfSome b.told (λ records. length records ≤ b.position)
   pub slice : new ≡ old
 
@@ -73,28 +77,34 @@ DidRead Failed b a old new = TellsAlike b a
 pub record Wrote {T : Type 0} (bytes : List ℕ) (b a : DeviceState) (result : Result T DeviceFault) : Type 0 where
   pub told : OnOk result (a.told ≡ option_map (written_at b.position bytes) b.told)
   pub position : OnOk result (a.position ≡ b.position + 1)
+  pub finished : OnOk result (a.finished ≡ false)
   pub tells : TellsAlike b a
 
 -- `back`: by one record, and not at all at the first
 pub record WentBack {T : Type 0} (b a : DeviceState) (result : Result T DeviceFault) : Type 0 where
   pub told : OnOk result (a.told ≡ b.told)
   pub position : OnOk result (a.position ≡ b.position - 1)
+  pub finished : OnOk result (a.finished ≡ b.finished)
   pub tells : TellsAlike b a
 
 -- `rewind`: to the first record
 pub record Rewound {T : Type 0} (b a : DeviceState) (result : Result T DeviceFault) : Type 0 where
   pub told : OnOk result (a.told ≡ b.told)
   pub position : OnOk result (a.position ≡ 0)
+  pub finished : OnOk result (a.finished ≡ b.finished)
   pub tells : TellsAlike b a
 
 -- `end_file`: the records from the position on are cut off
 pub record EndedFile {T : Type 0} (b a : DeviceState) (result : Result T DeviceFault) : Type 0 where
   pub told : OnOk result (a.told ≡ option_map (take b.position) b.told)
   pub position : OnOk result (a.position ≡ b.position)
+  pub finished : OnOk result (a.finished ≡ false)
   pub tells : TellsAlike b a
 
 -- `finish`: it answers the number of records and leaves them and the position, also where it fails
 pub record Finished (b a : DeviceState) (result : Result ℕ DeviceFault) : Type 0 where
   pub told : a.told ≡ b.told
   pub position : a.position ≡ b.position
+  pub finished : OnOk result (a.finished ≡ true)
+  pub unfinished : OnErr result (a.finished ≡ false)
   pub count : IfOk result (λ n. IfSome b.told (λ records. n ≡ length records))

@@ -7,3 +7,5 @@ pub mod Rows
 pub mod Plan
 pub mod Memory
 pub mod Entries
+pub mod Host
+pub mod Tape

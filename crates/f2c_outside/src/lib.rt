@@ -3,7 +3,9 @@
 #![tactic(auto)]
 
 pub mod devices;
-mod memory_shelf;
+pub mod host_shelf;
+pub mod memory_device;
+pub mod memory_shelf;
 mod plan;
 pub mod shelves;
 pub mod texts;

@@ -1,8 +1,10 @@
 //! The shelf: the files and the three streams of a translation or a run, read and written in pieces.
 
+ghost use Rattle.std.specs.Prelude.{◌≡◌, IfOk};
 ghost use Rattle.f2c_outside.specs.Shelf.{ShelfState, IsSource, IsTarget, IsWriting, HasCause, StartedRead, Took, StartedWrite, Put, Stopped, Asked};
 
-use crate::texts::Name;
+use crate::texts::{Name, NoMemory};
+use std::alloc::Global;
 use thiserror::Error;
 
 /// A place that can be read or written.
@@ -16,6 +18,20 @@ pub enum Place {
     Fault,
     /// A file.
     File(Name),
+}
+
+impl Place {
+    /// The same place, in memory of its own.
+    pub fn copy(&self, alloc: Global) -> Result<Place, NoMemory>
+        ensures { IfOk result (λ place. place ≡ self.now) }
+    {
+        Ok(match self {
+            Place::Input => Place::Input,
+            Place::Output => Place::Output,
+            Place::Fault => Place::Fault,
+            Place::File(name) => Place::File(name.copy(alloc)?),
+        })
+    }
 }
 
 /// Why a call of a shelf did not do its work.
