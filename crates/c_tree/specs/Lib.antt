@@ -16,3 +16,5 @@ pub mod Transfers
 pub mod Library
 pub mod Steps
 pub mod Meaning
+pub mod Rows
+pub mod Opened

@@ -10,5 +10,6 @@ pub mod declaration;
 pub mod expression;
 pub mod file;
 pub mod outcome;
+pub mod rows;
 pub mod statement;
 pub mod types;
