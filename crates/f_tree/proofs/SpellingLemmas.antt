@@ -53,7 +53,7 @@ primary_once text a b (constant w x is same) (name w' x' is' same') = absurd (na
 primary_once text a b (constant w x is same) (constant w' x' is' same') = same ∙ sym same'
 
 -- a primary alone has no `+`
-alone_has_no_plus : (text left right : List ℕ) (tree : Expr) → SpellsExpr Primary text tree → text ≡ left ++ 43 ∷ right → ⊥
+pub alone_has_no_plus : (text left right : List ℕ) (tree : Expr) → SpellsExpr Primary text tree → text ≡ left ++ 43 ∷ right → ⊥
 alone_has_no_plus text left right tree h cut =
     no_such is_letter_or_digit 43 left right refl (subst (λ w. list_all is_letter_or_digit w ≡ true) cut (primary_is_plain text tree h))
 

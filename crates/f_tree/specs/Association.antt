@@ -1,15 +1,15 @@
 -- Calls: what is passed, what the dummy arguments of the entry called are, and what comes back.
 -- ANSI X3.9-1978, section 15 (15.6 subroutines, 15.5 functions, 15.7 ENTRY, 15.8 RETURN, 15.9 arguments).
-use Rattle.std.specs.Prelude.{ℕ, zero, suc, ◌+◌, ◌-◌, ◌+ℤ◌, ◌-ℤ◌, nat_le, nat_lt, nat_eq, ℤ, pos, int_le, int_lt, Bool, true, false, ◌&&◌, List, [], ◌∷◌, ◌++◌, length, take, map, find, bytes_eq, Option, Some, None, slice_get, if◌then◌else◌}
+use Rattle.std.specs.Prelude.{ℕ, suc, ◌+ℤ◌, ◌-ℤ◌, nat_le, nat_eq, ℤ, pos, int_le, int_lt, Bool, true, false, ◌&&◌, List, [], ◌∷◌, ◌++◌, length, take, map, find, bytes_eq, Option, Some, None, slice_get, if◌then◌else◌}
 use Rattle.f_tree.specs.declared.names.Basic.{Basic}
 use Rattle.f_tree.specs.declared.names.Basic.TheVariants.{Integer, Logical, Character, Untyped}
 use Rattle.f_tree.specs.declared.names.Class.TheVariants as class
-use Rattle.simulation.specs.Machine.{Event, Calls, Answers, Breaks, Entry, Enters, Refused}
-use Rattle.f_tree.specs.Values.{Bytes, Spot, Datum, IsInt, IsLog, IsText, IsSpot, IsProc, IsLabel, Nothing, Act, BadDimension, Disagreement, NoResult, NoMeaning, Checked, Gives, Fails, given_that}
-use Rattle.f_tree.specs.Terms.{Wanted, AsSubroutine, AsFunction, Callee, Term, Terms, NoMore, More}
-use Rattle.f_tree.specs.Store.{Store, Sequence, Cell, Undefined, Chr, Part, Whole, Number, Truth, Label, undefined_units, with_whole, fetch}
-use Rattle.f_tree.specs.Facts.{Dimension, Bounds, Attribute, Formal, Named, Alternate, UnitKind, MainProgram, SubroutineUnit, FunctionUnit, BlockDataUnit, EntryPoint, ProgramUnit, Facts, Frame, Form}
-use Rattle.f_tree.specs.Valuing.{Red, Valued, Bad, Asks, reduce, whole}
+use Rattle.simulation.specs.Machine.{Calls, Answers, Breaks, Entry, Enters, Refused}
+use Rattle.f_tree.specs.Values.{Bytes, Spot, Datum, IsInt, IsLog, IsText, IsSpot, IsProc, IsLabel, Nothing, BadDimension, Disagreement, NoResult, NoMeaning, Checked, Gives, Fails, given_that}
+use Rattle.f_tree.specs.Terms.{Wanted, AsSubroutine, AsFunction, Callee, Term}
+use Rattle.f_tree.specs.Store.{Store, Sequence, Chr, Number, Truth, undefined_units, with_whole, fetch}
+use Rattle.f_tree.specs.Facts.{Dimension, Bounds, Attribute, Formal, Named, Alternate, UnitKind, MainProgram, SubroutineUnit, FunctionUnit, BlockDataUnit, EntryPoint, ProgramUnit, Facts, Frame}
+use Rattle.f_tree.specs.Valuing.{Red, Valued, Bad, reduce, whole}
 use Rattle.f_tree.specs.World.{World, View, Now, Doing, Waits, Returning, Called, TheMain, Procedure, Passed, fortran_sorts, Happening, entered}
 use Rattle.f_tree.specs.Places.{arrived, passed, gone_to}
 
@@ -35,7 +35,8 @@ pub record Passing : Type 0 where
 unfoldable pub made : Store → Datum → Sequence → Passing
 made s d q = record {
   store = s ++ q ∷ [];
-  actuals = IsSpot (record { basic = basic_of d; sequence = length s; first = 0; extent = length q.cells; width = length q.cells }) ∷ [] }
+  actuals = IsSpot (record { basic = basic_of d; sequence = length s; first = 0; extent = length q.cells; width = length q.cells }) ∷ [];
+}
 
 unfoldable pub passing_one : Store → Datum → Option Sequence → Passing
 passing_one s d None = record { store = s; actuals = d ∷ [] }
@@ -116,8 +117,9 @@ bound_as a (Some n) p = if nat_le n p.width then Gives (IsSpot (record p { width
 
 unfoldable pub agreed : Attribute → Datum → Checked Datum
 agreed a (IsSpot p) = elim a.class [
-    class.Dummy ↦ if same_basic a.basic p.basic then bound_as a a.width p else Fails Disagreement
-  | _ ↦ Fails Disagreement ]
+  | class.Dummy ↦ if same_basic a.basic p.basic then bound_as a a.width p else Fails Disagreement
+  | _ ↦ Fails Disagreement
+]
 agreed a (IsProc name) = elim a.class [ class.DummyProcedure ↦ Gives (IsProc name) | _ ↦ Fails Disagreement ]
 agreed a _ = Fails Disagreement
 
@@ -125,7 +127,7 @@ unfoldable pub bind_all : ProgramUnit → List Formal → List Datum → Checked
 bind_all u [] [] = Gives (record { names = []; values = []; labels = [] })
 bind_all u (Named x ∷ formals) (d ∷ ds) =
     given_that (agreed (u.attribute x) d) (λ b. given_that (bind_all u formals ds) (λ bs.
-      Gives (record bs { names = x ∷ bs.names; values = b ∷ bs.values })))
+    Gives (record bs { names = x ∷ bs.names; values = b ∷ bs.values })))
 bind_all u (Alternate ∷ formals) (IsLabel l ∷ ds) = given_that (bind_all u formals ds) (λ bs. Gives (record bs { labels = l ∷ bs.labels }))
 bind_all u _ _ = Fails Disagreement
 
@@ -143,8 +145,9 @@ sized lower upper =
 
 unfoldable pub dimension_by : Facts → Frame → Store → Dimension → Checked Bounds
 dimension_by c f s d = given_that (integer_of (reduce c f s [] d.lower)) (λ lower. elim d.upper [
-    None ↦ Gives (record { lower = lower; upper = None })
-  | Some t ↦ given_that (integer_of (reduce c f s [] t)) (sized lower) ])
+  | None ↦ Gives (record { lower = lower; upper = None })
+  | Some t ↦ given_that (integer_of (reduce c f s [] t)) (sized lower)
+])
 
 unfoldable pub dimensions_by : Facts → Frame → Store → List Dimension → Checked (List Bounds)
 dimensions_by c f s [] = Gives []
@@ -176,7 +179,8 @@ frame_of e bs result base = record {
   alternates = bs.labels;
   dimensions = λ x. None;
   result = result;
-  base = base }
+  base = base;
+}
 
 unfoldable pub begun_with : Facts → World → Frame → List Bytes → Checked (List (List Bounds)) → Entry fortran_sorts
 begun_with c w f names (Gives bs) = entered (arrived c.program (record f { dimensions = λ x. bounds_for x names bs }) [] f.called.start) w

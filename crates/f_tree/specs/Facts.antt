@@ -1,10 +1,10 @@
 -- What the meaning knows of one program unit: its names, its statements in their order, and where its
 -- names stand in storage. ANSI X3.9-1978, sections 2.4, 3.5, 8 and 18.
-use Rattle.std.specs.Prelude.{ℕ, ℤ, Bool, List, [], ◌∷◌, Option, Some, None}
+use Rattle.std.specs.Prelude.{ℕ, ℤ, Bool, List, Option}
 use Rattle.f_tree.specs.declared.names.Basic.{Basic}
 use Rattle.f_tree.specs.declared.names.Class.{Class}
 use Rattle.f_tree.specs.Values.{Bytes, Datum, Spot}
-use Rattle.f_tree.specs.Terms.{Term, Terms, Callee}
+use Rattle.f_tree.specs.Terms.{Term, Terms}
 
 -- A dimension as it is written; no upper bound stands for `*` (5.1.1).
 pub record Dimension : Type 0 where
@@ -28,6 +28,8 @@ pub record Attribute : Type 0 where
   pub bounds : List Bounds
   -- the value of a constant
   pub constant : Option Datum
+  -- the expression of a statement function, over its arguments
+  pub expansion : Option Term
 
 -- a dummy argument in the list of an entry
 pub data Formal : Type 0 where
@@ -161,6 +163,25 @@ pub record LabelledFormat : Type 0 where
   pub label : ℕ
   pub text : Bytes
 
+-- an item of a common block, with its size in character units (8.3)
+pub record Member : Type 0 where
+  pub name : Bytes
+  pub size : ℕ
+
+-- a common block with its items from all COMMON statements of the unit; blank common has no name
+pub record Block : Type 0 where
+  pub name : Option Bytes
+  pub members : List Member
+
+-- two places that are one by an EQUIVALENCE statement: a name, and the character units before the place (8.2)
+pub record Tied : Type 0 where
+  pub name : Bytes
+  pub before : ℕ
+
+pub record Tie : Type 0 where
+  pub one : Tied
+  pub other : Tied
+
 -- a program unit; its lines are its statements, one for one
 pub record ProgramUnit : Type 0 where
   pub kind : UnitKind
@@ -169,8 +190,12 @@ pub record ProgramUnit : Type 0 where
   pub lines : List Line
   pub attribute : Bytes → Attribute
   pub formats : List LabelledFormat
-  -- the names that stand in storage of their own, in first-seen order
-  pub stored : List Bytes
+  pub blocks : List Block
+  pub ties : List Tie
+  -- the external procedures that it references or passes
+  pub references : List Bytes
+  -- the names that stand in storage, dummies and results aside, in first-seen order, with their sizes
+  pub stored : List Member
   -- the range of a DO statement is run at least once
   pub onetrip : Bool
 

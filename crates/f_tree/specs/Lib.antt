@@ -1,11 +1,18 @@
 pub mod Association
+pub mod Attributes
 pub mod CNames
 pub mod CardKinds
 pub mod Characters
 pub mod Facts
 pub mod FirstRefusal
+pub mod Folds
+pub mod Lines
+pub mod Meaning
 pub mod Places
+pub mod Reading
 pub mod RefusalRows
+pub mod Runs
+pub mod Setting
 pub mod Spelling
 pub mod StatementKind
 pub mod StatementsOfFile
@@ -13,6 +20,8 @@ pub mod Step
 pub mod Store
 pub mod Terms
 pub mod Transfers
+pub mod Uses
 pub mod Values
 pub mod Valuing
+pub mod WorkedSources
 pub mod World

@@ -1,9 +1,9 @@
 -- Where control goes: the place of a label, the arms of a block, what is passed without a step, and
 -- the loops that a branch leaves. ANSI X3.9-1978, sections 11.1 to 11.11.
 -- All of it is read off the flat list of a unit's statements, counted from 0.
-use Rattle.std.specs.Prelude.{ℕ, zero, suc, ◌+◌, nat_eq, nat_lt, nat_le, Bool, true, false, ◌&&◌, ◌||◌, not, List, [], ◌∷◌, length, drop, filter, Option, Some, None, slice_get, if◌then◌else◌}
-use Rattle.f_tree.specs.Values.{Act, NoMeaning, Checked, Gives, Fails}
-use Rattle.f_tree.specs.Facts.{Head, ToLoop, Form, Passes, On, Mark, Plain, Opens, Arm, Closes, Line, ProgramUnit, Frame}
+use Rattle.std.specs.Prelude.{ℕ, zero, suc, nat_eq, nat_lt, nat_le, Bool, false, ◌&&◌, List, [], ◌∷◌, drop, filter, Option, Some, None, if◌then◌else◌}
+use Rattle.f_tree.specs.Values.{NoMeaning, Checked, Gives, Fails}
+use Rattle.f_tree.specs.Facts.{Passes, On, Plain, Opens, Arm, Closes, Line, ProgramUnit, Frame}
 use Rattle.f_tree.specs.World.{Round, View, Now, Doing, Turning}
 
 unfoldable pub has_label : Option ℕ → ℕ → Bool
@@ -22,10 +22,11 @@ place_of_label u l = label_from 0 u.lines l
 unfoldable pub arm_from : ℕ → ℕ → List Line → Option ℕ
 arm_from i depth [] = None
 arm_from i depth (line ∷ lines) = elim line.mark [
-    Plain ↦ arm_from (suc i) depth lines
+  | Plain ↦ arm_from (suc i) depth lines
   | Opens ↦ arm_from (suc i) (suc depth) lines
   | Arm ↦ if nat_eq depth 0 then Some i else arm_from (suc i) depth lines
-  | Closes ↦ elim depth [ zero ↦ Some i | suc d ↦ arm_from (suc i) d lines ] ]
+  | Closes ↦ elim depth [ zero ↦ Some i | suc d ↦ arm_from (suc i) d lines ]
+]
 
 -- where control goes when the condition at a place does not hold
 unfoldable pub arm_after : ProgramUnit → ℕ → Option ℕ
@@ -45,15 +46,18 @@ unfoldable mutual
   pub settle : ℕ → Option ℕ → Option ℕ → List Line → Checked Landing
   settle i skipping terminal [] = Fails NoMeaning
   settle i None terminal (line ∷ lines) = elim line.mark [
-      Arm ↦ settle (suc i) (Some 0) terminal lines
+    | Arm ↦ settle (suc i) (Some 0) terminal lines
     | _ ↦ elim line.form [
-          Passes ↦ if is_place terminal i then Gives (record { at = i; now = Turning }) else settle (suc i) None terminal lines
-        | On head operands ↦ Gives (record { at = i; now = Doing (On head operands) }) ] ]
+      | Passes ↦ if is_place terminal i then Gives (record { at = i; now = Turning }) else settle (suc i) None terminal lines
+      | On head operands ↦ Gives (record { at = i; now = Doing (On head operands) })
+    ]
+  ]
   settle i (Some depth) terminal (line ∷ lines) = elim line.mark [
-      Plain ↦ settle (suc i) (Some depth) terminal lines
+    | Plain ↦ settle (suc i) (Some depth) terminal lines
     | Opens ↦ settle (suc i) (Some (suc depth)) terminal lines
     | Arm ↦ settle (suc i) (Some depth) terminal lines
-    | Closes ↦ elim depth [ zero ↦ settle (suc i) None terminal lines | suc d ↦ settle (suc i) (Some d) terminal lines ] ]
+    | Closes ↦ elim depth [ zero ↦ settle (suc i) None terminal lines | suc d ↦ settle (suc i) (Some d) terminal lines ]
+  ]
 
 -- the terminal statement of the innermost loop
 unfoldable pub innermost_last : List Round → Option ℕ

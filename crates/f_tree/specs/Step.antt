@@ -3,17 +3,17 @@
 -- A step is an assignment or ASSIGN; a test of IF or ELSE IF; a GO TO; the start of a DO or implied DO with
 -- its first test; an increment with its test; a CALL or a function reference; the start, an item or the end of
 -- a transfer; OPEN and its kin; STOP; RETURN or END. CONTINUE, ELSE and END IF take no step.
-use Rattle.std.specs.Prelude.{ℕ, zero, suc, ◌+◌, ◌-◌, nat_eq, nat_lt, nat_le, max, ℤ, pos, negsuc, ◌+ℤ◌, ◌-ℤ◌, int_lt, int_le, int_div, Bool, true, false, ◌&&◌, ◌||◌, not, List, [], ◌∷◌, drop, Option, Some, None, slice_get, bytes_eq, if◌then◌else◌}
+use Rattle.std.specs.Prelude.{ℕ, zero, suc, ◌-◌, nat_eq, nat_lt, max, ℤ, pos, negsuc, ◌+ℤ◌, ◌-ℤ◌, int_lt, int_div, Bool, true, false, ◌&&◌, ◌||◌, not, List, [], ◌∷◌, Option, Some, None, slice_get, bytes_eq, if◌then◌else◌}
 use Rattle.std.specs.Ordering.{int_eq}
-use Rattle.simulation.specs.Machine.{Event, Goes, Ends, Calls, Answers, Breaks, Lang}
-use Rattle.f_tree.specs.Values.{Bytes, Spot, Datum, IsInt, IsLog, IsText, IsSpot, IsLabel, Nothing, Act, Overflow, ZeroStep, LoopVariableChanged, BadAssignedLabel, ActiveProcedure, MissingProcedure, NoMeaning, Checked, Gives, Fails, given_that, checked}
-use Rattle.f_tree.specs.Terms.{AsSubroutine, Callee, Term, Terms, NoMore, More}
-use Rattle.f_tree.specs.Store.{Store, Whole, Number, Truth, Label, fetch, define, define_label, label_at}
-use Rattle.f_tree.specs.Facts.{Head, ToSet, ToSetText, ToSetLabel, ToGo, ToPick, ToGoAssigned, ToGoBySign, ToGuard, ToEnterArm, ToLoop, ToCall, ToReturn, ToStop, ToBegin, ToTransfer, ToRepeat, ToTurn, ToFinish, ToAuxiliary, ToEnd, Form, Passes, On, Mark, Plain, Opens, Arm, Closes, Line, Work, Done, Before, Job, Turn, EntryPoint, ProgramUnit, Facts, Frame}
+use Rattle.simulation.specs.Machine.{Goes, Ends, Breaks, Lang}
+use Rattle.f_tree.specs.Values.{Bytes, Spot, Datum, IsInt, IsLog, IsSpot, Nothing, ZeroStep, LoopVariableChanged, BadAssignedLabel, ActiveProcedure, MissingProcedure, NoMeaning, Checked, Gives, Fails, given_that, checked}
+use Rattle.f_tree.specs.Terms.{AsSubroutine, Terms}
+use Rattle.f_tree.specs.Store.{Store, Whole, Label, fetch, define, define_label, label_at}
+use Rattle.f_tree.specs.Facts.{Head, ToSet, ToSetLabel, ToGo, ToPick, ToGoAssigned, ToGoBySign, ToGuard, ToEnterArm, ToLoop, ToCall, ToReturn, ToStop, ToBegin, ToTransfer, ToRepeat, ToTurn, ToFinish, ToEnd, Form, Passes, On, Opens, Arm, Line, Work, Before, Turn, ProgramUnit, Facts}
 use Rattle.f_tree.specs.Valuing.{Red, Valued, Bad, Asks, reduce_all}
 use Rattle.f_tree.specs.World.{World, View, Now, Doing, Turning, Waits, Returning, Round, RoundKind, Counted, Ending, Stop, fortran_sorts, Happening, proceeding}
 use Rattle.f_tree.specs.World as world
-use Rattle.f_tree.specs.Places.{place_of_label, arm_after, arrived, passed, gone_to, is_place}
+use Rattle.f_tree.specs.Places.{place_of_label, arm_after, arrived, passed, gone_to}
 use Rattle.f_tree.specs.Association.{call, answer, alternate_of, start, resume}
 use Rattle.f_tree.specs.Transfers.{next_of, followed_by, begins, item_done, finished}
 
@@ -53,11 +53,13 @@ block_is_entered first (Some last) from to =
 
 unfoldable pub block_end : ProgramUnit → ℕ → Line → Option ℕ
 block_end u i line = elim line.mark [
-    Opens ↦ arm_after u i
+  | Opens ↦ arm_after u i
   | Arm ↦ arm_after u i
   | _ ↦ elim line.form [
-        On head operands ↦ elim head [ ToLoop label ↦ (elim (place_of_label u label) [ None ↦ None | Some last ↦ Some (suc last) ]) | _ ↦ None ]
-      | Passes ↦ None ] ]
+    | On head operands ↦ elim head [ ToLoop label ↦ (elim (place_of_label u label) [ None ↦ None | Some last ↦ Some (suc last) ]) | _ ↦ None ]
+    | Passes ↦ None
+  ]
+]
 
 -- does a branch enter the range of a DO or an arm of an IF block from outside (11.10.8, 11.6 to 11.8)
 unfoldable pub enters_from : ProgramUnit → ℕ → List Line → ℕ → ℕ → Bool
@@ -91,8 +93,9 @@ guarded c v w (On head operands) true = Goes (record v { now = Doing (On head op
 unfoldable pub at_arm : Facts → View → ℕ → Option Line → Checked View
 at_arm c v i None = Fails NoMeaning
 at_arm c v i (Some line) = elim line.form [
-    Passes ↦ arrived c.program v.frame v.loops (suc i)
-  | On head operands ↦ Gives (record v { at = i; now = Doing (On head operands) }) ]
+  | Passes ↦ arrived c.program v.frame v.loops (suc i)
+  | On head operands ↦ Gives (record v { at = i; now = Doing (On head operands) })
+]
 
 unfoldable pub next_arm : Facts → View → Option ℕ → Checked View
 next_arm c v None = Fails NoMeaning
@@ -210,14 +213,15 @@ doing c v w (On head operands) = valued c v w head (reduce_all c v.frame w.store
 -- one step of an active procedure, over what all procedures share
 unfoldable pub step : Facts → View → World → Happening
 step c v w = elim v.now [
-    Doing form ↦ doing c v w form
+  | Doing form ↦ doing c v w form
   | Turning ↦ turned c v w v.loops
-  | _ ↦ Breaks NoMeaning ]
+  | _ ↦ Breaks NoMeaning
+]
 
 -- FORTRAN as a framed machine
-unfoldable pub fortran : Lang Ending
+abbrev pub fortran : Lang Ending
 fortran = record { sorts = fortran_sorts; step = step; start = start; resume = resume; missing = MissingProcedure; busy = ActiveProcedure; plain = world.Plain }
 
 unfoldable pub step_opened : Unit {0}
-unfolding onward go onward_with picked nth_label contains is_allowed block_is_entered block_end enters_from enters_block name_of gone_by by_sign guarded at_arm next_arm arm_entered turns_of turns at_least_once looped loop_stored loop_begun grown_to grown_from grown turned_with turned work_after repeated repeat_begun item_turned deed valued doing step fortran
+unfolding onward go onward_with picked nth_label contains is_allowed block_is_entered block_end enters_from enters_block name_of gone_by by_sign guarded at_arm next_arm arm_entered turns_of turns at_least_once looped loop_stored loop_begun grown_to grown_from grown turned_with turned work_after repeated repeat_begun item_turned deed valued doing step
 step_opened = tt

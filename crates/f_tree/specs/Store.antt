@@ -2,10 +2,10 @@
 -- ANSI X3.9-1978, sections 2.11, 2.13 (storage), 17.2 and 17.3 (how units become defined and undefined).
 -- Sequences are counted in character units. An integer, a logical or a label stands in four of them, from
 -- a multiple of four on; only `fetch`, `define` and what they are made of here look at the units.
-use Rattle.std.specs.Prelude.{ℕ, zero, suc, ◌+◌, ◌-◌, nat_le, nat_lt, ℤ, Bool, true, false, ◌&&◌, not, List, [], ◌∷◌, ◌++◌, length, take, drop, replicate, Option, Some, None, slice_get, slice_set, if◌then◌else◌}
+use Rattle.std.specs.Prelude.{ℕ, zero, suc, ◌+◌, ◌-◌, nat_le, ℤ, Bool, false, List, [], ◌∷◌, ◌++◌, length, take, drop, replicate, Option, Some, None, slice_get, slice_set, if◌then◌else◌}
 use Rattle.f_tree.specs.declared.names.Basic.{Basic}
 use Rattle.f_tree.specs.declared.names.Basic.TheVariants.{Integer, Logical, Character, Untyped}
-use Rattle.f_tree.specs.Values.{Bytes, Spot, Datum, IsInt, IsLog, IsText, Act, NoValue, PastExtent, DefinesReadOnly, NoMeaning, Checked, Gives, Fails, given_that}
+use Rattle.f_tree.specs.Values.{Bytes, Spot, Datum, IsInt, IsLog, IsText, NoValue, PastExtent, DefinesReadOnly, NoMeaning, Checked, Gives, Fails}
 
 -- what a numeric storage unit holds
 pub data Whole : Type 0 where
@@ -54,8 +54,9 @@ as_text (Fails act) = Fails act
 
 unfoldable pub fetch_from : Spot → List Cell → Checked Datum
 fetch_from p cells = elim p.basic [
-    Character ↦ as_text (characters (take p.width (drop p.first cells)))
-  | _ ↦ value_of_type p.basic (slice_get cells p.first) ]
+  | Character ↦ as_text (characters (take p.width (drop p.first cells)))
+  | _ ↦ value_of_type p.basic (slice_get cells p.first)
+]
 
 unfoldable pub fetch_in : Spot → Option Sequence → Checked Datum
 fetch_in p None = Fails NoMeaning
@@ -101,10 +102,11 @@ fitted size text = take size text ++ replicate (size - length text) 32
 -- the units with a value at a place of its type
 unfoldable pub defined_as : Spot → Datum → List Cell → Checked (List Cell)
 defined_as p d cells = elim p.basic [
-    Integer ↦ elim d [ IsInt z ↦ Gives (with_whole (Number z) p.first cells) | _ ↦ Fails NoMeaning ]
+  | Integer ↦ elim d [ IsInt z ↦ Gives (with_whole (Number z) p.first cells) | _ ↦ Fails NoMeaning ]
   | Logical ↦ elim d [ IsLog b ↦ Gives (with_whole (Truth b) p.first cells) | _ ↦ Fails NoMeaning ]
   | Character ↦ elim d [ IsText cs ↦ Gives (with_characters (fitted p.width cs) p.first cells) | _ ↦ Fails NoMeaning ]
-  | Untyped ↦ Fails NoMeaning ]
+  | Untyped ↦ Fails NoMeaning
+]
 
 unfoldable pub stored_in : Store → ℕ → Checked (List Cell) → Checked Store
 stored_in s n (Gives cells) = Gives (slice_set s n (record { cells = cells; read_only = false }))

@@ -1,6 +1,6 @@
 -- Expressions as the meaning sees them: each name is told apart, each value that is read is a fetch
 -- of a place, and operands already valued are values. ANSI X3.9-1978, section 6.
-use Rattle.std.specs.Prelude.{ℕ, ℤ, Bool, List, [], ◌∷◌}
+use Rattle.std.specs.Prelude.{ℕ, List, [], ◌∷◌}
 use Rattle.f_tree.specs.declared.names.Basic.{Basic}
 use Rattle.f_tree.specs.Values.{Bytes, Datum}
 

@@ -1,16 +1,16 @@
 -- READ, WRITE and PRINT: how a transfer begins, what an item does, how it ends, and where control goes
 -- at an error. ANSI X3.9-1978, sections 12.8, 12.9 and 13.6.
-use Rattle.std.specs.Prelude.{ℕ, zero, suc, ◌+◌, ◌*◌, ◌/◌, ℤ, pos, negsuc, int_lt, Bool, true, false, List, [], ◌∷◌, ◌++◌, length, drop, Option, Some, None, Result, Ok, Err, if◌then◌else◌}
+use Rattle.std.specs.Prelude.{ℕ, zero, suc, ◌+◌, ◌/◌, ℤ, pos, negsuc, Bool, true, false, List, [], ◌∷◌, ◌++◌, length, drop, Option, Some, None, Result, Ok, Err, if◌then◌else◌}
 use Rattle.edit_rules.specs.Listed as listed
 use Rattle.f2c_outside.specs.Units.{Units, is_connected, write_unit}
 use Rattle.f2c_outside.specs.declared.unit_table.UnitRefusal.{UnitRefusal}
 use Rattle.f2c_outside.specs.declared.unit_table.UnitRefusal.TheVariants.{NotConnected, NotOffered, Taken, PastEnd}
-use Rattle.simulation.specs.Machine.{Event, Goes, Ends, Breaks}
-use Rattle.f_tree.specs.Values.{Spot, Datum, IsInt, IsLog, IsText, IsSpot, Act, TransferInTransfer, NoMeaning, Checked, Gives, Fails, given_that}
-use Rattle.f_tree.specs.Terms.{Term, Terms, NoMore, More}
+use Rattle.simulation.specs.Machine.{Goes, Ends, Breaks}
+use Rattle.f_tree.specs.Values.{Spot, Datum, IsInt, IsLog, IsText, IsSpot, TransferInTransfer, NoMeaning, Checked, Gives, Fails, given_that}
+use Rattle.f_tree.specs.Terms.{NoMore, More}
 use Rattle.f_tree.specs.Store.{Store, fetch, define}
-use Rattle.f_tree.specs.Facts.{Direction, Input, Output, Layout, Listed, Labelled, Computed, Word, UnitWord, FormatWord, StatusWord, Controls, Job, Item, Repeated, Turn, Work, Done, Before, Head, ToTransfer, ToRepeat, ToTurn, ToFinish, Form, On, Facts}
-use Rattle.f_tree.specs.World.{Medium, External, Internal, Transfer, World, View, Now, Doing, Ending, Io, Happening, proceeding}
+use Rattle.f_tree.specs.Facts.{Direction, Input, Output, Layout, Listed, Word, UnitWord, StatusWord, Controls, Item, Repeated, Turn, Work, Done, Before, ToTransfer, ToRepeat, ToTurn, ToFinish, Form, On, Facts}
+use Rattle.f_tree.specs.World.{Medium, External, Internal, Transfer, World, View, Doing, Io, Happening, proceeding}
 use Rattle.f_tree.specs.Places.{passed, gone_to}
 
 -- what comes next of a list: its first item, or the end of the transfer
@@ -83,7 +83,7 @@ unfoldable pub element_values : ℕ → Store → Spot → Checked (List listed.
 element_values zero s p = Gives []
 element_values (suc n) s p =
     given_that (fetch s p) (λ d. given_that (listed_value d) (λ a.
-      given_that (element_values n s (record p { first = p.first + p.width })) (λ more. Gives (a ∷ more))))
+    given_that (element_values n s (record p { first = p.first + p.width })) (λ more. Gives (a ∷ more))))
 
 unfoldable pub values_of : Store → Datum → Checked (List listed.ListedValue)
 values_of s (IsSpot p) = element_values (p.extent / p.width) s p
@@ -108,24 +108,29 @@ values_put c v w t rest (Fails act) = Breaks act
 values_put c v w t rest (Gives values) =
     let after = record t { values = t.values ++ values } in
     elim t.medium [
-        External unit ↦ item_written c v w after rest (write_all unit (new_records after false) w.units)
-      | Internal p ↦ Breaks NoMeaning ]
+      | External unit ↦ item_written c v w after rest (write_all unit (new_records after false) w.units)
+      | Internal p ↦ Breaks NoMeaning
+    ]
 
 unfoldable pub item_done : Facts → View → World → Work → Datum → Option Transfer → Happening
 item_done c v w rest d None = Breaks NoMeaning
 item_done c v w rest d (Some t) = elim t.direction [
-    Output ↦ elim t.layout [ Listed ↦ values_put c v w t rest (values_of w.store d) | _ ↦ Breaks NoMeaning ]
-  | Input ↦ Breaks NoMeaning ]
+  | Output ↦ elim t.layout [ Listed ↦ values_put c v w t rest (values_of w.store d) | _ ↦ Breaks NoMeaning ]
+  | Input ↦ Breaks NoMeaning
+]
 
 unfoldable pub finished : Facts → View → World → Option Transfer → Happening
 finished c v w None = Breaks NoMeaning
 finished c v w (Some t) = elim t.direction [
-    Output ↦ elim t.layout [
-        Listed ↦ elim t.medium [
-            External unit ↦ end_written c v w t (write_all unit (new_records t true) w.units)
-          | Internal p ↦ Breaks NoMeaning ]
-      | _ ↦ Breaks NoMeaning ]
-  | Input ↦ Breaks NoMeaning ]
+  | Output ↦ elim t.layout [
+    | Listed ↦ elim t.medium [
+      | External unit ↦ end_written c v w t (write_all unit (new_records t true) w.units)
+      | Internal p ↦ Breaks NoMeaning
+    ]
+    | _ ↦ Breaks NoMeaning
+  ]
+  | Input ↦ Breaks NoMeaning
+]
 
 -- the operands of the control words
 unfoldable pub medium_of : List Word → List Datum → Option Medium
@@ -143,8 +148,8 @@ status_of _ _ = None
 unfoldable pub begun_on : Facts → View → World → Direction → Layout → Controls → Work → Option Spot → Option Medium → Happening
 begun_on c v w Output Listed controls work status (Some (External unit)) =
     if is_connected unit w.units then
-      Goes (record v { now = Doing (next_of work) })
-        (record w { transfer = Some (record { direction = Output; layout = Listed; medium = External unit; controls = controls; status = status; values = []; written = 0 }) })
+    Goes (record v { now = Doing (next_of work) })
+    (record w { transfer = Some (record { direction = Output; layout = Listed; medium = External unit; controls = controls; status = status; values = []; written = 0 }) })
     else fails_with c v w (pos 6) controls status
 begun_on c v w direction layout controls work status medium = Breaks NoMeaning
 

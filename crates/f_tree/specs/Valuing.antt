@@ -1,15 +1,12 @@
 -- Valuing an expression: operands from left to right, until a value, an act of which nothing is said,
 -- or a call, which the rest of the expression waits for.
 -- ANSI X3.9-1978, sections 5.4 (subscripts), 5.7 (substrings), 6 (expressions) and 15.10 (intrinsic functions).
-use Rattle.std.specs.Prelude.{ℕ, zero, suc, ◌+◌, ◌-◌, ◌*◌, ◌%◌, ◌/◌, nat_eq, nat_le, nat_lt, ℤ, pos, negsuc, ◌+ℤ◌, ◌-ℤ◌, ◌*ℤ◌, neg_ℤ, nat_abs, int_lt, int_le, int_div, int_rem, Bool, true, false, ◌&&◌, ◌||◌, not, List, [], ◌∷◌, ◌++◌, length, take, drop, Option, Some, None, slice_get, get_or, if◌then◌else◌, bytes_eq}
+use Rattle.std.specs.Prelude.{ℕ, zero, suc, ◌+◌, ◌-◌, ◌*◌, nat_eq, nat_le, nat_lt, ℤ, pos, negsuc, ◌+ℤ◌, ◌-ℤ◌, ◌*ℤ◌, neg_ℤ, nat_abs, int_lt, int_le, int_div, int_rem, Bool, true, false, ◌&&◌, ◌||◌, not, List, [], ◌∷◌, ◌++◌, length, Option, Some, None, slice_get, if◌then◌else◌}
 use Rattle.std.specs.Ordering.{int_eq}
-use Rattle.f_tree.specs.declared.names.Basic.{Basic}
-use Rattle.f_tree.specs.declared.names.Basic.TheVariants.{Integer, Logical, Character, Untyped}
-
 use Rattle.f_tree.specs.declared.names.Class.TheVariants as class
-use Rattle.f_tree.specs.Values.{Bytes, Spot, Datum, IsInt, IsLog, IsText, IsSpot, IsProc, IsLabel, Nothing, Act, Overflow, ZeroDivide, NoValue, OutOfBounds, PastExtent, NotOfThisEntry, BadCharacterCode, NoMeaning, Checked, Gives, Fails, given_that, in_range, checked}
+use Rattle.f_tree.specs.Values.{Bytes, Spot, Datum, IsInt, IsLog, IsText, IsSpot, IsProc, Nothing, Act, ZeroDivide, OutOfBounds, PastExtent, NotOfThisEntry, BadCharacterCode, NoMeaning, Checked, Gives, Fails, given_that, checked}
 use Rattle.f_tree.specs.Terms.{Prefix, Negate, Complement, Operator, Add, Subtract, Multiply, Divide, IsLess, IsLessOrEqual, IsEqual, IsNotEqual, IsGreater, IsGreaterOrEqual, Both, Either, Same, Different, Function, Power, Truncation, Magnitude, Remainder, SignTransfer, PositiveDifference, Largest, Smallest, CharacterCode, CharacterOfCode, TextLength, IndexOf, LexicallyGreaterOrEqual, LexicallyGreater, LexicallyLessOrEqual, LexicallyLess, Callee, Term, Val, Fetch, At, Element, Part, Joined, Before, Between, Intrinsically, Refer, Bind, Bound, Terms, NoMore, More, valued_then}
-use Rattle.f_tree.specs.Store.{Store, fetch, fitted}
+use Rattle.f_tree.specs.Store.{Store, fetch}
 use Rattle.f_tree.specs.Facts.{Attribute, Bounds, Facts, Frame, Home}
 
 -- what valuing comes to: a value, an act, or a call with the rest as a function of its answer
@@ -176,8 +173,9 @@ applied _ _ = Fails NoMeaning
 unfoldable pub elements_of : List Bounds → Option ℕ
 elements_of [] = Some 1
 elements_of (b ∷ bs) = elim b.upper [
-    None ↦ None
-  | Some u ↦ elim (elements_of bs) [ None ↦ None | Some n ↦ Some (nat_abs ((u -ℤ b.lower) +ℤ pos 1) * n) ] ]
+  | None ↦ None
+  | Some u ↦ elim (elements_of bs) [ None ↦ None | Some n ↦ Some (nat_abs ((u -ℤ b.lower) +ℤ pos 1) * n) ]
+]
 
 unfoldable pub extent_of : Option ℕ → ℕ → ℕ
 extent_of None width = 0
@@ -198,13 +196,14 @@ if_there (Some p) = Gives (IsSpot p)
 -- what a name stands for, by its class
 unfoldable pub named_as : Facts → Frame → Bytes → Attribute → Checked Datum
 named_as c f x a = elim a.class [
-    class.Stored ↦ stored_at a a.width (c.home x)
+  | class.Stored ↦ stored_at a a.width (c.home x)
   | class.Dummy ↦ if_bound (f.bound x)
   | class.DummyProcedure ↦ if_bound (f.bound x)
   | class.Result ↦ if_there f.result
   | class.Procedure ↦ Gives (IsProc x)
   | class.Intrinsic ↦ Gives (IsProc x)
-  | _ ↦ Fails NoMeaning ]
+  | _ ↦ Fails NoMeaning
+]
 
 unfoldable pub whole : Facts → Frame → Bytes → Checked Datum
 whole c f x = named_as c f x (c.program.attribute x)
@@ -228,7 +227,7 @@ elements_before x stride _ _ = Fails NoMeaning
 unfoldable pub further : Spot → ℕ → Checked Datum
 further p n =
     if nat_le (n * p.width + p.width) p.extent then
-      Gives (IsSpot (record p { first = p.first + n * p.width; extent = p.extent - n * p.width }))
+    Gives (IsSpot (record p { first = p.first + n * p.width; extent = p.extent - n * p.width }))
     else Fails PastExtent
 
 unfoldable pub element_at : Bytes → List Bounds → List Datum → Datum → Checked Datum
@@ -290,19 +289,19 @@ unfoldable mutual
   reduce c f s env (Element x ts) = then_by (reduce_all c f s env ts) (Element x) (λ ds. at_once (element c f x ds))
   reduce c f s env (Part t from to) =
       then_by (reduce c f s env t) (λ r. Part r from to) (λ p.
-        then_by (reduce c f s env from) (λ r. Part (Val p) r to) (λ a.
-          then_by (reduce c f s env to) (Part (Val p) (Val a)) (λ b. at_once (part p a b))))
+      then_by (reduce c f s env from) (λ r. Part (Val p) r to) (λ a.
+      then_by (reduce c f s env to) (Part (Val p) (Val a)) (λ b. at_once (part p a b))))
   reduce c f s env (Joined ts) = then_by (reduce_all c f s env ts) Joined (λ ds. at_once (joined (pieces s ds)))
   reduce c f s env (Before op t) = then_by (reduce c f s env t) (Before op) (λ d. at_once (prefixed op d))
   reduce c f s env (Between op t u) =
       then_by (reduce c f s env t) (λ r. Between op r u) (λ a.
-        right_after (left_of op a)
-          (then_by (reduce c f s env u) (Between op (Val a)) (λ b. at_once (operated op a b))))
+      right_after (left_of op a)
+      (then_by (reduce c f s env u) (Between op (Val a)) (λ b. at_once (operated op a b))))
   reduce c f s env (Intrinsically function ts) = then_by (reduce_all c f s env ts) (Intrinsically function) (λ ds. at_once (applied function ds))
   reduce c f s env (Refer callee ts) = then_by (reduce_all c f s env ts) (Refer callee) (λ ds. Asks callee ds Val)
   reduce c f s env (Bind ts t) =
       then_by (reduce_all c f s env ts) (λ rs. Bind rs t) (λ ds.
-        then_by (reduce c f s ds t) (Bind (valued_then ds NoMore)) Valued)
+      then_by (reduce c f s ds t) (Bind (valued_then ds NoMore)) Valued)
   reduce c f s env (Bound k) = at_once (bound_to env k)
 
   -- a list of operands, from left to right
@@ -310,7 +309,7 @@ unfoldable mutual
   reduce_all c f s env NoMore = Valued []
   reduce_all c f s env (More t ts) =
       then_by (reduce c f s env t) (λ r. More r ts) (λ d.
-        then_by (reduce_all c f s env ts) (More (Val d)) (λ ds. Valued (d ∷ ds)))
+      then_by (reduce_all c f s env ts) (More (Val d)) (λ ds. Valued (d ∷ ds)))
 
 unfoldable pub valuing_opened : Unit {0}
 unfolding then_by at_once prefixed divided on_integers both_or_none on_logicals is_before on_texts operated left_of right_after power_of inverse_of raised int_max int_min extreme remainder_of with_sign_of difference_over begins_with index_from character_of applied elements_of extent_of stored_at if_bound if_there named_as whole is_within size_of_dimension elements_before further element_at either_bounds bounds_of element cut part piece pieces joined fetched bound_to reduce reduce_all

@@ -1,7 +1,7 @@
 -- What all procedures of a run share, and what one active procedure keeps for itself.
 -- ANSI X3.9-1978, sections 2.13 (storage), 12 (units), 11.10 (active DO-loops).
-use Rattle.std.specs.Prelude.{ℕ, ℤ, Bool, List, [], ◌∷◌, ◌++◌, Option, Some, None, length, take, nat_eq, if◌then◌else◌}
-use Rattle.simulation.specs.Machine.{Sorts, Event, Goes, Ends, Breaks, Entry, Enters, Refused}
+use Rattle.std.specs.Prelude.{ℕ, ℤ, List, Option}
+use Rattle.simulation.specs.Machine.{Sorts, Event, Goes, Breaks, Entry, Enters, Refused}
 use Rattle.edit_rules.specs.Listed.{ListedValue}
 use Rattle.f2c_outside.specs.Units.{Units}
 use Rattle.f_tree.specs.Values.{Bytes, Spot, Datum, Act, Checked, Gives, Fails}

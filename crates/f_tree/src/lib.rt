@@ -5,6 +5,7 @@
 pub mod expressions;
 pub mod names;
 pub mod refusals;
+pub mod rows;
 pub mod statements;
 pub mod units;
 

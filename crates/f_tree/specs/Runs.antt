@@ -1,0 +1,56 @@
+-- What is said of one run of a set that stands in one file: at which step it ends and how, and which
+-- records unit 6 has then. Unit 5 holds the records given, unit 6 holds none.
+use Rattle.std.specs.Prelude.{◌≡◌, ℕ, suc, ◌+◌, pos, false, List, [], ◌∷◌, ◌++◌, map, length, Some, None, if◌then◌else◌}
+use Rattle.std.specs.Ordering.{int_eq}
+use Rattle.f_tree.specs.declared.names.Options.{Options}
+use Rattle.f_tree.specs.declared.units.FileSet.{FileSet}
+use Rattle.f2c_outside.specs.Units.{Units, UnitState}
+use Rattle.f_tree.specs.Values.{Act}
+use Rattle.f_tree.specs.Facts.{Home, Member, ProgramUnit}
+use Rattle.f_tree.specs.World.{Ending}
+use Rattle.f_tree.specs.Setting.{Setting}
+use Rattle.f_tree.specs.Meaning.{ftn, units_of, ending_of, act_of, records_of}
+
+abbrev pub no_options : Options
+no_options = record { undeclared = false; onetrip = false; long_cards = false; checks = false }
+
+abbrev pub with_records : List (List ℕ) → UnitState
+with_records records = record { records = records; position = 0; end_mark = false; zero_blanks = false }
+
+-- the two standard units
+abbrev pub standard_units : List (List ℕ) → Units
+standard_units input = record {
+  connected = λ unit. if int_eq unit (pos 5) then Some (with_records input) else if int_eq unit (pos 6) then Some (with_records []) else None;
+  drawer = [];
+}
+
+-- A set without common blocks and EQUIVALENCE: each stored name has a sequence of its own, in first-seen order.
+unfoldable pub homes_apart : ℕ → List Member → List Home
+homes_apart n [] = []
+homes_apart n (m ∷ ms) = record { sequence = n; first = 0 } ∷ homes_apart (suc n) ms
+
+unfoldable pub all_homes_apart : ℕ → List ProgramUnit → List (List Home)
+all_homes_apart n [] = []
+all_homes_apart n (u ∷ us) = homes_apart n u.stored ∷ all_homes_apart (n + length u.stored) us
+
+unfoldable pub all_sizes : List ProgramUnit → List ℕ
+all_sizes [] = []
+all_sizes (u ∷ us) = map (λ m. m.size) u.stored ++ all_sizes us
+
+unfoldable pub setting_apart : List ProgramUnit → Setting
+setting_apart S = record { homes = all_homes_apart 0 S; sizes = all_sizes S }
+
+-- the run ends at step n + 1 and not before
+pub record Runs (options : Options) (set : FileSet) (g : Setting) (input : List (List ℕ)) (n : ℕ) (ending : Ending) (output : List (List ℕ)) : Type 0 where
+  pub goes_on : ending_of (ftn g (units_of options set) (standard_units input) n) ≡ None
+  pub ends : ending_of (ftn g (units_of options set) (standard_units input) (suc n)) ≡ Some ending
+  pub wrote : records_of (pos 6) (ftn g (units_of options set) (standard_units input) (suc n)) ≡ output
+
+-- the run meets an act at step n + 1 and not before
+pub record Meets (options : Options) (set : FileSet) (g : Setting) (input : List (List ℕ)) (n : ℕ) (act : Act) : Type 0 where
+  pub goes_on : act_of (ftn g (units_of options set) (standard_units input) n) ≡ None
+  pub meets : act_of (ftn g (units_of options set) (standard_units input) (suc n)) ≡ Some act
+
+unfoldable pub runs_opened : Unit {0}
+unfolding homes_apart all_homes_apart all_sizes setting_apart
+runs_opened = tt
