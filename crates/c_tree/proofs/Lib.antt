@@ -1,1 +1,1 @@
-pub mod RowProofs
+pub mod TreeEquations

@@ -13,8 +13,12 @@ pub mod Linking
 pub mod World
 pub mod LibraryArguments
 pub mod Transfers
+pub mod LibraryTexts
+pub mod LibraryNumbers
+pub mod LibraryUnits
 pub mod Library
 pub mod Steps
 pub mod Meaning
+pub mod RowTexts
 pub mod Rows
 pub mod Opened

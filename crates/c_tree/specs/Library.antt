@@ -4,8 +4,12 @@ use Rattle.std.specs.Prelude.{ℕ, List, [], ◌∷◌, Ok, Err}
 use Rattle.c_tree.specs.declared.outcome.CValue.{CValue}
 use Rattle.c_tree.specs.Faults.{Or, NoMeaning, after}
 use Rattle.c_tree.specs.World.{World, Plain, Stop, Reply, Stops}
-use Rattle.c_tree.specs.Builtins.{Builtin, s_stop, s_wsle, do_lio, e_wsle}
+use Rattle.c_tree.specs.Builtins.{Builtin, s_copy, s_cmp, s_cat, i_indx, pow_ii, i_sign, i_dim, l_ge, l_gt, l_le, l_lt, s_stop, s_wsle, do_lio, e_wsle, f_open, f_clos, f_back, f_rew, f_end}
 use Rattle.c_tree.specs.LibraryArguments.{length_from, text_at}
+use Rattle.f2c_outside.specs.Units.{back_unit, rewind_unit, end_unit}
+use Rattle.c_tree.specs.LibraryTexts.{copied, concatenated, on_texts, comparison, index_of, not_below, above, not_above, below}
+use Rattle.c_tree.specs.LibraryNumbers.{on_integers, power, signed, positive_difference}
+use Rattle.c_tree.specs.LibraryUnits.{opens, closes, positions}
 use Rattle.c_tree.specs.Transfers.{starts_listed_output, listed_items, ends_listed_output}
 
 abbrev pub stopped : World → List ℕ → Reply
@@ -23,4 +27,28 @@ library s_stop world (pointer ∷ size ∷ []) = stops world pointer size
 library s_wsle world (pointer ∷ []) = starts_listed_output world pointer
 library do_lio world (kind ∷ count ∷ first ∷ size ∷ []) = listed_items world kind count first size
 library e_wsle world [] = ends_listed_output world
+library s_copy world (target ∷ source ∷ target_length ∷ source_length ∷ []) =
+    copied world target source target_length source_length
+library s_cat world (target ∷ addresses ∷ lengths ∷ count ∷ size ∷ []) =
+    concatenated world target addresses lengths count size
+library s_cmp world (first ∷ second ∷ first_length ∷ second_length ∷ []) =
+    on_texts comparison world first second first_length second_length
+library i_indx world (first ∷ second ∷ first_length ∷ second_length ∷ []) =
+    on_texts index_of world first second first_length second_length
+library l_ge world (first ∷ second ∷ first_length ∷ second_length ∷ []) =
+    on_texts not_below world first second first_length second_length
+library l_gt world (first ∷ second ∷ first_length ∷ second_length ∷ []) =
+    on_texts above world first second first_length second_length
+library l_le world (first ∷ second ∷ first_length ∷ second_length ∷ []) =
+    on_texts not_above world first second first_length second_length
+library l_lt world (first ∷ second ∷ first_length ∷ second_length ∷ []) =
+    on_texts below world first second first_length second_length
+library pow_ii world (base ∷ exponent ∷ []) = on_integers power world base exponent
+library i_sign world (number ∷ sign ∷ []) = on_integers signed world number sign
+library i_dim world (left ∷ right ∷ []) = on_integers positive_difference world left right
+library f_open world (pointer ∷ []) = opens world pointer
+library f_clos world (pointer ∷ []) = closes world pointer
+library f_back world (pointer ∷ []) = positions back_unit world pointer
+library f_rew world (pointer ∷ []) = positions rewind_unit world pointer
+library f_end world (pointer ∷ []) = positions end_unit world pointer
 library builtin world arguments = Err NoMeaning

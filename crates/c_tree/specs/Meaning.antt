@@ -1,6 +1,6 @@
 -- The meaning of a program of C texts: its state after any number of flat steps, and how it stands; and the
 -- step factor of its functions.
-use Rattle.std.specs.Prelude.{ℕ, ◌+◌, nat_lt, nat_le, ◌-◌, max, Bool, false, not, ◌&&◌, List, [], ◌∷◌, length, drop, position, Option, Some, None, bytes_eq, codes, slice_get, unwrap_or, if◌then◌else◌}
+use Rattle.std.specs.Prelude.{ℕ, ◌+◌, nat_lt, nat_le, ◌-◌, max, Bool, false, not, ◌&&◌, List, [], ◌∷◌, length, drop, position, Option, Some, None, bytes_eq, codes, slice_get, unwrap_or, option_map, if◌then◌else◌}
 use Rattle.simulation.specs.Machine.{State, Runs, Over, Broken, Program, run, begun}
 use Rattle.f2c_outside.specs.Units.{Units}
 use Rattle.c_tree.specs.declared.outcome.CFault.{CFault}
@@ -69,6 +69,10 @@ outcome (Over ending frames world) = Ended ending
 outcome (Broken (Faults fault) (number ∷ numbers)) = Fault fault number
 outcome (Broken (Faults fault) []) = Meaningless
 outcome (Broken NoMeaning numbers) = Meaningless
+
+-- the name of the function of a number
+unfoldable pub function_name : List CFile → ℕ → Option (List ℕ)
+function_name files number = option_map (λ function. function.name) (slice_get (linking.program files).functions number)
 
 -- how many steps a function has
 abbrev pub steps_of : CFunction → ℕ

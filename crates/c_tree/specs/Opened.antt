@@ -1,7 +1,10 @@
 -- Names that open the definitions of the C meaning, for programs that are computed.
 use Rattle.simulation.specs.Machine.{machine_opened}
 use Rattle.edit_rules.specs.Listed.{listed_whole}
-use Rattle.f2c_outside.specs.Units.{write_unit}
+use Rattle.f2c_outside.specs.Units.{read_unit, write_unit, back_unit, rewind_unit, end_unit, close_unit, open_unit}
+use Rattle.c_tree.specs.LibraryTexts.{copied, concatenated, on_texts}
+use Rattle.c_tree.specs.LibraryNumbers.{on_integers}
+use Rattle.c_tree.specs.LibraryUnits.{opens, closes, positions}
 use Rattle.c_tree.specs.Objects.{fetched, stored}
 use Rattle.c_tree.specs.Values.{seen}
 use Rattle.c_tree.specs.Transfers.{starts_listed_output, listed_items, ends_listed_output}
@@ -10,9 +13,14 @@ use Rattle.c_tree.specs.declared.expression.CExpr
 use Rattle.c_tree.specs.declared.statement.CStmt
 use Rattle.c_tree.specs.Linking.{program, first_broken_rule}
 use Rattle.c_tree.specs.Steps.{deed, step, start, resume}
-use Rattle.c_tree.specs.Meaning.{run_of, meaning, outcome, step_factor}
+use Rattle.c_tree.specs.Meaning.{run_of, meaning, outcome, function_name, step_factor}
+
+-- `unfolding trees_opened` lets a definition by cases see the trees that the forms' names make
+unfoldable pub trees_opened : Unit {0}
+unfolding Rattle.c_tree.specs.declared.expression.CExpr.TheBlock.hidden-the_row-CExpr-0 Rattle.c_tree.specs.declared.statement.CStmt.TheBlock.hidden-the_row-CStmt-0 Rattle.c_tree.specs.declared.statement.CStmt.TheBlock.hidden-the_row-CStmt-1 denote.Hole.Carrier.hidden
+trees_opened = tt
 
 -- `unfolding meaning_opened` opens each definition between the trees and the outcome of a run
 unfoldable pub meaning_opened : Unit {0}
-unfolding machine_opened listed_whole write_unit fetched stored seen starts_listed_output listed_items ends_listed_output stops library program first_broken_rule deed step start resume run_of meaning outcome step_factor Rattle.c_tree.specs.declared.expression.CExpr.TheBlock.hidden-the_row-CExpr-0 Rattle.c_tree.specs.declared.statement.CStmt.TheBlock.hidden-the_row-CStmt-0 denote.Hole.Carrier.hidden
+unfolding machine_opened listed_whole read_unit write_unit back_unit rewind_unit end_unit close_unit open_unit fetched stored seen starts_listed_output listed_items ends_listed_output copied concatenated on_texts on_integers opens closes positions stops library program first_broken_rule deed step start resume run_of meaning outcome function_name step_factor trees_opened
 meaning_opened = tt

@@ -1,19 +1,18 @@
 -- Transfers: how one begins, what an item does and how it ends, by the library's functions on the objects, the
 -- units and the transfer in progress (ANSI X3.9-1978, 12.8, 12.9 and 13.6).
-use Rattle.std.specs.Prelude.{ℕ, zero, suc, ◌+◌, nat_eq, ℤ, pos, negsuc, Bool, true, false, not, List, [], ◌∷◌, ◌++◌, length, drop, Some, None, Result, Ok, Err, codes, if◌then◌else◌}
+use Rattle.std.specs.Prelude.{ℕ, zero, suc, nat_eq, ℤ, pos, negsuc, Bool, true, false, not, List, [], ◌∷◌, ◌++◌, length, drop, Some, None, Result, Ok, Err, codes, if◌then◌else◌}
 use Rattle.std.specs.Ordering.{int_eq}
 use Rattle.edit_rules.specs.Listed as list
 use Rattle.f2c_outside.specs.Units.{Units, is_connected, write_unit}
 use Rattle.f2c_outside.specs.declared.unit_table.UnitRefusal.{UnitRefusal}
 use Rattle.f2c_outside.specs.declared.unit_table.UnitRefusal.TheVariants.{NotConnected, NotOffered, Taken, PastEnd, Failed}
 use Rattle.c_tree.specs.declared.outcome.CValue.{CValue}
-use Rattle.c_tree.specs.declared.outcome.CValue.TheVariants.{Pointer}
 use Rattle.c_tree.specs.declared.outcome.CFault.TheVariants.{Library}
 use Rattle.c_tree.specs.declared.types.ListType.TheVariants as list_type
 use Rattle.c_tree.specs.Faults.{NoMeaning, Or, after, failing}
 use Rattle.c_tree.specs.Objects.{Object}
 use Rattle.c_tree.specs.World.{Direction, Output, Input, Layout, Formatted, Listed, Medium, Unit, Internal, Transfer, World, Io, Reply, Gives, Stops}
-use Rattle.c_tree.specs.LibraryArguments.{number_through, count_from, length_from, text_at, list_at, field_number}
+use Rattle.c_tree.specs.LibraryArguments.{number_through, count_from, length_from, text_at, list_at, field_number, shifted}
 
 -- the number that a statement on a unit gives where it is refused
 abbrev pub refusal_number : UnitRefusal → Or ℤ
@@ -100,11 +99,6 @@ item_at IntegerItem objects pointer size = after (number_through objects pointer
 item_at LogicalItem objects pointer size =
     after (number_through objects pointer) λ number. Ok (list.Logical (not (int_eq number (pos 0))))
 item_at TextItem objects pointer size = after (text_at objects pointer size) λ text. Ok (list.Text text)
-
--- a pointer to what stands so many bytes behind
-abbrev pub shifted : ℕ → CValue → CValue
-shifted distance (Pointer object offset) = Pointer object (offset + distance)
-shifted distance other = other
 
 -- so many items that stand one behind the other
 abbrev pub items_at : ItemKind → List Object → ℕ → ℕ → CValue → Or (List list.ListedValue)
