@@ -2,3 +2,4 @@ pub mod ShelfLaws
 mod TextLemmas
 mod MemoryLaws
 mod TapeLaws
+mod TableLaws

@@ -5,7 +5,6 @@ use Rattle.std.specs.Prelude.{◌≡◌, ℕ, ◌+◌, ◌-◌, ◌<◌, ◌≤�
 use Rattle.f2c_outside.specs.Shelf.{Rose}
 use Rattle.f2c_outside.specs.declared.devices.Got.{Got}
 use Rattle.f2c_outside.specs.declared.devices.Got.TheVariants.{Line, End, Long, Failed}
-use Rattle.f2c_outside.specs.declared.devices.DeviceFault.{DeviceFault}
 
 -- a record is a sequence of bytes
 abbrev pub Records : Type 0
@@ -74,35 +73,35 @@ DidRead (Long n) b a old new = IsLong n b a old new
 DidRead Failed b a old new = TellsAlike b a
 
 -- `write_record`
-pub record Wrote {T : Type 0} (bytes : List ℕ) (b a : DeviceState) (result : Result T DeviceFault) : Type 0 where
+pub record Wrote {T E : Type 0} (bytes : List ℕ) (b a : DeviceState) (result : Result T E) : Type 0 where
   pub told : OnOk result (a.told ≡ option_map (written_at b.position bytes) b.told)
   pub position : OnOk result (a.position ≡ b.position + 1)
   pub finished : OnOk result (a.finished ≡ false)
   pub tells : TellsAlike b a
 
 -- `back`: by one record, and not at all at the first
-pub record WentBack {T : Type 0} (b a : DeviceState) (result : Result T DeviceFault) : Type 0 where
+pub record WentBack {T E : Type 0} (b a : DeviceState) (result : Result T E) : Type 0 where
   pub told : OnOk result (a.told ≡ b.told)
   pub position : OnOk result (a.position ≡ b.position - 1)
   pub finished : OnOk result (a.finished ≡ b.finished)
   pub tells : TellsAlike b a
 
 -- `rewind`: to the first record
-pub record Rewound {T : Type 0} (b a : DeviceState) (result : Result T DeviceFault) : Type 0 where
+pub record Rewound {T E : Type 0} (b a : DeviceState) (result : Result T E) : Type 0 where
   pub told : OnOk result (a.told ≡ b.told)
   pub position : OnOk result (a.position ≡ 0)
   pub finished : OnOk result (a.finished ≡ b.finished)
   pub tells : TellsAlike b a
 
 -- `end_file`: the records from the position on are cut off
-pub record EndedFile {T : Type 0} (b a : DeviceState) (result : Result T DeviceFault) : Type 0 where
+pub record EndedFile {T E : Type 0} (b a : DeviceState) (result : Result T E) : Type 0 where
   pub told : OnOk result (a.told ≡ option_map (take b.position) b.told)
   pub position : OnOk result (a.position ≡ b.position)
   pub finished : OnOk result (a.finished ≡ false)
   pub tells : TellsAlike b a
 
 -- `finish`: it answers the number of records and leaves them and the position, also where it fails
-pub record Finished (b a : DeviceState) (result : Result ℕ DeviceFault) : Type 0 where
+pub record Finished {E : Type 0} (b a : DeviceState) (result : Result ℕ E) : Type 0 where
   pub told : a.told ≡ b.told
   pub position : a.position ≡ b.position
   pub finished : OnOk result (a.finished ≡ true)

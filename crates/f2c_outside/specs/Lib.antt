@@ -3,7 +3,9 @@ pub mod Shelf
 pub mod Device
 pub mod Units
 pub mod Table
+pub mod Shown
 pub mod Rows
+pub mod Placing
 pub mod Plan
 pub mod Memory
 pub mod Entries
