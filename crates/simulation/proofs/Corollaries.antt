@@ -1,9 +1,9 @@
 -- What the law says of runs that begin, that end, that break, and that break by a claimed fault.
-use Rattle.std.specs.Prelude.{◌≡◌, ℕ, zero, suc, ◌+◌, ◌-◌, ◌*◌, ◌≤◌, Bool, true, false, List, [], ◌∷◌, Option, Some, None, refl}
+use Rattle.std.specs.Prelude.{◌≡◌, ℕ, suc, ◌+◌, ◌-◌, ◌*◌, ◌≤◌, Bool, true, false, List, [], ◌∷◌, Option, Some, None, map, refl}
 use Rattle.std.proofs.Common.{sym, ap, ◌∙◌, subst, arith}
-use Rattle.simulation.specs.Machine.{Sorts, Event, Goes, Ends, Calls, Answers, Breaks, Entry, Enters, Refused, Lang, Program, Frame, Has, State, Runs, Over, Broken, active, entering, unless_active, opening, calling, answering, act, next, run, begun}
-use Rattle.simulation.specs.LocalSimulation.{Kit, Couple, BreakMet, Resumed, Opened, Meets, Local}
-use Rattle.simulation.specs.Law.{Linking, couple, Linked, Home, Below, bottom, caller, wrapped, Alike, running, over, finished, undefined, Faithful, EndsAlike, BreaksLater, Tells, tells, Reports}
+use Rattle.simulation.specs.Machine.{Sorts, Event, Goes, Ends, Calls, Answers, Breaks, Entry, Enters, Refused, Lang, Program, Frame, Has, State, Runs, Over, Broken, numbers, active, entering, unless_active, opening, calling, answering, act, next, run, begun}
+use Rattle.simulation.specs.LocalSimulation.{Kit, Resumed, Meets}
+use Rattle.simulation.specs.Law.{Linking, couple, Linked, Home, Below, bottom, caller, wrapped, Alike, running, over, finished, undefined, EndsAlike, BreaksLater, Tells, tells, Reports, unless_so, without, SameTexts}
 use Rattle.simulation.proofs.Runs.{run-run, run-over, run-broken, path_reaches}
 use Rattle.simulation.proofs.LawProof.{law, wrapping, opened_alike}
 
@@ -23,6 +23,24 @@ module _ {E : Type 0} {A B : Lang E} {K : Kit A B} {P : Program A.sorts} {Q : Pr
   broken_of (undefined {x = g} {ks = js}) = (g, js, refl)
 
 module _ {E : Type 0} {A B : Lang E} {K : Kit A B} {P : Program A.sorts} {Q : Program B.sorts} (L : Linking K P Q) (W : ℕ) (linked : Linked L W) where
+  below_texts : {b : Bool} {μ : K.World} {i : ℕ} {us : List (Frame A.sorts)} {fs : List (Frame B.sorts)} → Below L b μ i us fs → without L.outer (numbers fs) ≡ map L.image (numbers us)
+  unfolding numbers
+  below_texts (bottom houses) = refl
+  below_texts (caller {j = j} {us = us} {fs = fs} known home waits resumes below) =
+      ap (λ b. unless_so b (L.image j) (without L.outer (numbers fs))) (linked.image_inner j) ∙ ap (λ ks. L.image j ∷ ks) (below_texts below)
+  below_texts (wrapped {i = i} {g = g} {n = n} {fs = fs} named hands_on below) =
+      ap (λ b. unless_so b g (without L.outer (numbers fs))) (linked.wrapper_outer i n g named) ∙ below_texts below
+
+  -- The active texts of the two sides are the same.
+  pub same_texts : {x : State E A.sorts} {y : State E B.sorts} → Alike L x y → SameTexts L x y
+  unfolding numbers
+  same_texts (running {i = i} {fs = fs} known home matched below) =
+      ap (λ b. unless_so b (L.image i) (without L.outer (numbers fs))) (linked.image_inner i) ∙ ap (λ ks. L.image i ∷ ks) (below_texts below)
+  same_texts (over {i = i} {fs = fs} known home halted below) =
+      ap (λ b. unless_so b (L.image i) (without L.outer (numbers fs))) (linked.image_inner i) ∙ ap (λ ks. L.image i ∷ ks) (below_texts below)
+  same_texts (finished houses given) = refl
+  same_texts undefined = tt
+
   -- A run of the source that has ended: the target has ended the same way.
   pub ends_alike : {x : State E A.sorts} {y : State E B.sorts} → Alike L x y → EndsAlike L W x y
   ends_alike {x = x} {y = y} alike n m e us s ended late =
@@ -48,12 +66,12 @@ module _ {E : Type 0} {A B : Lang E} {K : Kit A B} {P : Program A.sorts} {Q : Pr
   begins_alike μ n a s n' a' t i found bare home passed =
       let known = linked.known n i found in
       let r = opened_alike L W linked n' a' t (A.start (P.text i) n a s) false refl
-          (λ idle. (linked.simulated i known).starts μ s n a t n' a' (home.houses i known) (home.idle i known idle) passed)
-          (linked.finds μ s n a t n' a' i passed found) known home (bottom home.houses) (λ k owned absent. refl) in
+      (λ idle. (linked.simulated i known).starts μ s n a t n' a' (home.houses i known) (home.idle i known idle) passed)
+      (linked.finds μ s n a t n' a' i passed found) known home (bottom home.houses) (λ k owned absent. refl) in
       let none : r.0 ≤ 0 = subst (λ o. r.0 ≤ wrapping o) bare r.1 in
       let zero_steps : r.0 ≡ 0 = omega arith in
       subst (λ o. Alike L (calling A P o n a s []) (begun B Q n' a' t)) (sym found)
-          (subst (λ k. Alike L (opening A (A.start (P.text i) n a s) i []) (run B Q k (begun B Q n' a' t))) zero_steps r.2)
+      (subst (λ k. Alike L (opening A (A.start (P.text i) n a s) i []) (run B Q k (begun B Q n' a' t))) zero_steps r.2)
 
   -- what a call breaks by is not claimed
   opening_unclaimed : (j : ℕ) (us : List (Frame A.sorts)) (f : A.sorts.Fault) (x : Entry A.sorts) (b : Bool) → active j us ≡ b → ((g : A.sorts.Fault) → x ≡ Refused g → ¬ K.Claimed g) →
@@ -71,7 +89,7 @@ module _ {E : Type 0} {A B : Lang E} {K : Kit A B} {P : Program A.sorts} {Q : Pr
   calling_unclaimed us n a s f None found broken = subst (λ g. K.Claimed g → ⊥) broken linked.missing_unclaimed
   calling_unclaimed us n a s f (Some j) found broken =
       opening_unclaimed j us f (A.start (P.text j) n a s) (active j us) refl
-          (λ g. (linked.simulated j (linked.known n j found)).refuses n a s g) broken
+      (λ g. (linked.simulated j (linked.known n j found)).refuses n a s g) broken
 
   resumed_unclaimed : (μ : K.World) (j : ℕ) (us : List (Frame A.sorts)) (w : B.sorts.View) (r' : B.sorts.Ans) (t : B.sorts.Shared) (from : List ℕ) (f : A.sorts.Fault)
       (x : Entry A.sorts) → Resumed (couple L j) μ x w r' t → BreaksBy {E = E} (entering x from j us) f → K.Claimed f → ⊥

@@ -1,11 +1,11 @@
 -- The law: local simulation of every text carries to whole runs; and its corollaries.
-use Rattle.std.specs.Prelude.{◌≡◌, ℕ, zero, suc, ◌+◌, ◌*◌, ◌≤◌, Bool, true, false, ◌||◌, nat_eq, List, [], ◌∷◌, Option, Some, None, option_map, unwrap_or, refl, if◌then◌else◌}
+use Rattle.std.specs.Prelude.{◌≡◌, ℕ, zero, suc, ◌+◌, ◌*◌, ◌≤◌, Bool, true, false, ◌||◌, nat_eq, List, [], ◌∷◌, Option, Some, None, option_map, unwrap_or, refl}
 use Rattle.std.proofs.Common.{sym, ap, ◌∙◌, subst, arith, true≢false}
 use Rattle.std.proofs.lemmas.Bool.{eqb-true, eq-eqb}
-use Rattle.simulation.specs.Machine.{Sorts, Event, Goes, Ends, Calls, Answers, Breaks, Entry, Enters, Refused, Lang, Program, Frame, Has, State, Runs, Over, Broken, numbers, active, entering, unless_active, opening, calling, answering, act, next, run, begun}
-use Rattle.simulation.specs.LocalSimulation.{Does, Kit, Pairing, Couple, StepMet, EndMet, CallMet, AnswerMet, BreakMet, Resumed, HandedOn, Wrapped, Started, Entered, Opened, Meets, Local}
-use Rattle.simulation.specs.Law.{Linking, couple, Linked, Home, Below, bottom, caller, wrapped, Alike, running, over, finished, undefined, Faithful, EndsAlike, BreaksLater, Tells, tells, Reports}
-use Rattle.simulation.proofs.Runs.{run-next, run-run, run-over, run-broken, path_reaches, path_runs, path_some}
+use Rattle.simulation.specs.Machine.{Event, Goes, Ends, Calls, Answers, Breaks, Entry, Enters, Refused, Lang, Program, Frame, Has, State, Runs, Over, numbers, active, entering, unless_active, opening, calling, answering, act, next, run}
+use Rattle.simulation.specs.LocalSimulation.{Kit, Resumed, Entered, Opened, Meets}
+use Rattle.simulation.specs.Law.{Linking, couple, Linked, Home, Below, bottom, caller, wrapped, Alike, running, over, finished, undefined, Faithful}
+use Rattle.simulation.proofs.Runs.{run-run, path_runs, path_some}
 
 or_no : (a b : Bool) → (a || b) ≡ false → (a ≡ false) × (b ≡ false)
 or_no true b h = absurd (true≢false h)
@@ -49,24 +49,24 @@ module _ {E : Type 0} {A B : Lang E} {K : Kit A B} {P : Program A.sorts} {Q : Pr
   grown : {μ μ' : K.World} {i : ℕ} {v : A.sorts.View} {us : List (Frame A.sorts)} → K.Grows i μ μ' → Home L μ (Has i v ∷ us) → Home L μ' (Has i v ∷ us)
   unfolding active
   grown {μ = μ} {μ' = μ'} {i = i} {us = us} g h = record {
-      houses = λ j k. linked.grows_houses i j μ μ' k g (h.houses j k);
-      idle = λ j k e. let parts = or_no (nat_eq j i) (active j us) e in linked.grows_idle i j μ μ' k parts.0 g (h.idle j k e)
-    }
+    houses = λ j k. linked.grows_houses i j μ μ' k g (h.houses j k);
+    idle = λ j k e. let parts = or_no (nat_eq j i) (active j us) e in linked.grows_idle i j μ μ' k parts.0 g (h.idle j k e);
+  }
 
   -- a text that has been entered is one more whose frame is its own
   entered_home : {μ μ' : K.World} {j : ℕ} {v : A.sorts.View} {us : List (Frame A.sorts)} → K.Grows j μ μ' → Home L μ us → Home L μ' (Has j v ∷ us)
   unfolding active
   entered_home {μ = μ} {μ' = μ'} {j = j} {us = us} g h = record {
-      houses = λ k known. linked.grows_houses j k μ μ' known g (h.houses k known);
-      idle = λ k known e. let parts = or_no (nat_eq k j) (active k us) e in linked.grows_idle j k μ μ' known parts.0 g (h.idle k known parts.1)
-    }
+    houses = λ k known. linked.grows_houses j k μ μ' known g (h.houses k known);
+    idle = λ k known e. let parts = or_no (nat_eq k j) (active k us) e in linked.grows_idle j k μ μ' known parts.0 g (h.idle k known parts.1);
+  }
 
   one_more : {μ : K.World} {j : ℕ} {v : A.sorts.View} {us : List (Frame A.sorts)} → Home L μ us → Home L μ (Has j v ∷ us)
   unfolding active
   one_more {j = j} {us = us} h = record {
-      houses = h.houses;
-      idle = λ k known e. let parts = or_no (nat_eq k j) (active k us) e in h.idle k known parts.1
-    }
+    houses = h.houses;
+    idle = λ k known e. let parts = or_no (nat_eq k j) (active k us) e in h.idle k known parts.1;
+  }
 
   -- a frame of the target belongs to an active text of the source
   quiet : {b : Bool} {μ : K.World} {i : ℕ} {us : List (Frame A.sorts)} {fs : List (Frame B.sorts)} → Below L b μ i us fs → (j k : ℕ) → L.owner k ≡ j → nat_eq j i ≡ false → active j us ≡ false → active k fs ≡ false
@@ -105,9 +105,9 @@ module _ {E : Type 0} {A B : Lang E} {K : Kit A B} {P : Program A.sorts} {Q : Pr
   answered_wrapped {i = i} f {us = us} {s = s} {r = r} {t = t} {r' = r'} (wrapped {g = g} {w = w} {fs = fs} named hands_on below) given =
       let h = hands_on s r t r' given in
       let enters : next B Q (entering (B.resume (Q.text g) w r' t) (f ∷ g ∷ numbers fs) g fs) ≡ act B Q (B.step (Q.text g) h.view h.shared) g fs =
-          ap (λ x. next B Q (entering x (f ∷ g ∷ numbers fs) g fs)) h.resumes in
+      ap (λ x. next B Q (entering x (f ∷ g ∷ numbers fs) g fs)) h.resumes in
       let answers : act B Q (B.step (Q.text g) h.view h.shared) g fs ≡ answering B Q g fs h.answered h.ans =
-          ap (λ x. act B Q x g fs) h.answers in
+      ap (λ x. act B Q x g fs) h.answers in
       subst (λ y. Alike L (answering A P i us s r) y) (sym (enters ∙ answers)) (answered_directly g below h.given)
 
   -- the call of a target text that is not active and accepts the call
@@ -160,8 +160,8 @@ module _ {E : Type 0} {A B : Lang E} {K : Kit A B} {P : Program A.sorts} {Q : Pr
       let known = linked.known n j found in
       let small : wrapping (L.wrapper j n') ≤ 1 = wrapping-one (L.wrapper j n') in
       let r = opened_alike n' a' t (A.start (P.text j) n a s) (active j us) refl
-          (λ idle. (linked.simulated j known).starts μ s n a t n' a' (home.houses j known) (home.idle j known idle) passed)
-          (linked.finds μ s n a t n' a' j passed found) known home (below j) (free j) in
+      (λ idle. (linked.simulated j known).starts μ s n a t n' a' (home.houses j known) (home.idle j known idle) passed)
+      (linked.finds μ s n a t n' a' j passed found) known home (below j) (free j) in
       let few : r.0 ≤ wrapping (L.wrapper j n') = r.1 in
       (r.0, omega arith, r.2)
 
@@ -194,34 +194,46 @@ module _ {E : Type 0} {A B : Lang E} {K : Kit A B} {P : Program A.sorts} {Q : Pr
   unfolding act
   meets_alike {i = i} v₀ w t {us = us} {fs = fs} (Goes v s) met known home below =
       let narrow : L.width i ≤ W = linked.narrow i known in
-      let few : met.count ≤ L.width i = met.few in
-      (met.count, path_some B Q (L.image i) fs met.does, omega arith,
-          subst (λ y. Alike L (Runs i v us s) y) (sym (path_runs B Q (L.image i) fs met.does)) (running known (rehomed L home) met.matched below))
+      let few : met.count ≤ L.width i = met.few in (
+        met.count,
+        path_some B Q (L.image i) fs met.does,
+        omega arith,
+        subst (λ y. Alike L (Runs i v us s) y) (sym (path_runs B Q (L.image i) fs met.does)) (running known (rehomed L home) met.matched below),
+      )
   meets_alike {i = i} v₀ w t {us = us} {fs = fs} (Ends e v s) met known home below =
       let narrow : L.width i ≤ W = linked.narrow i known in
-      let few : met.count ≤ L.width i = met.few in
-      (met.count, path_some B Q (L.image i) fs met.does, omega arith,
-          subst (λ y. Alike L (Over e (Has i v ∷ us) s) y) (sym (path_runs B Q (L.image i) fs met.does)) (over known (rehomed L home) met.halted below))
+      let few : met.count ≤ L.width i = met.few in (
+        met.count,
+        path_some B Q (L.image i) fs met.does,
+        omega arith,
+        subst (λ y. Alike L (Over e (Has i v ∷ us) s) y) (sym (path_runs B Q (L.image i) fs met.does)) (over known (rehomed L home) met.halted below),
+      )
   meets_alike {μ = μ} {i = i} v₀ w t {us = us} {fs = fs} (Calls v s n a) met known home below =
       let narrow : L.width i ≤ W = linked.narrow i known in
       let few : 1 + met.count ≤ L.width i = met.few in
       let some : 1 ≤ met.count = path_some B Q (L.image i) fs met.does in
       let home_here : Home L μ (Has i v ∷ us) = rehomed L home in
       let r = called_alike n a s met.name met.arg met.shared (P.find n) refl met.passed (grown met.grows home_here)
-          (λ j. caller {μ₀ = μ} {v = v} {w = met.view} known home_here met.waits met.resumes below)
-          (λ j k owned absent. quiet_frame v met.view below j k owned absent) in
-      let most : r.0 ≤ 1 = r.1 in
-      (met.count + r.0, omega arith, omega arith,
-          subst (λ y. Alike L (calling A P (P.find n) n a s (Has i v ∷ us)) y)
-              (sym (sym (run-run B Q r.0 met.count (Runs (L.image i) w fs t)) ∙ ap (run B Q r.0) (path_runs B Q (L.image i) fs met.does))) r.2)
+      (λ j. caller {μ₀ = μ} {v = v} {w = met.view} known home_here met.waits met.resumes below)
+      (λ j k owned absent. quiet_frame v met.view below j k owned absent) in
+      let most : r.0 ≤ 1 = r.1 in (
+        met.count + r.0,
+        omega arith,
+        omega arith,
+        subst (λ y. Alike L (calling A P (P.find n) n a s (Has i v ∷ us)) y)
+            (sym (sym (run-run B Q r.0 met.count (Runs (L.image i) w fs t)) ∙ ap (run B Q r.0) (path_runs B Q (L.image i) fs met.does))) r.2,
+      )
   meets_alike {b = b} {i = i} v₀ w t {us = us} {fs = fs} (Answers s r) met known home below =
       let few : met.count ≤ L.width i = met.few in
       let some : 1 ≤ met.count = path_some B Q (L.image i) fs met.does in
       let q = answers_alike b known below met.given in
-      let most : L.width i + q.0 ≤ W = q.1 in
-      (met.count + q.0, omega arith, omega arith,
-          subst (λ y. Alike L (answering A P i us s r) y)
-              (sym (sym (run-run B Q q.0 met.count (Runs (L.image i) w fs t)) ∙ ap (run B Q q.0) (path_runs B Q (L.image i) fs met.does))) q.2)
+      let most : L.width i + q.0 ≤ W = q.1 in (
+        met.count + q.0,
+        omega arith,
+        omega arith,
+        subst (λ y. Alike L (answering A P i us s r) y)
+            (sym (sym (run-run B Q q.0 met.count (Runs (L.image i) w fs t)) ∙ ap (run B Q q.0) (path_runs B Q (L.image i) fs met.does))) q.2,
+      )
   meets_alike v₀ w t (Breaks x) met known home below = (1, omega arith, linked.some_step, undefined)
 
   -- one step of the source, 1 to W of the target

@@ -1,4 +1,4 @@
 pub mod Runs
 pub mod LawProof
 pub mod Corollaries
-pub mod Compose
+pub mod Composing

@@ -1,7 +1,7 @@
 -- Runs: steps before and after, runs that are over or broken, paths of one view as steps of a run.
-use Rattle.std.specs.Prelude.{◌≡◌, ℕ, zero, suc, ◌+◌, ◌*◌, ◌≤◌, Bool, true, false, nat_eq, List, [], ◌∷◌, refl}
-use Rattle.std.proofs.Common.{sym, ap, ◌∙◌, subst, arith}
-use Rattle.simulation.specs.Machine.{Sorts, Event, Goes, Ends, Calls, Answers, Breaks, Lang, Program, Frame, Has, State, Runs, Over, Broken, act, next, run}
+use Rattle.std.specs.Prelude.{◌≡◌, ℕ, zero, suc, ◌+◌, ◌≤◌, List, refl}
+use Rattle.std.proofs.Common.{sym, ap, ◌∙◌, arith}
+use Rattle.simulation.specs.Machine.{Event, Lang, Program, Frame, State, Runs, Over, Broken, act, next, run}
 use Rattle.simulation.specs.LocalSimulation.{Does, last, more}
 
 module _ {E : Type 0} (A : Lang E) (P : Program A.sorts) where
@@ -32,7 +32,7 @@ module _ {E : Type 0} (A : Lang E) (P : Program A.sorts) where
 module _ {E : Type 0} (B : Lang E) (Q : Program B.sorts) (j : ℕ) (fs : List (Frame B.sorts)) where
   -- a path has a last step, and the run gets there
   pub path_reaches : {w : B.sorts.View} {t : B.sorts.Shared} {n : ℕ} {e : Event E B.sorts} → Does B (λ v. 1) (Q.text j) w t n e →
-    (m : ℕ) × (w' : B.sorts.View) × (t' : B.sorts.Shared) × (n ≡ suc m) × (run B Q m (Runs j w fs t) ≡ Runs j w' fs t') × (B.step (Q.text j) w' t' ≡ e)
+      (m : ℕ) × (w' : B.sorts.View) × (t' : B.sorts.Shared) × (n ≡ suc m) × (run B Q m (Runs j w fs t) ≡ Runs j w' fs t') × (B.step (Q.text j) w' t' ≡ e)
   unfolding run next act
   path_reaches (last {w = w} {t = t} step weighs) = (0, w, t, weighs, refl, step)
   path_reaches (more {w = w} {t = t} {n = n} {m = m} step rest weighs) =
@@ -44,7 +44,7 @@ module _ {E : Type 0} (B : Lang E) (Q : Program B.sorts) (j : ℕ) (fs : List (F
 
   -- the whole path, with what its event makes of the run
   pub path_runs : {w : B.sorts.View} {t : B.sorts.Shared} {n : ℕ} {e : Event E B.sorts} → Does B (λ v. 1) (Q.text j) w t n e →
-    run B Q n (Runs j w fs t) ≡ act B Q e j fs
+      run B Q n (Runs j w fs t) ≡ act B Q e j fs
   unfolding run next act
   path_runs {w = w} {t = t} {e = e} p =
       let r = path_reaches p in

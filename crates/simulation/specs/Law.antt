@@ -1,7 +1,7 @@
 -- Whole programs: how the texts of a source program are linked with those of a target program, when
 -- two whole states are alike, and what it means that a target's runs are faithful to a source's.
-use Rattle.std.specs.Prelude.{◌≡◌, ℕ, zero, suc, ◌+◌, ◌*◌, ◌≤◌, Bool, true, false, nat_eq, List, [], ◌∷◌, Option, Some, None, option_map, unwrap_or}
-use Rattle.simulation.specs.Machine.{Sorts, Event, Entry, Lang, Program, Frame, Has, State, Runs, Over, Broken, active, next, run}
+use Rattle.std.specs.Prelude.{◌≡◌, ℕ, suc, ◌*◌, ◌≤◌, Bool, true, false, nat_eq, List, [], ◌∷◌, Option, Some, option_map, unwrap_or, map}
+use Rattle.simulation.specs.Machine.{Sorts, Lang, Program, Frame, Has, State, Runs, Over, Broken, numbers, active, run}
 use Rattle.simulation.specs.LocalSimulation.{Kit, Pairing, Couple, Resumed, HandedOn, Local}
 
 -- which target text stands for which source text
@@ -24,16 +24,16 @@ pub record Linking {E : Type 0} {A B : Lang E} (K : Kit A B) (P : Program A.sort
 -- the step of a wrapper
 abbrev pub couple : {E : Type 0} {A B : Lang E} {K : Kit A B} {P : Program A.sorts} {Q : Program B.sorts} → Linking K P Q → ℕ → Couple K
 couple {P = P} {Q = Q} L i = record {
-    number = i;
-    pairing = L.pairing i;
-    source = P.text i;
-    target = Q.text (L.image i);
-    weight = λ w. 1;
-    most = λ v. L.width i;
-    spare = 1;
-    wrapper = λ n. option_map Q.text (L.wrapper i n);
-    inner = L.inner i
-  }
+  number = i;
+  pairing = L.pairing i;
+  source = P.text i;
+  target = Q.text (L.image i);
+  weight = λ w. 1;
+  most = λ v. L.width i;
+  spare = 1;
+  wrapper = λ n. option_map Q.text (L.wrapper i n);
+  inner = L.inner i;
+}
 
 -- Each source text is simulated by its target text, a step costs at most W, and names are found.
 pub record Linked {E : Type 0} {A B : Lang E} {K : Kit A B} {P : Program A.sorts} {Q : Program B.sorts} (L : Linking K P Q) (W : ℕ) : Type 0 where
@@ -68,36 +68,36 @@ pub record Home {E : Type 0} {A B : Lang E} {K : Kit A B} {P : Program A.sorts} 
 pub data Below {E : Type 0} {A B : Lang E} {K : Kit A B} {P : Program A.sorts} {Q : Program B.sorts} (L : Linking K P Q) : Bool → K.World → ℕ → List (Frame A.sorts) → List (Frame B.sorts) → Type 0 where
   bottom : {μ : K.World} {i : ℕ} → ((j : ℕ) → L.Known j → (L.pairing j).Houses μ) → Below L false μ i [] []
   caller : {μ₀ μ : K.World} {i j : ℕ} {v : A.sorts.View} {w : B.sorts.View} {us : List (Frame A.sorts)} {fs : List (Frame B.sorts)} {b : Bool} →
-    L.Known j →
-    Home L μ₀ (Has j v ∷ us) →
-    (L.pairing j).Waits μ₀ μ v w →
-    ((s : A.sorts.Shared) (r : A.sorts.Ans) (t : B.sorts.Shared) (r' : B.sorts.Ans) → K.Given μ s r t r' → Resumed (couple L j) μ₀ (A.resume (P.text j) v r s) w r' t) →
-    Below L b μ₀ j us fs →
-    Below L false μ i (Has j v ∷ us) (Has (L.image j) w ∷ fs)
+      L.Known j →
+      Home L μ₀ (Has j v ∷ us) →
+      (L.pairing j).Waits μ₀ μ v w →
+      ((s : A.sorts.Shared) (r : A.sorts.Ans) (t : B.sorts.Shared) (r' : B.sorts.Ans) → K.Given μ s r t r' → Resumed (couple L j) μ₀ (A.resume (P.text j) v r s) w r' t) →
+      Below L b μ₀ j us fs →
+      Below L false μ i (Has j v ∷ us) (Has (L.image j) w ∷ fs)
   wrapped : {μ₀ μ : K.World} {i g : ℕ} {n : B.sorts.Name} {w : B.sorts.View} {us : List (Frame A.sorts)} {fs : List (Frame B.sorts)} →
-    L.wrapper i n ≡ Some g →
-    ((s : A.sorts.Shared) (r : A.sorts.Ans) (t : B.sorts.Shared) (r' : B.sorts.Ans) → K.Given μ s r t r' → HandedOn (couple L i) μ₀ (Q.text g) w s r t r') →
-    Below L false μ₀ i us fs →
-    Below L true μ i us (Has g w ∷ fs)
+      L.wrapper i n ≡ Some g →
+      ((s : A.sorts.Shared) (r : A.sorts.Ans) (t : B.sorts.Shared) (r' : B.sorts.Ans) → K.Given μ s r t r' → HandedOn (couple L i) μ₀ (Q.text g) w s r t r') →
+      Below L false μ₀ i us fs →
+      Below L true μ i us (Has g w ∷ fs)
 
 -- Two whole states are alike; a state in which the source is broken says nothing of the target.
 pub data Alike {E : Type 0} {A B : Lang E} {K : Kit A B} {P : Program A.sorts} {Q : Program B.sorts} (L : Linking K P Q) : State E A.sorts → State E B.sorts → Type 0 where
   running : {μ : K.World} {i : ℕ} {v : A.sorts.View} {s : A.sorts.Shared} {w : B.sorts.View} {t : B.sorts.Shared} {us : List (Frame A.sorts)} {fs : List (Frame B.sorts)} {b : Bool} →
-    L.Known i →
-    Home L μ (Has i v ∷ us) →
-    (L.pairing i).Matched μ v s w t →
-    Below L b μ i us fs →
-    Alike L (Runs i v us s) (Runs (L.image i) w fs t)
+      L.Known i →
+      Home L μ (Has i v ∷ us) →
+      (L.pairing i).Matched μ v s w t →
+      Below L b μ i us fs →
+      Alike L (Runs i v us s) (Runs (L.image i) w fs t)
   over : {μ : K.World} {i : ℕ} {e : E} {v : A.sorts.View} {s : A.sorts.Shared} {w : B.sorts.View} {t : B.sorts.Shared} {us : List (Frame A.sorts)} {fs : List (Frame B.sorts)} {b : Bool} →
-    L.Known i →
-    Home L μ (Has i v ∷ us) →
-    (L.pairing i).Halted μ v s w t →
-    Below L b μ i us fs →
-    Alike L (Over e (Has i v ∷ us) s) (Over e (Has (L.image i) w ∷ fs) t)
+      L.Known i →
+      Home L μ (Has i v ∷ us) →
+      (L.pairing i).Halted μ v s w t →
+      Below L b μ i us fs →
+      Alike L (Over e (Has i v ∷ us) s) (Over e (Has (L.image i) w ∷ fs) t)
   finished : {μ : K.World} {e : E} {s : A.sorts.Shared} {r : A.sorts.Ans} {t : B.sorts.Shared} {r' : B.sorts.Ans} →
-    ((j : ℕ) → L.Known j → (L.pairing j).Houses μ) →
-    K.Given μ s r t r' →
-    Alike L (Over e [] s) (Over e [] t)
+      ((j : ℕ) → L.Known j → (L.pairing j).Houses μ) →
+      K.Given μ s r t r' →
+      Alike L (Over e [] s) (Over e [] t)
   undefined : {x : A.sorts.Fault} {ks : List ℕ} {y : State E B.sorts} → Alike L (Broken x ks) y
 
 -- After n steps of the source the target has a moment, of n to W · n steps, at which it is alike.
@@ -127,3 +127,25 @@ Reports {A = A} {B = B} K P Q W x y =
     (n : ℕ) (i : ℕ) (v : A.sorts.View) (us : List (Frame A.sorts)) (s : A.sorts.Shared) (f : A.sorts.Fault) (ks : List ℕ) →
     run A P n x ≡ Runs i v us s → run A P (suc n) x ≡ Broken f ks → K.Claimed f →
     (m : ℕ) × (n ≤ m) × (suc m ≤ W * suc n) × Tells K Q f (run B Q m y)
+
+-- the texts of a state, the last called first
+abbrev pub texts : {E : Type 0} {L : Sorts} → State E L → List ℕ
+texts (Runs k v us s) = k ∷ numbers us
+texts (Over e us s) = numbers us
+texts (Broken f ks) = ks
+
+-- a list without the numbers that meet a test
+abbrev pub unless_so : Bool → ℕ → List ℕ → List ℕ
+unless_so true k ks = ks
+unless_so false k ks = k ∷ ks
+
+abbrev pub without : (ℕ → Bool) → List ℕ → List ℕ
+without test [] = []
+without test (k ∷ ks) = unless_so (test k) k (without test ks)
+
+-- The target's texts, wrappers left out, are the images of the source's in their order; nothing is
+-- said where the source is broken.
+abbrev pub SameTexts : {E : Type 0} {A B : Lang E} {K : Kit A B} {P : Program A.sorts} {Q : Program B.sorts} → Linking K P Q → State E A.sorts → State E B.sorts → Type 0
+SameTexts L (Runs k v us s) y = without L.outer (texts y) ≡ map L.image (k ∷ numbers us)
+SameTexts L (Over e us s) y = without L.outer (texts y) ≡ map L.image (numbers us)
+SameTexts L (Broken f ks) y = Unit {0}

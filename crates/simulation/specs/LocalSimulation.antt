@@ -2,7 +2,7 @@
 -- and of no program that holds them. What the rest of a program may rely on, or may not touch, is
 -- told by a world; a text keeps the world that it was called in until it answers.
 use Rattle.std.specs.Prelude.{◌≡◌, ℕ, ◌+◌, ◌≤◌, Option, Some, None}
-use Rattle.simulation.specs.Machine.{Sorts, Event, Goes, Ends, Calls, Answers, Breaks, Entry, Enters, Refused, Lang}
+use Rattle.simulation.specs.Machine.{Event, Goes, Ends, Calls, Answers, Breaks, Entry, Enters, Refused, Lang}
 
 -- From this view the text goes on, by steps that weigh n together, to a step that does e.
 pub data Does {E : Type 0} (B : Lang E) (weight : B.sorts.View → ℕ) (c : B.sorts.Code) : B.sorts.View → B.sorts.Shared → ℕ → Event E B.sorts → Type 0 where

@@ -1,9 +1,9 @@
 -- Composition: two local simulations, one above the other, are one.
-use Rattle.std.specs.Prelude.{◌≡◌, ℕ, zero, suc, ◌+◌, ◌≤◌, Option, Some, None, refl}
-use Rattle.std.proofs.Common.{sym, ap, ◌∙◌, subst, arith}
-use Rattle.simulation.specs.Machine.{Sorts, Event, Goes, Ends, Calls, Answers, Breaks, Entry, Enters, Refused, Lang}
-use Rattle.simulation.specs.LocalSimulation.{Does, last, more, Kit, Pairing, Couple, StepMet, EndMet, CallMet, AnswerMet, BreakMet, Resumed, HandedOn, Wrapped, Started, Entered, Opened, Meets, Local}
-use Rattle.simulation.specs.Composition.{composite_kit, composite_pairing, composite_couple, below_of, Composable}
+use Rattle.std.specs.Prelude.{◌≡◌, ℕ, ◌+◌, ◌≤◌, Option, Some, None}
+use Rattle.std.proofs.Common.{sym, ap, subst, arith}
+use Rattle.simulation.specs.Machine.{Event, Goes, Ends, Calls, Answers, Breaks, Entry, Enters, Refused, Lang}
+use Rattle.simulation.specs.LocalSimulation.{Does, last, more, Kit, Couple, StepMet, Resumed, Started, Entered, Opened, Meets, Local}
+use Rattle.simulation.specs.Composition.{composite_kit, composite_couple, below_of, Composable}
 
 -- a path and then a path
 pub join : {E : Type 0} {B : Lang E} {weight : B.sorts.View → ℕ} {c : B.sorts.Code} {w w' : B.sorts.View} {t t' : B.sorts.Shared} {n m : ℕ} {e : Event E B.sorts} →
@@ -24,8 +24,20 @@ after_path C μ k m (Ends e v s) path few met =
     record { count = _; view = met.view; shared = met.shared; does = join path met.does; few = omega arith; halted = met.halted }
 after_path C μ k m (Calls v s n a) path few met =
     let few' : C.spare + met.count ≤ m = met.few in
-    record { count = _; view = met.view; shared = met.shared; name = met.name; arg = met.arg; does = join path met.does; few = omega arith;
-      world = met.world; grows = met.grows; passed = met.passed; waits = met.waits; resumes = met.resumes }
+    record {
+      count = _;
+      view = met.view;
+      shared = met.shared;
+      name = met.name;
+      arg = met.arg;
+      does = join path met.does;
+      few = omega arith;
+      world = met.world;
+      grows = met.grows;
+      passed = met.passed;
+      waits = met.waits;
+      resumes = met.resumes;
+    }
 after_path C μ k m (Answers s r) path few met =
     let few' : met.count ≤ m = met.few in
     record { count = _; shared = met.shared; ans = met.ans; does = join path met.does; few = omega arith; given = met.given }
@@ -42,7 +54,7 @@ along C simulated μ {v = v} {s = s} {e = e} (last step weighs) w t matched =
 along C simulated μ {v = v} {s = s} {e = e} (more {w' = v'} {t' = s'} {m = m} step rest weighs) w t matched =
     let first : StepMet C μ w t (C.most v) v' s' = subst (λ x. Meets C μ w t (C.most v) x) step (simulated.follows μ v s w t matched) in
     subst (λ k. Meets C μ w t k e) (sym weighs)
-        (after_path C μ (C.most v) m e first.does first.few (along C simulated μ rest first.view first.shared first.matched))
+    (after_path C μ (C.most v) m e first.does first.few (along C simulated μ rest first.view first.shared first.matched))
 
 module _ {E : Type 0} {A B C : Lang E} {K : Kit A B} {J : Kit B C} (c : Couple K) (d : Couple J) (composable : Composable J c) (upper : Local c) (lower : Local (below_of c d)) where
   resumed_both : (μ : (composite_kit K J).World) (q : B.sorts.Ans) (m : B.sorts.Shared) (x : B.sorts.View) (w : C.sorts.View) (r : C.sorts.Ans) (t : C.sorts.Shared) (y : Entry A.sorts) →
@@ -69,13 +81,19 @@ module _ {E : Type 0} {A B C : Lang E} {K : Kit A B} {J : Kit B C} (c : Couple K
       let few : c.spare + up.count ≤ most = up.few in
       let few' : d.spare + down.count ≤ up.count = down.few in
       record {
-        count = down.count; view = down.view; shared = down.shared; name = down.name; arg = down.arg; does = down.does; few = omega arith;
+        count = down.count;
+        view = down.view;
+        shared = down.shared;
+        name = down.name;
+        arg = down.arg;
+        does = down.does;
+        few = omega arith;
         world = (up.world, down.world);
         grows = (up.grows, down.grows);
         passed = (up.shared, up.name, up.arg, up.passed, down.passed);
         waits = (up.view, up.waits, down.waits);
         resumes = λ s' r t' r' given. resumed_both μ given.1 given.0 up.view down.view r' t' (A.resume c.source v r s')
-            (up.resumes s' r given.0 given.1 given.2) (down.resumes given.0 given.1 t' r' given.3)
+            (up.resumes s' r given.0 given.1 given.2) (down.resumes given.0 given.1 t' r' given.3);
       }
   both_meet μ x m w t most (Answers s r) up matched =
       let down = along (below_of c d) lower μ.1 up.does w t matched in
@@ -95,14 +113,20 @@ module _ {E : Type 0} {A B C : Lang E} {K : Kit A B} {J : Kit B C} (c : Couple K
   both_enter μ v s x m t n a None above e =
       record { view = e.view; shared = e.shared; starts = e.starts; matched = (x, m, above, e.matched) }
   both_enter μ v s x m t n a (Some g) above e = record {
-      view = e.view; shared = e.shared; starts = e.starts; waiting = e.waiting; passed = e.passed; arg = e.arg; calls = e.calls;
-      world = (μ.0, e.world);
-      grows = (composable.stays c.number μ.0, e.grows);
-      started = record { view = e.started.view; shared = e.started.shared; starts = e.started.starts; matched = (x, m, above, e.started.matched) };
-      hands_on = λ s' r t' r' given.
-          let h = e.hands_on given.0 given.1 t' r' given.3 in
-          record { view = h.view; shared = h.shared; resumes = h.resumes; answered = h.answered; ans = h.ans; answers = h.answers; given = (given.0, given.1, given.2, h.given) }
-    }
+    view = e.view;
+    shared = e.shared;
+    starts = e.starts;
+    waiting = e.waiting;
+    passed = e.passed;
+    arg = e.arg;
+    calls = e.calls;
+    world = (μ.0, e.world);
+    grows = (composable.stays c.number μ.0, e.grows);
+    started = record { view = e.started.view; shared = e.started.shared; starts = e.started.starts; matched = (x, m, above, e.started.matched) };
+    hands_on = λ s' r t' r' given.
+        let h = e.hands_on given.0 given.1 t' r' given.3 in
+        record { view = h.view; shared = h.shared; resumes = h.resumes; answered = h.answered; ans = h.ans; answers = h.answers; given = (given.0, given.1, given.2, h.given) };
+  }
 
   both_open : (μ : (composite_kit K J).World) (m : B.sorts.Shared) (k : B.sorts.Name) (b : B.sorts.Arg) (t : C.sorts.Shared) (n : C.sorts.Name) (a : C.sorts.Arg) (y : Entry A.sorts) →
       Opened c μ.0 y m k b → Opened (below_of c d) μ.1 (B.start c.target k b m) t n a → Opened (composite_couple c d) μ y t n a
@@ -114,11 +138,11 @@ module _ {E : Type 0} {A B C : Lang E} {K : Kit A B} {J : Kit B C} (c : Couple K
   -- COMPOSITION: the two layers together are one local simulation.
   pub composite_simulates : Local (composite_couple c d)
   composite_simulates = record {
-      starts = λ μ s n a t n' a' houses idle passed.
-          both_open μ passed.0 passed.1 passed.2 t n' a' (A.start c.source n a s)
-              (upper.starts μ.0 s n a passed.0 passed.1 passed.2 houses.0 idle.0 passed.3)
-              (lower.starts μ.1 passed.0 passed.1 passed.2 t n' a' houses.1 idle.1 passed.4);
-      refuses = upper.refuses;
-      follows = λ μ v s w t matched.
-          both_meet μ matched.0 matched.1 w t (c.most v) (A.step c.source v s) (upper.follows μ.0 v s matched.0 matched.1 matched.2) matched.3
-    }
+    starts = λ μ s n a t n' a' houses idle passed.
+        both_open μ passed.0 passed.1 passed.2 t n' a' (A.start c.source n a s)
+        (upper.starts μ.0 s n a passed.0 passed.1 passed.2 houses.0 idle.0 passed.3)
+        (lower.starts μ.1 passed.0 passed.1 passed.2 t n' a' houses.1 idle.1 passed.4);
+    refuses = upper.refuses;
+    follows = λ μ v s w t matched.
+        both_meet μ matched.0 matched.1 w t (c.most v) (A.step c.source v s) (upper.follows μ.0 v s matched.0 matched.1 matched.2) matched.3;
+  }
