@@ -10,7 +10,7 @@ use Rattle.std.proofs.lemmas.Bool.Decides.{nat_tests}
 use Rattle.std.proofs.lemmas.Grind.{common_steps}
 use Rattle.edit_rules.specs.TakenFields.{behind_blanks, with_blanks_as, is_number, signed_int, next_size}
 
-whole_rest : (text : List ℕ) (done : ℕ) → take (length text - done) (drop done text) ≡ drop done text
+pub whole_rest : (text : List ℕ) (done : ℕ) → take (length text - done) (drop done text) ≡ drop done text
 whole_rest text done = grind (arith, common_steps)
 
 behind_by : (b : Bool) (n : ℕ) (c : ℕ) (cs : List ℕ) → drop n cs ≡ behind_blanks cs
@@ -95,7 +95,7 @@ null_step size c cs false e h ih =
     let parts = and_parts _ _ h in
     ap (λ n. fold (next_size false) n cs) (digit_step size c parts.0) ∙ ih (size * 10 + digit_value c) parts.1
 
-size_from : (zeros : Bool) (size : ℕ) (text : List ℕ) → all_ascii_digits (with_blanks_as zeros text) ≡ true
+pub size_from : (zeros : Bool) (size : ℕ) (text : List ℕ) → all_ascii_digits (with_blanks_as zeros text) ≡ true
     → fold (next_size zeros) (min size (2 ^ 64 - 1)) text ≡ min (digits_value_after 10 size (with_blanks_as zeros text)) (2 ^ 64 - 1)
 size_from zeros size [] h = refl
 size_from true size (c ∷ cs) h =

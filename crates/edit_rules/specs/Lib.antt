@@ -1,5 +1,9 @@
+pub mod Answers
 pub mod EditedFields
+pub mod ListInput
+pub mod ListPlaces
 pub mod Listed
+pub mod Reader
 pub mod TakeErrors
 pub mod TakenFields
 pub mod Writer

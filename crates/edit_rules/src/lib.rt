@@ -4,9 +4,12 @@
 
 mod columns;
 pub mod edit;
+pub mod list_reader;
+mod list_scan;
 pub mod list_writer;
 pub mod take;
 
 pub use edit::{edit_int, edit_logical, edit_text};
+pub use list_reader::{ItemKind, ListItem, ListReader};
 pub use list_writer::{ListPut, ListValue, ListWriter};
 pub use take::{TakeError, take_int, take_logical, take_text};

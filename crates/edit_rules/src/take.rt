@@ -99,7 +99,7 @@ fn letter(letters: &[u8]) -> Result<bool, TakeError>
 
 // The number of the digits, with its sign.
 #[tactic(auto, using(crate::proofs::TakeSteps::signed_int_capped))]
-fn number_in(negative: bool, digits: &[u8], zero_blanks: bool) -> Result<i32, TakeError>
+pub fn number_in(negative: bool, digits: &[u8], zero_blanks: bool) -> Result<i32, TakeError>
     ensures { numbered result ≡ int_of negative (with_blanks_as zero_blanks digits.now) }
 {
     if !has_number(digits, zero_blanks) {
@@ -136,7 +136,7 @@ fn size_in(digits: &[u8], zero_blanks: bool) -> u64
     folded(digits, zero_blanks)
 }
 
-fn folded(digits: &[u8], zero_blanks: bool) -> u64
+pub fn folded(digits: &[u8], zero_blanks: bool) -> u64
     ensures { result ≡ fold (λ size c. next_size zero_blanks size c) 0 digits.now }
 {
     digits
