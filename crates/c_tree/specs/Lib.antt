@@ -1,5 +1,6 @@
 pub mod Access
 pub mod Faults
+pub mod FaultNames
 pub mod Objects
 pub mod Terms
 pub mod Values
@@ -21,4 +22,6 @@ pub mod Steps
 pub mod Meaning
 pub mod RowTexts
 pub mod Rows
+pub mod Rulings
 pub mod Opened
+pub mod LibraryRows

@@ -4,13 +4,13 @@ use Rattle.std.specs.Prelude.{ℕ, List, [], ◌∷◌, Ok, Err}
 use Rattle.c_tree.specs.declared.outcome.CValue.{CValue}
 use Rattle.c_tree.specs.Faults.{Or, NoMeaning, after}
 use Rattle.c_tree.specs.World.{World, Plain, Stop, Reply, Stops}
-use Rattle.c_tree.specs.Builtins.{Builtin, s_copy, s_cmp, s_cat, i_indx, pow_ii, i_sign, i_dim, l_ge, l_gt, l_le, l_lt, s_stop, s_wsle, do_lio, e_wsle, f_open, f_clos, f_back, f_rew, f_end}
+use Rattle.c_tree.specs.Builtins.{Builtin, s_copy, s_cmp, s_cat, i_indx, pow_ii, i_sign, i_dim, l_ge, l_gt, l_le, l_lt, s_stop, s_wsle, do_lio, e_wsle, s_wsli, e_wsli, f_open, f_clos, f_back, f_rew, f_end}
 use Rattle.c_tree.specs.LibraryArguments.{length_from, text_at}
 use Rattle.f2c_outside.specs.Units.{back_unit, rewind_unit, end_unit}
 use Rattle.c_tree.specs.LibraryTexts.{copied, concatenated, on_texts, comparison, index_of, not_below, above, not_above, below}
 use Rattle.c_tree.specs.LibraryNumbers.{on_integers, power, signed, positive_difference}
 use Rattle.c_tree.specs.LibraryUnits.{opens, closes, positions}
-use Rattle.c_tree.specs.Transfers.{starts_listed_output, listed_items, ends_listed_output}
+use Rattle.c_tree.specs.Transfers.{starts_listed_output, listed_items, ends_listed_output, starts_listed_filling, ends_listed_filling}
 
 abbrev pub stopped : World → List ℕ → Reply
 stopped world [] = Stops Plain world
@@ -27,6 +27,8 @@ library s_stop world (pointer ∷ size ∷ []) = stops world pointer size
 library s_wsle world (pointer ∷ []) = starts_listed_output world pointer
 library do_lio world (kind ∷ count ∷ first ∷ size ∷ []) = listed_items world kind count first size
 library e_wsle world [] = ends_listed_output world
+library s_wsli world (pointer ∷ []) = starts_listed_filling world pointer
+library e_wsli world [] = ends_listed_filling world
 library s_copy world (target ∷ source ∷ target_length ∷ source_length ∷ []) =
     copied world target source target_length source_length
 library s_cat world (target ∷ addresses ∷ lengths ∷ count ∷ size ∷ []) =

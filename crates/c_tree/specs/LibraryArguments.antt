@@ -1,5 +1,5 @@
 -- What the library reads and stores through its arguments (C89, 3.3.2.2).
-use Rattle.std.specs.Prelude.{ℕ, ◌+◌, nat_eq, ℤ, pos, int_lt, unsigned_abs, ◌&&◌, List, [], ◌∷◌, length, Option, Some, None, Ok, slice_get, slice_set, if◌then◌else◌}
+use Rattle.std.specs.Prelude.{ℕ, ◌+◌, ◌-◌, nat_eq, ℤ, pos, int_lt, unsigned_abs, ◌&&◌, List, [], ◌∷◌, ◌++◌, length, take, replicate, Option, Some, None, Ok, slice_get, slice_set, if◌then◌else◌}
 use Rattle.c_tree.specs.declared.outcome.CValue.{CValue}
 use Rattle.c_tree.specs.declared.outcome.CValue.TheVariants.{Pointer, Null}
 use Rattle.c_tree.specs.declared.outcome.CFault.TheVariants.{Outside, Kind, Library}
@@ -75,3 +75,7 @@ field_number objects list name = after (field_value objects list name) as_number
 abbrev pub shifted : ℕ → CValue → CValue
 shifted distance (Pointer object offset) = Pointer object (offset + distance)
 shifted distance other = other
+
+-- a text cut to a length, or with blanks behind it
+abbrev pub fitted : ℕ → List ℕ → List ℕ
+fitted size text = take size (text ++ replicate (size - length text) 32)

@@ -1,17 +1,13 @@
 -- Texts: assignment, comparison, concatenation and search, with blanks behind the shorter one (ANSI X3.9-1978,
 -- 6.2.2.2, 6.3.5 and 10.4, and the functions INDEX, LGE, LGT, LLE and LLT of 15.10).
-use Rattle.std.specs.Prelude.{ℕ, zero, suc, ◌+◌, ◌-◌, nat_lt, ℤ, pos, negsuc, int_lt, int_le, Bool, List, [], ◌∷◌, ◌++◌, length, take, replicate, Ok, nat_eq, if◌then◌else◌}
+use Rattle.std.specs.Prelude.{ℕ, zero, suc, ◌+◌, nat_lt, ℤ, pos, negsuc, int_lt, int_le, Bool, List, [], ◌∷◌, ◌++◌, length, Ok, nat_eq, if◌then◌else◌}
 use Rattle.std.specs.List.{starts_with}
 use Rattle.c_tree.specs.declared.outcome.CValue.{CValue}
 use Rattle.c_tree.specs.Faults.{Or, after}
 use Rattle.c_tree.specs.Access.{ToChar, ToPointer}
 use Rattle.c_tree.specs.Objects.{Object, fetched}
 use Rattle.c_tree.specs.World.{World, Reply, Gives, Void}
-use Rattle.c_tree.specs.LibraryArguments.{number_through, count_from, length_from, text_at, text_stored, shifted}
-
--- a text cut to a length, or with blanks behind it
-abbrev pub fitted : ℕ → List ℕ → List ℕ
-fitted size text = take size (text ++ replicate (size - length text) 32)
+use Rattle.c_tree.specs.LibraryArguments.{number_through, count_from, length_from, text_at, text_stored, shifted, fitted}
 
 abbrev pub put_text : World → CValue → ℕ → List ℕ → Or Reply
 put_text world pointer size text =

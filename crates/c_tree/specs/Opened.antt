@@ -7,7 +7,7 @@ use Rattle.c_tree.specs.LibraryNumbers.{on_integers}
 use Rattle.c_tree.specs.LibraryUnits.{opens, closes, positions}
 use Rattle.c_tree.specs.Objects.{fetched, stored}
 use Rattle.c_tree.specs.Values.{seen}
-use Rattle.c_tree.specs.Transfers.{starts_listed_output, listed_items, ends_listed_output}
+use Rattle.c_tree.specs.Transfers.{starts_listed_output, listed_items, ends_listed_output, starts_listed_filling, ends_listed_filling}
 use Rattle.c_tree.specs.Library.{stops, library}
 use Rattle.c_tree.specs.declared.expression.CExpr
 use Rattle.c_tree.specs.declared.statement.CStmt
@@ -22,5 +22,5 @@ trees_opened = tt
 
 -- `unfolding meaning_opened` opens each definition between the trees and the outcome of a run
 unfoldable pub meaning_opened : Unit {0}
-unfolding machine_opened listed_whole read_unit write_unit back_unit rewind_unit end_unit close_unit open_unit fetched stored seen starts_listed_output listed_items ends_listed_output copied concatenated on_texts on_integers opens closes positions stops library program first_broken_rule deed step start resume run_of meaning outcome function_name step_factor trees_opened
+unfolding machine_opened listed_whole read_unit write_unit back_unit rewind_unit end_unit close_unit open_unit fetched stored seen starts_listed_output listed_items ends_listed_output starts_listed_filling ends_listed_filling copied concatenated on_texts on_integers opens closes positions stops library program first_broken_rule deed step start resume run_of meaning outcome function_name step_factor trees_opened
 meaning_opened = tt

@@ -21,7 +21,8 @@ use Rattle.c_tree.specs.declared.declaration.CField.TheVariants as given
 use Rattle.c_tree.specs.declared.file.CFile.{CFile}
 use Rattle.c_tree.specs.declared.file.CFunction.{CFunction}
 use Rattle.c_tree.specs.declared.file.CConstant.{CConstant}
-use Rattle.c_tree.specs.Meaning.{meaning, outcome, Running, Ended}
+use Rattle.c_tree.specs.Meaning.{meaning, outcome, Running, Ended, Fault}
+use Rattle.c_tree.specs.declared.outcome.CFault.{CFault}
 use Rattle.c_tree.specs.World.{Plain, Ending}
 use Rattle.c_tree.specs.Steps.{sorts}
 
@@ -168,3 +169,8 @@ pub record EndsPrinting (files : List CFile) (steps : ℕ) (line : List ℕ) : T
   pub running : outcome (meaning files output_unit (steps - 1)) ≡ Running
   pub ended : outcome (meaning files output_unit steps) ≡ Ended Plain
   pub written : records_of (pos 6) (meaning files output_unit steps) ≡ line ∷ []
+
+-- the files' program faults at this step and not before, in the function of this number
+pub record FaultsAt (files : List CFile) (steps : ℕ) (fault : CFault) (function : ℕ) : Type 0 where
+  pub running : outcome (meaning files no_units (steps - 1)) ≡ Running
+  pub faulted : outcome (meaning files no_units steps) ≡ Fault fault function

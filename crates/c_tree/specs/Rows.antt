@@ -280,3 +280,61 @@ takes_no_arm =
     (set (codes "i__2") (whole_number 2) ∷ [])
     None
     ∷ printed (codes "i__2"))
+
+-- a function for two entries with its parameters' number first, and a wrapper for each
+abbrev pub entry_functions : CFile
+entry_functions =
+    file_of
+    (record {
+      result = result.Int;
+      name = codes "f_0_";
+      params =
+          record { of = parameter.Int; name = codes "n__" } ∷ record { of = parameter.Integers; name = codes "k" } ∷ [];
+      locals = [];
+      body = stmt.Set (pointed (codes "k")) (name (codes "n__")) ∷ stmt.Empty ∷ return_zero ∷ [];
+    }
+    ∷ record {
+      result = result.Int;
+      name = codes "f_";
+      params = record { of = parameter.Integers; name = codes "k" } ∷ [];
+      locals = [];
+      body = stmt.ReturnCall (call (codes "f_0_") (whole_number 0 ∷ name (codes "k") ∷ [])) ∷ [];
+    }
+    ∷ record {
+      result = result.Int;
+      name = codes "g_";
+      params = record { of = parameter.Integers; name = codes "k" } ∷ [];
+      locals = [];
+      body = stmt.ReturnCall (call (codes "f_0_") (whole_number 1 ∷ name (codes "k") ∷ [])) ∷ [];
+    }
+    ∷ [])
+
+-- `g_(&i__1);`, and the number of its entry printed
+abbrev pub enters_second : List CFile
+enters_second =
+    entry_functions
+    ∷ printing_with
+    []
+    (extern_int (codes "g_") ∷ [])
+    (do_call (codes "g_") (address (codes "i__1") ∷ []) ∷ printed (codes "i__1"))
+
+-- `s_copy(t, "AB", 4, 2);` and `i__1 = s_cmp(t, "AB", 4, 2);`
+abbrev pub compares_texts : List CFile
+compares_texts =
+    printing_with
+    []
+    (local.Chars (codes "t") 4 ∷ extern_int (codes "s_copy") ∷ extern_int (codes "s_cmp") ∷ [])
+    (do_call
+    (codes "s_copy")
+    (name (codes "t") ∷ expr.Str (codes "AB") ∷ whole_number 4 ∷ whole_number 2 ∷ [])
+    ∷ stmt.SetCall
+    (name (codes "i__1"))
+    (call (codes "s_cmp") (name (codes "t") ∷ expr.Str (codes "AB") ∷ whole_number 4 ∷ whole_number 2 ∷ []))
+    ∷ printed (codes "i__1"))
+
+-- names and labels that the function does not have
+abbrev pub undeclared_name : List CFile
+undeclared_name = body_with [] (set (codes "k") (whole_number 1) ∷ [])
+
+abbrev pub missing_label : List CFile
+missing_label = body_with [] (stmt.Goto (codes "L10") ∷ [])

@@ -1,18 +1,19 @@
 -- Transfers: how one begins, what an item does and how it ends, by the library's functions on the objects, the
 -- units and the transfer in progress (ANSI X3.9-1978, 12.8, 12.9 and 13.6).
-use Rattle.std.specs.Prelude.{ℕ, zero, suc, nat_eq, ℤ, pos, negsuc, Bool, true, false, not, List, [], ◌∷◌, ◌++◌, length, drop, Some, None, Result, Ok, Err, codes, if◌then◌else◌}
+use Rattle.std.specs.Prelude.{ℕ, zero, suc, ◌+◌, ◌*◌, nat_eq, nat_le, nat_lt, ℤ, pos, negsuc, Bool, true, false, not, List, [], ◌∷◌, ◌++◌, length, drop, Some, None, Result, Ok, Err, codes, if◌then◌else◌}
 use Rattle.std.specs.Ordering.{int_eq}
 use Rattle.edit_rules.specs.Listed as list
 use Rattle.f2c_outside.specs.Units.{Units, is_connected, write_unit}
 use Rattle.f2c_outside.specs.declared.unit_table.UnitRefusal.{UnitRefusal}
 use Rattle.f2c_outside.specs.declared.unit_table.UnitRefusal.TheVariants.{NotConnected, NotOffered, Taken, PastEnd, Failed}
 use Rattle.c_tree.specs.declared.outcome.CValue.{CValue}
-use Rattle.c_tree.specs.declared.outcome.CFault.TheVariants.{Library}
+use Rattle.c_tree.specs.declared.outcome.CValue.TheVariants.{Pointer, Null}
+use Rattle.c_tree.specs.declared.outcome.CFault.TheVariants.{Outside, Kind, Library}
 use Rattle.c_tree.specs.declared.types.ListType.TheVariants as list_type
 use Rattle.c_tree.specs.Faults.{NoMeaning, Or, after, failing}
 use Rattle.c_tree.specs.Objects.{Object}
-use Rattle.c_tree.specs.World.{Direction, Output, Input, Layout, Formatted, Listed, Medium, Unit, Internal, Transfer, World, Io, Reply, Gives, Stops}
-use Rattle.c_tree.specs.LibraryArguments.{number_through, count_from, length_from, text_at, list_at, field_number, shifted}
+use Rattle.c_tree.specs.World.{Direction, Output, Input, Layout, Formatted, Listed, Medium, Unit, Internal, InternalFile, Transfer, World, Io, Reply, Gives, Stops}
+use Rattle.c_tree.specs.LibraryArguments.{number_through, count_from, length_from, text_at, text_stored, list_at, field_value, field_number, shifted, fitted}
 
 -- the number that a statement on a unit gives where it is refused
 abbrev pub refusal_number : UnitRefusal → Or ℤ
@@ -78,6 +79,43 @@ unfoldable pub starts_listed_output : World → CValue → Or Reply
 starts_listed_output world pointer =
     after (outside_transfers world) λ outside. after (control world.objects pointer) λ control. Ok (listed_begun world control)
 
+-- where an internal file begins
+abbrev pub internal_file : CValue → ℕ → ℕ → Or InternalFile
+internal_file (Pointer object offset) size count =
+    Ok (record { object = object; offset = offset; size = size; count = count; position = 0 })
+internal_file Null size count = failing Outside
+internal_file other size count = failing Kind
+
+-- what an `icilist` says at the start
+abbrev pub internal_control : List Object → CValue → Direction → Layout → Or Transfer
+internal_control objects pointer direction layout =
+    after (list_at objects list_type.Internal pointer) λ place.
+    after (field_number objects place (codes "icierr")) λ on_error.
+    after (field_value objects place (codes "iciunit")) λ start.
+    after (field_number objects place (codes "iciend")) λ on_end.
+    after (field_number objects place (codes "icirlen")) λ record_length.
+    after (field_number objects place (codes "icirnum")) λ record_count.
+    after (count_from record_length) λ size.
+    after (count_from record_count) λ count.
+    after (internal_file start size count) λ file.
+    Ok
+    (record {
+      direction = direction;
+      layout = layout;
+      medium = Internal file;
+      on_error = on_error;
+      on_end = on_end;
+      values = [];
+      written = 0;
+    })
+
+-- `s_wsli`
+unfoldable pub starts_listed_filling : World → CValue → Or Reply
+starts_listed_filling world pointer =
+    after (outside_transfers world) λ outside.
+    after (internal_control world.objects pointer Output Listed) λ transfer.
+    Ok (Gives (pos 0) (record world { transfer = Some transfer }))
+
 -- the value of an item by its kind: 3 an integer, 8 a logical, 9 a text
 pub data ItemKind : Type 0 where
   IntegerItem : ItemKind
@@ -129,9 +167,48 @@ items_written transfer world (Ok units) =
       transfer = Some (record transfer { written = length (list.listed transfer.values false) });
     }))
 
+-- an internal file and the objects, once records are stored in it, or with the number that stops it
+pub data Filling : Type 0 where
+  Filled : InternalFile → List Object → Filling
+  Stuck : ℤ → List Object → Filling
+
+abbrev pub one_filled : InternalFile → Or (List Object) → Or Filling
+one_filled file changed = after changed λ objects. Ok (Filled (record file { position = file.position + 1 }) objects)
+
+-- the next record of an internal file, with blanks behind it: -1 where the file is used up, 5 where it is too long
+abbrev pub fill_one : List ℕ → InternalFile → List Object → Or Filling
+fill_one line file objects =
+    if nat_le file.count file.position then Ok (Stuck (negsuc 0) objects)
+    else if nat_lt file.size (length line) then Ok (Stuck (pos 5) objects)
+    else
+    one_filled
+    file
+    (text_stored objects (Pointer file.object (file.offset + file.position * file.size)) (fitted file.size line))
+
+abbrev pub fill_all : List (List ℕ) → InternalFile → List Object → Or Filling
+fill_all [] file objects = Ok (Filled file objects)
+fill_all (line ∷ later) file objects =
+    after (fill_one line file objects) λ filling.
+    elim filling [ Filled next changed ↦ fill_all later next changed | Stuck number changed ↦ Ok (Stuck number changed) ]
+
+abbrev pub items_filled : Transfer → World → Filling → Reply
+items_filled transfer world (Filled file objects) =
+    Gives
+    (pos 0)
+    (record world {
+      objects = objects;
+      transfer =
+          Some
+          (record transfer { written = length (list.listed transfer.values false); medium = Internal file });
+    })
+items_filled transfer world (Stuck number objects) =
+    numbered number transfer.on_error transfer.on_end (record world { objects = objects })
+
 -- list-directed output of further values
 abbrev pub items_put : Transfer → World → Medium → List list.ListedValue → Or Reply
-items_put transfer world (Internal file) values = Err NoMeaning
+items_put transfer world (Internal file) values =
+    let longer = record transfer { values = transfer.values ++ values } in
+    after (fill_all (new_records longer false) file world.objects) λ filling. Ok (items_filled longer world filling)
 items_put transfer world (Unit unit) values =
     let longer = record transfer { values = transfer.values ++ values } in
     items_written longer world (write_all unit (new_records longer false) world.units)
@@ -166,6 +243,23 @@ abbrev pub listed_output_end : Transfer → World → Direction → Layout → M
 listed_output_end transfer world Output Listed (Unit unit) =
     output_ended transfer world (write_all unit (new_records transfer true) world.units)
 listed_output_end transfer world direction layout medium = failing Library
+
+abbrev pub end_filled : Transfer → World → Filling → Reply
+end_filled transfer world (Filled file objects) =
+    Gives (pos 0) (record world { objects = objects; transfer = None })
+end_filled transfer world (Stuck number objects) =
+    numbered number transfer.on_error transfer.on_end (record world { objects = objects })
+
+abbrev pub listed_filling_end : Transfer → World → Direction → Layout → Medium → Or Reply
+listed_filling_end transfer world Output Listed (Internal file) =
+    after (fill_all (new_records transfer true) file world.objects) λ filling. Ok (end_filled transfer world filling)
+listed_filling_end transfer world direction layout medium = failing Library
+
+-- `e_wsli`
+unfoldable pub ends_listed_filling : World → Or Reply
+ends_listed_filling world =
+    after (in_transfer world) λ transfer.
+    listed_filling_end transfer world transfer.direction transfer.layout transfer.medium
 
 -- `e_wsle`: the end writes the record in the making
 unfoldable pub ends_listed_output : World → Or Reply

@@ -9,7 +9,10 @@
 pub mod declaration;
 pub mod expression;
 pub mod file;
+pub mod library_rows;
 pub mod outcome;
 pub mod rows;
+pub mod rulings;
 pub mod statement;
 pub mod types;
+pub mod unit_rows;

@@ -1,5 +1,8 @@
 //! Values of a run, and the ways in which it ends.
 
+ghost use Rattle.std.specs.Prelude.{◌≡◌};
+ghost use Rattle.c_tree.specs.FaultNames.{fault_name};
+
 /// A value of a run.
 #[derive(Clone, Copy, Debug, PartialEq, Eq)]
 pub enum CValue {
@@ -42,6 +45,25 @@ pub enum CFault {
     Library,
 }
 
+impl CFault {
+    /// The fault's name, as a message prints it.
+    #[tactic(auto, unfolding(crate::specs::FaultNames::fault_name))]
+    pub fn name(self) -> &'static [u8]
+        ensures { result.now ≡ fault_name self }
+    {
+        match self {
+            CFault::Overflow => b"Overflow",
+            CFault::ZeroDivide => b"ZeroDivide",
+            CFault::Unset => b"Unset",
+            CFault::Outside => b"Outside",
+            CFault::Kind => b"Kind",
+            CFault::Disagree => b"Disagree",
+            CFault::Active => b"Active",
+            CFault::Library => b"Library",
+        }
+    }
+}
+
 /// A place in the bytes of a run.
 #[derive(Clone, Copy, Debug, PartialEq, Eq)]
 pub struct Span {
@@ -60,4 +82,21 @@ pub enum Stopped {
     Stop(Span),
     /// By this number of an input or output statement that does not ask for it.
     Io(i32),
+}
+
+#[cfg(test)]
+mod tests {
+    use super::*;
+
+    #[test]
+    fn faults_are_printed_by_their_names(rt: HostRuntime) {
+        assert!(rt; CFault::Overflow.name() == b"Overflow".as_slice());
+        assert!(rt; CFault::ZeroDivide.name() == b"ZeroDivide".as_slice());
+        assert!(rt; CFault::Unset.name() == b"Unset".as_slice());
+        assert!(rt; CFault::Outside.name() == b"Outside".as_slice());
+        assert!(rt; CFault::Kind.name() == b"Kind".as_slice());
+        assert!(rt; CFault::Disagree.name() == b"Disagree".as_slice());
+        assert!(rt; CFault::Active.name() == b"Active".as_slice());
+        assert!(rt; CFault::Library.name() == b"Library".as_slice());
+    }
 }

@@ -4,9 +4,9 @@
 
 ghost use Rattle.std.specs.Prelude.{◌≡◌, [], ◌∷◌, pos, codes, None, Some};
 ghost use Rattle.c_tree.specs.RowTexts.{output_unit, no_units, records_of, EndsPrinting};
-ghost use Rattle.c_tree.specs.Rows.{first_path, divides_by_zero, nothing, overflows, reads_unset, stores_outside, stores_pointer, passes_too_much, calls_itself, ends_no_transfer, first_of_two, second_of_two, prints_least, adds_through_pointers, returns_a_call, switches_on, counts_up, counts_down, counts_by_two, counts_nothing, turns_once, takes_an_arm, takes_no_arm};
+ghost use Rattle.c_tree.specs.Rows.{first_path, divides_by_zero, nothing, overflows, reads_unset, stores_outside, stores_pointer, passes_too_much, calls_itself, ends_no_transfer, first_of_two, second_of_two, prints_least, adds_through_pointers, returns_a_call, switches_on, counts_up, counts_down, counts_by_two, counts_nothing, turns_once, takes_an_arm, takes_no_arm, entry_functions, enters_second, compares_texts, undeclared_name, missing_label};
 ghost use Rattle.c_tree.specs.Linking.{first_broken_rule};
-ghost use Rattle.c_tree.specs.Meaning.{meaning, outcome, function_name, step_factor, Running, Ended, Fault};
+ghost use Rattle.c_tree.specs.Meaning.{meaning, outcome, function_name, step_factor, Running, Ended, Fault, Meaningless};
 ghost use Rattle.c_tree.specs.World.{Plain, Io};
 ghost use Rattle.c_tree.specs.declared.outcome.CFault.TheVariants as fault;
 
@@ -84,4 +84,23 @@ pub fn arms()
     ensures first { EndsPrinting (takes_an_arm 4) 8 (codes "  1") }
     ensures second { EndsPrinting (takes_an_arm 5) 7 (codes "  2") }
     ensures neither { EndsPrinting takes_no_arm 7 (codes "  1") }
+{}
+
+/// A function for several entries with its wrappers: one more step to it and one back, and the step
+/// factor counts them with the function's.
+pub fn entries()
+    ensures second { EndsPrinting enters_second 10 (codes "  1") }
+    ensures factor { step_factor (entry_functions ∷ []) ≡ 5 }
+    ensures factor_of_the_program { step_factor enters_second ≡ 5 }
+{}
+
+/// Texts and strings through the library.
+pub fn texts()
+    ensures equal { EndsPrinting compares_texts 6 (codes "  0") }
+{}
+
+/// What no well-formed text has stays apart from every fault.
+pub fn without_meaning()
+    ensures undeclared { outcome (meaning undeclared_name no_units 1) ≡ Meaningless }
+    ensures no_label { outcome (meaning missing_label no_units 1) ≡ Meaningless }
 {}
