@@ -5,11 +5,11 @@ use Rattle.f_tree.specs.declared.names.Basic.{Basic}
 use Rattle.f_tree.specs.declared.names.Basic.TheVariants.{Integer, Logical, Character, Untyped}
 use Rattle.f_tree.specs.declared.names.Class.TheVariants as class
 use Rattle.simulation.specs.Machine.{Calls, Answers, Breaks, Entry, Enters, Refused}
-use Rattle.f_tree.specs.Values.{Bytes, Spot, Datum, IsInt, IsLog, IsText, IsSpot, IsProc, IsLabel, Nothing, BadDimension, Disagreement, NoResult, NoMeaning, Checked, Gives, Fails, given_that}
+use Rattle.f_tree.specs.Values.{Bytes, Spot, Datum, IsInt, IsLog, IsText, IsSpot, IsProc, IsLabel, Nothing, BadDimension, Disagreement, NotOfThisEntry, NoResult, NoMeaning, Checked, Gives, Fails, given_that}
 use Rattle.f_tree.specs.Terms.{Wanted, AsSubroutine, AsFunction, Callee, Term}
 use Rattle.f_tree.specs.Store.{Store, Sequence, Chr, Number, Truth, undefined_units, with_whole, fetch}
 use Rattle.f_tree.specs.Facts.{Dimension, Bounds, Attribute, Formal, Named, Alternate, UnitKind, MainProgram, SubroutineUnit, FunctionUnit, BlockDataUnit, EntryPoint, ProgramUnit, Facts, Frame}
-use Rattle.f_tree.specs.Valuing.{Red, Valued, Bad, reduce, whole}
+use Rattle.f_tree.specs.Valuing.{Red, Valued, Bad, reduce}
 use Rattle.f_tree.specs.World.{World, View, Now, Doing, Waits, Returning, Called, TheMain, Procedure, Passed, fortran_sorts, Happening, entered}
 use Rattle.f_tree.specs.Places.{arrived, passed, gone_to}
 
@@ -62,11 +62,20 @@ ready_for (AsFunction Character width) p w v name =
     Calls v (record w { store = p.store ++ undefined_units width ∷ [] }) name (record { want = AsFunction Character width; actuals = p.actuals; result = Some (result_place p.store width) })
 ready_for (AsFunction basic width) p w v name = Calls v (record w { store = p.store }) name (record { want = AsFunction basic width; actuals = p.actuals; result = None })
 
--- the procedure that a name stands for: itself, or the one that was passed
-unfoldable pub procedure_named : Checked Datum → Checked Bytes
-procedure_named (Gives (IsProc name)) = Gives name
-procedure_named (Gives _) = Fails NoMeaning
-procedure_named (Fails act) = Fails act
+unfoldable pub passed_procedure : Option Datum → Checked Bytes
+passed_procedure None = Fails NotOfThisEntry
+passed_procedure (Some (IsProc name)) = Gives name
+passed_procedure (Some _) = Fails NoMeaning
+
+-- the procedure that a name stands for: the one of that name, or the one that was passed
+unfoldable pub procedure_named : Frame → Bytes → Attribute → Checked Bytes
+procedure_named f x a = elim a.class [
+  | class.DummyProcedure ↦ passed_procedure (f.bound x)
+  | class.Procedure ↦ Gives x
+  | class.Result ↦ Gives x
+  | class.Unit ↦ Gives x
+  | _ ↦ Fails NoMeaning
+]
 
 unfoldable pub called_as : Checked Bytes → Wanted → Passing → World → View → Happening
 called_as (Gives name) want p w v = ready_for want p w v (Procedure name)
@@ -75,7 +84,7 @@ called_as (Fails act) want p w v = Breaks act
 -- a reference to a procedure, with its arguments valued; the statement waits as `now` says, given the height of the store
 unfoldable pub call : Facts → View → World → Callee → List Datum → (ℕ → Now) → Happening
 call c v w callee actuals now =
-    called_as (procedure_named (whole c v.frame callee.name)) callee.want (passing w.store actuals) w (record v { now = now (length w.store) })
+    called_as (procedure_named v.frame callee.name (c.program.attribute callee.name)) callee.want (passing w.store actuals) w (record v { now = now (length w.store) })
 
 -- the entry that is called (15.7)
 unfoldable pub entry_of : UnitKind → List EntryPoint → Called → Option EntryPoint
@@ -241,5 +250,5 @@ unfoldable pub resume : Facts → View → Datum → World → Entry fortran_sor
 resume c v d w = resumed_by c v v.now d w
 
 unfoldable pub association_opened : Unit {0}
-unfolding sequence_of basic_of made passing_one passing_more passing result_place ready_for procedure_named called_as call entry_of same_basic same_width serves value_for bound_as agreed bind_all integer_of sized dimension_by dimensions_by all_dimensions_by bounds_for result_of with_result frame_of begun_with begun_bound begun_at start cut_to alternate_of result_given result_from answer returned resumed_by resume
+unfolding sequence_of basic_of made passing_one passing_more passing result_place ready_for passed_procedure procedure_named called_as call entry_of same_basic same_width serves value_for bound_as agreed bind_all integer_of sized dimension_by dimensions_by all_dimensions_by bounds_for result_of with_result frame_of begun_with begun_bound begun_at start cut_to alternate_of result_given result_from answer returned resumed_by resume
 association_opened = tt

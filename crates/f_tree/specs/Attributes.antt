@@ -1,13 +1,12 @@
 -- What each name of a program unit is: its type, its class, its length and its dimensions, from all the
 -- specification statements of the unit and from how the name is used.
 -- ANSI X3.9-1978, sections 4.1 (types by the first letter), 5.1 (arrays), 8 (specification statements) and 18.
-use Rattle.std.specs.Prelude.{ℕ, nat_le, ℤ, pos, nat_abs, Bool, true, false, ◌&&◌, ◌||◌, not, List, [], ◌∷◌, ◌++◌, map, bytes_eq, Option, Some, None, if◌then◌else◌}
+use Rattle.std.specs.Prelude.{suc, ℕ, nat_le, ℤ, pos, nat_abs, Bool, true, false, ◌&&◌, ◌||◌, not, List, [], ◌∷◌, ◌++◌, map, bytes_eq, Option, Some, None, if◌then◌else◌}
 use Rattle.f_tree.specs.declared.names.Basic.{Basic}
 use Rattle.f_tree.specs.declared.names.Basic.TheVariants.{Integer, Character, Untyped}
 use Rattle.f_tree.specs.declared.names.Class.{Class}
 use Rattle.f_tree.specs.declared.names.Class.TheVariants as class
 use Rattle.f_tree.specs.declared.expressions.Expr.{Expr}
-use Rattle.f_tree.specs.declared.expressions.Expr.TheOpen as expr
 use Rattle.f_tree.specs.declared.statements.Body.{Body}
 use Rattle.f_tree.specs.declared.statements.Body.TheOpen as body
 use Rattle.f_tree.specs.declared.statements.LengthSpec.{LengthSpec}
@@ -27,14 +26,14 @@ use Rattle.f_tree.specs.declared.statements.DummyArgument.TheVariants as dummy
 use Rattle.f_tree.specs.declared.statements.UnitKind.TheVariants as kind
 use Rattle.f_tree.specs.declared.statements.Stmt.{Stmt}
 use Rattle.f_tree.specs.declared.units.Unit.{Unit as WrittenUnit}
-use Rattle.f_tree.specs.Folds.{fold_expr, layer_of}
+use Rattle.f_tree.specs.Folds.{layer_of}
 use Rattle.f_tree.specs.Values.{Bytes, Datum, IsInt, IsText}
-use Rattle.f_tree.specs.Terms.{Term, Val}
+use Rattle.f_tree.specs.Terms.{Term, Val, Bound, Intrinsically, Front, Fitted, NoMore, More}
 use Rattle.f_tree.specs.Store.{fitted}
 use Rattle.f_tree.specs.Facts.{Dimension, Bounds, Attribute, MainProgram, EntryPoint, ProgramUnit, Facts, Frame}
 use Rattle.f_tree.specs.Valuing.{Red, Valued, reduce}
 use Rattle.f_tree.specs.Reading.{read, function_named}
-use Rattle.f_tree.specs.Uses.{Use, Manner, WithList, Called, Declared, is_among, first_seen, uses_of_statements}
+use Rattle.f_tree.specs.Uses.{Use, Manner, WithList, Called, Declared, is_among, first_seen, uses_of_statements, Heading, heading_of, defines_function}
 
 -- what the statements declare, all of one kind, in their order
 unfoldable pub from_all : {A : Type 0} → (Body → List A) → List Stmt → List A
@@ -152,20 +151,13 @@ typed_name u x =
     typed_or_implied t (first_of_two (heading_type u x t) (implied x (from_all implicit_in u.statements)))
 
 -- classes (18)
-unfoldable pub layer_applied_name : expr.Expr-F (Option Bytes) → Option Bytes
-layer_applied_name (expr.Apply x xs) = Some x
-layer_applied_name _ = None
-
-unfoldable pub applied_name : Expr → Option Bytes
-applied_name e = fold_expr layer_applied_name e
-
 unfoldable pub option_list : {A : Type 0} → Option A → List A
 option_list None = []
 option_list (Some a) = a ∷ []
 
 -- the names to whose elements or functions something is assigned
 unfoldable pub assigned_with_list_in : Body → List Bytes
-assigned_with_list_in b = elim (layer_of b) [ body.Assign target e ↦ option_list (applied_name target) | _ ↦ [] ]
+assigned_with_list_in b = elim (layer_of b) [ body.Assign target e ↦ option_list (heading_of target).applied | _ ↦ [] ]
 
 unfoldable pub is_used_as : (Manner → Bool) → Bytes → List Use → Bool
 is_used_as test x [] = false
@@ -271,6 +263,7 @@ no_program = record {
   formats = [];
   blocks = [];
   ties = [];
+  images = [];
   references = [];
   stored = [];
   onetrip = false;
@@ -354,18 +347,87 @@ with_class u uses cs x =
 unfoldable pub with_dimensions : List Dimension → Attribute → Attribute
 with_dimensions ds a = record a { dimensions = ds; bounds = constant_bounds ds }
 
-unfoldable pub attribute_of : WrittenUnit → List Use → List Constant → Bytes → Attribute
-attribute_of u uses cs x =
+unfoldable pub without_expansion : WrittenUnit → List Use → List Constant → Bytes → Attribute
+without_expansion u uses cs x =
     with_dimensions (map (dimension_read (with_class u uses cs)) (dimensions_among x (from_all shaped_in u.statements))) (with_class u uses cs x)
+
+-- statement functions (15.4): each expression over those before it, its dummy arguments being bound
+pub record Expansion : Type 0 where
+  pub name : Bytes
+  pub term : Term
+
+unfoldable pub expansion_among : Bytes → List Expansion → Option Term
+expansion_among x [] = None
+expansion_among x (e ∷ es) = if bytes_eq e.name x then Some e.term else expansion_among x es
+
+-- a dummy argument takes the first characters of a text
+unfoldable pub bound_term : Attribute → ℕ → Term
+bound_term a k = elim a.basic [
+  | Character ↦ elim a.width [ None ↦ Bound k | Some n ↦ Intrinsically (Front n) (More (Bound k) NoMore) ]
+  | _ ↦ Bound k
+]
+
+-- a dummy argument by its place in the list
+unfoldable pub dummy_among : (Bytes → Attribute) → ℕ → List Bytes → Bytes → Option Term
+dummy_among names k [] x = None
+dummy_among names k (y ∷ ys) x = if bytes_eq y x then Some (bound_term (names y) k) else dummy_among names (suc k) ys x
+
+unfoldable pub expanded_as : Attribute → Option Term → Attribute
+expanded_as a None = a
+expanded_as a (Some t) = record a { class = class.StatementFunction; expansion = Some t }
+
+unfoldable pub within_function : (Bytes → Attribute) → List Bytes → Bytes → Attribute
+within_function names dummies x = expanded_as (names x) (dummy_among names 0 dummies x)
+
+unfoldable pub with_expansions : (Bytes → Attribute) → List Expansion → Bytes → Attribute
+with_expansions names es x = record (names x) { expansion = expansion_among x es }
+
+-- the value has the length of the function's name
+unfoldable pub result_term : Attribute → Term → Term
+result_term a t = elim a.basic [
+  | Character ↦ elim a.width [ None ↦ t | Some n ↦ Intrinsically (Fitted n) (More t NoMore) ]
+  | _ ↦ t
+]
+
+pub record Definition : Type 0 where
+  pub name : Bytes
+  pub dummies : List Bytes
+  pub body : Expr
+
+unfoldable pub definition_by : Heading → Expr → List Definition
+definition_by h e = elim h.applied [ None ↦ [] | Some x ↦ record { name = x; dummies = h.arguments; body = e } ∷ [] ]
+
+unfoldable pub definitions_in : List Bytes → Body → List Definition
+definitions_in arrays b = elim (layer_of b) [
+  | body.Assign target e ↦ if defines_function arrays (heading_of target) then definition_by (heading_of target) e else []
+  | _ ↦ []
+]
+
+unfoldable pub expansion_of : (Bytes → Attribute) → Definition → Expansion
+expansion_of names d = record { name = d.name; term = result_term (names d.name) (read (within_function names d.dummies) d.body).value }
+
+unfoldable pub expansions_from : (Bytes → Attribute) → List Expansion → List Definition → List Expansion
+expansions_from names es [] = es
+expansions_from names es (d ∷ ds) = expansions_from names (es ++ expansion_of (with_expansions names es) d ∷ []) ds
+
+unfoldable pub array_names : List Shaped → List Bytes
+array_names [] = []
+array_names (d ∷ ds) = elim d.dimensions [ [] ↦ array_names ds | first ∷ rest ↦ d.name ∷ array_names ds ]
+
+unfoldable pub arrays_of : WrittenUnit → List Bytes
+arrays_of u = array_names (from_all shaped_in u.statements)
+
+unfoldable pub attribute_of : WrittenUnit → List Use → List Constant → List Expansion → Bytes → Attribute
+attribute_of u uses cs es x = with_expansions (without_expansion u uses cs) es x
 
 -- all names of a unit with their attributes
 pub record Described : Type 0 where
   pub name : Bytes
   pub attribute : Attribute
 
-unfoldable pub described : WrittenUnit → List Use → List Constant → List Bytes → List Described
-described u uses cs [] = []
-described u uses cs (x ∷ xs) = record { name = x; attribute = attribute_of u uses cs x } ∷ described u uses cs xs
+unfoldable pub described : WrittenUnit → List Use → List Constant → List Expansion → List Bytes → List Described
+described u uses cs es [] = []
+described u uses cs es (x ∷ xs) = record { name = x; attribute = attribute_of u uses cs es x } ∷ described u uses cs es xs
 
 unfoldable pub attribute_in : List Described → Bytes → Attribute
 attribute_in [] x = bare class.Unit None
@@ -377,9 +439,11 @@ names_of u uses = option_list u.name ++ first_seen (map (λ x. record { name = x
 
 unfoldable pub all_described : WrittenUnit → List Described
 all_described u =
-    let uses = uses_of_statements u.statements in
-    described u uses (constants_of u) (names_of u uses)
+    let uses = uses_of_statements (arrays_of u) u.statements in
+    let cs = constants_of u in
+    let es = expansions_from (without_expansion u uses cs) [] (from_all (definitions_in (arrays_of u)) u.statements) in
+    described u uses cs es (names_of u uses)
 
 unfoldable pub attributes_opened : Unit {0}
-unfolding from_all typed_in shape_of_array members_of shaped_in constants_in implicit_in external_in intrinsic_in named_dummies entry_names_in entry_dummies_in type_among dimensions_among letter_is_in by_default by_letter implied typed_by typed_or_implied heading_type first_of_two typed_name layer_applied_name applied_name option_list assigned_with_list_in is_used_as with_list called has_function own_class class_by is_not_empty own_names all_dummies signs_of class_of constant_among bare constant_or_stored over_constants no_entry no_program no_facts no_frame value_if_valued constant_value width_by fitted_to constants_from constants_of lower_read upper_read dimension_read integer_if_valued constant_term bounds_between constant_upper constant_bounds with_class with_dimensions attribute_of described attribute_in names_of all_described
+unfolding from_all typed_in shape_of_array members_of shaped_in constants_in implicit_in external_in intrinsic_in named_dummies entry_names_in entry_dummies_in type_among dimensions_among letter_is_in by_default by_letter implied typed_by typed_or_implied heading_type first_of_two typed_name option_list assigned_with_list_in is_used_as with_list called has_function own_class class_by is_not_empty own_names all_dummies signs_of class_of constant_among bare constant_or_stored over_constants no_entry no_program no_facts no_frame value_if_valued constant_value width_by fitted_to constants_from constants_of lower_read upper_read dimension_read integer_if_valued constant_term bounds_between constant_upper constant_bounds with_class with_dimensions without_expansion expansion_among bound_term dummy_among expanded_as within_function with_expansions result_term definition_by definitions_in expansion_of expansions_from array_names arrays_of attribute_of described attribute_in names_of all_described
 attributes_opened = tt

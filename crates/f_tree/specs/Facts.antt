@@ -163,6 +163,25 @@ pub record LabelledFormat : Type 0 where
   pub label : ℕ
   pub text : Bytes
 
+-- what DATA defines (9.3): the variables of its implied DOs are bound, the outermost first
+mutual
+  pub data DataPlace : Type 0 where
+    -- a variable or an array by its name
+    WholeName : Term → DataPlace
+    -- an element or a substring
+    OnePlace : Term → DataPlace
+    -- the places, the first value, the limit and the step
+    EachOf : DataPlaces → Term → Term → Term → DataPlace
+
+  pub data DataPlaces : Type 0 where
+    NoPlaces : DataPlaces
+    AndPlaces : DataPlace → DataPlaces → DataPlaces
+
+-- places with their values, repeats written out
+pub record Image : Type 0 where
+  pub places : DataPlaces
+  pub values : List Datum
+
 -- an item of a common block, with its size in character units (8.3)
 pub record Member : Type 0 where
   pub name : Bytes
@@ -192,6 +211,7 @@ pub record ProgramUnit : Type 0 where
   pub formats : List LabelledFormat
   pub blocks : List Block
   pub ties : List Tie
+  pub images : List Image
   -- the external procedures that it references or passes
   pub references : List Bytes
   -- the names that stand in storage, dummies and results aside, in first-seen order, with their sizes

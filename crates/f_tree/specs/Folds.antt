@@ -3,6 +3,8 @@ use Rattle.std.specs.Prelude.{List, [], ◌∷◌, Option, Some, None}
 use Rattle.f_tree.specs.declared.expressions.Expr.{Expr, Int, Logical, Text, Name, Apply', Part', Minus', Plus', Not', Paren', Binary', AltReturn, Bind', Bound, Row_of-Expr, end_of-Expr, more_of-Expr, None', Some', Held-Expr-Part-1}
 use Rattle.f_tree.specs.declared.expressions.Expr.TheOpen as expr
 use Rattle.f_tree.specs.declared.expressions.Expr.TheBlock.{hidden-the_row-Expr-1}
+use Rattle.f_tree.specs.declared.statements.Body.TheBlock.{hidden-the_row-Body-0}
+use Rattle.f_tree.specs.declared.statements.ListItem.TheBlock.{hidden-the_row-ListItem-0}
 use denote.Hole.Carrier.{hidden}
 use Rattle.f_tree.specs.declared.statements.ListItem.{ListItem, Item, Loop', Row_of-ListItem, end_of-ListItem, more_of-ListItem}
 use Rattle.f_tree.specs.declared.statements.ListItem.TheOpen as item
@@ -121,5 +123,5 @@ layer_of whole.End = body.End
 
 -- the last two open what a written tree keeps hidden
 unfoldable pub folds_opened : Unit {0}
-unfolding fold_expr fold_exprs fold_held fold_item fold_items fold_body layer_of hidden-the_row-Expr-1 hidden
+unfolding fold_expr fold_exprs fold_held fold_item fold_items fold_body layer_of hidden-the_row-Expr-1 hidden-the_row-Body-0 hidden-the_row-ListItem-0 hidden
 folds_opened = tt

@@ -6,6 +6,7 @@ pub mod Characters
 pub mod Facts
 pub mod FirstRefusal
 pub mod Folds
+pub mod Images
 pub mod Lines
 pub mod Meaning
 pub mod Places

@@ -1,6 +1,6 @@
 -- The statements of a program unit as the meaning takes them, and the unit itself.
 -- ANSI X3.9-1978, sections 3.5, 10, 11, 12 and 15.
-use Rattle.std.specs.Prelude.{ℕ, suc, ℤ, pos, Bool, true, false, List, [], ◌∷◌, ◌++◌, map, bytes_eq, Option, Some, None, if◌then◌else◌}
+use Rattle.std.specs.Prelude.{ℕ, suc, ℤ, pos, Bool, true, false, List, [], ◌∷◌, ◌++◌, map, bytes_eq, Option, Some, None, if◌then◌else◌, nat_abs, replicate, unwrap_or}
 use Rattle.f_tree.specs.declared.names.Basic.{Basic}
 use Rattle.f_tree.specs.declared.names.Basic.TheVariants.{Character}
 use Rattle.f_tree.specs.declared.names.Class.TheVariants as class
@@ -29,12 +29,15 @@ use Rattle.f_tree.specs.declared.statements.UnitKind.TheVariants as kind
 use Rattle.f_tree.specs.declared.statements.Stmt.{Stmt}
 use Rattle.f_tree.specs.declared.units.Unit.{Unit as WrittenUnit}
 use Rattle.f_tree.specs.Folds.{fold_item, fold_body, layer_of}
-use Rattle.f_tree.specs.Values.{Bytes, Datum, IsInt, IsSpot}
-use Rattle.f_tree.specs.Terms.{Term, Val, At, Terms, NoMore, More, terms}
-use Rattle.f_tree.specs.Facts.{Attribute, Formal, Named, Alternate, MainProgram, SubroutineUnit, FunctionUnit, BlockDataUnit, UnitKind, EntryPoint, Direction, Input, Output, Layout, Listed, Labelled, Computed, Word, UnitWord, FormatWord, StatusWord, FileWord, FileStatusWord, AccessWord, FormWord, BlankWord, Controls, AuxiliaryKind, OpenUnit, CloseUnit, BackspaceUnit, EndFileUnit, RewindUnit, Job, Item, Repeated, Work, Done, Before, ToSet, ToSetText, ToSetLabel, ToGo, ToPick, ToGoAssigned, ToGoBySign, ToGuard, ToEnterArm, ToLoop, ToCall, ToReturn, ToStop, ToBegin, ToAuxiliary, ToEnd, Form, Passes, On, Mark, Plain, Opens, Arm, Closes, Line, LabelledFormat, Member, Block, Tied, Tie, ProgramUnit, Facts}
+use Rattle.f_tree.specs.declared.statements.DataGroup.{DataGroup}
+use Rattle.f_tree.specs.declared.statements.DataValue.{DataValue}
+use Rattle.f_tree.specs.Values.{Bytes, Datum, IsInt, IsSpot, Nothing}
+use Rattle.f_tree.specs.Terms.{Term, Val, At, Terms, NoMore, More, terms, Bound}
+use Rattle.f_tree.specs.Facts.{Attribute, Formal, Named, Alternate, MainProgram, SubroutineUnit, FunctionUnit, BlockDataUnit, UnitKind, EntryPoint, Direction, Input, Output, Layout, Listed, Labelled, Computed, Word, UnitWord, FormatWord, StatusWord, FileWord, FileStatusWord, AccessWord, FormWord, BlankWord, Controls, AuxiliaryKind, OpenUnit, CloseUnit, BackspaceUnit, EndFileUnit, RewindUnit, Job, Item, Repeated, Work, Done, Before, ToSet, ToSetText, ToSetLabel, ToGo, ToPick, ToGoAssigned, ToGoBySign, ToGuard, ToEnterArm, ToLoop, ToCall, ToReturn, ToStop, ToBegin, ToAuxiliary, ToEnd, Form, Passes, On, Mark, Plain, Opens, Arm, Closes, Line, LabelledFormat, Member, Block, Tied, Tie, ProgramUnit, Facts, Image, DataPlace, DataPlaces, WholeName, OnePlace, EachOf, NoPlaces, AndPlaces}
 use Rattle.f_tree.specs.Valuing.{Red, Valued, reduce, elements_of, extent_of}
 use Rattle.f_tree.specs.Reading.{Read, read}
-use Rattle.f_tree.specs.Attributes.{from_all, Described, all_described, attribute_in, no_frame, applied_name}
+use Rattle.f_tree.specs.Uses.{heading_of}
+use Rattle.f_tree.specs.Attributes.{from_all, Described, all_described, attribute_in, no_frame, no_facts, value_if_valued}
 
 abbrev pub Naming : Type 0
 Naming = Bytes → Attribute
@@ -171,7 +174,7 @@ assignment names target e =
 
 unfoldable pub assign_form : Naming → Expr → Expr → Form
 assign_form names target e =
-    if is_statement_function names (applied_name target) then Passes else assignment names (read names target) (read names e)
+    if is_statement_function names (heading_of target).applied then Passes else assignment names (read names target) (read names e)
 
 unfoldable pub return_form : Naming → Option Expr → Form
 return_form names None = On ToReturn NoMore
@@ -299,6 +302,50 @@ unfoldable pub ties_of : Facts → Naming → List EquivalenceGroup → List Tie
 ties_of c names [] = []
 ties_of c names (g ∷ gs) = ties_among (tieds_of c names g.places) ++ ties_of c names gs
 
+-- DATA (9): a name that is bound by an implied DO, by its depth
+unfoldable pub bound_within : Naming → Bytes → ℕ → Naming
+bound_within names x depth y =
+    if bytes_eq x y then record (names y) { class = class.StatementFunction; expansion = Some (Bound depth) } else names y
+
+abbrev pub PlaceReader : Type 0
+PlaceReader = Naming → ℕ → DataPlace
+
+unfoldable pub all_places : List PlaceReader → Naming → ℕ → DataPlaces
+all_places [] names depth = NoPlaces
+all_places (f ∷ fs) names depth = AndPlaces (f names depth) (all_places fs names depth)
+
+unfoldable pub place_by : Option Bytes → Term → DataPlace
+place_by None t = OnePlace t
+place_by (Some x) t = WholeName t
+
+unfoldable pub layer_place : item.ListItem-F PlaceReader → PlaceReader
+layer_place (item.Item e) names depth = place_by (read names e).named (place_of names e)
+layer_place (item.Loop fs control) names depth =
+    EachOf (all_places fs (bound_within names control.variable depth) (suc depth)) (value_of names control.first) (value_of names control.limit) (step_of names control.step)
+
+unfoldable pub places_read : Naming → List ListItem → DataPlaces
+places_read names [] = NoPlaces
+places_read names (i ∷ is) = AndPlaces (fold_item layer_place i names 0) (places_read names is)
+
+unfoldable pub count_of : Option Datum → ℕ
+count_of (Some (IsInt z)) = nat_abs z
+count_of _ = 0
+
+unfoldable pub repeats_of : Naming → Option Expr → ℕ
+repeats_of names None = 1
+repeats_of names (Some e) = count_of (value_if_valued (reduce no_facts no_frame [] [] (value_of names e)))
+
+unfoldable pub values_read : Naming → List DataValue → List Datum
+values_read names [] = []
+values_read names (d ∷ ds) =
+    replicate (repeats_of names d.count) (unwrap_or (value_if_valued (reduce no_facts no_frame [] [] (value_of names d.value))) Nothing) ++ values_read names ds
+
+unfoldable pub data_in : Body → List DataGroup
+data_in b = elim (layer_of b) [ body.Init groups ↦ groups | _ ↦ [] ]
+
+unfoldable pub image_of : Naming → DataGroup → Image
+image_of names g = record { places = places_read names g.places; values = values_read names g.values }
+
 unfoldable pub unit_kind : WrittenUnit → UnitKind
 unit_kind u = elim u.kind [
   | kind.Main ↦ MainProgram
@@ -316,6 +363,7 @@ program_of options u ds = record {
   formats = formats_of u.statements;
   blocks = blocks_from (attribute_in ds) [] (from_all common_in u.statements);
   ties = [];
+  images = map (image_of (attribute_in ds)) (from_all data_in u.statements);
   references = procedures_among ds;
   stored = stored_among ds;
   onetrip = options.onetrip;
@@ -333,5 +381,5 @@ unfoldable pub unit_read : Options → WrittenUnit → ProgramUnit
 unit_read options u = with_ties u (program_of options u (all_described u))
 
 unfoldable pub lines_opened : Unit {0}
-unfolding value_of place_of arguments_of step_of control_of is_array is_whole_array item_of work_of layer_job job_of jobs_of is_character is_text standard_unit nothing_written with_operand control_written controls_written controls_of layout_or_listed way_of transfer_form auxiliary_of auxiliary_form is_statement_function assignment assign_form return_form layer_form form_of mark_of line_of formals_of entry_in entries_from name_or_none format_in formats_of size_by size_of is_stored stored_among is_procedure procedures_among member_of same_block into_block blocks_from common_in tied_at tied_of tieds_of ties_among equivalence_in ties_of unit_kind program_of apart with_ties unit_read
+unfolding value_of place_of arguments_of step_of control_of is_array is_whole_array item_of work_of layer_job job_of jobs_of is_character is_text standard_unit nothing_written with_operand control_written controls_written controls_of layout_or_listed way_of transfer_form auxiliary_of auxiliary_form is_statement_function assignment assign_form return_form layer_form form_of mark_of line_of formals_of entry_in entries_from name_or_none format_in formats_of size_by size_of is_stored stored_among is_procedure procedures_among member_of same_block into_block blocks_from common_in tied_at tied_of tieds_of ties_among equivalence_in ties_of bound_within all_places place_by layer_place places_read count_of repeats_of values_read data_in image_of unit_kind program_of apart with_ties unit_read
 lines_opened = tt

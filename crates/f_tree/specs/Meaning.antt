@@ -6,9 +6,9 @@ use Rattle.f_tree.specs.declared.units.FileSet.{FileSet}
 use Rattle.f_tree.specs.declared.units.File.{File}
 use Rattle.simulation.specs.Machine.{Program, State, Runs, Over, Broken, run, begun, machine_opened}
 use Rattle.f2c_outside.specs.Units.{Units, UnitState}
-use Rattle.f_tree.specs.Values.{Bytes, Act, values_opened}
+use Rattle.f_tree.specs.Values.{Bytes, Act, values_opened, Checked, Gives, Fails}
 use Rattle.f_tree.specs.Terms.{AsSubroutine, terms_opened}
-use Rattle.f_tree.specs.Store.{Store, undefined_units, store_opened}
+use Rattle.f_tree.specs.Store.{Store, store_opened}
 use Rattle.f_tree.specs.Facts.{UnitKind, MainProgram, SubroutineUnit, FunctionUnit, EntryPoint, ProgramUnit, Facts}
 use Rattle.f_tree.specs.Valuing.{valuing_opened}
 use Rattle.f_tree.specs.World.{World, Called, TheMain, Procedure, Passed, Ending, fortran_sorts, world_opened}
@@ -20,6 +20,7 @@ use Rattle.f_tree.specs.Attributes.{no_facts, attributes_opened}
 use Rattle.f_tree.specs.Folds.{folds_opened}
 use Rattle.f_tree.specs.Reading.{reading_opened}
 use Rattle.f_tree.specs.Uses.{uses_opened}
+use Rattle.f_tree.specs.Images.{image_store, undefined_store, images_opened}
 use Rattle.f_tree.specs.Lines.{unit_read, lines_opened}
 use Rattle.f_tree.specs.Setting.{Setting, unit_home, setting_opened}
 
@@ -56,12 +57,13 @@ facts_at g k (Some u) = record { program = u; home = unit_home g k u }
 unfoldable pub program : Setting → List ProgramUnit → Program fortran_sorts
 program g S = record { find = found_from 0 S; text = λ k. facts_at g k (slice_get S k) }
 
--- all storage is undefined when the run begins
-unfoldable pub start_store : Setting → Store
-start_store g = map undefined_units g.sizes
+-- what is shared when the run begins; a DATA statement that is not as it must be is refused, and defines nothing here
+unfoldable pub world_with : Setting → Units → Checked Store → World
+world_with g units (Gives s) = record { store = s; units = units; transfer = None }
+world_with g units (Fails act) = record { store = undefined_store g; units = units; transfer = None }
 
-unfoldable pub start_world : Setting → Units → World
-start_world g units = record { store = start_store g; units = units; transfer = None }
+unfoldable pub start_world : Setting → List ProgramUnit → Units → World
+start_world g S units = world_with g units (image_store g S)
 
 abbrev pub RunState : Type 0
 RunState = State Ending fortran_sorts
@@ -71,7 +73,7 @@ call_of_main = record { want = AsSubroutine; actuals = []; result = None }
 
 -- the main program is active, and nothing is done yet
 unfoldable pub started : Setting → List ProgramUnit → Units → RunState
-started g S units = begun fortran (program g S) TheMain call_of_main (start_world g units)
+started g S units = begun fortran (program g S) TheMain call_of_main (start_world g S units)
 
 -- The FORTRAN meaning: the state after n steps.
 unfoldable pub ftn : Setting → List ProgramUnit → Units → ℕ → RunState
@@ -120,5 +122,5 @@ records_of unit (Broken act ks) = []
 
 -- `unfolding everything` opens every definition of the meaning, for a run that is computed
 unfoldable pub everything : Unit {0}
-unfolding machine_opened folds_opened values_opened terms_opened store_opened valuing_opened world_opened places_opened association_opened transfers_opened step_opened attributes_opened reading_opened uses_opened lines_opened setting_opened units_in units_of is_main has_entry answers_to found_from facts_at program start_store start_world call_of_main started ftn mains is_found all_found all_references_found ending_of act_of records_in records_of
+unfolding machine_opened folds_opened images_opened values_opened terms_opened store_opened valuing_opened world_opened places_opened association_opened transfers_opened step_opened attributes_opened reading_opened uses_opened lines_opened setting_opened units_in units_of is_main has_entry answers_to found_from facts_at program world_with start_world call_of_main started ftn mains is_found all_found all_references_found ending_of act_of records_in records_of
 everything = tt

@@ -71,6 +71,7 @@ name_read x a = elim a.class [
   | class.Procedure ↦ record (valued_only (At x)) { named = Some x }
   | class.DummyProcedure ↦ record (valued_only (At x)) { named = Some x }
   | class.Intrinsic ↦ record (valued_only (At x)) { named = Some x }
+  | class.StatementFunction ↦ (elim a.expansion [ Some t ↦ valued_only t | None ↦ valued_only (At x) ])
   | _ ↦ record (placed (At x)) { named = Some x; base = Some x }
 ]
 

@@ -51,6 +51,13 @@ pub record Meets (options : Options) (set : FileSet) (g : Setting) (input : List
   pub goes_on : act_of (ftn g (units_of options set) (standard_units input) n) ≡ None
   pub meets : act_of (ftn g (units_of options set) (standard_units input) (suc n)) ≡ Some act
 
+-- the same of a set whose names stand apart
+abbrev pub RunsApart : Options → FileSet → List (List ℕ) → ℕ → Ending → List (List ℕ) → Type 0
+RunsApart options set = Runs options set (setting_apart (units_of options set))
+
+abbrev pub MeetsApart : Options → FileSet → List (List ℕ) → ℕ → Act → Type 0
+MeetsApart options set = Meets options set (setting_apart (units_of options set))
+
 unfoldable pub runs_opened : Unit {0}
 unfolding homes_apart all_homes_apart all_sizes setting_apart
 runs_opened = tt

@@ -11,6 +11,8 @@ use Rattle.f_tree.specs.declared.expressions.Expr as expr
 use Rattle.f_tree.specs.declared.expressions.BinaryOp.TheVariants as operator
 use Rattle.f_tree.specs.declared.statements.Body.{Body}
 use Rattle.f_tree.specs.declared.statements.Body as body
+use Rattle.f_tree.specs.declared.statements.Control.{Control}
+use Rattle.f_tree.specs.declared.statements.ControlWord.{ControlWord}
 use Rattle.f_tree.specs.declared.statements.ControlWord.TheVariants as word
 use Rattle.f_tree.specs.declared.statements.ControlValue.TheVariants as value
 use Rattle.f_tree.specs.declared.statements.ListItem.{ListItem}
@@ -50,12 +52,13 @@ pub data SpellsExpr : Level → List ℕ → Expr → Type 0 where
   added : (text left right : List ℕ) (tree a b : Expr) → text ≡ left ++ 43 ∷ right → tree ≡ expr.Binary operator.Plus a b
       → SpellsExpr Sum left a → SpellsExpr Primary right b → SpellsExpr Sum text tree
 
+-- A control word with `*`. Section 12.8.1.
+abbrev pub star : ControlWord → Control
+star w = record { word = w; value = value.Star }
+
 -- PRINT with the format `*`: the standard unit, list-directed. Section 12.8.
 unfoldable pub printed : List ListItem → Body
-printed items =
-    body.Transfer direction.Write
-    (record { word = word.Unit; value = value.Star } ∷ record { word = word.Format; value = value.Star } ∷ [])
-    items
+printed items = body.Transfer direction.Write (star word.Unit ∷ star word.Format ∷ []) items
 
 -- The text of a statement of the kind, with or without a label, spells what the statement says.
 pub data Spells (labelled : Bool) : StatementKind → List ℕ → Body → Type 0 where

@@ -3,19 +3,19 @@
 -- A step is an assignment or ASSIGN; a test of IF or ELSE IF; a GO TO; the start of a DO or implied DO with
 -- its first test; an increment with its test; a CALL or a function reference; the start, an item or the end of
 -- a transfer; OPEN and its kin; STOP; RETURN or END. CONTINUE, ELSE and END IF take no step.
-use Rattle.std.specs.Prelude.{ℕ, zero, suc, ◌-◌, nat_eq, nat_lt, max, ℤ, pos, negsuc, ◌+ℤ◌, ◌-ℤ◌, int_lt, int_div, Bool, true, false, ◌&&◌, ◌||◌, not, List, [], ◌∷◌, Option, Some, None, slice_get, bytes_eq, if◌then◌else◌}
+use Rattle.std.specs.Prelude.{ℕ, zero, suc, ◌-◌, nat_eq, nat_lt, max, ℤ, pos, negsuc, ◌+ℤ◌, ◌-ℤ◌, int_lt, int_div, Bool, true, false, ◌&&◌, ◌||◌, not, List, [], ◌∷◌, Option, Some, None, slice_get, bytes_eq, if◌then◌else◌, min, take, length, ◌++◌, ◌+◌}
 use Rattle.std.specs.Ordering.{int_eq}
 use Rattle.simulation.specs.Machine.{Goes, Ends, Breaks, Lang}
-use Rattle.f_tree.specs.Values.{Bytes, Spot, Datum, IsInt, IsLog, IsSpot, Nothing, ZeroStep, LoopVariableChanged, BadAssignedLabel, ActiveProcedure, MissingProcedure, NoMeaning, Checked, Gives, Fails, given_that, checked}
+use Rattle.f_tree.specs.Values.{Bytes, Spot, Datum, IsInt, IsLog, IsSpot, Nothing, ZeroStep, LoopVariableChanged, BadAssignedLabel, ActiveProcedure, MissingProcedure, NoMeaning, Checked, Gives, Fails, given_that, checked, IsText, DefinedAndReferenced}
 use Rattle.f_tree.specs.Terms.{AsSubroutine, Terms}
 use Rattle.f_tree.specs.Store.{Store, Whole, Label, fetch, define, define_label, label_at}
-use Rattle.f_tree.specs.Facts.{Head, ToSet, ToSetLabel, ToGo, ToPick, ToGoAssigned, ToGoBySign, ToGuard, ToEnterArm, ToLoop, ToCall, ToReturn, ToStop, ToBegin, ToTransfer, ToRepeat, ToTurn, ToFinish, ToEnd, Form, Passes, On, Opens, Arm, Line, Work, Before, Turn, ProgramUnit, Facts}
+use Rattle.f_tree.specs.Facts.{Head, ToSet, ToSetLabel, ToGo, ToPick, ToGoAssigned, ToGoBySign, ToGuard, ToEnterArm, ToLoop, ToCall, ToReturn, ToStop, ToBegin, ToTransfer, ToRepeat, ToTurn, ToFinish, ToEnd, Form, Passes, On, Opens, Arm, Line, Work, Before, Turn, ProgramUnit, Facts, ToSetText, ToAuxiliary}
 use Rattle.f_tree.specs.Valuing.{Red, Valued, Bad, Asks, reduce_all}
 use Rattle.f_tree.specs.World.{World, View, Now, Doing, Turning, Waits, Returning, Round, RoundKind, Counted, Ending, Stop, fortran_sorts, Happening, proceeding}
 use Rattle.f_tree.specs.World as world
 use Rattle.f_tree.specs.Places.{place_of_label, arm_after, arrived, passed, gone_to}
 use Rattle.f_tree.specs.Association.{call, answer, alternate_of, start, resume}
-use Rattle.f_tree.specs.Transfers.{next_of, followed_by, begins, item_done, finished}
+use Rattle.f_tree.specs.Transfers.{next_of, followed_by, begins, item_done, finished, auxiliary}
 
 -- the statement is done
 unfoldable pub onward : Facts → View → World → Happening
@@ -27,6 +27,40 @@ go c v w label = proceeding (gone_to c.program v.frame v.loops label) w
 unfoldable pub onward_with : Facts → View → World → Checked Store → Happening
 onward_with c v w (Gives s) = onward c v (record w { store = s })
 onward_with c v w (Fails act) = Breaks act
+
+-- the assignment of a text (10.4): its pieces are fetched as far as the target is long, and none of them may
+-- be, so far, a position that is defined
+unfoldable pub overlaps : Spot → ℕ → Spot → Bool
+overlaps q count p = nat_eq q.sequence p.sequence && (nat_lt 0 count && (nat_lt q.first (p.first + p.width) && nat_lt p.first (q.first + count)))
+
+unfoldable pub text_from : Checked Datum → Checked Bytes
+text_from (Gives (IsText cs)) = Gives cs
+text_from (Gives _) = Fails NoMeaning
+text_from (Fails act) = Fails act
+
+unfoldable pub piece_from : Store → Spot → ℕ → Spot → Checked Bytes
+piece_from s q count p =
+    if overlaps q count p then Fails DefinedAndReferenced else text_from (fetch s (record q { width = count }))
+
+unfoldable pub piece_for : Store → Spot → ℕ → Datum → Checked Bytes
+piece_for s p room (IsText cs) = Gives (take room cs)
+piece_for s p room (IsSpot q) = piece_from s q (min q.width room) p
+piece_for s p room _ = Fails NoMeaning
+
+unfoldable pub pieces_for : Store → Spot → ℕ → List Datum → Checked Bytes
+pieces_for s p room [] = Gives []
+pieces_for s p room (d ∷ ds) =
+    given_that (piece_for s p room d) (λ a. given_that (pieces_for s p (room - length a) ds) (λ b. Gives (a ++ b)))
+
+unfoldable pub text_stored : Store → Spot → Checked Bytes → Checked Store
+text_stored s p (Gives cs) = define s p (IsText cs)
+text_stored s p (Fails act) = Fails act
+
+-- the operands: the pieces, and behind them the target
+unfoldable pub text_set : Store → List Datum → List Datum → Checked Store
+text_set s ds [] = Fails NoMeaning
+text_set s ds (IsSpot p ∷ []) = text_stored s p (pieces_for s p p.width ds)
+text_set s ds (d ∷ more) = text_set s (ds ++ d ∷ []) more
 
 -- computed, assigned and arithmetic branches (11.2 to 11.4)
 unfoldable pub picked : Facts → View → World → Option ℕ → Happening
@@ -181,6 +215,7 @@ item_turned v w items rest p left by (Gives g) =
 -- what a statement does once its operands are valued
 unfoldable pub deed : Facts → View → World → Head → List Datum → Happening
 deed c v w ToSet (d ∷ IsSpot p ∷ []) = onward_with c v w (define w.store p d)
+deed c v w ToSetText ds = onward_with c v w (text_set w.store [] ds)
 deed c v w (ToSetLabel label) (IsSpot p ∷ []) = onward_with c v w (define_label w.store p (name_of c.program) label)
 deed c v w (ToGo label) [] = go c v w label
 deed c v w (ToPick labels) (IsInt z ∷ []) = picked c v w (nth_label labels z)
@@ -197,6 +232,7 @@ deed c v w (ToBegin direction layout controls work) ds = begins c v w direction 
 deed c v w (ToTransfer rest) (d ∷ []) = item_done c v w rest d w.transfer
 deed c v w (ToRepeat items rest) (IsSpot p ∷ IsInt first ∷ IsInt limit ∷ IsInt by ∷ []) = repeat_begun v w items rest p first limit by
 deed c v w (ToTurn items p left by given rest) [] = item_turned v w items rest p left by (grown w.store p by given)
+deed c v w (ToAuxiliary which controls) ds = auxiliary c v w which controls ds w.transfer
 deed c v w ToFinish [] = finished c v w w.transfer
 deed c v w ToEnd [] = answer c.program.kind v w Nothing
 deed c v w _ _ = Breaks NoMeaning
@@ -223,5 +259,5 @@ abbrev pub fortran : Lang Ending
 fortran = record { sorts = fortran_sorts; step = step; start = start; resume = resume; missing = MissingProcedure; busy = ActiveProcedure; plain = world.Plain }
 
 unfoldable pub step_opened : Unit {0}
-unfolding onward go onward_with picked nth_label contains is_allowed block_is_entered block_end enters_from enters_block name_of gone_by by_sign guarded at_arm next_arm arm_entered turns_of turns at_least_once looped loop_stored loop_begun grown_to grown_from grown turned_with turned work_after repeated repeat_begun item_turned deed valued doing step
+unfolding onward go onward_with overlaps text_from piece_from piece_for pieces_for text_stored text_set picked nth_label contains is_allowed block_is_entered block_end enters_from enters_block name_of gone_by by_sign guarded at_arm next_arm arm_entered turns_of turns at_least_once looped loop_stored loop_begun grown_to grown_from grown turned_with turned work_after repeated repeat_begun item_turned deed valued doing step
 step_opened = tt

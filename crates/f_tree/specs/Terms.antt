@@ -44,6 +44,10 @@ pub data Function : Type 0 where
   LexicallyGreater : Function
   LexicallyLessOrEqual : Function
   LexicallyLess : Function
+  -- the first characters of a text, which must have as many: a dummy argument of a statement function (15.4)
+  Front : ℕ → Function
+  -- a text cut or filled to a length: the value of a statement function
+  Fitted : ℕ → Function
 
 -- what a reference wants of the procedure that it names
 pub data Wanted : Type 0 where

@@ -1,15 +1,16 @@
 -- READ, WRITE and PRINT: how a transfer begins, what an item does, how it ends, and where control goes
 -- at an error. ANSI X3.9-1978, sections 12.8, 12.9 and 13.6.
-use Rattle.std.specs.Prelude.{ℕ, zero, suc, ◌+◌, ◌/◌, ℤ, pos, negsuc, Bool, true, false, List, [], ◌∷◌, ◌++◌, length, drop, Option, Some, None, Result, Ok, Err, if◌then◌else◌}
+use Rattle.std.specs.Prelude.{ℕ, zero, suc, ◌+◌, ◌/◌, ℤ, pos, negsuc, Bool, true, false, List, [], ◌∷◌, ◌++◌, length, drop, Option, Some, None, Result, Ok, Err, if◌then◌else◌, nat_eq, reverse, codes, ◌||◌}
 use Rattle.edit_rules.specs.Listed as listed
-use Rattle.f2c_outside.specs.Units.{Units, is_connected, write_unit}
+use Rattle.f2c_outside.specs.Units.{Units, is_connected, write_unit, Closing, open_unit, close_unit, back_unit, end_unit, rewind_unit}
 use Rattle.f2c_outside.specs.declared.unit_table.UnitRefusal.{UnitRefusal}
 use Rattle.f2c_outside.specs.declared.unit_table.UnitRefusal.TheVariants.{NotConnected, NotOffered, Taken, PastEnd}
 use Rattle.simulation.specs.Machine.{Goes, Ends, Breaks}
+use Rattle.std.specs.Fmt.{signed_decimal}
 use Rattle.f_tree.specs.Values.{Spot, Datum, IsInt, IsLog, IsText, IsSpot, TransferInTransfer, NoMeaning, Checked, Gives, Fails, given_that}
 use Rattle.f_tree.specs.Terms.{NoMore, More}
 use Rattle.f_tree.specs.Store.{Store, fetch, define}
-use Rattle.f_tree.specs.Facts.{Direction, Input, Output, Layout, Listed, Word, UnitWord, StatusWord, Controls, Item, Repeated, Turn, Work, Done, Before, ToTransfer, ToRepeat, ToTurn, ToFinish, Form, On, Facts}
+use Rattle.f_tree.specs.Facts.{Direction, Input, Output, Layout, Listed, Word, UnitWord, StatusWord, Controls, Item, Repeated, Turn, Work, Done, Before, ToTransfer, ToRepeat, ToTurn, ToFinish, Form, On, Facts, AuxiliaryKind, OpenUnit, CloseUnit, BackspaceUnit, EndFileUnit, RewindUnit, FileWord, BlankWord}
 use Rattle.f_tree.specs.World.{Medium, External, Internal, Transfer, World, View, Doing, Io, Happening, proceeding}
 use Rattle.f_tree.specs.Places.{passed, gone_to}
 
@@ -157,6 +158,75 @@ unfoldable pub begins : Facts → View → World → Direction → Layout → Co
 begins c v w direction layout controls work ds (Some t) = Breaks TransferInTransfer
 begins c v w direction layout controls work ds None = begun_on c v w direction layout controls work (status_of controls.words ds) (medium_of controls.words ds)
 
+-- OPEN, CLOSE, BACKSPACE, ENDFILE and REWIND (12.10)
+unfoldable pub units_changed : Facts → View → World → Controls → Option Spot → Result Units UnitRefusal → Happening
+units_changed c v w controls status (Ok units) = ends_well c v (record w { units = units }) status
+units_changed c v w controls status (Err refusal) = fails_by c v w (number_of refusal) controls status
+
+-- CLOSE of a unit that is not connected does nothing
+unfoldable pub closed : Facts → View → World → Controls → Option Spot → Result Closing UnitRefusal → Happening
+closed c v w controls status (Ok closing) = ends_well c v (record w { units = closing.after }) status
+closed c v w controls status (Err NotConnected) = ends_well c v w status
+closed c v w controls status (Err refusal) = fails_by c v w (number_of refusal) controls status
+
+unfoldable pub operand_for : (Word → Bool) → List Word → List Datum → Option Datum
+operand_for test (word ∷ words) (d ∷ ds) = if test word then Some d else operand_for test words ds
+operand_for test _ _ = None
+
+unfoldable pub is_file_word : Word → Bool
+is_file_word FileWord = true
+is_file_word _ = false
+
+unfoldable pub is_blank_word : Word → Bool
+is_blank_word BlankWord = true
+is_blank_word _ = false
+
+-- a text that is a value, or stands at a place and is fetched now
+unfoldable pub text_now : Store → Datum → Checked (List ℕ)
+text_now s (IsText cs) = Gives cs
+text_now s (IsSpot p) = given_that (fetch s p) (λ d. elim d [ IsText cs ↦ Gives cs | _ ↦ Fails NoMeaning ])
+text_now s _ = Fails NoMeaning
+
+unfoldable pub without_blanks_in_front : List ℕ → List ℕ
+without_blanks_in_front [] = []
+without_blanks_in_front (c ∷ cs) = if nat_eq c 32 then without_blanks_in_front cs else c ∷ cs
+
+-- trailing blanks are dropped
+unfoldable pub trimmed : List ℕ → List ℕ
+trimmed cs = reverse (without_blanks_in_front (reverse cs))
+
+-- the name of a file: FILE, or `fort.` and the number of the unit
+unfoldable pub file_name : Store → ℤ → Option Datum → Checked (List ℕ)
+file_name s unit None = Gives (codes "fort." ++ signed_decimal unit)
+file_name s unit (Some d) = given_that (text_now s d) (λ cs. Gives (trimmed cs))
+
+unfoldable pub begins_with_z : List ℕ → Bool
+begins_with_z [] = false
+begins_with_z (c ∷ cs) = nat_eq c 90 || nat_eq c 122
+
+-- are blanks in a number zeros: BLANK='ZERO'
+unfoldable pub zero_blanks : Store → Option Datum → Checked Bool
+zero_blanks s None = Gives false
+zero_blanks s (Some d) = given_that (text_now s d) (λ cs. Gives (begins_with_z cs))
+
+unfoldable pub opened_as : Facts → View → World → Controls → Option Spot → ℤ → Checked (List ℕ) → Checked Bool → Happening
+opened_as c v w controls status unit (Gives name) (Gives zeros) = units_changed c v w controls status (open_unit unit name zeros w.units)
+opened_as c v w controls status unit (Fails act) zeros = Breaks act
+opened_as c v w controls status unit name (Fails act) = Breaks act
+
+unfoldable pub auxiliary_on : Facts → View → World → AuxiliaryKind → Controls → List Datum → Option Spot → Option Medium → Happening
+auxiliary_on c v w OpenUnit controls ds status (Some (External unit)) =
+    opened_as c v w controls status unit (file_name w.store unit (operand_for is_file_word controls.words ds)) (zero_blanks w.store (operand_for is_blank_word controls.words ds))
+auxiliary_on c v w CloseUnit controls ds status (Some (External unit)) = closed c v w controls status (close_unit unit w.units)
+auxiliary_on c v w BackspaceUnit controls ds status (Some (External unit)) = units_changed c v w controls status (back_unit unit w.units)
+auxiliary_on c v w EndFileUnit controls ds status (Some (External unit)) = units_changed c v w controls status (end_unit unit w.units)
+auxiliary_on c v w RewindUnit controls ds status (Some (External unit)) = units_changed c v w controls status (rewind_unit unit w.units)
+auxiliary_on c v w which controls ds status medium = Breaks NoMeaning
+
+unfoldable pub auxiliary : Facts → View → World → AuxiliaryKind → Controls → List Datum → Option Transfer → Happening
+auxiliary c v w which controls ds (Some t) = Breaks TransferInTransfer
+auxiliary c v w which controls ds None = auxiliary_on c v w which controls ds (status_of controls.words ds) (medium_of controls.words ds)
+
 unfoldable pub transfers_opened : Unit {0}
-unfolding next_of followed_by number_of status_defined after_error label_for failed_with fails_with fails_by ended_with ends_well write_all listed_value element_values values_of new_records item_written end_written values_put item_done finished medium_of status_of begun_on begins write_unit listed.listed_whole
+unfolding next_of followed_by number_of status_defined after_error label_for failed_with fails_with fails_by ended_with ends_well write_all listed_value element_values values_of new_records item_written end_written values_put item_done finished medium_of status_of begun_on begins units_changed closed operand_for is_file_word is_blank_word text_now without_blanks_in_front trimmed file_name begins_with_z zero_blanks opened_as auxiliary_on auxiliary write_unit open_unit close_unit back_unit end_unit rewind_unit listed.listed_whole
 transfers_opened = tt

@@ -1,6 +1,6 @@
 -- The names of a program unit in the order in which they are first seen, and how each is used.
 -- ANSI X3.9-1978, section 18 (scopes and classes of symbolic names).
-use Rattle.std.specs.Prelude.{Bool, false, ◌||◌, List, [], ◌∷◌, ◌++◌, bytes_eq, Option, Some, None, if◌then◌else◌}
+use Rattle.std.specs.Prelude.{Bool, false, not, ◌||◌, List, [], ◌∷◌, ◌++◌, bytes_eq, Option, Some, None, if◌then◌else◌}
 use Rattle.f_tree.specs.declared.expressions.Expr.{Expr}
 use Rattle.f_tree.specs.declared.expressions.Expr.TheOpen as expr
 use Rattle.f_tree.specs.declared.statements.Body.{Body}
@@ -59,6 +59,14 @@ unfoldable pub optional_uses : Option (List Use) → List Use
 optional_uses None = []
 optional_uses (Some us) = us
 
+unfoldable pub is_among : Bytes → List Bytes → Bool
+is_among x [] = false
+is_among x (y ∷ ys) = bytes_eq x y || is_among x ys
+
+unfoldable pub without : List Bytes → List Use → List Use
+without xs [] = []
+without xs (u ∷ us) = if is_among u.name xs then without xs us else u ∷ without xs us
+
 unfoldable pub layer_uses : expr.Expr-F (List Use) → List Use
 layer_uses (expr.Int z) = []
 layer_uses (expr.Logical b) = []
@@ -108,6 +116,15 @@ layer_uses_of_item (item.Loop items control) = joined_uses items ++ uses_of_cont
 unfoldable pub uses_of_item : ListItem → List Use
 uses_of_item i = fold_item layer_uses_of_item i
 
+-- the variable of an implied DO in DATA is a name of its list alone (9.3)
+unfoldable pub layer_uses_of_place : item.ListItem-F (List Use) → List Use
+layer_uses_of_place (item.Item e) = uses_of e
+layer_uses_of_place (item.Loop items control) =
+    without (control.variable ∷ []) (joined_uses items ++ uses_of control.first ++ uses_of control.limit ++ if_any uses_of control.step)
+
+unfoldable pub uses_of_place : ListItem → List Use
+uses_of_place i = fold_item layer_uses_of_place i
+
 unfoldable pub uses_of_saved : SavedItem → List Use
 uses_of_saved (saved.Named x) = used x Declared
 uses_of_saved (saved.Block x) = []
@@ -124,50 +141,76 @@ uses_of_value (control.Value e) = uses_of e
 unfoldable pub uses_of_data : DataValue → List Use
 uses_of_data d = if_any uses_of d.count ++ uses_of d.value
 
--- a statement, the statement of a logical IF being read
-unfoldable pub layer_uses_of_body : body.Body-F (List Use) → List Use
-layer_uses_of_body (body.Header kind name dummies) = []
-layer_uses_of_body (body.Declare type items) = uses_of_type type ++ all_of uses_of_declarator items
-layer_uses_of_body (body.Dimension items) = all_of uses_of_array items
-layer_uses_of_body (body.Common groups) = all_of (λ g. all_of uses_of_array g.items) groups
-layer_uses_of_body (body.Equivalence groups) = all_of (λ g. all_of uses_of g.places) groups
-layer_uses_of_body (body.Implicit groups) = []
-layer_uses_of_body (body.Parameter items) = all_of (λ d. used d.name Declared ++ uses_of d.value) items
-layer_uses_of_body (body.External xs) = all_of (λ x. used x Declared) xs
-layer_uses_of_body (body.Intrinsic xs) = all_of (λ x. used x Declared) xs
-layer_uses_of_body (body.Save items) = all_of uses_of_saved items
-layer_uses_of_body (body.Init groups) = all_of (λ g. all_of uses_of_item g.places ++ all_of uses_of_data g.values) groups
-layer_uses_of_body (body.Format text) = []
-layer_uses_of_body (body.Entry name dummies) = used name Declared ++ all_of uses_of_dummy dummies
-layer_uses_of_body (body.Assign target e) = uses_of target ++ uses_of e
-layer_uses_of_body (body.AssignLabel label x) = used x Alone
-layer_uses_of_body (body.Goto label) = []
-layer_uses_of_body (body.GotoList labels e) = uses_of e
-layer_uses_of_body (body.GotoName x labels) = used x Alone
-layer_uses_of_body (body.IfSign e below at above) = uses_of e
-layer_uses_of_body (body.IfOne e us) = uses_of e ++ us
-layer_uses_of_body (body.IfThen e) = uses_of e
-layer_uses_of_body (body.ElseIf e) = uses_of e
-layer_uses_of_body body.Else = []
-layer_uses_of_body body.EndIf = []
-layer_uses_of_body (body.Do label control) = uses_of_control control
-layer_uses_of_body body.Continue = []
-layer_uses_of_body (body.Call x es) = used x Called ++ all_of uses_of es
-layer_uses_of_body (body.Return e) = if_any uses_of e
-layer_uses_of_body (body.Stop text) = []
-layer_uses_of_body (body.Transfer direction controls items) = all_of (λ c. uses_of_value c.value) controls ++ all_of uses_of_item items
-layer_uses_of_body (body.Auxiliary kind controls) = all_of (λ c. uses_of_value c.value) controls
-layer_uses_of_body body.End = []
+-- the name that stands alone, or with a list whose names stand alone
+pub record Heading : Type 0 where
+  pub alone : Option Bytes
+  pub applied : Option Bytes
+  pub arguments : List Bytes
 
-unfoldable pub uses_of_body : Body → List Use
-uses_of_body b = fold_body layer_uses_of_body b
+unfoldable pub no_heading : Heading
+no_heading = record { alone = None; applied = None; arguments = [] }
 
-unfoldable pub uses_of_statements : List Stmt → List Use
-uses_of_statements stmts = all_of (λ s. uses_of_body s.body) stmts
+unfoldable pub alone_in : List Heading → List Bytes
+alone_in [] = []
+alone_in (h ∷ hs) = elim h.alone [ None ↦ alone_in hs | Some x ↦ x ∷ alone_in hs ]
 
-unfoldable pub is_among : Bytes → List Bytes → Bool
-is_among x [] = false
-is_among x (y ∷ ys) = bytes_eq x y || is_among x ys
+unfoldable pub layer_heading : expr.Expr-F Heading → Heading
+layer_heading (expr.Name x) = record no_heading { alone = Some x }
+layer_heading (expr.Apply x hs) = record no_heading { applied = Some x; arguments = alone_in hs }
+layer_heading _ = no_heading
+
+unfoldable pub heading_of : Expr → Heading
+heading_of e = fold_expr layer_heading e
+
+-- an assignment to a name with a list, whose name is no array, defines a statement function (15.4)
+unfoldable pub defines_function : List Bytes → Heading → Bool
+defines_function arrays h = elim h.applied [ None ↦ false | Some x ↦ not (is_among x arrays) ]
+
+-- the dummy arguments of a statement function are names of that statement alone
+unfoldable pub uses_of_assignment : List Bytes → Heading → Expr → Expr → List Use
+uses_of_assignment arrays h target e =
+    if defines_function arrays h then without h.arguments (uses_of target ++ uses_of e) else uses_of target ++ uses_of e
+
+-- a statement, the statement of a logical IF being read; the names of the unit's arrays are given
+unfoldable pub layer_uses_of_body : List Bytes → body.Body-F (List Use) → List Use
+layer_uses_of_body arrays (body.Header kind name dummies) = []
+layer_uses_of_body arrays (body.Declare type items) = uses_of_type type ++ all_of uses_of_declarator items
+layer_uses_of_body arrays (body.Dimension items) = all_of uses_of_array items
+layer_uses_of_body arrays (body.Common groups) = all_of (λ g. all_of uses_of_array g.items) groups
+layer_uses_of_body arrays (body.Equivalence groups) = all_of (λ g. all_of uses_of g.places) groups
+layer_uses_of_body arrays (body.Implicit groups) = []
+layer_uses_of_body arrays (body.Parameter items) = all_of (λ d. used d.name Declared ++ uses_of d.value) items
+layer_uses_of_body arrays (body.External xs) = all_of (λ x. used x Declared) xs
+layer_uses_of_body arrays (body.Intrinsic xs) = all_of (λ x. used x Declared) xs
+layer_uses_of_body arrays (body.Save items) = all_of uses_of_saved items
+layer_uses_of_body arrays (body.Init groups) = all_of (λ g. all_of uses_of_place g.places ++ all_of uses_of_data g.values) groups
+layer_uses_of_body arrays (body.Format text) = []
+layer_uses_of_body arrays (body.Entry name dummies) = used name Declared ++ all_of uses_of_dummy dummies
+layer_uses_of_body arrays (body.Assign target e) = uses_of_assignment arrays (heading_of target) target e
+layer_uses_of_body arrays (body.AssignLabel label x) = used x Alone
+layer_uses_of_body arrays (body.Goto label) = []
+layer_uses_of_body arrays (body.GotoList labels e) = uses_of e
+layer_uses_of_body arrays (body.GotoName x labels) = used x Alone
+layer_uses_of_body arrays (body.IfSign e below at above) = uses_of e
+layer_uses_of_body arrays (body.IfOne e us) = uses_of e ++ us
+layer_uses_of_body arrays (body.IfThen e) = uses_of e
+layer_uses_of_body arrays (body.ElseIf e) = uses_of e
+layer_uses_of_body arrays body.Else = []
+layer_uses_of_body arrays body.EndIf = []
+layer_uses_of_body arrays (body.Do label control) = uses_of_control control
+layer_uses_of_body arrays body.Continue = []
+layer_uses_of_body arrays (body.Call x es) = used x Called ++ all_of uses_of es
+layer_uses_of_body arrays (body.Return e) = if_any uses_of e
+layer_uses_of_body arrays (body.Stop text) = []
+layer_uses_of_body arrays (body.Transfer direction controls items) = all_of (λ c. uses_of_value c.value) controls ++ all_of uses_of_item items
+layer_uses_of_body arrays (body.Auxiliary kind controls) = all_of (λ c. uses_of_value c.value) controls
+layer_uses_of_body arrays body.End = []
+
+unfoldable pub uses_of_body : List Bytes → Body → List Use
+uses_of_body arrays b = fold_body (layer_uses_of_body arrays) b
+
+unfoldable pub uses_of_statements : List Bytes → List Stmt → List Use
+uses_of_statements arrays stmts = all_of (λ s. uses_of_body arrays s.body) stmts
 
 unfoldable pub seen_from : List Bytes → List Use → List Bytes
 seen_from seen [] = []
@@ -178,5 +221,5 @@ unfoldable pub first_seen : List Use → List Bytes
 first_seen us = seen_from [] us
 
 unfoldable pub uses_opened : Unit {0}
-unfolding used all_of if_any joined_uses optional_uses layer_uses uses_of uses_of_upper uses_of_dimension uses_of_length uses_of_declarator uses_of_array uses_of_type uses_of_control layer_uses_of_item uses_of_item uses_of_saved uses_of_dummy uses_of_value uses_of_data layer_uses_of_body uses_of_body uses_of_statements is_among seen_from first_seen
+unfolding no_heading alone_in layer_heading heading_of defines_function without uses_of_assignment used all_of if_any joined_uses optional_uses layer_uses uses_of uses_of_upper uses_of_dimension uses_of_length uses_of_declarator uses_of_array uses_of_type uses_of_control layer_uses_of_item uses_of_item layer_uses_of_place uses_of_place uses_of_saved uses_of_dummy uses_of_value uses_of_data layer_uses_of_body uses_of_body uses_of_statements is_among seen_from first_seen
 uses_opened = tt

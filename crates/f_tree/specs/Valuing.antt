@@ -1,12 +1,12 @@
 -- Valuing an expression: operands from left to right, until a value, an act of which nothing is said,
 -- or a call, which the rest of the expression waits for.
 -- ANSI X3.9-1978, sections 5.4 (subscripts), 5.7 (substrings), 6 (expressions) and 15.10 (intrinsic functions).
-use Rattle.std.specs.Prelude.{ℕ, zero, suc, ◌+◌, ◌-◌, ◌*◌, nat_eq, nat_le, nat_lt, ℤ, pos, negsuc, ◌+ℤ◌, ◌-ℤ◌, ◌*ℤ◌, neg_ℤ, nat_abs, int_lt, int_le, int_div, int_rem, Bool, true, false, ◌&&◌, ◌||◌, not, List, [], ◌∷◌, ◌++◌, length, Option, Some, None, slice_get, if◌then◌else◌}
+use Rattle.std.specs.Prelude.{take, ℕ, zero, suc, ◌+◌, ◌-◌, ◌*◌, nat_eq, nat_le, nat_lt, ℤ, pos, negsuc, ◌+ℤ◌, ◌-ℤ◌, ◌*ℤ◌, neg_ℤ, nat_abs, int_lt, int_le, int_div, int_rem, Bool, true, false, ◌&&◌, ◌||◌, not, List, [], ◌∷◌, ◌++◌, length, Option, Some, None, slice_get, if◌then◌else◌}
 use Rattle.std.specs.Ordering.{int_eq}
 use Rattle.f_tree.specs.declared.names.Class.TheVariants as class
-use Rattle.f_tree.specs.Values.{Bytes, Spot, Datum, IsInt, IsLog, IsText, IsSpot, IsProc, Nothing, Act, ZeroDivide, OutOfBounds, PastExtent, NotOfThisEntry, BadCharacterCode, NoMeaning, Checked, Gives, Fails, given_that, checked}
-use Rattle.f_tree.specs.Terms.{Prefix, Negate, Complement, Operator, Add, Subtract, Multiply, Divide, IsLess, IsLessOrEqual, IsEqual, IsNotEqual, IsGreater, IsGreaterOrEqual, Both, Either, Same, Different, Function, Power, Truncation, Magnitude, Remainder, SignTransfer, PositiveDifference, Largest, Smallest, CharacterCode, CharacterOfCode, TextLength, IndexOf, LexicallyGreaterOrEqual, LexicallyGreater, LexicallyLessOrEqual, LexicallyLess, Callee, Term, Val, Fetch, At, Element, Part, Joined, Before, Between, Intrinsically, Refer, Bind, Bound, Terms, NoMore, More, valued_then}
-use Rattle.f_tree.specs.Store.{Store, fetch}
+use Rattle.f_tree.specs.Values.{Bytes, Spot, Datum, IsInt, IsLog, IsText, IsSpot, IsProc, Nothing, Act, ZeroDivide, OutOfBounds, PastExtent, Disagreement, NotOfThisEntry, BadCharacterCode, NoMeaning, Checked, Gives, Fails, given_that, checked}
+use Rattle.f_tree.specs.Terms.{Prefix, Negate, Complement, Operator, Add, Subtract, Multiply, Divide, IsLess, IsLessOrEqual, IsEqual, IsNotEqual, IsGreater, IsGreaterOrEqual, Both, Either, Same, Different, Function, Power, Truncation, Magnitude, Remainder, SignTransfer, PositiveDifference, Largest, Smallest, CharacterCode, CharacterOfCode, TextLength, IndexOf, LexicallyGreaterOrEqual, LexicallyGreater, LexicallyLessOrEqual, LexicallyLess, Front, Fitted, Callee, Term, Val, Fetch, At, Element, Part, Joined, Before, Between, Intrinsically, Refer, Bind, Bound, Terms, NoMore, More, valued_then}
+use Rattle.f_tree.specs.Store.{Store, fetch, fitted}
 use Rattle.f_tree.specs.Facts.{Attribute, Bounds, Facts, Frame, Home}
 
 -- what valuing comes to: a value, an act, or a call with the rest as a function of its answer
@@ -167,6 +167,8 @@ applied LexicallyGreaterOrEqual (IsText a ∷ IsText b ∷ []) = on_texts IsGrea
 applied LexicallyGreater (IsText a ∷ IsText b ∷ []) = on_texts IsGreater a b
 applied LexicallyLessOrEqual (IsText a ∷ IsText b ∷ []) = on_texts IsLessOrEqual a b
 applied LexicallyLess (IsText a ∷ IsText b ∷ []) = on_texts IsLess a b
+applied (Front n) (IsText cs ∷ []) = if nat_le n (length cs) then Gives (IsText (take n cs)) else Fails Disagreement
+applied (Fitted n) (IsText cs ∷ []) = Gives (IsText (fitted n cs))
 applied _ _ = Fails NoMeaning
 
 -- places: a whole name (5.3, 15.9.3)

@@ -19,3 +19,6 @@ pub use statements::{
     Stmt, TypeSpec, UnitKind, UpperBound,
 };
 pub use units::{File, FileSet, Unit};
+
+#[cfg(test)]
+mod tests;

@@ -1,0 +1,13 @@
+use Rattle.std.proofs.Common.{refl}
+use Rattle.f_tree.specs.Meaning.{everything}
+use Rattle.f_tree.specs.Runs.{runs_opened}
+use Rattle.f_tree.specs.WorkedSources.{sources_opened}
+use Rattle.f_tree.proofs.rows.procedures_and_lengths.Goals as goal
+
+pub returns-clause-passed : goal.returns-clause-passed
+unfolding everything runs_opened sources_opened
+returns-clause-passed c = record { goes_on = refl; ends = refl; wrote = refl }
+
+pub returns-clause-any_length : goal.returns-clause-any_length
+unfolding everything runs_opened sources_opened
+returns-clause-any_length c = record { goes_on = refl; ends = refl; wrote = refl }
