@@ -1,0 +1,4 @@
+mod Equations
+mod Folds
+mod Noting
+mod Walks
