@@ -1,0 +1,4 @@
+pub mod ArmLemmas
+pub mod Equations
+pub mod LocalLemmas
+pub mod StatementEquations

@@ -1,0 +1,8 @@
+pub mod Strings
+pub mod Types
+pub mod Lists
+pub mod Operators
+pub mod Phrases
+pub mod Expressions
+pub mod Declarations
+pub mod Printed
