@@ -69,9 +69,9 @@ newest-hit files last name n is same =
       within = omega (arith, length-append files (last ∷ []));
       named = ap name_of at ∙ sym ((bytes_eq-Decides name last.name).0 same);
       text =
-        file_of-append files last name
-        ∙ ap (λ (b : Bool). if b then Some last.bytes else file_of files name) same
-        ∙ ap (λ (o : Option Named). Some (text_of o)) (sym at)
+          file_of-append files last name
+          ∙ ap (λ (b : Bool). if b then Some last.bytes else file_of files name) same
+          ∙ ap (λ (o : Option Named). Some (text_of o)) (sym at);
     }
 
 newest-miss :
@@ -87,10 +87,10 @@ newest-miss files last name (Some i) differ is =
       within = omega (arith, length-append files (last ∷ []), is.within);
       named = ap name_of at ∙ is.named;
       text =
-        file_of-append files last name
-        ∙ ap (λ (b : Bool). if b then Some last.bytes else file_of files name) differ
-        ∙ is.text
-        ∙ ap (λ (o : Option Named). Some (text_of o)) (sym at)
+          file_of-append files last name
+          ∙ ap (λ (b : Bool). if b then Some last.bytes else file_of files name) differ
+          ∙ is.text
+          ∙ ap (λ (o : Option Named). Some (text_of o)) (sym at);
     }
 
 -- the entries up to and with the next one
@@ -160,13 +160,13 @@ grown entries k old new piece at is name bytes =
       front = map named (take k entries);
       last = named old;
       was =
-        ap (map named) (snoc-at entries k old at)
-        ∙ map-append named (take k entries) (get_or entries k old ∷ [])
-        ∙ ap (λ (e : Entry). map named (take k entries) ++ named e ∷ []) (sym is);
+          ap (map named) (snoc-at entries k old at)
+          ∙ map-append named (take k entries) (get_or entries k old ∷ [])
+          ∙ ap (λ (e : Entry). map named (take k entries) ++ named e ∷ []) (sym is);
       is =
-        ap (map named) (set-at entries k new at)
-        ∙ map-append named (take k entries) (new ∷ [])
-        ∙ ap (λ (f : Named). map named (take k entries) ++ f ∷ []) (same_file name bytes)
+          ap (map named) (set-at entries k new at)
+          ∙ map-append named (take k entries) (new ∷ [])
+          ∙ ap (λ (f : Named). map named (take k entries) ++ f ∷ []) (same_file name bytes);
     }
   where
     same_file :
@@ -194,16 +194,16 @@ file_begun name before after is =
     let file : Named = record { name = name; bytes = [] }
     in record {
       active =
-        ap (λ (files : List Named). Writes (File (last_name [] files))) is
-        ∙ ap (λ (n : List ℕ). Writes (File n)) (last_name-snoc [] before file);
+          ap (λ (files : List Named). Writes (File (last_name [] files))) is
+          ∙ ap (λ (n : List ℕ). Writes (File n)) (last_name-snoc [] before file);
       sound = omega (arith, ap length is, length-append before (file ∷ []));
       text = λ input. refl;
       begins =
-        λ input output fault.
-        ap
-        (λ (files : List ℕ → Option (List ℕ)).
+          λ input output fault.
+          ap
+          (λ (files : List ℕ → Option (List ℕ)).
           let c : Contents = record { files = files; input = input; output = output; fault = fault } in c)
-        (ap file_of is ∙ file_of-snoc before file)
+          (ap file_of is ∙ file_of-snoc before file);
     }
 
 some_not_none : {X : Type 0} {x : X} → Some x ≡ None → ⊥
@@ -219,7 +219,7 @@ file_source name files number is =
       active = ap (λ (n : List ℕ). Reads (File n)) is.named;
       sound = is.within;
       text = λ input output fault. ap text_or_none (sym is.text);
-      there = λ input output fault lacks. some_not_none (sym is.text ∙ lacks)
+      there = λ input output fault lacks. some_not_none (sym is.text ∙ lacks);
     }
 
 abbrev place_of : Active → Place
@@ -237,22 +237,22 @@ grown-put piece before after input output fault is =
     in let under : List ℕ → Option (List ℕ) = file_of is.front
     in let was : file_of before ≡ with_file name (Some is.last.bytes) under = ap file_of is.was ∙ file_of-snoc is.front is.last
     in let files :
-             file_of after
-             ≡ with_file (last_name [] before) (option_map (λ t. t ++ piece) (file_of before (last_name [] before))) (file_of before)
-         =
-         ap file_of is.is
-         ∙ file_of-snoc is.front (record { name = name; bytes = is.last.bytes ++ piece })
-         ∙ sym (with_file-twice name (Some is.last.bytes) (Some (is.last.bytes ++ piece)) under)
-         ∙ ap
-         (λ (text : Option (List ℕ)). with_file name (option_map (λ t. t ++ piece) text) (with_file name (Some is.last.bytes) under))
-         (sym (with_file-at name (Some is.last.bytes) under))
-         ∙ ap (λ (g : List ℕ → Option (List ℕ)). with_file name (option_map (λ t. t ++ piece) (g name)) g) (sym was)
-         ∙ ap
-         (λ (n : List ℕ). with_file n (option_map (λ t. t ++ piece) (file_of before n)) (file_of before))
-         (sym (ap (last_name []) is.was ∙ last_name-snoc [] is.front is.last))
+    file_of after
+    ≡ with_file (last_name [] before) (option_map (λ t. t ++ piece) (file_of before (last_name [] before))) (file_of before)
+    =
+    ap file_of is.is
+    ∙ file_of-snoc is.front (record { name = name; bytes = is.last.bytes ++ piece })
+    ∙ sym (with_file-twice name (Some is.last.bytes) (Some (is.last.bytes ++ piece)) under)
+    ∙ ap
+    (λ (text : Option (List ℕ)). with_file name (option_map (λ t. t ++ piece) text) (with_file name (Some is.last.bytes) under))
+    (sym (with_file-at name (Some is.last.bytes) under))
+    ∙ ap (λ (g : List ℕ → Option (List ℕ)). with_file name (option_map (λ t. t ++ piece) (g name)) g) (sym was)
+    ∙ ap
+    (λ (n : List ℕ). with_file n (option_map (λ t. t ++ piece) (file_of before n)) (file_of before))
+    (sym (ap (last_name []) is.was ∙ last_name-snoc [] is.front is.last))
     in ap
     (λ (g : List ℕ → Option (List ℕ)).
-      let c : Contents = record { files = g; input = input; output = output; fault = fault } in c)
+    let c : Contents = record { files = g; input = input; output = output; fault = fault } in c)
     files
 
 pub last_extended :
@@ -261,17 +261,17 @@ pub last_extended :
     → IsExtended opened.Last piece before after output output fault fault
 last_extended piece before after output fault is =
     let now : last_name [] after ≡ last_name [] before =
-          ap (last_name []) is.is
-          ∙ last_name-snoc [] is.front (record { name = is.last.name; bytes = is.last.bytes ++ piece })
-          ∙ sym (ap (last_name []) is.was ∙ last_name-snoc [] is.front is.last)
+    ap (last_name []) is.is
+    ∙ last_name-snoc [] is.front (record { name = is.last.name; bytes = is.last.bytes ++ piece })
+    ∙ sym (ap (last_name []) is.was ∙ last_name-snoc [] is.front is.last)
     in record {
       active = ap (λ (n : List ℕ). Writes (File n)) now;
       sound = omega (arith, ap length is.is, length-append is.front (record { name = is.last.name; bytes = is.last.bytes ++ piece } ∷ []));
       text = λ input. refl;
       put =
-        λ place same input.
-        subst (λ (p : Place). held after input output fault ≡ added p piece (held before input output fault))
-        (ap place_of same) (grown-put piece before after input output fault is)
+          λ place same input.
+          subst (λ (p : Place). held after input output fault ≡ added p piece (held before input output fault))
+          (ap place_of same) (grown-put piece before after input output fault is);
     }
 
 pub output_extended :
@@ -284,13 +284,13 @@ output_extended piece files before after fault is =
       sound = tt;
       text = λ input. refl;
       put =
-        λ place same input.
-        subst (λ (p : Place). held files input after fault ≡ added p piece (held files input before fault))
-        (ap place_of same)
-        (ap
-        (λ (text : List ℕ).
+          λ place same input.
+          subst (λ (p : Place). held files input after fault ≡ added p piece (held files input before fault))
+          (ap place_of same)
+          (ap
+          (λ (text : List ℕ).
           let c : Contents = record { files = file_of files; input = input; output = text; fault = fault } in c)
-        is)
+          is);
     }
 
 pub fault_extended :
@@ -303,13 +303,13 @@ fault_extended piece files output before after is =
       sound = tt;
       text = λ input. refl;
       put =
-        λ place same input.
-        subst (λ (p : Place). held files input output after ≡ added p piece (held files input output before))
-        (ap place_of same)
-        (ap
-        (λ (text : List ℕ).
+          λ place same input.
+          subst (λ (p : Place). held files input output after ≡ added p piece (held files input output before))
+          (ap place_of same)
+          (ap
+          (λ (text : List ℕ).
           let c : Contents = record { files = file_of files; input = input; output = output; fault = text } in c)
-        is)
+          is);
     }
 
 -- what holds anyhow holds on an error

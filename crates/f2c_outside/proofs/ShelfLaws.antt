@@ -53,9 +53,9 @@ pub with_file-same :
 with_file-same name text files is =
     fun_ext
     (λ asked.
-      either (bytes_eq asked name) text (files asked) (files asked)
-      (λ same. is ∙ sym (ap files ((bytes_eq-Decides asked name).0 same)))
-      refl)
+    either (bytes_eq asked name) text (files asked) (files asked)
+    (λ same. is ∙ sym (ap files ((bytes_eq-Decides asked name).0 same)))
+    refl)
 
 twice : {X : Type 0} (b : Bool) (x y z : X) → (if b then y else (if b then x else z)) ≡ (if b then y else z)
 twice true x y z = refl
@@ -142,14 +142,16 @@ put-nothing piece b a told active =
       active = active;
       ok = tt;
       some = tt;
-      err =
-        (0, record {
+      err = (
+        0,
+        record {
           fits = omega arith;
           put =
-            λ place writes.
-            told
-            ∙ sym (told-nil place b.told)
-            ∙ ap (λ (bytes : List ℕ). option_map (added place bytes) b.told) (sym (take-none piece))
-        });
-      not_missing = λ is. cc
+              λ place writes.
+              told
+              ∙ sym (told-nil place b.told)
+              ∙ ap (λ (bytes : List ℕ). option_map (added place bytes) b.told) (sym (take-none piece));
+        },
+      );
+      not_missing = λ is. cc;
     }

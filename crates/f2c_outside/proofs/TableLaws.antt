@@ -47,7 +47,7 @@ first-here {X = X} passes xs n x within is holds none =
       is = split-at xs n x within ∙ ap (λ (y : X). take n xs ++ y ∷ drop (suc n) xs) (sym is);
       at = sym (length-take n xs ∙ least n (length xs) (omega arith));
       holds = holds;
-      first = none
+      first = none;
     }
 
 or-both : (a b : Bool) → a ≡ false → b ≡ false → (a || b) ≡ false
@@ -175,7 +175,7 @@ distinct-without (x ∷ us) vs u is =
     let equals : ℤ → Bool = λ other. int_eq other x
     in let rest : distinct_units (us ++ u ∷ vs) ≡ true = and-right (not (list_any equals (us ++ u ∷ vs))) (distinct_units (us ++ u ∷ vs)) is
     in let none : list_any equals (us ++ u ∷ vs) ≡ false =
-             not-true (list_any equals (us ++ u ∷ vs)) (and-left (not (list_any equals (us ++ u ∷ vs))) (distinct_units (us ++ u ∷ vs)) is)
+    not-true (list_any equals (us ++ u ∷ vs)) (and-left (not (list_any equals (us ++ u ∷ vs))) (distinct_units (us ++ u ∷ vs)) is)
     in and-both (not (list_any equals (us ++ vs))) (distinct_units (us ++ vs))
     (not-false (list_any equals (us ++ vs))
     (none-parts equals us vs (none-front equals us (u ∷ vs) none)
@@ -194,9 +194,9 @@ distinct-with [] vs u is none =
 distinct-with (x ∷ us) vs u is none =
     let equals : ℤ → Bool = λ other. int_eq other x
     in let now : list_any equals (us ++ vs) ≡ false =
-             not-true (list_any equals (us ++ vs)) (and-left (not (list_any equals (us ++ vs))) (distinct_units (us ++ vs)) is)
+    not-true (list_any equals (us ++ vs)) (and-left (not (list_any equals (us ++ vs))) (distinct_units (us ++ vs)) is)
     in let other : int_eq u x ≡ false =
-             int_eq-back x u (or-left (int_eq x u) (list_any (λ o. int_eq o u) (us ++ vs)) none)
+    int_eq-back x u (or-left (int_eq x u) (list_any (λ o. int_eq o u) (us ++ vs)) none)
     in and-both (not (list_any equals (us ++ u ∷ vs))) (distinct_units (us ++ u ∷ vs))
     (not-false (list_any equals (us ++ u ∷ vs))
     (none-parts equals us (u ∷ vs) (none-front equals us vs now)
@@ -298,7 +298,7 @@ turned state unit (row.Connected c) after R holds on =
       zero_blanks = c.zero_blanks;
       was = ap (λ (u : ℤ). Connects u (state c.device) c.end_mark c.zero_blanks) same;
       now = on.is ∙ ap (λ (u : ℤ). Connects u on.device' on.end_mark' c.zero_blanks) same;
-      did = on.did
+      did = on.did;
     }
 turned state unit (row.Offered name device) after R holds on = absurd (cc)
 turned state unit row.Closed after R holds on = absurd (cc)
@@ -345,8 +345,8 @@ pub at-unit :
 at-unit {V = V} {H = H} state unit rows n r r' R distinct is at on =
     let here : r ≡ is.item = item-at (holds_unit unit) rows n r is at
     in let t : Turned unit (shown state is.item) (shown state r') R =
-             turned state unit is.item (shown state r') R is.holds
-             (subst (λ (x : Row V H). OnRow (shown state x) (shown state r') R) here on)
+    turned state unit is.item (shown state r') R is.holds
+    (subst (λ (x : Row V H). OnRow (shown state x) (shown state r') R) here on)
     in record {
       front = map (shown state) is.front;
       back = map (shown state) is.back;
@@ -356,13 +356,13 @@ at-unit {V = V} {H = H} state unit rows n r r' R distinct is at on =
       end_mark' = t.end_mark';
       zero_blanks = t.zero_blanks;
       was =
-        shown-was state (holds_unit unit) rows n is
-        ∙ ap (λ (x : table.Row). map (shown state) is.front ++ x ∷ map (shown state) is.back) t.was;
+          shown-was state (holds_unit unit) rows n is
+          ∙ ap (λ (x : table.Row). map (shown state) is.front ++ x ∷ map (shown state) is.back) t.was;
       now =
-        shown-now state (holds_unit unit) rows n r' is
-        ∙ ap (λ (x : table.Row). map (shown state) is.front ++ x ∷ map (shown state) is.back) t.now;
+          shown-now state (holds_unit unit) rows n r' is
+          ∙ ap (λ (x : table.Row). map (shown state) is.front ++ x ∷ map (shown state) is.back) t.now;
       alone = alone-there state unit rows n is distinct;
-      did = t.did
+      did = t.did;
     }
 
 true-false : true ≡ false → ⊥
@@ -397,14 +397,14 @@ pub on-unit :
 on-unit {V = V} {H = H} state unit rows n r r' result R distinct is at on never =
     let there : AtUnit unit (map (shown state) rows) (map (shown state) (set rows n r')) R = at-unit state unit rows n r r' R distinct is at on
     in let connected : is_connected unit (map (shown state) rows) ≡ true =
-             any-unit state unit rows
-             ∙ ap (λ (list : List (Row V H)). list_any (holds_unit unit) list) is.is
-             ∙ some-inside (holds_unit unit) is.front is.back is.item is.holds
+    any-unit state unit rows
+    ∙ ap (λ (list : List (Row V H)). list_any (holds_unit unit) list) is.is
+    ∙ some-inside (holds_unit unit) is.front is.back is.item is.holds
     in record {
       found = λ _. there;
       missing = λ not_there. absurd (true-false (sym connected ∙ not_there));
       refused =
-        (λ wrong. absurd (never there.device there.end_mark there.device' there.end_mark' there.did wrong), λ not_there. absurd (true-false (sym connected ∙ not_there)))
+          (λ wrong. absurd (never there.device there.end_mark there.device' there.end_mark' there.did wrong), λ not_there. absurd (true-false (sym connected ∙ not_there)));
     }
 
 -- a call on a unit that is not connected
@@ -418,7 +418,7 @@ not-on-unit {T = T} state unit rows R none =
     in record {
       found = λ there. absurd (true-false (sym there ∙ free));
       missing = λ _. refl;
-      refused = (λ _. free, λ _. refl)
+      refused = (λ _. free, λ _. refl);
     }
 
 -- the row still has its unit, so no unit stands twice
@@ -433,10 +433,10 @@ pub still-distinct :
 still-distinct {V = V} {H = H} state unit rows n r r' R distinct is at on =
     let here : r ≡ is.item = item-at (holds_unit unit) rows n r is at
     in let t : Turned unit (shown state is.item) (shown state r') R =
-             turned state unit is.item (shown state r') R is.holds
-             (subst (λ (x : Row V H). OnRow (shown state x) (shown state r') R) here on)
+    turned state unit is.item (shown state r') R is.holds
+    (subst (λ (x : Row V H). OnRow (shown state x) (shown state r') R) here on)
     in let holds : holds_unit unit r' ≡ true =
-             sym (holds-unit state unit r') ∙ ap (at_unit unit) t.now ∙ (Decides-int_eq unit unit).1 refl
+    sym (holds-unit state unit r') ∙ ap (at_unit unit) t.now ∙ (Decides-int_eq unit unit).1 refl
     in ap (λ (list : List (Row V H)). distinct_units (units_in list)) (set-there (holds_unit unit) rows n r' is)
     ∙ ap distinct_units
     (units-split is.front is.back r'
@@ -553,7 +553,7 @@ was-offered state name unit zero_blanks (row.Offered own device) after holds bec
     record {
       device = state device;
       was = ap (λ (n : List ℕ). Offers n (state device)) ((bytes_eq-Decides own name).0 holds);
-      now = becomes
+      now = becomes;
     }
 was-offered state name unit zero_blanks (row.Connected c) after holds becomes = absurd (cc)
 was-offered state name unit zero_blanks row.Closed after holds becomes = absurd (cc)
@@ -575,19 +575,19 @@ pub opened-distinct :
 opened-distinct {V = V} {H = H} state name unit zero_blanks rows n r r' distinct free is at becomes =
     let here : r ≡ is.item = item-at (holds_name name) rows n r is at
     in let t : WasOffered name unit zero_blanks (shown state is.item) (shown state r') =
-             was-offered state name unit zero_blanks is.item (shown state r') is.holds
-             (subst (λ (x : Row V H). BecomesConnected unit zero_blanks (shown state x) (shown state r')) here becomes)
+    was-offered state name unit zero_blanks is.item (shown state r') is.holds
+    (subst (λ (x : Row V H). BecomesConnected unit zero_blanks (shown state x) (shown state r')) here becomes)
     in let holds : holds_unit unit r' ≡ true =
-             sym (holds-unit state unit r') ∙ ap (at_unit unit) t.now ∙ (Decides-int_eq unit unit).1 refl
+    sym (holds-unit state unit r') ∙ ap (at_unit unit) t.now ∙ (Decides-int_eq unit unit).1 refl
     in let before : units_in rows ≡ units_in is.front ++ units_in is.back =
-             ap (λ (list : List (Row V H)). units_in list) is.is
-             ∙ units-split is.front is.back is.item
-             ∙ ap (λ (us : List ℤ). units_in is.front ++ (us ++ units_in is.back)) (offered-units name is.item is.holds)
+    ap (λ (list : List (Row V H)). units_in list) is.is
+    ∙ units-split is.front is.back is.item
+    ∙ ap (λ (us : List ℤ). units_in is.front ++ (us ++ units_in is.back)) (offered-units name is.item is.holds)
     in let none : list_any (λ other. int_eq other unit) (units_in is.front ++ units_in is.back) ≡ false =
-             ap (list_any (λ other. int_eq other unit)) (sym before)
-             ∙ sym (any-held unit rows)
-             ∙ sym (any-unit state unit rows)
-             ∙ free
+    ap (list_any (λ other. int_eq other unit)) (sym before)
+    ∙ sym (any-held unit rows)
+    ∙ sym (any-unit state unit rows)
+    ∙ free
     in ap (λ (list : List (Row V H)). distinct_units (units_in list)) (set-there (holds_name name) rows n r' is)
     ∙ ap distinct_units
     (units-split is.front is.back r'
@@ -605,30 +605,30 @@ pub opened :
 opened {V = V} {H = H} state name unit zero_blanks rows n r r' x free is at becomes =
     let here : r ≡ is.item = item-at (holds_name name) rows n r is at
     in let t : WasOffered name unit zero_blanks (shown state is.item) (shown state r') =
-             was-offered state name unit zero_blanks is.item (shown state r') is.holds
-             (subst (λ (y : Row V H). BecomesConnected unit zero_blanks (shown state y) (shown state r')) here becomes)
+    was-offered state name unit zero_blanks is.item (shown state r') is.holds
+    (subst (λ (y : Row V H). BecomesConnected unit zero_blanks (shown state y) (shown state r')) here becomes)
     in let offered : is_offered name (map (shown state) rows) ≡ true =
-             any-name state name rows
-             ∙ ap (λ (list : List (Row V H)). list_any (holds_name name) list) is.is
-             ∙ some-inside (holds_name name) is.front is.back is.item is.holds
+    any-name state name rows
+    ∙ ap (λ (list : List (Row V H)). list_any (holds_name name) list) is.is
+    ∙ some-inside (holds_name name) is.front is.back is.item is.holds
     in record {
       taken = (λ wrong. absurd (ok-err wrong), λ there. absurd (true-false (sym there ∙ free)));
       not_offered = (λ wrong. absurd (ok-err wrong), λ both. absurd (true-false (sym offered ∙ both.1)));
       refused = λ _. (free, offered);
       opened =
-        record {
-          front = map (shown state) is.front;
-          back = map (shown state) is.back;
-          device = t.device;
-          was =
-            shown-was state (holds_name name) rows n is
-            ∙ ap (λ (y : table.Row). map (shown state) is.front ++ y ∷ map (shown state) is.back) t.was;
-          first = any-name state name is.front ∙ is.first;
-          now =
-            shown-now state (holds_name name) rows n r' is
-            ∙ ap (λ (y : table.Row). map (shown state) is.front ++ y ∷ map (shown state) is.back) t.now
-        };
-      kept = tt
+          record {
+            front = map (shown state) is.front;
+            back = map (shown state) is.back;
+            device = t.device;
+            was =
+                shown-was state (holds_name name) rows n is
+                ∙ ap (λ (y : table.Row). map (shown state) is.front ++ y ∷ map (shown state) is.back) t.was;
+            first = any-name state name is.front ∙ is.first;
+            now =
+                shown-now state (holds_name name) rows n r' is
+                ∙ ap (λ (y : table.Row). map (shown state) is.front ++ y ∷ map (shown state) is.back) t.now;
+          };
+      kept = tt;
     }
 
 pub open-taken :
@@ -641,7 +641,7 @@ open-taken {T = T} state name unit zero_blanks rows there =
       not_offered = (λ wrong. absurd (taken-not-offered {T = T} (Err Taken) refl wrong), λ both. absurd (true-false (sym there ∙ both.0)));
       refused = λ wrong. absurd (true-false (sym wrong));
       opened = tt;
-      kept = refl
+      kept = refl;
     }
 
 pub open-nothing :
@@ -655,7 +655,7 @@ open-nothing {T = T} state name unit zero_blanks rows free none =
       not_offered = (λ _. (free, any-name state name rows ∙ none), λ _. refl);
       refused = λ wrong. absurd (true-false (sym wrong));
       opened = tt;
-      kept = refl
+      kept = refl;
     }
 
 -- what `close_row` did to a row of this unit
@@ -679,7 +679,7 @@ turned-closed state unit (row.Connected c) after result holds on =
       end_mark = c.end_mark;
       zero_blanks = c.zero_blanks;
       was = ap (λ (u : ℤ). Connects u (state c.device) c.end_mark c.zero_blanks) same;
-      did = subst (λ (u : ℤ). ClosesRow u c.zero_blanks (state c.device) c.end_mark after result) same on
+      did = subst (λ (u : ℤ). ClosesRow u c.zero_blanks (state c.device) c.end_mark after result) same on;
     }
 turned-closed state unit (row.Offered name device) after result holds on = absurd (cc)
 turned-closed state unit row.Closed after result holds on = absurd (cc)
@@ -708,15 +708,15 @@ pub closed-distinct :
 closed-distinct {V = V} {H = H} state unit rows n r r' result distinct is at on =
     let here : r ≡ is.item = item-at (holds_unit unit) rows n r is at
     in let t : TurnedClosed unit (shown state is.item) (shown state r') result =
-             turned-closed state unit is.item (shown state r') result is.holds
-             (subst (λ (x : Row V H). OnClosedRow (shown state x) (shown state r') result) here on)
+    turned-closed state unit is.item (shown state r') result is.holds
+    (subst (λ (x : Row V H). OnClosedRow (shown state x) (shown state r') result) here on)
     in let before : distinct_units (units_in is.front ++ unit ∷ units_in is.back) ≡ true =
-             sym
-             (ap (λ (list : List (Row V H)). distinct_units (units_in list)) is.is
-             ∙ ap distinct_units
-             (units-split is.front is.back is.item
-             ∙ ap (λ (us : List ℤ). units_in is.front ++ (us ++ units_in is.back)) (units-held unit is.item is.holds)))
-             ∙ distinct
+    sym
+    (ap (λ (list : List (Row V H)). distinct_units (units_in list)) is.is
+    ∙ ap distinct_units
+    (units-split is.front is.back is.item
+    ∙ ap (λ (us : List ℤ). units_in is.front ++ (us ++ units_in is.back)) (units-held unit is.item is.holds)))
+    ∙ distinct
     in ap (λ (list : List (Row V H)). distinct_units (units_in list)) (set-there (holds_unit unit) rows n r' is)
     ∙ ap distinct_units (units-split is.front is.back r')
     ∙ by-result result t before
@@ -748,60 +748,63 @@ closed {V = V} {H = H} state unit rows n r r' result distinct is at on =
         any-unit state unit rows
         ∙ ap (λ (list : List (Row V H)). list_any (holds_unit unit) list) is.is
         ∙ some-inside (holds_unit unit) is.front is.back is.item is.holds
+
     was : (t : table.Row) → shown state is.item ≡ t → map (shown state) rows ≡ map (shown state) is.front ++ t ∷ map (shown state) is.back
     was t same =
         shown-was state (holds_unit unit) rows n is
         ∙ ap (λ (x : table.Row). map (shown state) is.front ++ x ∷ map (shown state) is.back) same
+
     now : (t : table.Row) → shown state r' ≡ t → map (shown state) (set rows n r') ≡ map (shown state) is.front ++ t ∷ map (shown state) is.back
     now t same =
         shown-now state (holds_unit unit) rows n r' is
         ∙ ap (λ (x : table.Row). map (shown state) is.front ++ x ∷ map (shown state) is.back) same
+
     by-result : (answer : Result declared.Closed UnitRefusal) → TurnedClosed unit (shown state is.item) (shown state r') answer → ClosedUnit unit (map (shown state) rows) (map (shown state) (set rows n r')) answer
     by-result (Ok done) t =
         record {
           closed =
-            record {
-              front = map (shown state) is.front;
-              back = map (shown state) is.back;
-              device = t.device;
-              end_mark = t.end_mark;
-              zero_blanks = t.zero_blanks;
-              was = was (Connects unit t.device t.end_mark t.zero_blanks) t.was;
-              now = now Closed t.did.closed.0;
-              free =
-                ap (is_connected unit) (now Closed t.did.closed.0)
-                ∙ none-parts (at_unit unit) (map (shown state) is.front) (Closed ∷ map (shown state) is.back)
-                (none-front (at_unit unit) (map (shown state) is.front) (map (shown state) is.back) (alone-there state unit rows n is distinct))
-                (none-back (at_unit unit) (map (shown state) is.front) (map (shown state) is.back) (alone-there state unit rows n is distinct));
-              count = t.did.closed.1
-            };
+              record {
+                front = map (shown state) is.front;
+                back = map (shown state) is.back;
+                device = t.device;
+                end_mark = t.end_mark;
+                zero_blanks = t.zero_blanks;
+                was = was (Connects unit t.device t.end_mark t.zero_blanks) t.was;
+                now = now Closed t.did.closed.0;
+                free =
+                    ap (is_connected unit) (now Closed t.did.closed.0)
+                    ∙ none-parts (at_unit unit) (map (shown state) is.front) (Closed ∷ map (shown state) is.back)
+                    (none-front (at_unit unit) (map (shown state) is.front) (map (shown state) is.back) (alone-there state unit rows n is distinct))
+                    (none-back (at_unit unit) (map (shown state) is.front) (map (shown state) is.back) (alone-there state unit rows n is distinct));
+                count = t.did.closed.1;
+              };
           failed = λ wrong. absurd (ok-err wrong);
           missing = λ wrong. absurd (ok-err wrong);
           refused = (λ wrong. absurd (ok-err wrong), λ free. absurd (true-false (sym connected ∙ free)));
-          other = tt
+          other = tt;
         }
     by-result (Err refused) t =
         record {
           closed = tt;
           failed =
-            λ _.
-            record {
-              front = map (shown state) is.front;
-              back = map (shown state) is.back;
-              device = t.device;
-              device' = t.did.failed.device';
-              end_mark = t.end_mark;
-              end_mark' = t.did.failed.end_mark';
-              zero_blanks = t.zero_blanks;
-              was = was (Connects unit t.device t.end_mark t.zero_blanks) t.was;
-              now = now (Connects unit t.did.failed.device' t.did.failed.end_mark' t.zero_blanks) t.did.failed.is;
-              alone = alone-there state unit rows n is distinct;
-              did = t.did.failed.did
-            };
+              λ _.
+              record {
+                front = map (shown state) is.front;
+                back = map (shown state) is.back;
+                device = t.device;
+                device' = t.did.failed.device';
+                end_mark = t.end_mark;
+                end_mark' = t.did.failed.end_mark';
+                zero_blanks = t.zero_blanks;
+                was = was (Connects unit t.device t.end_mark t.zero_blanks) t.was;
+                now = now (Connects unit t.did.failed.device' t.did.failed.end_mark' t.zero_blanks) t.did.failed.is;
+                alone = alone-there state unit rows n is distinct;
+                did = t.did.failed.did;
+              };
           missing = λ wrong. absurd (failed-only {T = declared.Closed} (Err refused) t.did.refused wrong);
           refused =
-            (λ wrong. absurd (failed-only {T = declared.Closed} (Err refused) t.did.refused wrong), λ free. absurd (true-false (sym connected ∙ free)));
-          other = failed-missing refused t.did.refused
+              (λ wrong. absurd (failed-only {T = declared.Closed} (Err refused) t.did.refused wrong), λ free. absurd (true-false (sym connected ∙ free)));
+          other = failed-missing refused t.did.refused;
         }
 
 pub close-missing :
@@ -814,7 +817,7 @@ close-missing state unit rows none =
       failed = λ wrong. absurd (missing-failed {T = declared.Closed} (Err NotConnected) refl wrong);
       missing = λ _. refl;
       refused = (λ _. any-unit state unit rows ∙ none, λ _. refl);
-      other = tt
+      other = tt;
     }
 
 -- the same unit, as a call was given it

@@ -97,7 +97,7 @@ empty_memory =
       active = Idle;
       left = [];
       plan = record { fails = []; calls = 0; planned = 0 };
-      starved = 0
+      starved = 0;
     }
 
 -- the last of the files of a name stands at this number
@@ -170,7 +170,7 @@ pub record IsExtended (into : Opened) (piece : List ℕ) (before after : List Na
   pub sound : IsOpen into after
   pub text : (input : List ℕ) → text_read into input after ≡ text_read into input before
   pub put :
-    (place : Place)
-    → active_of into before ≡ Writes place
-    → (input : List ℕ)
-    → held after input output' fault' ≡ added place piece (held before input output fault)
+      (place : Place)
+      → active_of into before ≡ Writes place
+      → (input : List ℕ)
+      → held after input output' fault' ≡ added place piece (held before input output fault)

@@ -18,7 +18,7 @@ abbrev pub after_call : Plan → Plan
 after_call plan =
     record plan {
       calls = min (plan.calls + 1) (2 ^ 64 - 1);
-      planned = if next_fails plan then plan.planned + 1 else plan.planned
+      planned = if next_fails plan then plan.planned + 1 else plan.planned;
     }
 
 -- the plan with another call that is to fail

@@ -22,7 +22,7 @@ tape_state tape =
       told = Some tape.records;
       position = tape.position;
       finished = tape.finished;
-      faults = tape.plan.planned + tape.starved
+      faults = tape.plan.planned + tape.starved;
     }
 
 -- a device in memory without records
@@ -33,7 +33,7 @@ empty_tape =
       position = 0;
       finished = false;
       plan = record { fails = []; calls = 0; planned = 0 };
-      starved = 0
+      starved = 0;
     }
 
 -- a record is handed out: its bytes in front of the slice where it fits, and its length alone where it does not

@@ -149,7 +149,7 @@ connect_file number zero_blanks (Some picked) units =
       records = picked.file.records;
       position = picked.file.position;
       end_mark = false;
-      zero_blanks = zero_blanks
+      zero_blanks = zero_blanks;
     }))
     (record units { drawer = picked.rest }))
 

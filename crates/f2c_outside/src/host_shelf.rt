@@ -7,10 +7,9 @@ ghost use Rattle.f2c_outside.specs.Host.{untold};
 use crate::shelves::{Place, Shelf, ShelfFault};
 use crate::texts::Name;
 use std::alloc::Global;
-use std::fs;
-use std::io;
 use std::io::{ErrorKind, Read, Write};
 use std::rt::Files;
+use std::{fs, io};
 
 /// The place that is read or written now.
 #[derive(Drop)]
@@ -154,11 +153,7 @@ fn create_file<R: Files>(rt: &R, name: &Name) -> io::Result<R::File> {
 }
 
 /// Reads from the open file, or from standard input where none is open.
-fn read_some<R: Input, F: Read>(
-    rt: &R,
-    file: &mut Option<F>,
-    into: &mut [u8],
-) -> io::Result<usize>
+fn read_some<R: Input, F: Read>(rt: &R, file: &mut Option<F>, into: &mut [u8]) -> io::Result<usize>
     ensures { IfOk result (λ n. n ≤ length into.old) }
 {
     match file {

@@ -28,11 +28,11 @@ impl Model for MemoryDevice {
     ghost Value = { Tape };
 
     ghost view = { λ d. record {
-        records = map (λ r. r.items) d.records.items;
-        position = d.position;
-        finished = d.finished;
-        plan = d.plan;
-        starved = d.starved
+      records = map (λ r. r.items) d.records.items;
+      position = d.position;
+      finished = d.finished;
+      plan = d.plan;
+      starved = d.starved;
     } };
 
     ghost invariant = { λ d. d.position ≤ length d.records.items };

@@ -51,14 +51,14 @@ impl Model for MemoryShelf {
     ghost Value = { Memory };
 
     ghost view = { λ m. record {
-        files = map named m.entries.items;
-        input = m.input.items;
-        output = m.output.items;
-        fault = m.fault_text.items;
-        active = active_of m.opened (map named m.entries.items);
-        left = drop m.taken (text_read m.opened m.input.items (map named m.entries.items));
-        plan = m.plan;
-        starved = m.starved
+      files = map named m.entries.items;
+      input = m.input.items;
+      output = m.output.items;
+      fault = m.fault_text.items;
+      active = active_of m.opened (map named m.entries.items);
+      left = drop m.taken (text_read m.opened m.input.items (map named m.entries.items));
+      plan = m.plan;
+      starved = m.starved;
     } };
 
     ghost invariant = { λ m.
@@ -210,7 +210,13 @@ impl Shelf for MemoryShelf {
         if self.plan.next_fails() {
             return Err(ShelfFault::Failed);
         }
-        match extend_opened(self.opened, &mut self.output, &mut self.fault_text, &mut self.entries, piece) {
+        match extend_opened(
+            self.opened,
+            &mut self.output,
+            &mut self.fault_text,
+            &mut self.entries,
+            piece,
+        ) {
             Ok(()) => Ok(piece.len()),
             Err(_) => {
                 self.starved = self.starved.saturating_add(1);
@@ -356,11 +362,9 @@ fn extend_opened(
 ) -> Result<(), NoMemory>
     requires sound { IsOpen opened (map named entries.old.items) }
     requires writes { IsWriting (active_of opened (map named entries.old.items)) }
-    ensures ok {
-        OnOk result
+    ensures ok { OnOk result
         (IsExtended opened piece.now (map named entries.old.items) (map named entries.new.items) output.old.items
-        output.new.items fault_text.old.items fault_text.new.items)
-    }
+        output.new.items fault_text.old.items fault_text.new.items) }
     ensures files { OnErr result (map named entries.new.items ≡ map named entries.old.items) }
     ensures output { OnErr result (output.new.items ≡ output.old.items) }
     ensures fault { OnErr result (fault_text.new.items ≡ fault_text.old.items) }

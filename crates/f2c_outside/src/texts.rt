@@ -3,7 +3,7 @@
 ghost use Rattle.std.specs.Prelude.{◌≡◌, ◌↔◌, [], ◌∷◌, ◌++◌, length, option_copied, IfOk, OnOk, OnErr, IsErrOf};
 ghost use Rattle.f2c_outside.specs.Texts.{word_at, IsName};
 
-use std::alloc::{AllocFailed, AllocError, Global};
+use std::alloc::{AllocError, AllocFailed, Global};
 use std::marker::Model;
 
 /// Memory was wanted and refused. What the call was to change is as it was before.

@@ -69,7 +69,14 @@ fn device_of(row: Row) -> Box<dyn Device>
 {
     match row {
         Row::Offered { name: _, device } => device,
-        Row::Connected(Connection { unit: _, device, end_mark: _, zero_blanks: _ }) => device,
+        Row::Connected(
+            Connection {
+                unit: _,
+                device,
+                end_mark: _,
+                zero_blanks: _,
+            },
+        ) => device,
         Row::Closed => unreachable!(),
     }
 }
@@ -99,7 +106,11 @@ fn offer_of(rows: &[Row], name: &[u8]) -> Option<usize>
 }
 
 /// Reads the next record of a device, and sets the end mark at the end.
-fn read_device(device: &mut Box<dyn Device>, end_mark: &mut bool, into: &mut [u8]) -> Result<Got, UnitRefusal>
+fn read_device(
+    device: &mut Box<dyn Device>,
+    end_mark: &mut bool,
+    into: &mut [u8],
+) -> Result<Got, UnitRefusal>
     ensures { ReadFrom (device_state device.old) end_mark.old (device_state device.new) end_mark.new into.old into.new result }
 {
     match device.read_record(into) {
@@ -113,7 +124,11 @@ fn read_device(device: &mut Box<dyn Device>, end_mark: &mut bool, into: &mut [u8
 }
 
 /// Writes a record, unless the end mark stands.
-fn write_device(device: &mut Box<dyn Device>, end_mark: bool, bytes: &[u8]) -> Result<(), UnitRefusal>
+fn write_device(
+    device: &mut Box<dyn Device>,
+    end_mark: bool,
+    bytes: &[u8],
+) -> Result<(), UnitRefusal>
     ensures { WrittenTo (device_state device.old) end_mark (device_state device.new) end_mark bytes.now result }
 {
     if end_mark {
@@ -400,7 +415,12 @@ impl UnitTable {
     /// OPEN: connects the first device of the drawer that has the name, without an end mark.
     /// `Taken` comes exactly where the unit is connected, else `NotOffered` exactly where no device of
     /// the drawer has the name. It takes no memory.
-    pub fn open_unit(&mut self, unit: i32, name: &[u8], zero_blanks: bool) -> Result<(), UnitRefusal>
+    pub fn open_unit(
+        &mut self,
+        unit: i32,
+        name: &[u8],
+        zero_blanks: bool,
+    ) -> Result<(), UnitRefusal>
         ensures { OpenedUnit unit name.now zero_blanks (rows_of (λ b. device_state b) self.old) (rows_of (λ b. device_state b) self.new) result }
     {
         if self.is_connected(unit) {

@@ -10,9 +10,9 @@ pub returns-in-Last-clause-ok : goal.returns-in-Last-clause-ok
 returns-in-Last-clause-ok c =
     subst
     (λ (into : Opened).
-      OnOk c.extend_last.result
-      (IsExtended into c.args.piece.now (map named c.args.entries.now.items) (map named c.extend_last.new.entries.items)
-      c.args.output.now.items c.args.output.now.items c.args.fault_text.now.items c.args.fault_text.now.items))
+    OnOk c.extend_last.result
+    (IsExtended into c.args.piece.now (map named c.args.entries.now.items) (map named c.extend_last.new.entries.items)
+    c.args.output.now.items c.args.output.now.items c.args.fault_text.now.items c.args.fault_text.now.items))
     (sym c.in-Last.is)
     (on_ok_weaker c.extend_last.result
     (last_extended c.args.piece.now (map named c.args.entries.now.items) (map named c.extend_last.new.entries.items)

@@ -9,12 +9,12 @@ use Rattle.f2c_outside.proofs.memory_shelf.newest.Goals.{then-eq, else-eq}
 pub loop-number-preserved : goal.loop-number-preserved
 loop-number-preserved c =
     elim c.if-eq.branch [
-      then-eq w ↦
+      | then-eq w ↦
           let same : bytes_eq c.args.name.now c.index-entries-number.result.name ≡ true = cc
           in rw w.found-is
           (newest-hit-next c.args.entries.now c.loop-number.number c.index-entries-number.result c.args.name.now (omega arith)
           c.index-entries-number.is same)
-    | else-eq w ↦
+      | else-eq w ↦
           let differ : bytes_eq c.args.name.now c.index-entries-number.result.name ≡ false = cc
           in rw w.found-is
           (newest-miss-next c.args.entries.now c.loop-number.number c.index-entries-number.result c.args.name.now

@@ -7,10 +7,10 @@ returns-clause-ended c =
     rw (← c.self.view_is)
     (record {
       told =
-        ap Some
-        (cut-records (λ r. r.items) c.self.inside.records.items c.truncate.new.self.items c.self.inside.position
-        c.truncate.ensures.items);
+          ap Some
+          (cut-records (λ r. r.items) c.self.inside.records.items c.truncate.new.self.items c.self.inside.position
+          c.truncate.ensures.items);
       position = refl;
       finished = refl;
-      tells = refl
+      tells = refl;
     })

@@ -9,11 +9,11 @@ pub invariant_of-self : goal.invariant_of-self
 invariant_of-self g c =
     record {
       distinct =
-        closed-distinct _ c.args.unit c.args.self.now.rows.items c.in-Some.number c.index_mut.result.now c.close_row.new.row
-        c.close_row.result c.args.self.now.distinct
-        (subst (λ (unit : ℤ). IsFirst (holds_unit unit) c.args.self.now.rows.items (Some c.in-Some.number)) (to_z-of_z c.ranges.unit)
-    (rw c.as_slice.ensures.value at c.in-Some.ensures))
-        c.index_mut.ensures.value c.close_row.ensures
+          closed-distinct _ c.args.unit c.args.self.now.rows.items c.in-Some.number c.index_mut.result.now c.close_row.new.row
+          c.close_row.result c.args.self.now.distinct
+          (subst (λ (unit : ℤ). IsFirst (holds_unit unit) c.args.self.now.rows.items (Some c.in-Some.number)) (to_z-of_z c.ranges.unit)
+          (rw c.as_slice.ensures.value at c.in-Some.ensures))
+          c.index_mut.ensures.value c.close_row.ensures;
     }
 
 pub returns-in-Some : goal.returns-in-Some

@@ -7,10 +7,10 @@ pub invariant_of-self : goal.invariant_of-self
 invariant_of-self g c =
     record {
       distinct =
-        connected-distinct c.args.self.now.rows.items c.push.new.self.items _ c.args.unit _ c.push.ensures.items
-        c.args.self.now.distinct
-        (sym (any-unit _ c.args.unit c.args.self.now.rows.items)
-        ∙ at-same-unit _ c.args.self.now.rows.items _ c.args.unit c.is_connected.result false (to_z-of_z c.ranges.unit) c.is_connected.ensures
-        c.if-is_connected.false)
-        (ap (λ (unit : ℤ). unit ∷ []) (to_z-of_z c.ranges.unit))
+          connected-distinct c.args.self.now.rows.items c.push.new.self.items _ c.args.unit _ c.push.ensures.items
+          c.args.self.now.distinct
+          (sym (any-unit _ c.args.unit c.args.self.now.rows.items)
+          ∙ at-same-unit _ c.args.self.now.rows.items _ c.args.unit c.is_connected.result false (to_z-of_z c.ranges.unit) c.is_connected.ensures
+          c.if-is_connected.false)
+          (ap (λ (unit : ℤ). unit ∷ []) (to_z-of_z c.ranges.unit));
     }

@@ -6,5 +6,5 @@ pub invariant_of-self : goal.invariant_of-self
 invariant_of-self g c =
     record {
       distinct =
-        offered-distinct c.args.self.now.rows.items c.push.new.self.items _ _ c.push.ensures.items c.args.self.now.distinct refl
+          offered-distinct c.args.self.now.rows.items c.push.new.self.items _ _ c.push.ensures.items c.args.self.now.distinct refl;
     }

@@ -10,11 +10,11 @@ pub invariant_of-self : goal.invariant_of-self
 invariant_of-self g c =
     record {
       distinct =
-        still-distinct _ c.args.unit c.args.self.now.rows.items c.in-Some.number c.index_mut.result.now c.write_row.new.row _
-        c.args.self.now.distinct
-        (subst (λ (unit : ℤ). IsFirst (holds_unit unit) c.args.self.now.rows.items (Some c.in-Some.number)) (to_z-of_z c.ranges.unit)
-        (rw c.as_slice.ensures.value at c.in-Some.ensures))
-        c.index_mut.ensures.value c.write_row.ensures
+          still-distinct _ c.args.unit c.args.self.now.rows.items c.in-Some.number c.index_mut.result.now c.write_row.new.row _
+          c.args.self.now.distinct
+          (subst (λ (unit : ℤ). IsFirst (holds_unit unit) c.args.self.now.rows.items (Some c.in-Some.number)) (to_z-of_z c.ranges.unit)
+          (rw c.as_slice.ensures.value at c.in-Some.ensures))
+          c.index_mut.ensures.value c.write_row.ensures;
     }
 
 pub returns-in-Some : goal.returns-in-Some
