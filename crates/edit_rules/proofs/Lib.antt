@@ -1,4 +1,6 @@
 pub mod ListedRows
+pub mod ItemSteps
+pub mod ListRows
 pub mod ListedLaws
 pub mod ListedSteps
 pub mod ListScans

@@ -1,6 +1,7 @@
 pub mod Answers
 pub mod EditedFields
 pub mod ListInput
+pub mod ListItems
 pub mod ListPlaces
 pub mod Listed
 pub mod Reader

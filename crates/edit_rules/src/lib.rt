@@ -1,4 +1,4 @@
-//! The edit rules of FORTRAN 77: formats, edit descriptors and list-directed text, both ways.
+//! The edit rules of FORTRAN 77: edit descriptors in their fields and list-directed text, both ways.
 //! None of its calls takes memory.
 #![tactic(auto)]
 
@@ -8,6 +8,8 @@ pub mod list_reader;
 mod list_scan;
 pub mod list_writer;
 pub mod take;
+#[cfg(test)]
+mod tests;
 
 pub use edit::{edit_int, edit_logical, edit_text};
 pub use list_reader::{ItemKind, ListItem, ListReader};

@@ -1,6 +1,7 @@
 //! List-directed input (ANSI X3.9-1978, section 13.6.1): the values of records, item by item.
-ghost use Rattle.std.specs.Prelude.{◌≡◌, ℕ, ◌+◌, ◌<◌, ◌≤◌, List, [], false, true, length, take, drop};
-ghost use Rattle.edit_rules.specs.ListInput.{Between, Wrong, sought, word_length, run_length, behind_constant, given_number, given_truth, piece_before, piece, text_constant, constant_as, nulls, repeated_as, value_as, given_behind, inside, given};
+ghost use Rattle.std.specs.Prelude.{◌≡◌, ℕ, ◌+◌, ◌<◌, ◌≤◌, List, [], ◌∷◌, false, true, length, take, drop};
+ghost use Rattle.edit_rules.specs.ListInput.{Kind, Between, Wrong, sought, word_length, run_length, behind_constant, given_number, given_truth, piece_before, piece, text_constant, constant_as, nulls, repeated_as, value_as, given_behind, inside, given};
+ghost use Rattle.edit_rules.specs.ListItems.{items_from, Follows};
 ghost use Rattle.edit_rules.specs.Reader.{given_as, place_in, kind_of, StandsIn, IsWithin, KeepsPlace};
 ghost use Rattle.edit_rules.specs.Answers.{Answers};
 ghost use Rattle.edit_rules.specs.TakeErrors.{error_number, numbered};
@@ -82,6 +83,8 @@ impl ListReader {
     pub fn next(&mut self, line: &[u8], kind: ItemKind) -> ListItem
         requires { StandsIn self.old line.now }
         ensures given { given_as line.now result self.new ≡ given (place_in line.now self.old) (kind_of kind) }
+        ensures items { (later : List (List ℕ)) → (kinds : List Kind) → Follows
+            (items_from (place_in line.now self.old) later (kind_of kind ∷ kinds)) later (kind_of kind) kinds (given_as line.now result self.new) }
         ensures stands { StandsIn self.new line.now }
         ensures within { IsWithin line.now result }
         ensures anywhere { KeepsPlace result self.old self.new }
@@ -290,10 +293,8 @@ impl ListReader {
                 doing: Doing::Nulls { more: more - 1 },
             }
         };
-        Next {
-            item: ListItem::Null,
-            reader,
-        }
+        let item = ListItem::Null;
+        Next { item, reader }
     }
 
     // An error by its number.
