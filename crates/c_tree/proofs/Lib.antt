@@ -1,1 +1,3 @@
 pub mod TreeEquations
+pub mod ObjectLaws
+pub mod StepLaws
