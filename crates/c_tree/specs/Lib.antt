@@ -25,3 +25,5 @@ pub mod Rows
 pub mod Rulings
 pub mod Opened
 pub mod LibraryRows
+pub mod CText
+pub mod Tokens
