@@ -122,10 +122,6 @@ sum_printed = one_file (main_program (
     on_card 2 (print (expr.Binary op.Plus (expr.Name (codes "I")) (expr.Int (pos 3)) ∷ [])) ∷
     on_card 3 body.End ∷ []) ∷ [])
 
--- where I stands
-unfoldable pub sum_setting : Setting
-sum_setting = record { homes = (record { sequence = 0; first = 0 } ∷ []) ∷ []; sizes = 4 ∷ [] }
-
 -- `IMPLICIT INTEGER (A-Z)`, `DO 10 I = 1 5`, `PRINT *, DO10I`, `END`: the second card is an assignment
 unfoldable pub loop_look_alike : FileSet
 loop_look_alike = one_file (main_program (
@@ -575,5 +571,5 @@ unfoldable pub stopped : FileSet
 stopped = one_file (main_program (on_card 1 (body.Stop (codes "7")) ∷ on_card 2 body.End ∷ []) ∷ [])
 
 unfoldable pub sources_opened : Unit {0}
-unfolding sum_printed sum_setting loop_look_alike loop_that_never_turns loop_to_the_last_integer least_integer operands_from_the_left decided_and dummies_that_overlap entries_share_a_result alternate_returns assigned element_past_the_last step_of_zero variable_changed_in_its_loop calling printing_a_function dummy_of_another_entry assigned_branch arms shared_terminal implied_loops division_by_zero variable_without_value recursion constant_defined argument_too_many function_without_result transfer_in_a_transfer call_of_nothing dimension_of_no_element element_past_the_argument texts_and_a_statement_function statement_function_in_another text_assigned text_moved_within_itself text_apart_from_itself code_of_no_character common_seen_twice common_setting arrays_equivalenced arrays_setting types_equivalenced types_setting values_from_data constants_and_bounds procedure_passed function_of_any_length unit_not_connected written_over stopped
+unfolding sum_printed loop_look_alike loop_that_never_turns loop_to_the_last_integer least_integer operands_from_the_left decided_and dummies_that_overlap entries_share_a_result alternate_returns assigned element_past_the_last step_of_zero variable_changed_in_its_loop calling printing_a_function dummy_of_another_entry assigned_branch arms shared_terminal implied_loops division_by_zero variable_without_value recursion constant_defined argument_too_many function_without_result transfer_in_a_transfer call_of_nothing dimension_of_no_element element_past_the_argument texts_and_a_statement_function statement_function_in_another text_assigned text_moved_within_itself text_apart_from_itself code_of_no_character common_seen_twice common_setting arrays_equivalenced arrays_setting types_equivalenced types_setting values_from_data constants_and_bounds procedure_passed function_of_any_length unit_not_connected written_over stopped
 sources_opened = tt

@@ -1,13 +1,18 @@
 use Rattle.std.proofs.Common.{refl}
 use Rattle.f_tree.specs.Meaning.{everything}
 use Rattle.f_tree.specs.Runs.{runs_opened}
-use Rattle.f_tree.specs.WorkedSources.{sum_printed, sum_setting}
+use Rattle.f_tree.specs.WorkedSources.{sources_opened}
+use Rattle.f_tree.proofs.SettingLaws.{unit_setting, none, one_more}
 use Rattle.f_tree.proofs.rows.sum_is_printed.Goals as goal
 
 pub returns-clause-closed : goal.returns-clause-closed
-unfolding everything runs_opened sum_printed sum_setting
+unfolding everything runs_opened sources_opened
 returns-clause-closed c = record { one_main = refl; found = refl }
 
+pub returns-clause-placed : goal.returns-clause-placed
+unfolding everything sources_opened
+returns-clause-placed c = unit_setting _ refl refl (one_more (λ k i. elim i [ ]) none)
+
 pub returns-clause-runs : goal.returns-clause-runs
-unfolding everything runs_opened sum_printed sum_setting
+unfolding everything runs_opened sources_opened
 returns-clause-runs c = record { goes_on = refl; ends = refl; wrote = refl }
