@@ -3,3 +3,4 @@ mod TextLemmas
 mod MemoryLaws
 mod TapeLaws
 mod TableLaws
+pub mod MeaningLaws

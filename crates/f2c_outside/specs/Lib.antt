@@ -11,3 +11,4 @@ pub mod Memory
 pub mod Entries
 pub mod Host
 pub mod Tape
+pub mod Meaning

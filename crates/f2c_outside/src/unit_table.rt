@@ -3,6 +3,8 @@
 ghost use Rattle.std.specs.Prelude.{◌≡◌, ◌<◌, ◌++◌, ◌∷◌, [], true, false, length, map, IsTrue, IsSome, Some, IfOk, IfErr, OnOk, OnErr};
 ghost use Rattle.f2c_outside.specs.Shown.{shown, holds_unit, holds_name, units_in, distinct_units};
 ghost use Rattle.f2c_outside.specs.Placing.{ComesBack, device_in, zeros_in, BecomesConnected};
+ghost use Rattle.f2c_outside.specs.Units as units;
+ghost use Rattle.f2c_outside.specs.Meaning.{Tells, Means, units_of};
 ghost use Rattle.f2c_outside.specs.Table.{Offers, Connects, FinishedOn, OnClosedRow, OpenedUnit, ClosedUnit, reads_zeros, ReadFrom, WrittenTo, BackOn, RewoundOn, EndedOn, OnRow, OnUnit, IsFirst, is_connected};
 
 use crate::devices::{Device, Got};
@@ -462,8 +464,10 @@ impl UnitTable {
     /// Writes a record to a unit. `NotConnected` comes exactly where the unit is not connected, else
     /// `PastEnd` exactly where the end mark stands, `Failed` only where its device failed.
     pub fn write_to(&mut self, unit: i32, bytes: &[u8]) -> Result<(), UnitRefusal>
-        ensures { OnUnit unit (rows_of (λ b. device_state b) self.old) (rows_of (λ b. device_state b) self.new) result
+        ensures did { OnUnit unit (rows_of (λ b. device_state b) self.old) (rows_of (λ b. device_state b) self.new) result
             (λ d m d' m'. WrittenTo d m d' m' bytes.now result) }
+        ensures means { Tells (rows_of (λ b. device_state b) self.old)
+            → Means result (units.write_unit unit bytes.now (units_of (rows_of (λ b. device_state b) self.old))) (rows_of (λ b. device_state b) self.new) }
     {
         match row_of(self.rows.as_slice(), unit) {
             Some(number) => write_row(&mut self.rows[number], bytes),
@@ -474,8 +478,10 @@ impl UnitTable {
     /// BACKSPACE: clears a standing end mark, or else goes back by one record.
     /// `NotConnected` comes exactly where the unit is not connected, `Failed` only where its device failed.
     pub fn back_unit(&mut self, unit: i32) -> Result<(), UnitRefusal>
-        ensures { OnUnit unit (rows_of (λ b. device_state b) self.old) (rows_of (λ b. device_state b) self.new) result
+        ensures did { OnUnit unit (rows_of (λ b. device_state b) self.old) (rows_of (λ b. device_state b) self.new) result
             (λ d m d' m'. BackOn d m d' m' result) }
+        ensures means { Tells (rows_of (λ b. device_state b) self.old)
+            → Means result (units.back_unit unit (units_of (rows_of (λ b. device_state b) self.old))) (rows_of (λ b. device_state b) self.new) }
     {
         match row_of(self.rows.as_slice(), unit) {
             Some(number) => back_row(&mut self.rows[number]),
@@ -486,8 +492,10 @@ impl UnitTable {
     /// REWIND: goes before the first record and clears the end mark.
     /// `NotConnected` comes exactly where the unit is not connected, `Failed` only where its device failed.
     pub fn rewind_unit(&mut self, unit: i32) -> Result<(), UnitRefusal>
-        ensures { OnUnit unit (rows_of (λ b. device_state b) self.old) (rows_of (λ b. device_state b) self.new) result
+        ensures did { OnUnit unit (rows_of (λ b. device_state b) self.old) (rows_of (λ b. device_state b) self.new) result
             (λ d m d' m'. RewoundOn d m d' m' result) }
+        ensures means { Tells (rows_of (λ b. device_state b) self.old)
+            → Means result (units.rewind_unit unit (units_of (rows_of (λ b. device_state b) self.old))) (rows_of (λ b. device_state b) self.new) }
     {
         match row_of(self.rows.as_slice(), unit) {
             Some(number) => rewind_row(&mut self.rows[number]),
@@ -499,8 +507,10 @@ impl UnitTable {
     /// `NotConnected` comes exactly where the unit is not connected, else `PastEnd` exactly where the end
     /// mark stands, `Failed` only where its device failed.
     pub fn end_unit(&mut self, unit: i32) -> Result<(), UnitRefusal>
-        ensures { OnUnit unit (rows_of (λ b. device_state b) self.old) (rows_of (λ b. device_state b) self.new) result
+        ensures did { OnUnit unit (rows_of (λ b. device_state b) self.old) (rows_of (λ b. device_state b) self.new) result
             (λ d m d' m'. EndedOn d m d' m' result) }
+        ensures means { Tells (rows_of (λ b. device_state b) self.old)
+            → Means result (units.end_unit unit (units_of (rows_of (λ b. device_state b) self.old))) (rows_of (λ b. device_state b) self.new) }
     {
         match row_of(self.rows.as_slice(), unit) {
             Some(number) => end_row(&mut self.rows[number]),
