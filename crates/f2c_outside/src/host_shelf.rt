@@ -1,7 +1,7 @@
 //! The shelf of the real files and streams. No clause tells what these hold: it is the trusted edge.
 
-ghost use Rattle.std.specs.Prelude.{◌≡◌, ◌≤◌, length, IfOk, IsOk, IsErrOf};
-ghost use Rattle.f2c_outside.specs.Shelf.{Rose, IsFile, IsWriting};
+ghost use Rattle.std.specs.Prelude.{◌≡◌, ◌≤◌, length, None, IfOk};
+ghost use Rattle.f2c_outside.specs.Shelf.{Idle, Rose};
 ghost use Rattle.f2c_outside.specs.Host.{untold};
 
 use crate::shelves::{Place, Shelf, ShelfFault};
@@ -33,8 +33,10 @@ pub struct HostShelf<R: Files + Input + Print + Drop, E: Print + Drop> {
 }
 
 impl<R: Files + Input + Print + Drop, E: Print + Drop> HostShelf<R, E> {
-    /// A shelf over a runtime, with `errors` as the place Fault. No call has failed.
-    pub fn new(alloc: Global, rt: R, errors: E) -> HostShelf<R, E> {
+    /// A shelf over a runtime, with `errors` as the place Fault. Nothing is active, and no call has failed.
+    pub fn new(alloc: Global, rt: R, errors: E) -> HostShelf<R, E>
+        ensures { untold result.active result.faults ≡ record { told = None; left = None; active = Idle; faults = 0 } }
+    {
         HostShelf {
             alloc,
             rt,
