@@ -1,6 +1,7 @@
 pub mod ListedRows
 pub mod ItemSteps
 pub mod ListRows
+pub mod ListReadBack
 pub mod ListedLaws
 pub mod ListedSteps
 pub mod ListScans
