@@ -1,3 +1,4 @@
 pub mod TreeEquations
 pub mod ObjectLaws
 pub mod StepLaws
+pub mod ValueLaws
