@@ -1,12 +1,11 @@
 -- A unit without common blocks and EQUIVALENCE has a setting: each stored name in a sequence of its own.
-use Rattle.std.proofs.Common.{◌≡◌, ℕ, zero, suc, ◌+◌, ◌≤◌, ◌<◌, Bool, true, false, List, [], ◌∷◌, ◌++◌, length, Option, Some, None, refl, sym, ap, ◌∙◌, subst, arith, cond}
-use Rattle.std.specs.Prelude.{map, slice_get, bytes_eq, ◌↔◌, ◌≢◌, option_map}
+use Rattle.std.proofs.Common.{◌≡◌, ℕ, zero, suc, ◌+◌, ◌≤◌, Bool, true, false, List, [], ◌∷◌, length, Option, Some, refl, sym, ap, ◌∙◌, subst, arith, cond}
+use Rattle.std.specs.Prelude.{map, slice_get, bytes_eq}
 use Rattle.std.proofs.lemmas.Slice.Eq.{bytes_eq-Decides}
-use Rattle.std.proofs.lemmas.Option.{slice_get-map}
 use Rattle.std.proofs.lemmas.List.{append-nil}
 use Rattle.f_tree.specs.Values.{Bytes}
 use Rattle.f_tree.specs.Facts.{Home, Member, Block, Tie, ProgramUnit}
-use Rattle.f_tree.specs.Setting.{Setting, IsSetting, IsIn, first_in, later_in, IsMember, Spoken, AreTied, itself, back, along, by_block, by_equivalence, HasUnit, StandsAt, unit_home, home_among, homes_at, all_homes, IsNumbered, none_left, seen_before, is_next, EndToEnd}
+use Rattle.f_tree.specs.Setting.{Setting, IsSetting, IsIn, first_in, later_in, Spoken, AreTied, itself, back, along, by_block, by_equivalence, HasUnit, StandsAt, unit_home, home_among, homes_at, all_homes, IsNumbered, none_left, is_next}
 use Rattle.f_tree.specs.Runs.{homes_apart, all_homes_apart, all_sizes, setting_apart}
 
 -- no name stands twice
@@ -31,15 +30,23 @@ some_inj e = cc
 found_later : (n : ℕ) (m : Member) (ms : List Member) (x : Bytes) (h : Home) → Found (suc n) ms x h → Found n (m ∷ ms) x h
 unfolding home_at
 found_later n m ms x h f = record {
-  place = suc f.place; member = f.member; is_at = f.is_at; named = f.named;
-  stands = f.stands ∙ ap home_at (let e : suc n + f.place ≡ n + suc f.place = omega arith in e) }
+  place = suc f.place;
+  member = f.member;
+  is_at = f.is_at;
+  named = f.named;
+  stands = f.stands ∙ ap home_at (let e : suc n + f.place ≡ n + suc f.place = omega arith in e);
+}
 
 found_if : (n : ℕ) (m : Member) (ms : List Member) (x : Bytes) (h : Home) (b : Bool) → bytes_eq m.name x ≡ b →
-  cond b (Some (home_at n)) (home_among x ms (homes_apart (suc n) ms)) ≡ Some h →
-  (home_among x ms (homes_apart (suc n) ms) ≡ Some h → Found (suc n) ms x h) → Found n (m ∷ ms) x h
+    cond b (Some (home_at n)) (home_among x ms (homes_apart (suc n) ms)) ≡ Some h →
+    (home_among x ms (homes_apart (suc n) ms) ≡ Some h → Found (suc n) ms x h) → Found n (m ∷ ms) x h
 found_if n m ms x h true t e later = record {
-  place = 0; member = m; is_at = refl; named = (bytes_eq-Decides m.name x).0 t;
-  stands = sym (some_inj e) ∙ ap home_at (let q : n ≡ n + 0 = omega arith in q) }
+  place = 0;
+  member = m;
+  is_at = refl;
+  named = (bytes_eq-Decides m.name x).0 t;
+  stands = sym (some_inj e) ∙ ap home_at (let q : n ≡ n + 0 = omega arith in q);
+}
 found_if n m ms x h false t e later = found_later n m ms x h (later e)
 
 found : (n : ℕ) (ms : List Member) (x : Bytes) (h : Home) → home_among x ms (homes_apart n ms) ≡ Some h → Found n ms x h
@@ -65,15 +72,15 @@ home_of_own a b rest true e r = ap Some r
 home_of_own a b rest false e r = absurd (cc)
 
 home_of : (n : ℕ) (ms : List Member) → Distinct ms → (k : ℕ) (m : Member) → slice_get ms k ≡ Some m →
-  home_among m.name ms (homes_apart n ms) ≡ Some (home_at (n + k))
+    home_among m.name ms (homes_apart n ms) ≡ Some (home_at (n + k))
 unfolding home_among homes_apart home_at
 home_of n [] d k m e = absurd (cc)
 home_of n (a ∷ ms) (one_more apart d) zero m e =
     home_of_own (home_at n) (home_at (n + 0)) _ (bytes_eq a.name m.name) (ap (λ z. bytes_eq a.name z.name) (sym (some_inj e)) ∙ own_name a.name)
-      (ap home_at (let q : n ≡ n + 0 = omega arith in q))
+    (ap home_at (let q : n ≡ n + 0 = omega arith in q))
 home_of n (a ∷ ms) (one_more apart d) (suc k) m e =
     home_if m.name (home_at n) (home_at (n + suc k)) _ (bytes_eq a.name m.name) (apart m (at_is_in ms k m e))
-      (home_of (suc n) ms d k m e ∙ ap (λ z. Some (home_at z)) (let q : suc n + k ≡ n + suc k = omega arith in q))
+    (home_of (suc n) ms d k m e ∙ ap (λ z. Some (home_at z)) (let q : suc n + k ≡ n + suc k = omega arith in q))
 
 -- members of one place are one
 at_once' : (ms : List Member) (k : ℕ) (m m' : Member) → slice_get ms k ≡ Some m → slice_get ms k ≡ Some m' → m ≡ m'
@@ -176,7 +183,7 @@ module _ (u : ProgramUnit) (no_blocks : u.blocks ≡ []) (no_ties : u.ties ≡ [
   first_of n h e = ap (λ z. z.first) e
 
   one_place : (x y : Spoken) (h i : Home) → StandsAt (u ∷ []) (setting_apart (u ∷ [])) x h → StandsAt (u ∷ []) (setting_apart (u ∷ [])) y i →
-    h.sequence ≡ i.sequence → x ≡ y
+      h.sequence ≡ i.sequence → x ≡ y
   one_place x y h i sx sy e =
       let a = found_of x h sx in
       let b = found_of y i sy in
@@ -202,7 +209,7 @@ module _ (u : ProgramUnit) (no_blocks : u.blocks ≡ []) (no_ties : u.ties ≡ [
   in_unit v m e i = subst (λ w. IsIn m w.stored) (sym e) i
 
   home_in_unit : (k : ℕ) (v : ProgramUnit) (m : Member) (h : Home) → HasUnit (u ∷ []) k v → unit_home (setting_apart (u ∷ [])) k v m.name ≡ Some h →
-    (p : ℕ) → slice_get u.stored p ≡ Some m → h ≡ home_at p
+      (p : ℕ) → slice_get u.stored p ≡ Some m → h ≡ home_at p
   unfolding g S
   home_in_unit k v m h hv e p at =
       some_inj (sym (sym (home_for k v hv m.name) ∙ e) ∙ home_of 0 u.stored distinct p m at ∙ ap (λ z. Some (home_at z)) (let q : 0 + p ≡ p = omega arith in q))
@@ -223,25 +230,26 @@ module _ (u : ProgramUnit) (no_blocks : u.blocks ≡ []) (no_ties : u.ties ≡ [
   size_found n size e = size_at u.stored n size (sym (ap (λ z. slice_get z n) sizes_apart) ∙ e)
 
   least_apart : (n size : ℕ) → slice_get (setting_apart (u ∷ [])).sizes n ≡ Some size →
-    (x : Spoken) × StandsAt (u ∷ []) (setting_apart (u ∷ [])) x (record { sequence = n; first = 0 })
+      (x : Spoken) × StandsAt (u ∷ []) (setting_apart (u ∷ [])) x (record { sequence = n; first = 0 })
   unfolding home_at
   least_apart n size e =
       let r = size_found n size e in
       (record { unit = 0; name = r.member.name }, (u, refl, home_at_place n r.member r.is_at))
 
   within_apart : (k : ℕ) (v : ProgramUnit) (m : Member) (h : Home) → HasUnit (u ∷ []) k v → IsIn m v.stored →
-    unit_home (setting_apart (u ∷ [])) k v m.name ≡ Some h →
-    (size : ℕ) × (slice_get (setting_apart (u ∷ [])).sizes h.sequence ≡ Some size) × (h.first + m.size ≤ size)
+      unit_home (setting_apart (u ∷ [])) k v m.name ≡ Some h →
+      (size : ℕ) × (slice_get (setting_apart (u ∷ [])).sizes h.sequence ≡ Some size) × (h.first + m.size ≤ size)
   within_apart k v m h hv i e =
       let p = place_of m u.stored (in_unit v m (only k v hv).same i) in
       let s = home_in_unit k v m h hv e p.place p.is_at in
-      let f : h.first ≡ 0 = first_of p.place h s in
-      (m.size,
-       ap (λ z. slice_get z h.sequence) sizes_apart ∙ ap (λ z. slice_get (map (λ w. w.size) u.stored) z) (sequence_of p.place h s) ∙ sizes_of u.stored p.place m p.is_at,
-       omega arith)
+      let f : h.first ≡ 0 = first_of p.place h s in (
+        m.size,
+        ap (λ z. slice_get z h.sequence) sizes_apart ∙ ap (λ z. slice_get (map (λ w. w.size) u.stored) z) (sequence_of p.place h s) ∙ sizes_of u.stored p.place m p.is_at,
+        omega arith,
+      )
 
   reached_apart : (n size : ℕ) → slice_get (setting_apart (u ∷ [])).sizes n ≡ Some size →
-    (k : ℕ) × (v : ProgramUnit) × (m : Member) × (first : ℕ) × HasUnit (u ∷ []) k v × IsIn m v.stored ×
+      (k : ℕ) × (v : ProgramUnit) × (m : Member) × (first : ℕ) × HasUnit (u ∷ []) k v × IsIn m v.stored ×
       (unit_home (setting_apart (u ∷ [])) k v m.name ≡ Some (record { sequence = n; first = first })) × (first + m.size ≡ size)
   unfolding home_at
   reached_apart n size e =
@@ -258,4 +266,5 @@ module _ (u : ProgramUnit) (no_blocks : u.blocks ≡ []) (no_ties : u.ties ≡ [
     numbered = numbered_apart;
     least = least_apart;
     within = within_apart;
-    reached = reached_apart }
+    reached = reached_apart;
+  }

@@ -36,14 +36,15 @@ pub data SpellsUnit : Bool → List Statement → List Stmt → Type 0 where
   goes_on : (first : Bool) (kind : StatementKind) (source : Statement) (tree : Stmt) (sources : List Statement) (trees : List Stmt)
       → kind ≢ End → SpellsStatement first kind source tree → SpellsUnit false sources trees → SpellsUnit first (source ∷ sources) (tree ∷ trees)
 
+-- The card of the first of some statements.
+unfoldable pub card_of_first : List Stmt → ℕ
+card_of_first [] = 1
+card_of_first (tree ∷ more) = tree.card
+
 -- A main program without a PROGRAM statement. Section 14.
 unfoldable pub main_program : ℕ → List Stmt → ProgramUnit
 main_program file trees =
     record { file = file; card = card_of_first trees; kind = unit_kind.Main; name = None; dummies = []; statements = trees }
-  where
-    card_of_first : List Stmt → ℕ
-    card_of_first [] = 1
-    card_of_first (tree ∷ more) = tree.card
 
 -- The bytes of the file with the number spell the tree: one main program.
 pub record SpellsFile (file : ℕ) (bytes : List ℕ) (tree : File) : Type 0 where

@@ -32,7 +32,7 @@ use Rattle.f_tree.specs.Folds.{fold_item, fold_body, layer_of}
 use Rattle.f_tree.specs.declared.statements.DataGroup.{DataGroup}
 use Rattle.f_tree.specs.declared.statements.DataValue.{DataValue}
 use Rattle.f_tree.specs.Values.{Bytes, Datum, IsInt, IsSpot, Nothing}
-use Rattle.f_tree.specs.Terms.{Term, Val, At, Terms, NoMore, More, terms, Bound}
+use Rattle.f_tree.specs.Terms.{Term, Val, At, Terms, NoMore, More, terms, Bound, All}
 use Rattle.f_tree.specs.Facts.{Attribute, Formal, Named, Alternate, MainProgram, SubroutineUnit, FunctionUnit, BlockDataUnit, UnitKind, EntryPoint, Direction, Input, Output, Layout, Listed, Labelled, Computed, Word, UnitWord, FormatWord, StatusWord, FileWord, FileStatusWord, AccessWord, FormWord, BlankWord, Controls, AuxiliaryKind, OpenUnit, CloseUnit, BackspaceUnit, EndFileUnit, RewindUnit, Job, Item, Repeated, Work, Done, Before, ToSet, ToSetText, ToSetLabel, ToGo, ToPick, ToGoAssigned, ToGoBySign, ToGuard, ToEnterArm, ToLoop, ToCall, ToReturn, ToStop, ToBegin, ToAuxiliary, ToEnd, Form, Passes, On, Mark, Plain, Opens, Arm, Closes, Line, LabelledFormat, Member, Block, Tied, Tie, ProgramUnit, Facts, Image, DataPlace, DataPlaces, WholeName, OnePlace, EachOf, NoPlaces, AndPlaces}
 use Rattle.f_tree.specs.Valuing.{Red, Valued, reduce, elements_of, extent_of}
 use Rattle.f_tree.specs.Reading.{Read, read}
@@ -60,17 +60,17 @@ step_of names (Some e) = value_of names e
 unfoldable pub control_of : Naming → LoopControl → Terms
 control_of names c = More (At c.variable) (More (value_of names c.first) (More (value_of names c.limit) (More (step_of names c.step) NoMore)))
 
--- items of a list: what is read and whole arrays are places, what else is written is a value
+-- items of a list: a whole array is all its elements; what is read is a place, and what else is written is a value
 unfoldable pub is_array : Attribute → Bool
 is_array a = elim a.dimensions [ [] ↦ false | d ∷ ds ↦ true ]
 
-unfoldable pub is_whole_array : Naming → Option Bytes → Bool
-is_whole_array names None = false
-is_whole_array names (Some x) = is_array (names x)
+unfoldable pub array_or : Term → Naming → Option Bytes → Term
+array_or t names None = t
+array_or t names (Some x) = if is_array (names x) then All x else t
 
 unfoldable pub item_of : Direction → Naming → Expr → Term
-item_of Input names e = place_of names e
-item_of Output names e = if is_whole_array names (read names e).named then place_of names e else value_of names e
+item_of Input names e = array_or (place_of names e) names (read names e).named
+item_of Output names e = array_or (value_of names e) names (read names e).named
 
 unfoldable pub work_of : List Job → Work
 work_of [] = Done
@@ -381,5 +381,5 @@ unfoldable pub unit_read : Options → WrittenUnit → ProgramUnit
 unit_read options u = with_ties u (program_of options u (all_described u))
 
 unfoldable pub lines_opened : Unit {0}
-unfolding value_of place_of arguments_of step_of control_of is_array is_whole_array item_of work_of layer_job job_of jobs_of is_character is_text standard_unit nothing_written with_operand control_written controls_written controls_of layout_or_listed way_of transfer_form auxiliary_of auxiliary_form is_statement_function assignment assign_form return_form layer_form form_of mark_of line_of formals_of entry_in entries_from name_or_none format_in formats_of size_by size_of is_stored stored_among is_procedure procedures_among member_of same_block into_block blocks_from common_in tied_at tied_of tieds_of ties_among equivalence_in ties_of bound_within all_places place_by layer_place places_read count_of repeats_of values_read data_in image_of unit_kind program_of apart with_ties unit_read
+unfolding value_of place_of arguments_of step_of control_of is_array array_or item_of work_of layer_job job_of jobs_of is_character is_text standard_unit nothing_written with_operand control_written controls_written controls_of layout_or_listed way_of transfer_form auxiliary_of auxiliary_form is_statement_function assignment assign_form return_form layer_form form_of mark_of line_of formals_of entry_in entries_from name_or_none format_in formats_of size_by size_of is_stored stored_among is_procedure procedures_among member_of same_block into_block blocks_from common_in tied_at tied_of tieds_of ties_among equivalence_in ties_of bound_within all_places place_by layer_place places_read count_of repeats_of values_read data_in image_of unit_kind program_of apart with_ties unit_read
 lines_opened = tt

@@ -66,6 +66,8 @@ mutual
     Fetch : Term → Term
     -- a whole variable or array, or a procedure, by its name
     At : Bytes → Term
+    -- all elements of an array, where it stands in a list
+    All : Bytes → Term
     Element : Bytes → Terms → Term
     -- a substring of a place: its first character and its last; a last one that is `Nothing` is the place's own
     Part : Term → Term → Term → Term

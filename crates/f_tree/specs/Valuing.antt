@@ -2,10 +2,11 @@
 -- or a call, which the rest of the expression waits for.
 -- ANSI X3.9-1978, sections 5.4 (subscripts), 5.7 (substrings), 6 (expressions) and 15.10 (intrinsic functions).
 use Rattle.std.specs.Prelude.{take, ℕ, zero, suc, ◌+◌, ◌-◌, ◌*◌, nat_eq, nat_le, nat_lt, ℤ, pos, negsuc, ◌+ℤ◌, ◌-ℤ◌, ◌*ℤ◌, neg_ℤ, nat_abs, int_lt, int_le, int_div, int_rem, Bool, true, false, ◌&&◌, ◌||◌, not, List, [], ◌∷◌, ◌++◌, length, Option, Some, None, slice_get, if◌then◌else◌}
+use Rattle.f_tree.specs.declared.names.Basic.{Basic}
 use Rattle.std.specs.Ordering.{int_eq}
 use Rattle.f_tree.specs.declared.names.Class.TheVariants as class
 use Rattle.f_tree.specs.Values.{Bytes, Spot, Datum, IsInt, IsLog, IsText, IsSpot, IsProc, Nothing, Act, ZeroDivide, OutOfBounds, PastExtent, Disagreement, NotOfThisEntry, BadCharacterCode, NoMeaning, Checked, Gives, Fails, given_that, checked}
-use Rattle.f_tree.specs.Terms.{Prefix, Negate, Complement, Operator, Add, Subtract, Multiply, Divide, IsLess, IsLessOrEqual, IsEqual, IsNotEqual, IsGreater, IsGreaterOrEqual, Both, Either, Same, Different, Function, Power, Truncation, Magnitude, Remainder, SignTransfer, PositiveDifference, Largest, Smallest, CharacterCode, CharacterOfCode, TextLength, IndexOf, LexicallyGreaterOrEqual, LexicallyGreater, LexicallyLessOrEqual, LexicallyLess, Front, Fitted, Callee, Term, Val, Fetch, At, Element, Part, Joined, Before, Between, Intrinsically, Refer, Bind, Bound, Terms, NoMore, More, valued_then}
+use Rattle.f_tree.specs.Terms.{Prefix, Negate, Complement, Operator, Add, Subtract, Multiply, Divide, IsLess, IsLessOrEqual, IsEqual, IsNotEqual, IsGreater, IsGreaterOrEqual, Both, Either, Same, Different, Function, Power, Truncation, Magnitude, Remainder, SignTransfer, PositiveDifference, Largest, Smallest, CharacterCode, CharacterOfCode, TextLength, IndexOf, LexicallyGreaterOrEqual, LexicallyGreater, LexicallyLessOrEqual, LexicallyLess, Front, Fitted, Callee, Term, Val, Fetch, At, All, Element, Part, Joined, Before, Between, Intrinsically, Refer, Bind, Bound, Terms, NoMore, More, valued_then}
 use Rattle.f_tree.specs.Store.{Store, fetch, fitted}
 use Rattle.f_tree.specs.Facts.{Attribute, Bounds, Facts, Frame, Home}
 
@@ -191,9 +192,10 @@ unfoldable pub if_bound : Option Datum → Checked Datum
 if_bound None = Fails NotOfThisEntry
 if_bound (Some d) = Gives d
 
-unfoldable pub if_there : Option Spot → Checked Datum
-if_there None = Fails NoMeaning
-if_there (Some p) = Gives (IsSpot p)
+-- the names of a function and of its entries are one unit, each by its own type
+unfoldable pub if_there : Basic → Option Spot → Checked Datum
+if_there basic None = Fails NoMeaning
+if_there basic (Some p) = Gives (IsSpot (record p { basic = basic }))
 
 -- what a name stands for, by its class
 unfoldable pub named_as : Facts → Frame → Bytes → Attribute → Checked Datum
@@ -201,7 +203,7 @@ named_as c f x a = elim a.class [
   | class.Stored ↦ stored_at a a.width (c.home x)
   | class.Dummy ↦ if_bound (f.bound x)
   | class.DummyProcedure ↦ if_bound (f.bound x)
-  | class.Result ↦ if_there f.result
+  | class.Result ↦ if_there a.basic f.result
   | class.Procedure ↦ Gives (IsProc x)
   | class.Intrinsic ↦ Gives (IsProc x)
   | _ ↦ Fails NoMeaning
@@ -247,6 +249,18 @@ bounds_of c f x = either_bounds (f.dimensions x) (c.program.attribute x).bounds
 unfoldable pub element : Facts → Frame → Bytes → List Datum → Checked Datum
 element c f x ds = given_that (whole c f x) (element_at x (bounds_of c f x) ds)
 
+-- all elements of an array must belong to what was passed
+unfoldable pub reaching : Spot → Option ℕ → Checked Datum
+reaching p None = Fails NoMeaning
+reaching p (Some n) = if nat_le (n * p.width) p.extent then Gives (IsSpot (record p { extent = n * p.width })) else Fails PastExtent
+
+unfoldable pub all_elements : List Bounds → Datum → Checked Datum
+all_elements bs (IsSpot p) = reaching p (elements_of bs)
+all_elements bs _ = Fails NoMeaning
+
+unfoldable pub array_whole : Facts → Frame → Bytes → Checked Datum
+array_whole c f x = given_that (whole c f x) (all_elements (bounds_of c f x))
+
 -- substrings (5.7)
 unfoldable pub cut : Spot → ℤ → ℤ → Checked Datum
 cut p from to =
@@ -288,6 +302,7 @@ unfoldable mutual
   reduce c f s env (Val d) = Valued d
   reduce c f s env (Fetch t) = then_by (reduce c f s env t) Fetch (λ d. at_once (fetched s d))
   reduce c f s env (At x) = at_once (whole c f x)
+  reduce c f s env (All x) = at_once (array_whole c f x)
   reduce c f s env (Element x ts) = then_by (reduce_all c f s env ts) (Element x) (λ ds. at_once (element c f x ds))
   reduce c f s env (Part t from to) =
       then_by (reduce c f s env t) (λ r. Part r from to) (λ p.
@@ -314,5 +329,5 @@ unfoldable mutual
       then_by (reduce_all c f s env ts) (More (Val d)) (λ ds. Valued (d ∷ ds)))
 
 unfoldable pub valuing_opened : Unit {0}
-unfolding then_by at_once prefixed divided on_integers both_or_none on_logicals is_before on_texts operated left_of right_after power_of inverse_of raised int_max int_min extreme remainder_of with_sign_of difference_over begins_with index_from character_of applied elements_of extent_of stored_at if_bound if_there named_as whole is_within size_of_dimension elements_before further element_at either_bounds bounds_of element cut part piece pieces joined fetched bound_to reduce reduce_all
+unfolding then_by at_once prefixed divided on_integers both_or_none on_logicals is_before on_texts operated left_of right_after power_of inverse_of raised int_max int_min extreme remainder_of with_sign_of difference_over begins_with index_from character_of applied elements_of extent_of stored_at if_bound if_there named_as whole is_within size_of_dimension elements_before further element_at either_bounds bounds_of element reaching all_elements array_whole cut part piece pieces joined fetched bound_to reduce reduce_all
 valuing_opened = tt

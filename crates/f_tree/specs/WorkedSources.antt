@@ -570,6 +570,36 @@ written_over =
 unfoldable pub stopped : FileSet
 stopped = one_file (main_program (on_card 1 (body.Stop (codes "7")) ∷ on_card 2 body.End ∷ []) ∷ [])
 
+-- `INTEGER B(4)`, `DATA B/1,2,3,4/`, `CALL S(B,n)`, `END`, `SUBROUTINE S(A,N)`, `INTEGER A(N)`, `PRINT *,A`, `END`
+unfoldable pub array_of_a_dummy : ℕ → FileSet
+array_of_a_dummy n = one_file (
+    main_program (
+    on_card 1 (body.Declare integer_type (array (codes "B") (up_to 4 ∷ []) ∷ [])) ∷
+    on_card 2 (body.Init (record {
+      places = item.Item (expr.Name (codes "B")) ∷ [];
+      values = record { count = None; value = num 1 } ∷ record { count = None; value = num 2 } ∷ record { count = None; value = num 3 } ∷ record { count = None; value = num 4 } ∷ [];
+    } ∷ [])) ∷
+    on_card 3 (body.Call (codes "S") (expr.Name (codes "B") ∷ num n ∷ [])) ∷
+    on_card 4 body.End ∷ []) ∷
+    subroutine (codes "S") (codes "A" ∷ N ∷ []) (
+    on_card 6 (body.Declare integer_type (array (codes "A") (record { lower = None; upper = upper.Value (expr.Name N) } ∷ []) ∷ [])) ∷
+    on_card 7 (print (expr.Name (codes "A") ∷ [])) ∷
+    on_card 8 body.End ∷ []) ∷ [])
+
+-- `LOGICAL LB`, `PRINT *,LB(1)`, `END`, `INTEGER FUNCTION NA(K)`, `LOGICAL LB`, `NA=K`, `ENTRY LB(K)`, `LB=K.EQ.1`, `END`
+unfoldable pub entries_of_two_types : FileSet
+entries_of_two_types = one_file (
+    main_program (
+    on_card 1 (body.Declare logical_type (scalar (codes "LB") ∷ [])) ∷
+    on_card 2 (print (expr.Apply (codes "LB") (num 1 ∷ []) ∷ [])) ∷
+    on_card 3 body.End ∷ []) ∷
+    integer_function (codes "NA") (K ∷ []) (
+    on_card 5 (body.Declare logical_type (scalar (codes "LB") ∷ [])) ∷
+    on_card 6 (body.Assign (expr.Name (codes "NA")) (expr.Name K)) ∷
+    on_card 7 (body.Entry (codes "LB") (dummy.Named K ∷ [])) ∷
+    on_card 8 (body.Assign (expr.Name (codes "LB")) (expr.Binary op.Equal (expr.Name K) (num 1))) ∷
+    on_card 9 body.End ∷ []) ∷ [])
+
 unfoldable pub sources_opened : Unit {0}
-unfolding sum_printed loop_look_alike loop_that_never_turns loop_to_the_last_integer least_integer operands_from_the_left decided_and dummies_that_overlap entries_share_a_result alternate_returns assigned element_past_the_last step_of_zero variable_changed_in_its_loop calling printing_a_function dummy_of_another_entry assigned_branch arms shared_terminal implied_loops division_by_zero variable_without_value recursion constant_defined argument_too_many function_without_result transfer_in_a_transfer call_of_nothing dimension_of_no_element element_past_the_argument texts_and_a_statement_function statement_function_in_another text_assigned text_moved_within_itself text_apart_from_itself code_of_no_character common_seen_twice common_setting arrays_equivalenced arrays_setting types_equivalenced types_setting values_from_data constants_and_bounds procedure_passed function_of_any_length unit_not_connected written_over stopped
+unfolding sum_printed loop_look_alike loop_that_never_turns loop_to_the_last_integer least_integer operands_from_the_left decided_and dummies_that_overlap entries_share_a_result alternate_returns assigned element_past_the_last step_of_zero variable_changed_in_its_loop calling printing_a_function dummy_of_another_entry assigned_branch arms shared_terminal implied_loops division_by_zero variable_without_value recursion constant_defined argument_too_many function_without_result transfer_in_a_transfer call_of_nothing dimension_of_no_element element_past_the_argument texts_and_a_statement_function statement_function_in_another text_assigned text_moved_within_itself text_apart_from_itself code_of_no_character common_seen_twice common_setting arrays_equivalenced arrays_setting types_equivalenced types_setting values_from_data constants_and_bounds procedure_passed function_of_any_length unit_not_connected written_over stopped array_of_a_dummy entries_of_two_types
 sources_opened = tt

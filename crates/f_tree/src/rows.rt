@@ -8,15 +8,14 @@ ghost use Rattle.f_tree.specs.World.{Io, Plain, Stop};
 ghost use Rattle.f_tree.specs.Meaning.{units_of, Closed};
 ghost use Rattle.f_tree.specs.Setting.{IsSetting};
 ghost use Rattle.f_tree.specs.Runs.{Runs, RunsApart, Meets, MeetsApart, no_options, setting_apart};
-ghost use Rattle.f_tree.specs.WorkedSources.{alternate_returns, argument_too_many, arms, arrays_equivalenced, arrays_setting, assigned_branch, call_of_nothing, code_of_no_character, common_seen_twice, common_setting, constant_defined, constants_and_bounds, decided_and, dimension_of_no_element, division_by_zero, dummies_that_overlap, dummy_of_another_entry, element_past_the_argument, element_past_the_last, entries_share_a_result, function_of_any_length, function_without_result, implied_loops, least_integer, loop_look_alike, loop_that_never_turns, loop_to_the_last_integer, operands_from_the_left, procedure_passed, recursion, shared_terminal, statement_function_in_another, status_in, step_of_zero, stopped, sum_printed, text_apart_from_itself, text_moved_within_itself, texts_and_a_statement_function, transfer_in_a_transfer, types_equivalenced, types_setting, unit_not_connected, values_from_data, variable_changed_in_its_loop, variable_without_value, written_over};
+ghost use Rattle.f_tree.specs.WorkedSources.{alternate_returns, argument_too_many, arms, array_of_a_dummy, arrays_equivalenced, arrays_setting, assigned_branch, call_of_nothing, code_of_no_character, common_seen_twice, common_setting, constant_defined, constants_and_bounds, decided_and, dimension_of_no_element, division_by_zero, dummies_that_overlap, dummy_of_another_entry, element_past_the_argument, element_past_the_last, entries_of_two_types, entries_share_a_result, function_of_any_length, function_without_result, implied_loops, least_integer, loop_look_alike, loop_that_never_turns, loop_to_the_last_integer, operands_from_the_left, procedure_passed, recursion, shared_terminal, statement_function_in_another, status_in, step_of_zero, stopped, sum_printed, text_apart_from_itself, text_moved_within_itself, texts_and_a_statement_function, transfer_in_a_transfer, types_equivalenced, types_setting, unit_not_connected, values_from_data, variable_changed_in_its_loop, variable_without_value, written_over};
 
 /// `I=2`, `PRINT *,I+3`, `END`: the assignment, the start, the item and the end of the PRINT, and END.
 pub fn sum_is_printed()
     ensures closed { Closed (units_of no_options sum_printed) }
     ensures placed { IsSetting (units_of no_options sum_printed) (setting_apart (units_of no_options sum_printed)) }
     ensures runs { RunsApart no_options sum_printed [] 4 Plain (codes "  5" ∷ []) }
-{
-}
+{}
 
 /// The worked runs of DO loops and implied DO loops.
 pub fn loops_run()
@@ -25,8 +24,7 @@ pub fn loops_run()
     ensures turns_once { RunsApart (record no_options { onetrip = true }) loop_that_never_turns [] 8 Plain (codes "  0" ∷ codes "  6" ∷ []) }
     ensures shares_terminal { RunsApart no_options shared_terminal [] 14 Plain (codes "  1 1" ∷ codes "  3 2" ∷ []) }
     ensures implied { RunsApart no_options implied_loops [] 17 Plain (codes "  1 2 1 2 4 2" ∷ []) }
-{
-}
+{}
 
 /// The worked runs of IF blocks, a decided `.AND.` and an assigned GO TO.
 pub fn branches_run()
@@ -36,8 +34,7 @@ pub fn branches_run()
     ensures decided { RunsApart no_options decided_and [] 5 Plain (codes "  2" ∷ []) }
     ensures assigned { RunsApart no_options (assigned_branch (10 ∷ [])) [] 5 Plain (codes "  1" ∷ []) }
     ensures least { RunsApart no_options least_integer [] 4 Plain (codes "  -2147483648" ∷ []) }
-{
-}
+{}
 
 /// The worked runs of calls.
 pub fn calls_run()
@@ -45,8 +42,7 @@ pub fn calls_run()
     ensures overlaps { RunsApart no_options dummies_that_overlap [] 24 Plain (codes "  1 10 100 1000" ∷ []) }
     ensures entries { RunsApart no_options entries_share_a_result [] 10 Plain (codes "  4 8" ∷ []) }
     ensures alternates { RunsApart no_options alternate_returns [] 24 Plain (codes "  0" ∷ codes "  10" ∷ codes "  3" ∷ []) }
-{
-}
+{}
 
 /// Acts of which nothing is said: those of values and places.
 pub fn acts_of_values()
@@ -54,8 +50,7 @@ pub fn acts_of_values()
     ensures zero_divide { MeetsApart no_options division_by_zero [] 0 ZeroDivide }
     ensures no_value { MeetsApart no_options variable_without_value [] 0 NoValue }
     ensures out_of_bounds { MeetsApart no_options element_past_the_last [] 0 (OutOfBounds (codes "A") (pos 3)) }
-{
-}
+{}
 
 /// Acts of which nothing is said: those of loops, branches and transfers.
 pub fn acts_of_control()
@@ -63,8 +58,7 @@ pub fn acts_of_control()
     ensures variable_changed { MeetsApart no_options variable_changed_in_its_loop [] 2 LoopVariableChanged }
     ensures assigned_label { MeetsApart no_options (assigned_branch (20 ∷ [])) [] 1 BadAssignedLabel }
     ensures in_transfer { MeetsApart no_options transfer_in_a_transfer [] 2 TransferInTransfer }
-{
-}
+{}
 
 /// Acts of which nothing is said: those of calls.
 pub fn acts_of_calls()
@@ -76,8 +70,8 @@ pub fn acts_of_calls()
     ensures dimension { MeetsApart no_options dimension_of_no_element [] 0 BadDimension }
     ensures past_extent { MeetsApart no_options element_past_the_argument [] 1 PastExtent }
     ensures other_entry { MeetsApart no_options dummy_of_another_entry [] 1 NotOfThisEntry }
-{
-}
+    ensures array_past_extent { MeetsApart no_options (array_of_a_dummy 5) [] 2 PastExtent }
+{}
 
 /// The worked runs of texts and statement functions.
 pub fn texts_run()
@@ -86,8 +80,7 @@ pub fn texts_run()
     ensures apart { RunsApart no_options text_apart_from_itself [] 5 Plain (codes " CDCD" ∷ []) }
     ensures within { MeetsApart no_options text_moved_within_itself [] 1 DefinedAndReferenced }
     ensures code { MeetsApart no_options code_of_no_character [] 1 BadCharacterCode }
-{
-}
+{}
 
 /// The worked runs of COMMON and EQUIVALENCE.
 pub fn storage_is_shared()
@@ -95,22 +88,21 @@ pub fn storage_is_shared()
     ensures arrays { Runs no_options arrays_equivalenced arrays_setting [] 4 Plain (codes "  7" ∷ []) }
     ensures types { Runs no_options (types_equivalenced (codes "L")) types_setting [] 9 Plain (codes "  T" ∷ codes "  6" ∷ []) }
     ensures other_type { Meets no_options (types_equivalenced (codes "I")) types_setting [] 3 NoValue }
-{
-}
+{}
 
 /// The worked runs of DATA, PARAMETER and bounds.
 pub fn declarations_count()
     ensures from_data { RunsApart no_options values_from_data [] 5 Plain (codes "  7 7 8 2 -5" ∷ []) }
     ensures constants { RunsApart no_options constants_and_bounds [] 14 Plain (codes "  36 1 6" ∷ []) }
-{
-}
+{}
 
-/// The worked runs of a procedure that is passed and of a function of any length.
+/// The worked runs of procedures that are passed, of functions of any length or of two types, and of whole arrays.
 pub fn procedures_and_lengths()
     ensures passed { RunsApart no_options procedure_passed [] 9 Plain (codes "  64" ∷ []) }
     ensures any_length { RunsApart no_options function_of_any_length [] 6 Plain (codes " ABAB!" ∷ []) }
-{
-}
+    ensures dummy_array { RunsApart no_options (array_of_a_dummy 3) [] 5 Plain (codes "  1 2 3" ∷ []) }
+    ensures two_types { RunsApart no_options entries_of_two_types [] 6 Plain (codes "  T" ∷ []) }
+{}
 
 /// The worked runs of statements on units, and of STOP.
 pub fn units_change()
@@ -118,5 +110,4 @@ pub fn units_change()
     ensures status { RunsApart no_options (unit_not_connected (status_in (codes "N") ∷ [])) [] 4 Plain (codes "  6" ∷ []) }
     ensures over { RunsApart no_options written_over [] 10 (Io (pos 9)) (codes "  2" ∷ []) }
     ensures stops { RunsApart no_options stopped [] 0 (Stop (codes "7")) ([]) }
-{
-}
+{}

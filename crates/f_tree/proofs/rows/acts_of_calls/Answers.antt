@@ -35,3 +35,7 @@ returns-clause-past_extent c = record { goes_on = refl; meets = refl }
 pub returns-clause-other_entry : goal.returns-clause-other_entry
 unfolding everything runs_opened sources_opened
 returns-clause-other_entry c = record { goes_on = refl; meets = refl }
+
+pub returns-clause-array_past_extent : goal.returns-clause-array_past_extent
+unfolding everything runs_opened sources_opened
+returns-clause-array_past_extent c = record { goes_on = refl; meets = refl }

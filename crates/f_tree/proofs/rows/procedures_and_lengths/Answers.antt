@@ -11,3 +11,11 @@ returns-clause-passed c = record { goes_on = refl; ends = refl; wrote = refl }
 pub returns-clause-any_length : goal.returns-clause-any_length
 unfolding everything runs_opened sources_opened
 returns-clause-any_length c = record { goes_on = refl; ends = refl; wrote = refl }
+
+pub returns-clause-dummy_array : goal.returns-clause-dummy_array
+unfolding everything runs_opened sources_opened
+returns-clause-dummy_array c = record { goes_on = refl; ends = refl; wrote = refl }
+
+pub returns-clause-two_types : goal.returns-clause-two_types
+unfolding everything runs_opened sources_opened
+returns-clause-two_types c = record { goes_on = refl; ends = refl; wrote = refl }
