@@ -1,0 +1,9 @@
+mod CardLemmas
+mod ExpressionLemmas
+mod FormLemmas
+mod FormedLemmas
+mod KindLemmas
+mod AnswerLemmas
+mod ReadingLemmas
+mod StatementLemmas
+mod TextLemmas

@@ -1,0 +1,4 @@
+//! The reader of files, on its own.
+#![tactic(auto)]
+
+mod reader;
