@@ -1,0 +1,9 @@
+pub mod CommandWords
+pub mod Outcomes
+pub mod Lines
+pub mod Translation
+pub mod TextOfFile
+pub mod ShelfLoops
+pub mod Messages
+pub mod TranslateRows
+pub mod TopCall

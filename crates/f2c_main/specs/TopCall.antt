@@ -1,0 +1,42 @@
+-- What the top call does: the outcome of the command that the words ask for, its message and its status.
+use Rattle.std.specs.Prelude.{◌≡◌, ℕ, List}
+use Rattle.f2c_outside.specs.declared.shelves.Place.TheVariants.{Input, Output}
+use Rattle.f2c_outside.specs.Shelf.{ShelfState}
+use Rattle.f2c_main.specs.declared.command.Command.{Command}
+use Rattle.f2c_main.specs.declared.command.Command.TheVariants as command
+use Rattle.f2c_main.specs.declared.outcome.Outcome.{Outcome}
+use Rattle.f2c_main.specs.declared.outcome.Outcome.TheVariants as outcome
+use Rattle.f2c_main.specs.CommandWords.{command_of}
+use Rattle.f2c_main.specs.Outcomes.{status_of}
+use Rattle.f2c_main.specs.Lines.{line_of, bad_word_line}
+use Rattle.f2c_main.specs.ShelfLoops.{Both, IsKept}
+use Rattle.f2c_main.specs.Messages.{Said, Gained}
+use Rattle.f2c_main.specs.TranslateRows.{TranslateEnded, TranslateRows}
+
+-- no command goes on with the word of this number, and the shelf was not touched
+pub record BadWordEnded (number : ℕ) (b a : ShelfState) (ended : Outcome) : Type 0 where
+  pub named : ended ≡ outcome.BadWord number
+  pub kept : IsKept b a
+
+-- how each command ends, before its message is written
+abbrev pub Ran : Command → ShelfState → ShelfState → Outcome → Type 0
+Ran command.Translate b a ended = TranslateEnded Input Output b a ended
+Ran (command.BadWord number) b a ended = BadWordEnded number b a ended
+
+-- the command came to an outcome, which decides the message and the status
+pub record Concluded (words : List (List ℕ)) (b a : ShelfState) (status : ℕ) : Type 0 where
+  pub ended : Outcome
+  pub middle : ShelfState
+  pub ran : Ran (command_of words) b middle ended
+  pub said : Said (line_of words ended) middle a
+  pub status_is : status ≡ status_of ended
+
+-- bad words: status 2, the line on Fault names the word, and nothing else changed
+pub record BadWordRows (words : List (List ℕ)) (number : ℕ) (b a : ShelfState) (status : ℕ) : Type 0 where
+  pub bad : status ≡ 2
+  pub said : Both b.told a.told (Gained (bad_word_line words number) b.faults a.faults)
+
+-- what the exit status says of each command
+abbrev pub Commanded : List (List ℕ) → Command → ShelfState → ShelfState → ℕ → Type 0
+Commanded words command.Translate b a status = TranslateRows Input Output b a status
+Commanded words (command.BadWord number) b a status = BadWordRows words number b a status
