@@ -1,20 +1,20 @@
 -- The world of a called function: the caller's two slots are the fresh cells, and the rest of its frame
 -- is frozen.
-use Rattle.std.specs.Prelude.{◌≡◌, ℕ, zero, suc, ◌+◌, ◌-◌, ◌*◌, ◌<◌, ◌≤◌, Bool, true, false, nat_eq, nat_lt, if◌then◌else◌, Option, Some, None, refl}
-use Rattle.std.proofs.Common.{sym, ap, ◌∙◌, subst, arith, true≢false}
+use Rattle.std.specs.Prelude.{◌≡◌, ℕ, ◌+◌, ◌<◌, ◌≤◌, Bool, true, false, nat_eq, nat_lt, if◌then◌else◌, Option, Some, None, refl}
+use Rattle.std.proofs.Common.{sym, ap, ◌∙◌, arith, true≢false}
 use Rattle.std.proofs.lemmas.Bool.{eqb-true, eq-eqb, ltb-true, lt-ltb}
 use Rattle.small_instance.specs.Store.{Store, block, with_fresh, without_fresh}
-use Rattle.small_instance.specs.TargetLanguage.{Word, Number, Pointer, Memory, set_word}
-use Rattle.small_instance.specs.Translation.{slot_cell, frame_of, wrapper_frame}
-use Rattle.small_instance.proofs.Frames.{World, Sane, IsFree, Grown, Stands, home, word_other, other_object}
+use Rattle.small_instance.specs.TargetLanguage.{Word, Number, Pointer, Memory}
+use Rattle.small_instance.specs.Translation.{slot_cell}
+use Rattle.small_instance.proofs.Frames.{World, Sane, IsFree, Stands, home}
 
 abbrev pub called_world : ℕ → Memory → World → World
 called_world own m μ = record {
-    object = λ c. if nat_eq c μ.height then own else (if nat_eq c (μ.height + 1) then own else μ.object c);
-    cell = λ c. if nat_eq c μ.height then 5 else (if nat_eq c (μ.height + 1) then 6 else μ.cell c);
-    height = μ.height + 2;
-    frozen = λ o c. if nat_eq o own then (if nat_eq c 5 then None else (if nat_eq c 6 then None else Some (m o c))) else μ.frozen o c
-  }
+  object = λ c. if nat_eq c μ.height then own else (if nat_eq c (μ.height + 1) then own else μ.object c);
+  cell = λ c. if nat_eq c μ.height then 5 else (if nat_eq c (μ.height + 1) then 6 else μ.cell c);
+  height = μ.height + 2;
+  frozen = λ o c. if nat_eq o own then (if nat_eq c 5 then None else (if nat_eq c 6 then None else Some (m o c))) else μ.frozen o c;
+}
 
 -- the fresh cell of an argument
 abbrev pub fresh : Bool → ℕ → ℕ
@@ -84,25 +84,31 @@ module _ (own : ℕ) (m : Memory) (μ : World) where
   module _ (sane : Sane μ) (free : IsFree own μ) where
     pub sane_called : Sane (called_world own m μ)
     sane_called = record {
-        block_object = λ k small. pick_old μ.height k own own (μ.object k) (let t : block ≤ μ.height = sane.tall in omega arith) ∙ sane.block_object k small;
-        block_cell = λ k small. pick_old μ.height k 5 6 (μ.cell k) (let t : block ≤ μ.height = sane.tall in omega arith) ∙ sane.block_cell k small;
-        tall = let t : block ≤ μ.height = sane.tall in omega arith;
-        apart = λ c d hc hd object cell. go c d (which μ.height c hc) (which μ.height d hd) object cell;
-        loose = λ c hc. free_place c (which μ.height c hc)
-      }
+      block_object = λ k small. pick_old μ.height k own own (μ.object k) (let t : block ≤ μ.height = sane.tall in omega arith) ∙ sane.block_object k small;
+      block_cell = λ k small. pick_old μ.height k 5 6 (μ.cell k) (let t : block ≤ μ.height = sane.tall in omega arith) ∙ sane.block_cell k small;
+      tall = let t : block ≤ μ.height = sane.tall in omega arith;
+      apart = λ c d hc hd object cell. go c d (which μ.height c hc) (which μ.height d hd) object cell;
+      loose = λ c hc. free_place c (which μ.height c hc);
+    }
       where
         object_old : (c : ℕ) → c < μ.height → (called_world own m μ).object c ≡ μ.object c
         object_old c small = pick_old μ.height c own own (μ.object c) small
+
         object_new : (c : ℕ) → (c ≡ μ.height) → (called_world own m μ).object c ≡ own
         object_new c same = pick_one μ.height c own own (μ.object c) same
+
         object_new' : (c : ℕ) → (c ≡ μ.height + 1) → (called_world own m μ).object c ≡ own
         object_new' c same = pick_two μ.height c own own (μ.object c) same
+
         cell_old : (c : ℕ) → c < μ.height → (called_world own m μ).cell c ≡ μ.cell c
         cell_old c small = pick_old μ.height c 5 6 (μ.cell c) small
+
         cell_new : (c : ℕ) → (c ≡ μ.height) → (called_world own m μ).cell c ≡ 5
         cell_new c same = pick_one μ.height c 5 6 (μ.cell c) same
+
         cell_new' : (c : ℕ) → (c ≡ μ.height + 1) → (called_world own m μ).cell c ≡ 6
         cell_new' c same = pick_two μ.height c 5 6 (μ.cell c) same
+
         go : (c d : ℕ) → Which μ.height c → Which μ.height d → (called_world own m μ).object c ≡ (called_world own m μ).object d → (called_world own m μ).cell c ≡ (called_world own m μ).cell d → c ≡ d
         go c d (old hc) (old hd) object cell = sane.apart c d hc hd (sym (object_old c hc) ∙ object ∙ object_old d hd) (sym (cell_old c hc) ∙ cell ∙ cell_old d hd)
         go c d (old hc) (one hd) object cell = absurd (free.homeless c hc (sym (object_old c hc) ∙ object ∙ object_new d hd))
@@ -113,10 +119,11 @@ module _ (own : ℕ) (m : Memory) (μ : World) where
         go c d (two hc) (old hd) object cell = absurd (free.homeless d hd (sym (object_old d hd) ∙ sym object ∙ object_new' c hc))
         go c d (two hc) (one hd) object cell = absurd (not_both ((called_world own m μ).cell c) (cell ∙ cell_new d hd) (cell_new' c hc))
         go c d (two hc) (two hd) object cell = hc ∙ sym hd
+
         free_place : (c : ℕ) → Which μ.height c → (called_world own m μ).frozen ((called_world own m μ).object c) ((called_world own m μ).cell c) ≡ None
         free_place c (old hc) =
             ap (λ o. (called_world own m μ).frozen o ((called_world own m μ).cell c)) (object_old c hc) ∙ ap ((called_world own m μ).frozen (μ.object c)) (cell_old c hc)
-              ∙ frozen_other (μ.object c) (μ.cell c) (free.homeless c hc) ∙ sane.loose c hc
+            ∙ frozen_other (μ.object c) (μ.cell c) (free.homeless c hc) ∙ sane.loose c hc
         free_place c (one hc) =
             ap (λ o. (called_world own m μ).frozen o ((called_world own m μ).cell c)) (object_new c hc) ∙ ap ((called_world own m μ).frozen own) (cell_new c hc) ∙ frozen_own 5
         free_place c (two hc) =
@@ -124,9 +131,9 @@ module _ (own : ℕ) (m : Memory) (μ : World) where
 
   pub free_called : (o : ℕ) → (o ≡ own → ⊥) → IsFree o μ → IsFree o (called_world own m μ)
   free_called o differ free = record {
-      homeless = λ c hc e. go c (which μ.height c hc) e;
-      unfrozen = λ c. frozen_other o c differ ∙ free.unfrozen c
-    }
+    homeless = λ c hc e. go c (which μ.height c hc) e;
+    unfrozen = λ c. frozen_other o c differ ∙ free.unfrozen c;
+  }
     where
       go : (c : ℕ) → Which μ.height c → (called_world own m μ).object c ≡ o → ⊥
       go c (old hc) e = free.homeless c hc (sym (pick_old μ.height c own own (μ.object c) hc) ∙ e)
@@ -137,25 +144,28 @@ module _ (own : ℕ) (m : Memory) (μ : World) where
   pub stands_called : (s : Store) (y z : Option ℕ) → IsFree own μ → Stands μ s m → ((n : ℕ) → y ≡ Some n → m own 5 ≡ Number n) → ((n : ℕ) → z ≡ Some n → m own 6 ≡ Number n) →
       Stands (called_world own m μ) (with_fresh y z s) m
   stands_called s y z free image first second = record {
-      high = ap (λ h. h + 2) image.high;
-      stands = λ c n hc e. cell c n (which μ.height c hc) (sym (ap (λ h. if nat_eq c h then y else (if nat_eq c (h + 1) then z else s.cells c)) image.high) ∙ e);
-      holds = λ o c w e. held o c w (nat_eq o own) refl e
-    }
+    high = ap (λ h. h + 2) image.high;
+    stands = λ c n hc e. cell c n (which μ.height c hc) (sym (ap (λ h. if nat_eq c h then y else (if nat_eq c (h + 1) then z else s.cells c)) image.high) ∙ e);
+    holds = λ o c w e. held o c w (nat_eq o own) refl e;
+  }
     where
       place : (c : ℕ) (w : Word) (o' c' : ℕ) → (called_world own m μ).object c ≡ o' → (called_world own m μ).cell c ≡ c' → m o' c' ≡ w → m ((called_world own m μ).object c) ((called_world own m μ).cell c) ≡ w
       place c w o' c' e e' h = ap (λ o. m o ((called_world own m μ).cell c)) e ∙ ap (m o') e' ∙ h
+
       cell : (c n : ℕ) → Which μ.height c → (if nat_eq c μ.height then y else (if nat_eq c (μ.height + 1) then z else s.cells c)) ≡ Some n → m ((called_world own m μ).object c) ((called_world own m μ).cell c) ≡ Number n
       cell c n (old hc) e =
           place c (Number n) (μ.object c) (μ.cell c) (pick_old μ.height c own own (μ.object c) hc) (pick_old μ.height c 5 6 (μ.cell c) hc)
-              (image.stands c n hc (sym (pick_old μ.height c y z (s.cells c) hc) ∙ e))
+          (image.stands c n hc (sym (pick_old μ.height c y z (s.cells c) hc) ∙ e))
       cell c n (one hc) e =
           place c (Number n) own 5 (pick_one μ.height c own own (μ.object c) hc) (pick_one μ.height c 5 6 (μ.cell c) hc) (first n (sym (pick_one μ.height c y z (s.cells c) hc) ∙ e))
       cell c n (two hc) e =
           place c (Number n) own 6 (pick_two μ.height c own own (μ.object c) hc) (pick_two μ.height c 5 6 (μ.cell c) hc) (second n (sym (pick_two μ.height c y z (s.cells c) hc) ∙ e))
+
       held_own : (c : ℕ) (w : Word) (q q' : Bool) → (if q then None else (if q' then None else Some (m own c))) ≡ Some w → m own c ≡ w
       held_own c w true q' e = absurd (grind arith)
       held_own c w false true e = absurd (grind arith)
       held_own c w false false e = let h : Some (m own c) ≡ Some w = e in cc
+
       held : (o c : ℕ) (w : Word) (q : Bool) → nat_eq o own ≡ q → (called_world own m μ).frozen o c ≡ Some w → m o c ≡ w
       held o c w true e frozen =
           let same : o ≡ own = eqb-true o own e in
@@ -167,15 +177,16 @@ module _ (own : ℕ) (m : Memory) (μ : World) where
   -- after the answer it stands in the old one, whatever the caller's frame then takes
   pub stands_returned : (s : Store) (m' m'' : Memory) → IsFree own μ → ((o c : ℕ) → (o ≡ own → ⊥) → m'' o c ≡ m' o c) → Stands (called_world own m μ) s m' → Stands μ (without_fresh s) m''
   stands_returned s m' m'' free same image = record {
-      high = let h : s.height ≡ μ.height + 2 = image.high in omega arith;
-      stands = λ c n hc e. same (μ.object c) (μ.cell c) (free.homeless c hc)
-          ∙ ap (λ o. m' o (μ.cell c)) (sym (pick_old μ.height c own own (μ.object c) hc)) ∙ ap (m' ((called_world own m μ).object c)) (sym (pick_old μ.height c 5 6 (μ.cell c) hc))
-          ∙ image.stands c n (omega arith) e;
-      holds = λ o c w frozen. apart o c w frozen (nat_eq o own) refl
-    }
+    high = let h : s.height ≡ μ.height + 2 = image.high in omega arith;
+    stands = λ c n hc e. same (μ.object c) (μ.cell c) (free.homeless c hc)
+        ∙ ap (λ o. m' o (μ.cell c)) (sym (pick_old μ.height c own own (μ.object c) hc)) ∙ ap (m' ((called_world own m μ).object c)) (sym (pick_old μ.height c 5 6 (μ.cell c) hc))
+        ∙ image.stands c n (omega arith) e;
+    holds = λ o c w frozen. apart o c w frozen (nat_eq o own) refl;
+  }
     where
       clash : (x : Option Word) (w : Word) → x ≡ Some w → x ≡ None → ⊥
       clash x w e e' = let h : Some w ≡ None = sym e ∙ e' in absurd (cc)
+
       apart : (o c : ℕ) (w : Word) → μ.frozen o c ≡ Some w → (q : Bool) → nat_eq o own ≡ q → m'' o c ≡ w
       apart o c w frozen true e = absurd (clash (μ.frozen o c) w frozen (ap (λ o. μ.frozen o c) (eqb-true o own e) ∙ free.unfrozen c))
       apart o c w frozen false e =

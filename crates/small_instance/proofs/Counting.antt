@@ -1,5 +1,5 @@
 -- The steps of the first statements, counted one after the other.
-use Rattle.std.specs.Prelude.{◌≡◌, ℕ, zero, suc, ◌+◌, ◌*◌, ◌<◌, ◌≤◌, min, Bool, true, false, nat_lt, List, [], ◌∷◌, length, slice_get, Option, Some, None, refl}
+use Rattle.std.specs.Prelude.{◌≡◌, ℕ, zero, suc, ◌+◌, ◌*◌, ◌<◌, ◌≤◌, min, Bool, true, false, nat_lt, List, [], ◌∷◌, length, refl}
 use Rattle.std.proofs.Common.{sym, ap, ◌∙◌, arith, get_or, true≢false}
 use Rattle.std.proofs.lemmas.Bool.{ltb-true, lt-ltb}
 use Rattle.small_instance.specs.declared.source.Statement.{Statement}
@@ -58,6 +58,7 @@ all_counted body n i total h e = e ∙ go body n i h
     past (x ∷ body) zero k' h h' = absurd (omega arith)
     past (x ∷ body) (suc k) zero h h' = absurd (omega arith)
     past (x ∷ body) (suc k) (suc k') h h' = ap (λ s. size_of x + s) (past body k k' (omega arith) (omega arith))
+
     go : (body : List Statement) (n i : ℕ) → length body ≤ i → sizes_before body (min i n) ≡ sizes_before body n
     go body n i h = by (nat_lt i n) refl
       where

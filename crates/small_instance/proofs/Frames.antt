@@ -1,13 +1,12 @@
 -- The second layer's world: where each cell of the store stands in the target's memory, and what must
 -- not change now.
-use Rattle.std.specs.Prelude.{◌≡◌, ℕ, zero, suc, ◌+◌, ◌-◌, ◌*◌, ◌<◌, ◌≤◌, Bool, true, false, ◌&&◌, nat_eq, nat_lt, if◌then◌else◌, List, [], ◌∷◌, slice_get, Option, Some, None, refl}
-use Rattle.std.proofs.Common.{sym, ap, ◌∙◌, subst, arith, true≢false}
+use Rattle.std.specs.Prelude.{◌≡◌, ℕ, ◌<◌, ◌≤◌, Bool, true, false, ◌&&◌, nat_eq, if◌then◌else◌, Option, Some, None, refl}
+use Rattle.std.proofs.Common.{sym, ap, ◌∙◌, true≢false}
 use Rattle.std.proofs.lemmas.Bool.{eqb-true, eq-eqb}
-use Rattle.simulation.specs.Machine.{Sorts, Event, Goes, Ends, Calls, Answers, Breaks, Entry, Enters, Refused, Lang}
 use Rattle.simulation.specs.LocalSimulation.{Kit, Pairing}
-use Rattle.small_instance.specs.Store.{Store, Bound, Called, block, set_cell, with_fresh, without_fresh}
+use Rattle.small_instance.specs.Store.{Store, Bound, Called, block, set_cell}
 use Rattle.small_instance.specs.MiddleLanguage as M
-use Rattle.small_instance.specs.TargetLanguage.{Word, Unset, Number, Pointer, Memory, Passing, at_address, set_word, target_language}
+use Rattle.small_instance.specs.TargetLanguage.{Word, Number, Pointer, Memory, Passing, at_address, set_word, target_language}
 use Rattle.small_instance.specs.Translation.{temporary_cell, slot_cell, function_called, number_passed, frame_of, wrapper_frame}
 
 pub record World : Type 0 where
@@ -57,13 +56,13 @@ pub record PassedOn (μ : World) (s : Store) (n : Called) (b : Bound) (m : Memor
 
 abbrev pub lower_kit : Kit M.middle_language target_language
 lower_kit = record {
-    World = World;
-    Grows = Grown;
-    Passed = PassedOn;
-    Given = λ μ s r m q. Stands μ s m × (r ≡ q);
-    Claimed = λ f. ⊥;
-    Told = λ f e. ⊥
-  }
+  World = World;
+  Grows = Grown;
+  Passed = PassedOn;
+  Given = λ μ s r m q. Stands μ s m × (r ≡ q);
+  Claimed = λ f. ⊥;
+  Told = λ f e. ⊥;
+}
 
 -- what a function's frame holds, cell by cell
 pub record Frame (μ : World) (x : M.View) (f : ℕ → Word) : Type 0 where
@@ -84,12 +83,12 @@ pub record Paired (i : ℕ) (μ : World) (x : M.View) (s : Store) (w : ℕ) (m :
 
 abbrev pub lower_pairing : ℕ → Pairing lower_kit
 lower_pairing i = record {
-    Houses = Sane;
-    Idle = λ μ. IsFree (frame_of i) μ × IsFree (wrapper_frame i) μ;
-    Matched = Paired i;
-    Halted = λ μ x s w m. Sane μ × Stands μ s m;
-    Waits = λ μ μ' x w. Unit {0}
-  }
+  Houses = Sane;
+  Idle = λ μ. IsFree (frame_of i) μ × IsFree (wrapper_frame i) μ;
+  Matched = Paired i;
+  Halted = λ μ x s w m. Sane μ × Stands μ s m;
+  Waits = λ μ μ' x w. Unit {0};
+}
 
 -- words at other places
 pub other_object : (o c o' c' : ℕ) → (o' ≡ o → ⊥) → at_address o c o' c' ≡ false
@@ -127,6 +126,7 @@ frozen_apart μ sane c hc o d w frozen = go (nat_eq o (μ.object c)) refl (nat_e
   where
     clash : (x : Option Word) → x ≡ Some w → x ≡ None → ⊥
     clash x e e' = let h : Some w ≡ None = sym e ∙ e' in absurd (cc)
+
     go : (a : Bool) → nat_eq o (μ.object c) ≡ a → (b : Bool) → nat_eq d (μ.cell c) ≡ b → at_address (μ.object c) (μ.cell c) o d ≡ false
     go true e true e' =
         let same : μ.frozen o d ≡ μ.frozen (μ.object c) (μ.cell c) = ap (λ a. μ.frozen a d) (eqb-true o (μ.object c) e) ∙ ap (μ.frozen (μ.object c)) (eqb-true d (μ.cell c) e') in
@@ -137,10 +137,10 @@ frozen_apart μ sane c hc o d w frozen = go (nat_eq o (μ.object c)) refl (nat_e
 -- a cell is set on both sides
 pub stands_set : (μ : World) (s : Store) (m : Memory) (c n : ℕ) → Sane μ → c < μ.height → Stands μ s m → Stands μ (set_cell c n s) (set_word (μ.object c) (μ.cell c) (Number n) m)
 stands_set μ s m c n sane hc image = record {
-    high = image.high;
-    stands = λ d k hd e. cell d k hd (nat_eq d c) refl e;
-    holds = λ o d w frozen. word_other (μ.object c) (μ.cell c) o d (Number n) m (frozen_apart μ sane c hc o d w frozen) ∙ image.holds o d w frozen
-  }
+  high = image.high;
+  stands = λ d k hd e. cell d k hd (nat_eq d c) refl e;
+  holds = λ o d w frozen. word_other (μ.object c) (μ.cell c) o d (Number n) m (frozen_apart μ sane c hc o d w frozen) ∙ image.holds o d w frozen;
+}
   where
     cell : (d k : ℕ) → d < μ.height → (b : Bool) → nat_eq d c ≡ b → (if nat_eq d c then Some n else s.cells d) ≡ Some k → set_word (μ.object c) (μ.cell c) (Number n) m (μ.object d) (μ.cell d) ≡ Number k
     cell d k hd true e is =
@@ -155,10 +155,10 @@ stands_set μ s m c n sane hc image = record {
 -- memory may change in an object that is nobody's
 pub stands_beside : (μ : World) (s : Store) (m m' : Memory) (o : ℕ) → IsFree o μ → ((o' c : ℕ) → (o' ≡ o → ⊥) → m' o' c ≡ m o' c) → Stands μ s m → Stands μ s m'
 stands_beside μ s m m' o free same image = record {
-    high = image.high;
-    stands = λ c n hc e. same (μ.object c) (μ.cell c) (free.homeless c hc) ∙ image.stands c n hc e;
-    holds = λ o' c w frozen. same o' c (λ e. clash (μ.frozen o' c) w frozen (ap (λ o. μ.frozen o c) e ∙ free.unfrozen c)) ∙ image.holds o' c w frozen
-  }
+  high = image.high;
+  stands = λ c n hc e. same (μ.object c) (μ.cell c) (free.homeless c hc) ∙ image.stands c n hc e;
+  holds = λ o' c w frozen. same o' c (λ e. clash (μ.frozen o' c) w frozen (ap (λ o. μ.frozen o c) e ∙ free.unfrozen c)) ∙ image.holds o' c w frozen;
+}
   where
     clash : (x : Option Word) (w : Word) → x ≡ Some w → x ≡ None → ⊥
     clash x w e e' = let h : Some w ≡ None = sym e ∙ e' in absurd (cc)

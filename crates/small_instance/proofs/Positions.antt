@@ -1,9 +1,8 @@
 -- Where the steps of a statement stand in a lowered text.
-use Rattle.std.specs.Prelude.{◌≡◌, ℕ, zero, suc, ◌+◌, ◌<◌, ◌≤◌, List, [], ◌∷◌, ◌++◌, length, slice_get, Option, Some, None, refl}
+use Rattle.std.specs.Prelude.{◌≡◌, ℕ, zero, suc, ◌+◌, ◌<◌, ◌≤◌, List, [], ◌∷◌, ◌++◌, length, slice_get, Some, refl}
 use Rattle.std.proofs.Common.{sym, ap, ◌∙◌, subst, arith, length-append}
 use Rattle.small_instance.specs.declared.source.Statement.{Statement}
 use Rattle.small_instance.specs.declared.source.Statement.TheVariants.{Set, SetCalling, Unless, GoTo, Give, Stop}
-use Rattle.small_instance.specs.declared.lowered.Step.{Step}
 use Rattle.small_instance.specs.SourceLanguage.{Text}
 use Rattle.small_instance.specs.Translation.{size_of, sizes_before, position_of, lowered_statement, lowered_body, lowered}
 

@@ -1,27 +1,24 @@
 -- Whole programs: the two layers composed, linked, and the law applied.
-use Rattle.std.specs.Prelude.{◌≡◌, ℕ, zero, suc, ◌+◌, ◌-◌, ◌*◌, ◌/◌, ◌%◌, ◌<◌, ◌≤◌, max, Bool, true, false, nat_eq, nat_lt, if◌then◌else◌, List, [], ◌∷◌, map, length, slice_get, Option, Some, None, option_map, unwrap_or, refl}
+use Rattle.std.specs.Prelude.{◌≡◌, ℕ, zero, suc, ◌+◌, ◌*◌, ◌/◌, ◌%◌, ◌<◌, ◌≤◌, Bool, true, false, nat_eq, nat_lt, if◌then◌else◌, List, [], ◌∷◌, map, length, slice_get, Option, Some, None, option_map, unwrap_or, refl}
 use Rattle.std.proofs.Common.{sym, ap, ◌∙◌, subst, arith, true≢false}
-use Rattle.std.proofs.lemmas.Bool.{eqb-true, eq-eqb, ltb-true, lt-ltb}
+use Rattle.std.proofs.lemmas.Bool.{eq-eqb, ltb-true, lt-ltb}
 use Rattle.std.proofs.lemmas.List.{length-map}
 use mathlib.Core.Path.{fun_ext}
-use Rattle.simulation.specs.Machine.{Sorts, Frame, State, Runs, Over, Broken, numbers, run, begun, calling}
-use Rattle.simulation.specs.LocalSimulation.{Kit, Pairing, Couple, Local}
+use Rattle.simulation.specs.Machine.{State, Over, numbers, run}
+use Rattle.simulation.specs.LocalSimulation.{Kit, Local}
 use Rattle.simulation.specs.Law.{Linking, couple, Linked, Home, Alike, SameTexts}
 use Rattle.simulation.specs.Law as law
-use Rattle.simulation.specs.Composition.{composite_kit, composite_pairing, composite_couple, Composable}
+use Rattle.simulation.specs.Composition.{composite_kit, composite_pairing, composite_couple}
 use Rattle.simulation.proofs.Composing.{composite_simulates}
 use Rattle.simulation.proofs.LawProof as law_proof
 use Rattle.simulation.proofs.Corollaries.{ends_alike, breaks_later, begins_alike, same_texts}
-use Rattle.small_instance.specs.declared.source.Statement.{Statement}
-use Rattle.small_instance.specs.declared.lowered.Step.{Step}
-use Rattle.small_instance.specs.Store.{Ending, Plain, Fault, block, Store, Bound, Called}
-use Rattle.small_instance.specs.SourceLanguage.{Text, View, source_sorts, source_language, source_program}
-use Rattle.small_instance.specs.MiddleLanguage.{middle_language}
-use Rattle.small_instance.specs.TargetLanguage.{Word, Unset, Number, Pointer, Memory, Passing, Code, TargetFault, target_sorts, target_language, target_program}
+use Rattle.small_instance.specs.Store.{Ending, block, Store, Called}
+use Rattle.small_instance.specs.SourceLanguage.{Text, source_sorts, source_language, source_program}
+use Rattle.small_instance.specs.TargetLanguage.{Word, Pointer, Memory, Code, target_sorts, target_language, target_program}
 use Rattle.small_instance.specs.Translation.{lowered, item_of, frame_of, wrapper_frame, function_called, inner_code, wrapper_code, translated_from, translated, longest, factor_of}
-use Rattle.small_instance.specs.Translates.{Start, store_of, word_of, memory_of, source_after, target_after, BlockImage, SameActive, Same, running, over, undefined, Translates}
+use Rattle.small_instance.specs.Translates.{Start, store_of, word_of, memory_of, source_after, target_after, BlockImage, Same, running, over, undefined, Translates}
 use Rattle.small_instance.proofs.FirstLayer.{upper_kit, upper_pairing, upper_couple, upper_simulates}
-use Rattle.small_instance.proofs.Frames.{World, Sane, IsFree, Grown, Stands, PassedOn, lower_kit, lower_pairing}
+use Rattle.small_instance.proofs.Frames.{World, Sane, IsFree, Stands, lower_kit, lower_pairing}
 use Rattle.small_instance.proofs.CallWorld.{ne_eqb'}
 use Rattle.small_instance.proofs.SecondLayer.{wrapper_under, lower_couple, lower_simulates}
 
@@ -30,15 +27,15 @@ kit = composite_kit upper_kit lower_kit
 
 abbrev linking : (us : List Text) (fs : List Code) → Linking kit (source_program us) (target_program fs)
 linking us fs = record {
-    Known = λ i. i < length us;
-    pairing = λ i. composite_pairing (upper_pairing ((source_program us).text i)) (lower_pairing i);
-    image = λ i. 2 * i;
-    width = λ i. length (lowered ((source_program us).text i));
-    wrapper = wrapper_under;
-    inner = λ i. 2 * i;
-    outer = λ k. nat_eq (k % 2) 1;
-    owner = λ k. k / 2
-  }
+  Known = λ i. i < length us;
+  pairing = λ i. composite_pairing (upper_pairing ((source_program us).text i)) (lower_pairing i);
+  image = λ i. 2 * i;
+  width = λ i. length (lowered ((source_program us).text i));
+  wrapper = wrapper_under;
+  inner = λ i. 2 * i;
+  outer = λ k. nat_eq (k % 2) 1;
+  owner = λ k. k / 2;
+}
 
 -- the wrapper of unit i under each name
 abbrev wrappers_of : (ℕ → Code) → ℕ → ℕ → Option Code
@@ -48,8 +45,8 @@ wrappers_of text i n = option_map text (wrapper_under i n)
 both_layers : (i : ℕ) (u : Text) → Local (composite_couple (upper_couple i u) (lower_couple i (lowered u)))
 both_layers i u =
     composite_simulates (upper_couple i u) (lower_couple i (lowered u))
-        (record { bare = λ n. refl; stays = λ j μ. tt; tells = λ f e told. absurd told })
-        (upper_simulates i u) (lower_simulates i (lowered u))
+    (record { bare = λ n. refl; stays = λ j μ. tt; tells = λ f e told. absurd told })
+    (upper_simulates i u) (lower_simulates i (lowered u))
 
 -- where a translated program has its functions
 known_text : (us : List Text) (i : ℕ) → i < length us → (u : Text) × (slice_get us i ≡ Some u)
@@ -117,8 +114,8 @@ module _ (us : List Text) where
   unit_simulated : (i : ℕ) (u : Text) → slice_get us i ≡ Some u → Local (couple (linking us (translated us)) i)
   unit_simulated i u e =
       subst (λ x. Local (record (couple (linking us (translated us)) i) { source = x; pairing = composite_pairing (upper_pairing x) (lower_pairing i); most = λ v. length (lowered x) })) (sym (unit_number i u e))
-        (subst (λ w. Local (record (composite_couple (upper_couple i u) (lower_couple i (lowered u))) { target = (target_program (translated us)).text (2 * i); wrapper = w })) (wrappers_same i u e)
-          (subst (λ f. Local (record (composite_couple (upper_couple i u) (lower_couple i (lowered u))) { target = f })) (sym (function_number i u e)) (both_layers i u)))
+      (subst (λ w. Local (record (composite_couple (upper_couple i u) (lower_couple i (lowered u))) { target = (target_program (translated us)).text (2 * i); wrapper = w })) (wrappers_same i u e)
+      (subst (λ f. Local (record (composite_couple (upper_couple i u) (lower_couple i (lowered u))) { target = f })) (sym (function_number i u e)) (both_layers i u)))
 
   -- a name that is called finds its function or wrapper
   finds_unit : (n i : ℕ) → (if nat_lt n (length us) then Some n else None) ≡ Some i → (n ≡ i) × (i < length us)
@@ -166,33 +163,35 @@ module _ (us : List Text) where
 
   all_linked : Linked (linking us (translated us)) (factor_of (translated us))
   all_linked = record {
-      known = λ n i e. (finds_unit n.unit i e).1;
-      simulated = λ i small. let k = known_text us i small in unit_simulated i k.0 k.1;
-      narrow = λ i small. let h : suc (length (lowered ((source_program us).text i))) ≤ factor_of (translated us) = wide i small in omega arith;
-      narrow_wrapped = λ i n g small e. wide i small;
-      some_step = omega arith;
-      finds = λ μ s n a t n' a' i passed e.
-          let unit = finds_unit n.unit i e in
-          let same : passed.1.unit ≡ i = ap {A = Called} (λ c. c.unit) (sym passed.3.1) ∙ unit.0 in
-          name_found passed.1.unit i passed.1.by_second n' same unit.1 passed.4.name;
-      finds_inner = λ i small. function_found (2 * i) (omega arith);
-      grows_houses = λ i j μ μ' known grows houses. (tt, grows.1.sane houses.1);
-      grows_idle = λ i j μ μ' known differ grows idle.
-          let apart : j ≡ i → ⊥ = λ same. true≢false (sym (eq-eqb j i same) ∙ differ) in
-          (tt, (grows.1.free (frame_of j) (λ e. apart (odd_frames j i e)) (λ e. parity j i e) idle.1.0, grows.1.free (wrapper_frame j) (λ e. parity i j (sym e)) (λ e. apart (even_frames j i e)) idle.1.1));
-      image_inner = λ i. ne_eqb' ((2 * i) % 2) 1 (λ e. omega arith);
-      image_owner = λ i. omega arith;
-      wrapper_outer = λ i n g e. let is : g ≡ 2 * i + 1 = wrapper_is i n g e in eq-eqb (g % 2) 1 (omega arith);
-      wrapper_owner = λ i n g e. let is : g ≡ 2 * i + 1 = wrapper_is i n g e in omega arith;
-      same_plain = refl;
-      missing_unclaimed = λ claimed. claimed;
-      busy_unclaimed = λ claimed. claimed
-    }
+    known = λ n i e. (finds_unit n.unit i e).1;
+    simulated = λ i small. let k = known_text us i small in unit_simulated i k.0 k.1;
+    narrow = λ i small. let h : suc (length (lowered ((source_program us).text i))) ≤ factor_of (translated us) = wide i small in omega arith;
+    narrow_wrapped = λ i n g small e. wide i small;
+    some_step = omega arith;
+    finds = λ μ s n a t n' a' i passed e.
+        let unit = finds_unit n.unit i e in
+        let same : passed.1.unit ≡ i = ap {A = Called} (λ c. c.unit) (sym passed.3.1) ∙ unit.0 in
+        name_found passed.1.unit i passed.1.by_second n' same unit.1 passed.4.name;
+    finds_inner = λ i small. function_found (2 * i) (omega arith);
+    grows_houses = λ i j μ μ' known grows houses. (tt, grows.1.sane houses.1);
+    grows_idle = λ i j μ μ' known differ grows idle.
+        let apart : j ≡ i → ⊥ = λ same. true≢false (sym (eq-eqb j i same) ∙ differ) in
+        (tt, (grows.1.free (frame_of j) (λ e. apart (odd_frames j i e)) (λ e. parity j i e) idle.1.0, grows.1.free (wrapper_frame j) (λ e. parity i j (sym e)) (λ e. apart (even_frames j i e)) idle.1.1));
+    image_inner = λ i. ne_eqb' ((2 * i) % 2) 1 (λ e. omega arith);
+    image_owner = λ i. omega arith;
+    wrapper_outer = λ i n g e. let is : g ≡ 2 * i + 1 = wrapper_is i n g e in eq-eqb (g % 2) 1 (omega arith);
+    wrapper_owner = λ i n g e. let is : g ≡ 2 * i + 1 = wrapper_is i n g e in omega arith;
+    same_plain = refl;
+    missing_unclaimed = λ claimed. claimed;
+    busy_unclaimed = λ claimed. claimed;
+  }
     where
       odd_frames : (j i : ℕ) → frame_of j ≡ frame_of i → j ≡ i
       odd_frames j i e = let h : 2 * j + 1 ≡ 2 * i + 1 = e in omega arith
+
       even_frames : (j i : ℕ) → wrapper_frame j ≡ wrapper_frame i → j ≡ i
       even_frames j i e = let h : 2 * j + 2 ≡ 2 * i + 2 = e in omega arith
+
       parity : (j i : ℕ) → frame_of j ≡ wrapper_frame i → ⊥
       parity j i e = let h : 2 * j + 1 ≡ 2 * i + 2 = e in omega arith
 
@@ -202,9 +201,12 @@ first_world = record { object = λ c. 0; cell = λ c. c; height = block; frozen 
 first_sane : Sane first_world
 unfolding first_world
 first_sane = record {
-    block_object = λ k small. refl; block_cell = λ k small. refl; tall = omega arith;
-    apart = λ c d hc hd object cell. cell; loose = λ c hc. refl
-  }
+  block_object = λ k small. refl;
+  block_cell = λ k small. refl;
+  tall = omega arith;
+  apart = λ c d hc hd object cell. cell;
+  loose = λ c hc. refl;
+}
 
 first_free : (o : ℕ) → (0 ≡ o → ⊥) → IsFree o first_world
 unfolding first_world
@@ -213,14 +215,15 @@ first_free o differ = record { homeless = λ c hc e. differ e; unfrozen = λ c. 
 first_image : (start : Start) → Stands first_world (store_of start) (memory_of start)
 unfolding first_world
 first_image start = record {
-    high = refl;
-    stands = λ c n small e. ap word_of (cell c n (nat_lt c block) e);
-    holds = λ o c w frozen. absurd (none w frozen)
-  }
+  high = refl;
+  stands = λ c n small e. ap word_of (cell c n (nat_lt c block) e);
+  holds = λ o c w frozen. absurd (none w frozen);
+}
   where
     cell : (c n : ℕ) (q : Bool) → (if q then start c else None) ≡ Some n → start c ≡ Some n
     cell c n true e = e
     cell c n false e = absurd (grind arith)
+
     none : (w : Word) → None ≡ Some w → ⊥
     none w e = absurd (cc)
 
@@ -245,10 +248,10 @@ module _ (us : List Text) (some : 0 < length us) where
   unfolding numbers
   same_of x y (law.running {μ = μ} {s = s} {t = t} known home matched below) =
       running (same_texts (linking us (translated us)) (factor_of (translated us)) (all_linked us) (law.running known home matched below))
-          (block_stands μ.1 s matched.1 t matched.2.store matched.3.sane matched.3.image)
+      (block_stands μ.1 s matched.1 t matched.2.store matched.3.sane matched.3.image)
   same_of x y (law.over {μ = μ} {e = e} {v = v} {s = s} {w = w} {t = t} known home halted below) =
       over {e = e} (same_texts (linking us (translated us)) (factor_of (translated us)) (all_linked us) (law.over {e = e} {v = v} {w = w} known home halted below))
-          (block_stands μ.1 s halted.1 t halted.2 halted.3.0 halted.3.1)
+      (block_stands μ.1 s halted.1 t halted.2 halted.3.0 halted.3.1)
   same_of x y (law.finished {μ = μ} {s = s} {t = t} houses given) =
       over {us = []} {fs = []} refl (block_stands μ.1 s given.0 t given.2.0 (houses 0 some).1 given.3.0)
   same_of x y law.undefined = undefined
@@ -257,28 +260,32 @@ module _ (us : List Text) (some : 0 < length us) where
   unfolding first_world run
   begins start =
       begins_alike (linking us (translated us)) (factor_of (translated us)) (all_linked us) (tt, first_world)
-          (record { unit = 0; by_second = false }) (record { first = 0; second = 1 }) (store_of start)
-          0 (record { first = Pointer 0 0; second = Pointer 0 1; number = Some 0 }) (memory_of start) 0
-          (ap (λ q. if q then Some 0 else None) (lt-ltb 0 (length us) some)) refl
-          (record {
-            houses = λ j known. (tt, first_sane);
-            idle = λ j known absent. (tt, (first_free (frame_of j) (λ e. omega arith), first_free (wrapper_frame j) (λ e. omega arith)))
-          })
-          (store_of start, record { unit = 0; by_second = false }, record { first = 0; second = 1 }, (refl, refl, refl),
-            record { image = first_image start; name = refl; number = refl; first_there = omega arith; second_there = omega arith; first = refl; second = refl })
+      (record { unit = 0; by_second = false }) (record { first = 0; second = 1 }) (store_of start)
+      0 (record { first = Pointer 0 0; second = Pointer 0 1; number = Some 0 }) (memory_of start) 0
+      (ap (λ q. if q then Some 0 else None) (lt-ltb 0 (length us) some)) refl
+      (record {
+        houses = λ j known. (tt, first_sane);
+        idle = λ j known absent. (tt, (first_free (frame_of j) (λ e. omega arith), first_free (wrapper_frame j) (λ e. omega arith)));
+      }) (
+        store_of start,
+        record { unit = 0; by_second = false },
+        record { first = 0; second = 1 },
+        (refl, refl, refl),
+        record { image = first_image start; name = refl; number = refl; first_there = omega arith; second_there = omega arith; first = refl; second = refl },
+      )
 
   -- the translation of units as lists
   pub translates : Translates us (translated us) (factor_of (translated us))
   unfolding run
   translates = record {
-      faithful = λ start n.
-          let r = law_proof.law (linking us (translated us)) (factor_of (translated us)) (all_linked us) (begins start) n in
-          (r.0, r.1, r.2, same_of (source_after us start n) (target_after (translated us) start r.0) r.3);
-      ends = λ start n m e active s ended late.
-          let r = ends_alike (linking us (translated us)) (factor_of (translated us)) (all_linked us) (begins start) n m e active s ended late in
-          (r.0, r.1, r.2, ended_image (Over e active s) (Over e r.0 r.1) (same_of (Over e active s) (Over e r.0 r.1) r.3));
-      faults = λ start. breaks_later (linking us (translated us)) (factor_of (translated us)) (all_linked us) (begins start)
-    }
+    faithful = λ start n.
+        let r = law_proof.law (linking us (translated us)) (factor_of (translated us)) (all_linked us) (begins start) n in
+        (r.0, r.1, r.2, same_of (source_after us start n) (target_after (translated us) start r.0) r.3);
+    ends = λ start n m e active s ended late.
+        let r = ends_alike (linking us (translated us)) (factor_of (translated us)) (all_linked us) (begins start) n m e active s ended late in
+        (r.0, r.1, r.2, ended_image (Over e active s) (Over e r.0 r.1) (same_of (Over e active s) (Over e r.0 r.1) r.3));
+    faults = λ start. breaks_later (linking us (translated us)) (factor_of (translated us)) (all_linked us) (begins start);
+  }
 
 -- as the code has it
 pub translates_as : (us : List Text) (fs : List Code) (W : ℕ) → 0 < length us → fs ≡ translated us → W ≡ longest fs + 2 → Translates us fs W

@@ -1,10 +1,10 @@
 -- A program in which two dummies are one cell of the block, and what it leaves there on both sides.
-use Rattle.std.specs.Prelude.{ℕ, Bool, true, false, List, [], ◌∷◌, Option, Some, None}
+use Rattle.std.specs.Prelude.{ℕ, true, false, List, [], ◌∷◌, Option}
 use Rattle.simulation.specs.Machine.{State, Runs, Over, Broken}
 use Rattle.small_instance.specs.declared.source.Place.TheVariants.{Common, First, Second}
 use Rattle.small_instance.specs.declared.source.Operand.TheVariants.{Constant, Of}
 use Rattle.small_instance.specs.declared.source.Argument.TheVariants.{ByReference, ByValue}
-use Rattle.small_instance.specs.declared.source.Statement.TheVariants.{Set, SetCalling, Unless, GoTo, Give, Stop}
+use Rattle.small_instance.specs.declared.source.Statement.TheVariants.{Set, SetCalling, Give, Stop}
 use Rattle.small_instance.specs.Store.{Ending}
 use Rattle.small_instance.specs.SourceLanguage.{Text, source_sorts}
 use Rattle.small_instance.specs.TargetLanguage.{Word, target_sorts}
@@ -16,17 +16,17 @@ aliased =
     record {
       second = 0;
       body =
-        Set (Common 0) (Constant 5) (Constant 0)
-        ∷ (SetCalling (Common 1) (Of (Common 0)) 1 false (ByReference (Common 0)) (ByReference (Common 0))
-        ∷ (SetCalling (Common 2) (Constant 0) 1 true (ByReference (Common 0)) (ByValue (Of (Common 1)))
-        ∷ (Stop ∷ [])))
+          Set (Common 0) (Constant 5) (Constant 0)
+          ∷ (SetCalling (Common 1) (Of (Common 0)) 1 false (ByReference (Common 0)) (ByReference (Common 0))
+          ∷ (SetCalling (Common 2) (Constant 0) 1 true (ByReference (Common 0)) (ByValue (Of (Common 1)))
+          ∷ (Stop ∷ [])));
     }
     ∷ (record {
       second = 1;
       body =
-        Set First (Of Second) (Constant 1)
-        ∷ (Set Second (Of First) (Of First)
-        ∷ (Give (Of First) ∷ []))
+          Set First (Of Second) (Constant 1)
+          ∷ (Set Second (Of First) (Of First)
+          ∷ (Give (Of First) ∷ []));
     } ∷ [])
 
 -- the first three cells of the block where a run has ended

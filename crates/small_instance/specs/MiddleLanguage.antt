@@ -1,14 +1,13 @@
 -- The meaning of the middle language.
 use Rattle.std.specs.Prelude.{ℕ, zero, suc, ◌+◌, Bool, true, false, if◌then◌else◌, List, slice_get, Option, Some, None}
-use Rattle.simulation.specs.Machine.{Sorts, Event, Goes, Ends, Calls, Answers, Breaks, Entry, Enters, Refused, Lang}
-use Rattle.small_instance.specs.declared.source.Place.{Place}
+use Rattle.simulation.specs.Machine.{Sorts, Event, Goes, Ends, Calls, Answers, Breaks, Enters, Lang}
 use Rattle.small_instance.specs.declared.lowered.Atom.{Atom}
 use Rattle.small_instance.specs.declared.lowered.Atom.TheVariants.{Constant, Load, Temporary}
 use Rattle.small_instance.specs.declared.lowered.Passed.{Passed}
 use Rattle.small_instance.specs.declared.lowered.Passed.TheVariants.{Cell, Slot}
 use Rattle.small_instance.specs.declared.lowered.Step.{Step}
 use Rattle.small_instance.specs.declared.lowered.Step.TheVariants.{Select, Keep, Fill, Pass, Put, Unless, Jump, Call, Back, Halt}
-use Rattle.small_instance.specs.Store.{Ending, Plain, Stopped, Fault, Undefined, OutOfBlock, NoStatement, NoUnit, IsActive, Store, Bound, Called, Value, Is, Bad, Tied, Ties, Untied, set_cell, cell_of, defined, fetch, tie_cell, tie_value, with_fresh, without_fresh}
+use Rattle.small_instance.specs.Store.{Ending, Plain, Stopped, Fault, OutOfBlock, NoStatement, NoUnit, IsActive, Store, Bound, Called, Value, Is, Bad, Tied, Ties, Untied, set_cell, cell_of, defined, fetch, tie_cell, tie_value, with_fresh, without_fresh}
 
 pub record View : Type 0 where
   pub at : ℕ
@@ -92,11 +91,11 @@ deed (Some Halt) v s = Ends Stopped v s
 
 abbrev pub middle_language : Lang Ending
 middle_language = record {
-    sorts = middle_sorts;
-    step = λ u v s. deed (slice_get u v.at) v s;
-    start = λ u n b s. Enters (record { at = 0; bound = b; by_second = n.by_second; saved = None; answer = None; first_slot = None; second_slot = None }) s;
-    resume = λ u v r s. Enters (record v { at = v.at + 1; answer = Some r; first_slot = None; second_slot = None }) (without_fresh s);
-    missing = NoUnit;
-    busy = IsActive;
-    plain = Plain
-  }
+  sorts = middle_sorts;
+  step = λ u v s. deed (slice_get u v.at) v s;
+  start = λ u n b s. Enters (record { at = 0; bound = b; by_second = n.by_second; saved = None; answer = None; first_slot = None; second_slot = None }) s;
+  resume = λ u v r s. Enters (record v { at = v.at + 1; answer = Some r; first_slot = None; second_slot = None }) (without_fresh s);
+  missing = NoUnit;
+  busy = IsActive;
+  plain = Plain;
+}

@@ -1,5 +1,5 @@
 -- The meaning of the source language.
-use Rattle.std.specs.Prelude.{ℕ, zero, suc, ◌+◌, Bool, true, false, nat_lt, if◌then◌else◌, List, [], length, slice_get, Option, Some, None, unwrap_or}
+use Rattle.std.specs.Prelude.{ℕ, zero, suc, ◌+◌, nat_lt, if◌then◌else◌, List, [], length, slice_get, Option, Some, None, unwrap_or}
 use Rattle.simulation.specs.Machine.{Sorts, Event, Goes, Ends, Calls, Answers, Breaks, Entry, Enters, Refused, Lang, Program}
 use Rattle.small_instance.specs.declared.source.Place.{Place}
 use Rattle.small_instance.specs.declared.source.Operand.{Operand}
@@ -9,7 +9,7 @@ use Rattle.small_instance.specs.declared.source.Argument.TheVariants.{ByReferenc
 use Rattle.small_instance.specs.declared.source.Statement.{Statement}
 use Rattle.small_instance.specs.declared.source.Statement.TheVariants.{Set, SetCalling, Unless, GoTo, Give, Stop}
 use Rattle.small_instance.specs.declared.source.Unit.{Unit as SourceUnit}
-use Rattle.small_instance.specs.Store.{Ending, Plain, Stopped, Fault, Undefined, OutOfBlock, NoStatement, NoUnit, IsActive, Store, Bound, Called, Value, Is, Bad, Tied, Ties, Untied, set_cell, cell_of, fetch, tie_cell, tie_value, with_fresh, without_fresh}
+use Rattle.small_instance.specs.Store.{Ending, Plain, Stopped, Fault, OutOfBlock, NoStatement, NoUnit, IsActive, Store, Bound, Called, Value, Is, Bad, Tied, Ties, Untied, set_cell, cell_of, fetch, tie_cell, tie_value, with_fresh, without_fresh}
 
 -- a unit as a list of statements
 pub record Text : Type 0 where
@@ -98,17 +98,17 @@ answered (Sums x y) v r s = Refused NoStatement
 
 abbrev pub source_language : Lang Ending
 source_language = record {
-    sorts = source_sorts;
-    step = λ u v s. deed (slice_get u.body v.at) v s;
-    start = λ u n b s. Enters (record { at = (if n.by_second then u.second else 0); bound = b; doing = Begins }) s;
-    resume = λ u v r s. answered v.doing v r s;
-    missing = NoUnit;
-    busy = IsActive;
-    plain = Plain
-  }
+  sorts = source_sorts;
+  step = λ u v s. deed (slice_get u.body v.at) v s;
+  start = λ u n b s. Enters (record { at = (if n.by_second then u.second else 0); bound = b; doing = Begins }) s;
+  resume = λ u v r s. answered v.doing v r s;
+  missing = NoUnit;
+  busy = IsActive;
+  plain = Plain;
+}
 
 abbrev pub source_program : List Text → Program source_sorts
 source_program us = record {
-    find = λ n. if nat_lt n.unit (length us) then Some n.unit else None;
-    text = λ i. unwrap_or (slice_get us i) (record { second = 0; body = [] })
-  }
+  find = λ n. if nat_lt n.unit (length us) then Some n.unit else None;
+  text = λ i. unwrap_or (slice_get us i) (record { second = 0; body = [] });
+}

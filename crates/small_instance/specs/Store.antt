@@ -1,6 +1,6 @@
 -- What the source and the middle language share: numbered cells, each undefined or a number. The
 -- first cells are the block; the others were made for values that calls passed.
-use Rattle.std.specs.Prelude.{ℕ, ◌+◌, ◌-◌, Bool, true, false, nat_eq, nat_lt, if◌then◌else◌, Option, Some, None}
+use Rattle.std.specs.Prelude.{ℕ, ◌+◌, ◌-◌, Bool, nat_eq, nat_lt, if◌then◌else◌, Option, Some, None}
 use Rattle.small_instance.specs.declared.source.Place.{Place}
 use Rattle.small_instance.specs.declared.source.Place.TheVariants.{Common, First, Second}
 
@@ -73,9 +73,9 @@ tie_value c (Bad f) = Untied f
 -- a call makes two fresh cells
 abbrev pub with_fresh : Option ℕ → Option ℕ → Store → Store
 with_fresh x y s = record {
-    cells = λ d. if nat_eq d s.height then x else (if nat_eq d (s.height + 1) then y else s.cells d);
-    height = s.height + 2
-  }
+  cells = λ d. if nat_eq d s.height then x else (if nat_eq d (s.height + 1) then y else s.cells d);
+  height = s.height + 2;
+}
 
 -- they are gone where the caller goes on
 abbrev pub without_fresh : Store → Store

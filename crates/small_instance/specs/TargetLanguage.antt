@@ -119,17 +119,17 @@ stored item f at r m = Refused NoItem
 
 abbrev pub target_language : Lang Ending
 target_language = record {
-    sorts = target_sorts;
-    step = λ f at m. deed (slice_get f.items at) f at m;
-    start = λ f n p m. entered f.selected p.number f p m;
-    resume = λ f at r m. stored (slice_get f.items at) f at r m;
-    missing = NoFunction;
-    busy = IsActive;
-    plain = Plain
-  }
+  sorts = target_sorts;
+  step = λ f at m. deed (slice_get f.items at) f at m;
+  start = λ f n p m. entered f.selected p.number f p m;
+  resume = λ f at r m. stored (slice_get f.items at) f at r m;
+  missing = NoFunction;
+  busy = IsActive;
+  plain = Plain;
+}
 
 abbrev pub target_program : List Code → Program target_sorts
 target_program fs = record {
-    find = λ k. if nat_lt k (length fs) then Some k else None;
-    text = λ k. unwrap_or (slice_get fs k) (record { object = 0; cells = 0; selected = false; items = [] })
-  }
+  find = λ k. if nat_lt k (length fs) then Some k else None;
+  text = λ k. unwrap_or (slice_get fs k) (record { object = 0; cells = 0; selected = false; items = [] });
+}

@@ -1,5 +1,5 @@
 -- What the translation promises, over runs of the two languages.
-use Rattle.std.specs.Prelude.{◌≡◌, ℕ, suc, ◌+◌, ◌*◌, ◌%◌, ◌<◌, ◌≤◌, Bool, false, nat_eq, nat_lt, if◌then◌else◌, List, [], ◌∷◌, map, Option, Some, None}
+use Rattle.std.specs.Prelude.{◌≡◌, ℕ, ◌*◌, ◌%◌, ◌<◌, ◌≤◌, false, nat_eq, nat_lt, if◌then◌else◌, List, ◌∷◌, map, Option, Some, None}
 use Rattle.simulation.specs.Machine.{Frame, State, Runs, Over, Broken, numbers, run, begun}
 use Rattle.simulation.specs.Law.{without}
 use Rattle.small_instance.specs.Store.{Ending, Fault, block, Store}
@@ -43,9 +43,9 @@ SameActive units functions = without (λ k. nat_eq (k % 2) 1) functions ≡ map 
 -- source is broken.
 pub data Same : State Ending source_sorts → State Ending target_sorts → Type 0 where
   running : {i k : ℕ} {v : View} {us : List (Frame source_sorts)} {s : Store} {w : ℕ} {fs : List (Frame target_sorts)} {m : Memory} →
-    SameActive (i ∷ numbers us) (k ∷ numbers fs) → BlockImage s m → Same (Runs i v us s) (Runs k w fs m)
+      SameActive (i ∷ numbers us) (k ∷ numbers fs) → BlockImage s m → Same (Runs i v us s) (Runs k w fs m)
   over : {e : Ending} {us : List (Frame source_sorts)} {s : Store} {fs : List (Frame target_sorts)} {m : Memory} →
-    SameActive (numbers us) (numbers fs) → BlockImage s m → Same (Over e us s) (Over e fs m)
+      SameActive (numbers us) (numbers fs) → BlockImage s m → Same (Over e us s) (Over e fs m)
   undefined : {f : Fault} {ks : List ℕ} {y : State Ending target_sorts} → Same (Broken f ks) y
 
 -- THE THEOREM of a translation with step factor W, for every block at the start.
@@ -54,7 +54,7 @@ pub record Translates (us : List Text) (fs : List Code) (W : ℕ) : Type 0 where
   pub faithful : (start : Start) (n : ℕ) → (m : ℕ) × (n ≤ m) × (m ≤ W * n) × Same (source_after us start n) (target_after fs start m)
   -- where the source has ended after n steps, the target has ended so from W · n steps on
   pub ends : (start : Start) (n m : ℕ) (e : Ending) (active : List (Frame source_sorts)) (s : Store) → source_after us start n ≡ Over e active s → W * n ≤ m →
-    (frames : List (Frame target_sorts)) × (t : Memory) × (target_after fs start m ≡ Over e frames t) × BlockImage s t
+      (frames : List (Frame target_sorts)) × (t : Memory) × (target_after fs start m ≡ Over e frames t) × BlockImage s t
   -- a fault of the target comes no earlier than the source breaks
   pub faults : (start : Start) (m : ℕ) (f : TargetFault) (ks : List ℕ) → target_after fs start m ≡ Broken f ks →
-    (g : Fault) × (js : List ℕ) × (source_after us start m ≡ Broken g js)
+      (g : Fault) × (js : List ℕ) × (source_after us start m ≡ Broken g js)

@@ -1,5 +1,5 @@
 -- The translation, as functions on lists: units are lowered to steps, and steps are emitted as items.
-use Rattle.std.specs.Prelude.{ℕ, zero, suc, ◌+◌, ◌*◌, max, Bool, true, false, if◌then◌else◌, List, [], ◌∷◌, ◌++◌, length, map, Option, Some, None}
+use Rattle.std.specs.Prelude.{ℕ, zero, suc, ◌+◌, ◌*◌, max, Bool, true, false, List, [], ◌∷◌, ◌++◌, length, map, Option, Some, None}
 use Rattle.small_instance.specs.declared.source.Place.{Place}
 use Rattle.small_instance.specs.declared.source.Place.TheVariants.{Common, First, Second}
 use Rattle.small_instance.specs.declared.source.Operand.{Operand}
@@ -133,9 +133,11 @@ inner_code i l = record { object = frame_of i; cells = 7; selected = true; items
 -- hands the answer on
 abbrev pub wrapper_code : ℕ → Code
 wrapper_code i = record {
-    object = wrapper_frame i; cells = 3; selected = false;
-    items = Invoke 2 (2 * i) (Through 0) (Through 1) (Some 1) ∷ (Return (Read (Local 2)) ∷ [])
-  }
+  object = wrapper_frame i;
+  cells = 3;
+  selected = false;
+  items = Invoke 2 (2 * i) (Through 0) (Through 1) (Some 1) ∷ (Return (Read (Local 2)) ∷ []);
+}
 
 -- the functions of the units from number i on
 abbrev pub translated_from : ℕ → List Text → List Code

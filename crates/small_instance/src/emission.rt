@@ -57,7 +57,11 @@ fn passed_spot(second: bool, passed: Passed) -> Spot
 fn function_called(unit: u32, by_second: bool) -> usize
     ensures { result ≡ function_called unit by_second }
 {
-    if by_second { 2 * (unit as usize) + 1 } else { 2 * (unit as usize) }
+    if by_second {
+        2 * (unit as usize) + 1
+    } else {
+        2 * (unit as usize)
+    }
 }
 
 /// A direct call says that it is by the first name; a wrapper takes no number.
@@ -72,10 +76,17 @@ fn item_of(step: Step) -> Item
 {
     match step {
         Step::Select(n) => Item::IfNot(Spot::Local(2), n),
-        Step::Keep(answer, atom) => Item::Assign(Spot::Local(temporary_cell(answer)), leaf_of(atom)),
+        Step::Keep(answer, atom) => Item::Assign(
+            Spot::Local(temporary_cell(answer)),
+            leaf_of(atom),
+        ),
         Step::Fill(second, atom) => Item::Assign(Spot::Local(slot_cell(second)), leaf_of(atom)),
         Step::Pass => Item::Nothing,
-        Step::Put(place, left, right) => Item::AssignSum(spot_of(place), leaf_of(left), leaf_of(right)),
+        Step::Put(place, left, right) => Item::AssignSum(
+            spot_of(place),
+            leaf_of(left),
+            leaf_of(right),
+        ),
         Step::Unless(place, n) => Item::IfZero(spot_of(place), n),
         Step::Jump(n) => Item::Goto(n),
         Step::Call(unit, by_second, first, second) => Item::Invoke(
@@ -100,7 +111,12 @@ pub fn emit(alloc: Global, number: usize, steps: &[Step]) -> Result<Function, Al
     for step in steps {
         items.push(item_of(*step))?;
     }
-    Ok(Function { object: 2 * number + 1, cells: 7, selected: true, items })
+    Ok(Function {
+        object: 2 * number + 1,
+        cells: 7,
+        selected: true,
+        items,
+    })
 }
 
 /// The wrapper of unit `number`: it passes its parameters on, says that the call is by the second
@@ -112,5 +128,10 @@ pub fn wrap(alloc: Global, number: usize) -> Result<Function, AllocError>
     let mut items = Vec::new(alloc);
     items.push(Item::Invoke(2, 2 * number, Spot::Through(0), Spot::Through(1), Some(1)))?;
     items.push(Item::Return(Leaf::Read(Spot::Local(2))))?;
-    Ok(Function { object: 2 * number + 2, cells: 3, selected: false, items })
+    Ok(Function {
+        object: 2 * number + 2,
+        cells: 3,
+        selected: false,
+        items,
+    })
 }

@@ -12,5 +12,4 @@ ghost use Rattle.small_instance.specs.Aliased.{aliased, cells_left, words_left};
 pub fn aliased_runs()
     ensures source { cells_left (source_after aliased (λ k. None) 11) ≡ Some 12 ∷ (Some 17 ∷ (Some 12 ∷ [])) }
     ensures target { words_left (target_after (translated aliased) (λ k. None) 30) ≡ Number 12 ∷ (Number 17 ∷ (Number 12 ∷ [])) }
-{
-}
+{}

@@ -70,12 +70,20 @@ fn fill_of(second: bool, argument: Argument) -> Step
 }
 
 /// Appends the steps of a statement of this body.
-fn lower_statement(steps: &mut Vec<Step>, body: &[Statement], statement: Statement) -> Result<(), AllocError>
+fn lower_statement(
+    steps: &mut Vec<Step>,
+    body: &[Statement],
+    statement: Statement,
+) -> Result<(), AllocError>
     requires { length body.now < 2 ^ 32 }
     ensures { OnOk result (steps.new.items ≡ steps.old.items ++ lowered_statement body.now statement) }
 {
     match statement {
-        Statement::Set(place, left, right) => steps.push(Step::Put(place, atom_of(left), atom_of(right)))?,
+        Statement::Set(place, left, right) => steps.push(Step::Put(
+            place,
+            atom_of(left),
+            atom_of(right),
+        ))?,
         Statement::SetCalling(place, left, unit, by_second, first, second) => {
             steps.push(Step::Keep(false, atom_of(left)))?;
             steps.push(fill_of(false, first))?;

@@ -96,16 +96,32 @@ mod tests {
             body: Vec::from_array(
                 rt.alloc(),
                 [
-                    Statement::Set(Place::First, Operand::Of(Place::Second), Operand::Constant(1)),
+                    Statement::Set(
+                        Place::First,
+                        Operand::Of(Place::Second),
+                        Operand::Constant(1),
+                    ),
                     Statement::Give(Operand::Of(Place::First)),
                 ],
             )?,
         };
         let program = translate(rt.alloc(), &[main, callee])?;
-        assert_eq!(rt; program.functions.len(), 4);
-        assert_eq!(rt; program.factor, 10);
-        assert!(rt; matches!(program.functions[0].items[2], Item::Assign(Spot::Local(3), Leaf::Read(Spot::Block(0)))));
-        assert!(rt; matches!(program.functions[0].items[5], Item::Invoke(4, 2, Spot::Block(0), Spot::Block(0), Some(0))));
+        assert!(rt; program.functions.len() == 4);
+        assert!(rt; program.factor == 10);
+        let code = &program.functions[0].items;
+        assert!(rt; code.len() == 8);
+        assert!(rt;
+            matches!(
+                code[2],
+                Item::Assign(Spot::Local(3), Leaf::Read(Spot::Block(0)))
+            )
+        );
+        assert!(rt;
+            matches!(
+                code[5],
+                Item::Invoke(4, 2, Spot::Block(0), Spot::Block(0), Some(0))
+            )
+        );
         Ok(())
     }
 }

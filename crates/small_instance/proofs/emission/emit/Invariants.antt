@@ -1,4 +1,4 @@
-use Rattle.std.proofs.Common.{◌≡◌, ◌++◌, map, take}
+use Rattle.std.proofs.Common.{◌≡◌, map, take}
 use Rattle.small_instance.specs.Translation.{item_of}
 use Rattle.small_instance.proofs.emission.emit.Given as goal
 
