@@ -1,22 +1,21 @@
 -- From what is known after each card to what the calls answer.
-use Rattle.std.proofs.Common.{◌≡◌, ◌≢◌, ℕ, zero, suc, ◌+◌, ◌-◌, ◌<◌, ◌≤◌, Bool, true, false, List, [], ◌∷◌, ◌++◌, length, Result, Ok, Err, IfOk, refl, sym, ap, subst, ◌∙◌, arith, Option, Some, None, inl, inr}
+use Rattle.std.proofs.Common.{◌≡◌, ℕ, suc, ◌+◌, ◌-◌, ◌<◌, ◌≤◌, Bool, true, false, List, [], ◌∷◌, ◌++◌, length, Result, Ok, Err, refl, sym, ap, subst, ◌∙◌, arith, Option, Some, None, inl, inr}
 use Rattle.std.specs.Prelude.{◌==◌, IfErr, MatchOption, ◌⊎◌}
 use Rattle.std.proofs.lemmas.Bool.{both_ways, eqb-true, eq-eqb, ne_eqb}
 use Rattle.std.proofs.lemmas.List.{length-append, nil_from_length}
 use Rattle.f_tree.specs.CardKinds.{lines}
 use Rattle.f_tree.specs.RefusalRows.{number_of}
-use Rattle.f_tree.specs.FirstRefusal.{most_bytes, most_cards, CardFault, main_program, card_of_first, SpellsFile, SpellsFrom, none, more, Fault, IsNotAfter, IsFirstRefusal, IsAccepted}
+use Rattle.f_tree.specs.FirstRefusal.{CardFault, main_program, card_of_first, SpellsFile, none, more}
 use Rattle.f_tree.specs.declared.statements.Stmt.{Stmt}
 use Rattle.f_tree.specs.declared.statements.Body.{Body}
 use Rattle.f_tree.specs.declared.statements.UnitKind.TheVariants as unit_kind
 use Rattle.f_tree.specs.declared.units.File.{File}
-use Rattle.f_tree.specs.declared.refusals.Refusal.{Refusal}
 use Rattle.f_tree.specs.declared.refusals.Fail.{Fail}
 use Rattle.f_tree.specs.declared.refusals.Fail.TheVariants.{NoMemory, Refused}
 use Rattle.f_tree.specs.declared.refusals.Kind.TheVariants as row
 use Rattle.f_tree.proofs.LineLemmas.{lines-nil, some_line}
 use Rattle.f_tree.proofs.LongFileLemmas.{most_bytes-is, most_cards-is, fault_of_one, one_fault}
-use Rattle.first_reader.specs.Readings.{IsReading, IsCardBody, SplitsLine, IsNext, IsStop, many_cards, many_bytes, bad, IsSound, IsFailure, IsReadAs, main_program_of, IsRead, IsAcceptedAs, IsFirstFailure}
+use Rattle.first_reader.specs.Readings.{IsReading, IsCardBody, SplitsLine, IsNext, IsStop, many_cards, many_bytes, bad, IsFailure, IsReadAs, main_program_of, IsRead, IsAcceptedAs, IsFirstFailure}
 use Rattle.first_reader.proofs.FormedLemmas.{tree_of}
 use Rattle.first_reader.proofs.ReadingLemmas.{Reading, reading_begins, empty_fault, many_cards-fault, many_bytes-fault, bad_card, reading_goes_on, reading_ends}
 
@@ -125,12 +124,12 @@ first_failure file bytes NoMemory is h = tt
 first_failure file bytes (Refused r) is h = record {
   holds = one_fault bytes r (h.0 ∙ is) h.2 h.1;
   least = λ q fault.
-    let found = fault_of_one bytes q fault in
-    record {
-      file = omega (arith, h.0);
-      card = λ _. h.3 q.card found.1;
-      number = λ _ _. omega (arith, ap number_of (h.1 ∙ sym fault.kind));
-    };
+      let found = fault_of_one bytes q fault in
+      record {
+        file = omega (arith, h.0);
+        card = λ _. h.3 q.card found.1;
+        number = λ _ _. omega (arith, ap number_of (h.1 ∙ sym fault.kind));
+      };
 }
 
 pub failure_from : (file : ℕ) (bytes : List ℕ) (r : Result File Fail) → file ≡ 0 → IfErr r (IsFailure file bytes) → IfErr r (IsFirstFailure (bytes ∷ []))

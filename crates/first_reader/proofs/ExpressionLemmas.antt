@@ -1,6 +1,6 @@
 -- What a text of a sum, a name or a constant spells.
-use Rattle.std.proofs.Common.{◌≡◌, ◌≢◌, ℕ, zero, suc, ◌+◌, ◌*◌, ◌-◌, ◌<◌, ◌≤◌, Bool, true, false, List, [], ◌∷◌, ◌++◌, length, take, drop, get_or, pos, Result, Ok, Err, IfOk, SFits, ℤ, to_z, of_z, w32, refl, sym, ap, subst, ◌∙◌, arith, Option, Some, None, inl, inr, ⊎_elim}
-use Rattle.std.specs.Prelude.{◌==◌, not, nat_le, ◌⊎◌, ◌&&◌}
+use Rattle.std.proofs.Common.{◌≡◌, ℕ, zero, suc, ◌+◌, ◌*◌, ◌-◌, ◌<◌, ◌≤◌, true, false, List, [], ◌∷◌, length, take, get_or, pos, Result, Ok, Err, IfOk, SFits, ℤ, to_z, of_z, w32, refl, sym, ap, subst, ◌∙◌, arith, Option, Some, None, inl, inr}
+use Rattle.std.specs.Prelude.{◌==◌, nat_le, ◌⊎◌}
 use Rattle.std.specs.Char.{is_ascii_digit, digit_value}
 use Rattle.std.specs.List.{list_all}
 use Rattle.std.specs.Str.Parse.{digits_value, digits_value_after}
@@ -13,7 +13,7 @@ use Rattle.std.proofs.lemmas.List.{take_all}
 use Rattle.std.proofs.lemmas.Int.Digits.{digits_value_more}
 use Rattle.f_tree.specs.Characters.{is_letter_or_digit}
 use Rattle.f_tree.specs.StatementKind.{begins_with}
-use Rattle.f_tree.specs.Spelling.{is_integer_letter, IsName, IsConstant, Level, Primary, Sum, SpellsExpr, name, constant, alone, added}
+use Rattle.f_tree.specs.Spelling.{is_integer_letter, IsName, IsConstant, Primary, Sum, SpellsExpr, name, constant, alone, added}
 use Rattle.f_tree.specs.declared.expressions.Expr.{Expr}
 use Rattle.f_tree.specs.declared.expressions.Expr as expr
 use Rattle.f_tree.specs.declared.expressions.BinaryOp.TheVariants as operator
@@ -125,8 +125,7 @@ pub constant_read : (text : List ℕ) (i value : ℕ) → 0 < length text → le
 constant_read text i value begun done is digits small =
     let whole = take_all i text done in
     let all : list_all is_ascii_digit text ≡ true = subst (λ w. list_all is_ascii_digit w ≡ true) whole digits in
-    let same : value ≡ digits_value 10 text = is ∙ ap (λ w. digits_value 10 w) whole in
-    (
+    let same : value ≡ digits_value 10 text = is ∙ ap (λ w. digits_value 10 w) whole in (
       record { first = begins_digit text begun all; all = all; small = omega arith },
       to_z_pos w32 value (omega arith) ∙ ap (λ w. pos w) same,
     )

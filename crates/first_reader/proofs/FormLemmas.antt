@@ -1,13 +1,13 @@
 -- Columns 1 to 72 of a line without tabs, and the text that stands in them.
-use Rattle.std.proofs.Common.{◌≡◌, ◌≢◌, ℕ, zero, suc, ◌+◌, ◌<◌, ◌≤◌, Bool, true, false, List, [], ◌∷◌, ◌++◌, length, take, drop, map, replicate, cond, ◌*◌, refl, sym, ap, subst, ◌∙◌, arith, Option, Some, None, inl, inr}
-use Rattle.std.specs.Prelude.{◌==◌, not, ◌⊎◌, ◌&&◌, ◌||◌, filter}
+use Rattle.std.proofs.Common.{◌≡◌, ℕ, zero, suc, ◌+◌, ◌≤◌, Bool, true, false, List, [], ◌∷◌, ◌++◌, take, drop, map, replicate, cond, ◌*◌, refl, sym, ap, subst, ◌∙◌, arith, Option, Some, None, inl, inr}
+use Rattle.std.specs.Prelude.{◌==◌, not, ◌⊎◌, ◌&&◌, filter}
 use Rattle.std.specs.Char.{to_ascii_lowercase, is_ascii_digit, digit_value}
 use Rattle.std.specs.List.{list_all}
 use Rattle.std.proofs.lemmas.Bool.{and_parts, and_from, both_ways, cases_Bool, eqb-true, not-true}
 use Rattle.std.proofs.lemmas.List.{take-take, take-replicate}
 use Rattle.f_tree.specs.Characters.{is_blank, is_apostrophe}
 use Rattle.f_tree.specs.CardKinds.{is_line_end, without_end, spread, columns}
-use Rattle.f_tree.specs.StatementsOfFile.{Character, Standing, Outside, Inside, behind, after, shown, characters_from, has_counted, characters, text_without_blanks}
+use Rattle.f_tree.specs.StatementsOfFile.{Character, Outside, behind, after, shown, characters_from, has_counted, characters, text_without_blanks}
 use Rattle.f_tree.specs.FirstRefusal.{is_clean}
 use Rattle.first_reader.specs.Readings.{is_other, squeezed}
 

@@ -1,20 +1,20 @@
 -- A card of the form is what its line says, and the cards of a file spell a program unit.
-use Rattle.std.proofs.Common.{◌≡◌, ◌≢◌, ℕ, zero, suc, ◌+◌, ◌<◌, ◌≤◌, Bool, true, false, List, [], ◌∷◌, ◌++◌, length, take, drop, map, replicate, cond, refl, sym, ap, subst, ◌∙◌, arith, Option, Some, None, inl, inr}
-use Rattle.std.specs.Prelude.{◌==◌, not, ◌⊎◌, ◌&&◌, ◌||◌, filter, codes, is_some}
+use Rattle.std.proofs.Common.{◌≡◌, ℕ, suc, ◌<◌, Bool, true, false, List, [], ◌∷◌, ◌++◌, length, take, drop, map, replicate, cond, refl, sym, ap, subst, ◌∙◌, arith, None, inl, inr}
+use Rattle.std.specs.Prelude.{◌==◌, not, ◌⊎◌, filter, codes}
 use Rattle.std.specs.Char.{to_ascii_lowercase}
 use Rattle.std.specs.List.{list_all}
 use Rattle.std.specs.Str.{bytes_eq}
-use Rattle.std.proofs.lemmas.Bool.{and_parts, both_ways, cases_Bool, ne_eqb, eq-eqb}
+use Rattle.std.proofs.lemmas.Bool.{and_parts, cases_Bool, ne_eqb}
 use Rattle.std.proofs.lemmas.List.{take-append-drop, append-nil}
 use Rattle.f_tree.specs.Characters.{is_blank}
-use Rattle.f_tree.specs.CardKinds.{columns, CardKind, Comment, Initial, Continuation, is_comment, kind_of_columns, card_kind}
+use Rattle.f_tree.specs.CardKinds.{columns, CardKind, Initial, is_comment, kind_of_columns, card_kind}
 use Rattle.f_tree.specs.StatementsOfFile.{text_without_blanks, label_of_digits, label_of, Statement, continued, statement, statements}
-use Rattle.f_tree.specs.StatementKind.{StatementKind, End, kind_of}
+use Rattle.f_tree.specs.StatementKind.{StatementKind, End}
 use Rattle.f_tree.specs.Spelling.{Spells}
 use Rattle.f_tree.specs.FirstRefusal.{is_clean, SpellsStatement, SpellsUnit, ends, goes_on, card_of_first, HasForm}
 use Rattle.f_tree.specs.declared.statements.Stmt.{Stmt}
 use Rattle.f_tree.specs.declared.statements.Body.{Body}
-use Rattle.first_reader.specs.Readings.{is_other, squeezed, IsBody, IsCardBody}
+use Rattle.first_reader.specs.Readings.{is_other, squeezed, IsCardBody}
 use Rattle.first_reader.proofs.FormLemmas.{IsEnding, columns_of_clean, clean_line, field_blank, blank_field, squeezed_card, unlabelled_text, squeezed_apostrophe, text_apostrophe}
 use Rattle.first_reader.proofs.KindLemmas.{no_apostrophe_spelled, nothing_spelled, kind_spelled}
 
@@ -154,7 +154,7 @@ unit_formed place (line ∷ []) trees some (another p l kind tree ls ts h (nothi
     let raw = drop 6 (columns line) in
     let first = place == 0 in
     let list : statements (suc place) (card_kind line ∷ []) ≡ statement (suc place) (replicate 5 32) raw [] ∷ [] =
-      statements_more (suc place) line (replicate 5 32) raw [] (formed_kind place true line kind tree h) ∙ ap (λ w. statement (suc place) (replicate 5 32) raw [] ∷ w) (statements-nil (suc (suc place))) in
+    statements_more (suc place) line (replicate 5 32) raw [] (formed_kind place true line kind tree h) ∙ ap (λ w. statement (suc place) (replicate 5 32) raw [] ∷ w) (statements-nil (suc (suc place))) in
     let is_end : kind ≡ End = h.ends refl in
     subst (λ w. SpellsUnit first w (tree ∷ [])) (sym list)
     (ends first (statement (suc place) (replicate 5 32) raw []) tree (subst (λ w. SpellsStatement first w (statement (suc place) (replicate 5 32) raw []) tree) is_end h.spells))
@@ -164,14 +164,13 @@ unit_formed place (line ∷ next ∷ lines) trees some (another p l kind tree ls
     let more = map card_kind (next ∷ lines) in
     let not_last : (length (next ∷ lines) == 0) ≡ false = ne_eqb (length (next ∷ lines)) 0 (λ e. omega arith) in
     let source : statement (suc place) (replicate 5 32) raw more ≡ statement (suc place) (replicate 5 32) raw [] =
-      statement_is (suc place) raw more (not_continued (suc place) next lines ts later) ∙ sym (statement_is (suc place) raw [] continued-nil) in
+    statement_is (suc place) raw more (not_continued (suc place) next lines ts later) ∙ sym (statement_is (suc place) raw [] continued-nil) in
     let list : statements (suc place) (card_kind line ∷ more) ≡ statement (suc place) (replicate 5 32) raw [] ∷ statements (suc (suc place)) more =
-      statements_more (suc place) line (replicate 5 32) raw more (formed_kind place (length (next ∷ lines) == 0) line kind tree h) ∙ ap (λ w. w ∷ statements (suc (suc place)) more) source in
+    statements_more (suc place) line (replicate 5 32) raw more (formed_kind place (length (next ∷ lines) == 0) line kind tree h) ∙ ap (λ w. w ∷ statements (suc (suc place)) more) source in
     let rest : SpellsUnit (suc place == 0) (statements (suc (suc place)) more) ts = unit_formed (suc place) (next ∷ lines) ts (omega arith) later in
     let rest' : SpellsUnit false (statements (suc (suc place)) more) ts = subst (λ w. SpellsUnit w (statements (suc (suc place)) more) ts) (ne_eqb (suc place) 0 (λ e. omega arith)) rest in
     subst (λ w. SpellsUnit first w (tree ∷ ts)) (sym list)
     (goes_on first kind (statement (suc place) (replicate 5 32) raw []) tree (statements (suc (suc place)) more) ts (h.goes_on not_last) h.spells rest')
-
 
 -- the first of them stands on card 1
 pub first_formed : (lines : List (List ℕ)) (trees : List Stmt) → 0 < length lines → Formed 0 lines trees → card_of_first trees ≡ 1

@@ -1,14 +1,14 @@
 -- The kind of a text that spells a statement.
-use Rattle.std.proofs.Common.{◌≡◌, ◌≢◌, ℕ, zero, suc, ◌+◌, ◌<◌, ◌≤◌, Bool, true, false, List, [], ◌∷◌, ◌++◌, length, take, drop, map, refl, sym, ap, subst, ◌∙◌, arith, Option, Some, None, inl, inr, ⊎_elim}
+use Rattle.std.proofs.Common.{◌≡◌, ℕ, zero, suc, ◌+◌, ◌<◌, ◌≤◌, Bool, true, false, List, [], ◌∷◌, ◌++◌, drop, map, refl, sym, ap, subst, ◌∙◌, arith, Some, inl, inr, ⊎_elim}
 use Rattle.std.specs.Prelude.{◌==◌, not, ◌⊎◌, ◌&&◌, ◌||◌, filter, codes, nat_eq, nat_le, cond}
 use Rattle.std.specs.Char.{to_ascii_lowercase, is_ascii_digit, is_ascii_lowercase}
-use Rattle.std.specs.List.{list_all, list_any, starts_with, after_first, position_or_len}
+use Rattle.std.specs.List.{list_all, list_any, starts_with, position_or_len}
 use Rattle.std.proofs.lemmas.Bool.{and_parts, and_from, both_ways, cases_Bool, cases_lt, eqb-true, eq-eqb, not-true, lt-ltb, le-ltb, leb-true, or_cases}
 use Rattle.std.proofs.lemmas.List.Folds.{list_all-append}
 use Rattle.f_tree.specs.Characters.{is_letter_or_digit, is_blank}
-use Rattle.f_tree.specs.StatementsOfFile.{Character, characters}
-use Rattle.f_tree.specs.StatementKind.{StatementKind, Assignment, Do, If, Print, End, Keyword, keywords, longer, longest_keyword, kind_of_keyword, outside_constants, outside_parentheses, after_parentheses, begins_with, is_logical_if, after_length, begins_function, begins_typed_function, types, kind_with_equals, kind_of_marks, kind_of}
-use Rattle.f_tree.specs.Spelling.{IsName, Level, Primary, Sum, SpellsExpr, name, constant, alone, added, Spells, assignment, print, end}
+use Rattle.f_tree.specs.StatementsOfFile.{Character}
+use Rattle.f_tree.specs.StatementKind.{StatementKind, Assignment, Print, End, keywords, longer, longest_keyword, kind_of_keyword, outside_constants, outside_parentheses, is_logical_if, begins_typed_function, types, kind_with_equals, kind_of_marks, kind_of}
+use Rattle.f_tree.specs.Spelling.{Sum, SpellsExpr, alone, added, Spells, assignment, print, end}
 use Rattle.f_tree.specs.declared.expressions.Expr.{Expr}
 use Rattle.f_tree.specs.declared.statements.Body.{Body}
 use Rattle.f_tree.proofs.SpellingLemmas.{primary_is_plain}
@@ -84,7 +84,6 @@ nothing_spelled kind tree (assignment w (t ∷ target) right x value cut same is
 nothing_spelled kind tree (print w right x value cut same h) = absurd (cc cut)
 nothing_spelled kind tree (end w x cut same) = absurd (cc cut)
 
-
 -- A character of the forms is its own lower case and no blank.
 form_lower : (c : ℕ) → is_form c ≡ true → to_ascii_lowercase c ≡ c
 form_lower c h = either (cases_lt c 65) (cases_lt c 91)
@@ -93,19 +92,19 @@ form_lower c h = either (cases_lt c 65) (cases_lt c 91)
     between low high =
         ⊎_elim
         (λ plain. ⊎_elim
-          (λ letter. let above = leb-true 97 c (and_parts (nat_le 97 c) (nat_le c 122) letter).0 in omega arith)
-          (λ digit. let below = leb-true c 57 (and_parts (nat_le 48 c) (nat_le c 57) digit).1 in omega arith)
-          (or_cases (is_ascii_lowercase c) (is_ascii_digit c) plain))
+        (λ letter. let above = leb-true 97 c (and_parts (nat_le 97 c) (nat_le c 122) letter).0 in omega arith)
+        (λ digit. let below = leb-true c 57 (and_parts (nat_le 48 c) (nat_le c 57) digit).1 in omega arith)
+        (or_cases (is_ascii_lowercase c) (is_ascii_digit c) plain))
         (λ mark. ⊎_elim
-          (λ e. let same = eqb-true c 43 e in omega arith)
-          (λ mark'. ⊎_elim
-            (λ e. let same = eqb-true c 61 e in omega arith)
-            (λ mark''. ⊎_elim
-              (λ e. let same = eqb-true c 42 e in omega arith)
-              (λ e. let same = eqb-true c 44 e in omega arith)
-              (or_cases (c == 42) (c == 44) mark''))
-            (or_cases (c == 61) (c == 42 || c == 44) mark'))
-          (or_cases (c == 43) (c == 61 || (c == 42 || c == 44)) mark))
+        (λ e. let same = eqb-true c 43 e in omega arith)
+        (λ mark'. ⊎_elim
+        (λ e. let same = eqb-true c 61 e in omega arith)
+        (λ mark''. ⊎_elim
+        (λ e. let same = eqb-true c 42 e in omega arith)
+        (λ e. let same = eqb-true c 44 e in omega arith)
+        (or_cases (c == 42) (c == 44) mark''))
+        (or_cases (c == 61) (c == 42 || c == 44) mark'))
+        (or_cases (c == 43) (c == 61 || (c == 42 || c == 44)) mark))
         (or_cases (is_letter_or_digit c) (c == 43 || (c == 61 || (c == 42 || c == 44))) h)
 
     either : (c < 65) ⊎ (65 ≤ c) → (c < 91) ⊎ (91 ≤ c) → to_ascii_lowercase c ≡ c
@@ -226,7 +225,7 @@ marks_kind first kind text tree (assignment w target right x value cut same is h
   where
     no_comma : list_all is_sum right ≡ true → list_all (is_other 44) text ≡ true
     no_comma sum = subst (λ w. list_all (is_other 44) w ≡ true) (sym cut)
-      (all_joined (is_other 44) target 61 right (test_is_other is_letter_or_digit 44 refl target is.all) refl (test_is_other is_sum 44 refl right sum))
+        (all_joined (is_other 44) target 61 right (test_is_other is_letter_or_digit 44 refl target is.all) refl (test_is_other is_sum 44 refl right sum))
 marks_kind first kind text tree (print w right x value cut same h) form =
     subst (λ w. kind_of_marks first w w ≡ Some Print) (sym cut)
     (print_kind first right (none_behind 61 0 right (test_is_other is_sum 61 refl right (sum_spelled right value h))))

@@ -1,17 +1,16 @@
 -- A file that is read line by line: what is known after each card.
-use Rattle.std.proofs.Common.{◌≡◌, ◌≢◌, ℕ, zero, suc, ◌+◌, ◌-◌, ◌<◌, ◌≤◌, Bool, true, false, List, [], ◌∷◌, ◌++◌, length, take, drop, map, refl, sym, ap, subst, ◌∙◌, arith, Option, Some, None, inl, inr, ⊎_elim}
-use Rattle.std.specs.Prelude.{◌==◌, not, ◌⊎◌, slice_get}
+use Rattle.std.proofs.Common.{◌≡◌, ℕ, zero, suc, ◌+◌, ◌-◌, ◌<◌, ◌≤◌, Bool, true, false, List, [], ◌∷◌, ◌++◌, length, take, drop, map, refl, sym, ap, subst, ◌∙◌, arith, Some, inl, inr, ⊎_elim}
+use Rattle.std.specs.Prelude.{◌==◌, ◌⊎◌, slice_get}
 use Rattle.std.specs.List.{list_all}
-use Rattle.std.proofs.lemmas.Bool.{and_parts, both_ways, cases_Bool, cases_lt, not-true, eq-eqb, ne_eqb}
-use Rattle.std.proofs.lemmas.List.{append_assoc, append-nil, length-append, take-append-le, take_all, length-take-le, take-append-drop}
+use Rattle.std.proofs.lemmas.Bool.{and_parts, cases_Bool, cases_lt, not-true, eq-eqb, ne_eqb}
+use Rattle.std.proofs.lemmas.List.{append_assoc, append-nil, length-append, take-append-le}
 use Rattle.f_tree.specs.CardKinds.{before_lines, lines, line_ends, card_kind, cards}
 use Rattle.f_tree.specs.StatementsOfFile.{statements, statements_of_file}
-use Rattle.f_tree.specs.StatementKind.{StatementKind}
 use Rattle.f_tree.specs.FirstRefusal.{most_bytes, most_cards, SpellsUnit, HasForm, IsOfForm, card_of_byte, CardFault, no_line, not_of_form, too_many_cards, too_many_bytes}
 use Rattle.f_tree.specs.declared.statements.Stmt.{Stmt}
 use Rattle.f_tree.specs.declared.statements.Body.{Body}
 use Rattle.f_tree.proofs.LineLemmas.{lines-nil, lines-end, lines-inner, line_ends-nil, line_ends-end, line_ends-inner, some_line}
-use Rattle.first_reader.specs.Readings.{is_other, IsCardBody, IsSound, SplitsLine, IsReadAs}
+use Rattle.first_reader.specs.Readings.{is_other, IsCardBody, SplitsLine, IsReadAs}
 use Rattle.first_reader.proofs.FormLemmas.{IsEnding}
 use Rattle.first_reader.proofs.FormedLemmas.{tree_of, card_formed, formed_card, Formed, nothing, another, unit_formed, first_formed}
 
@@ -90,7 +89,7 @@ ends_before front line end after n ending inner low high =
     let short : length end ≤ 1 = ⊎_elim (λ e. omega (arith, ap length e)) (λ e. omega (arith, ap length e)) ending in
     let within : m ≤ length line = omega (arith, length-append line end) in
     let cut : take m ((line ++ end) ++ after) ≡ take m line =
-      take-append-le m (line ++ end) after (omega (arith, length-append line end)) ∙ take-append-le m line end within in
+    take-append-le m (line ++ end) after (omega (arith, length-append line end)) ∙ take-append-le m line end within in
     ap line_ends (take_past front ((line ++ end) ++ after) n low ∙ ap (λ w. front ++ w) cut)
     ∙ line_ends-append front (take m line)
     ∙ omega (arith, none_in_front m line inner)
@@ -234,8 +233,8 @@ module _ (place : ℕ) (bytes rest line after : List ℕ) (trees : List Stmt) (s
         behind = at_place.1;
         counted = omega (arith, count);
         formed = λ more later.
-          subst (λ w. Formed 0 (lines bytes) w) (sym (append_assoc trees (tree_of (suc place) says ∷ []) more))
-          (state.formed (tree_of (suc place) says ∷ more) (subst (λ w. Formed place w (tree_of (suc place) says ∷ more)) (sym here) (another place full good.says.kind (tree_of (suc place) says) (lines after) more h' later)));
+            subst (λ w. Formed 0 (lines bytes) w) (sym (append_assoc trees (tree_of (suc place) says ∷ []) more))
+            (state.formed (tree_of (suc place) says ∷ more) (subst (λ w. Formed place w (tree_of (suc place) says ∷ more)) (sym here) (another place full good.says.kind (tree_of (suc place) says) (lines after) more h' later)));
         clear = λ card fault. beyond card fault (cases_lt (suc place) card);
       }
     where
@@ -282,4 +281,3 @@ reading_ends place bytes trees some state = record { spelled = spelled; first = 
         omega (arith, state.counted, ap length empty)
     sound card (too_many_cards many is) = omega (arith, state.counted, ap length empty, state.few)
     sound card (too_many_bytes many is) = omega (arith, ap length state.whole, length-append state.front [], state.short)
-

@@ -1,9 +1,9 @@
 -- What a text of a statement spells.
-use Rattle.std.proofs.Common.{◌≡◌, ◌≢◌, ℕ, zero, suc, ◌+◌, ◌<◌, ◌≤◌, Bool, true, false, List, [], ◌∷◌, ◌++◌, length, take, drop, Result, Ok, Err, IfOk, refl, sym, ap, subst, ◌∙◌, arith, Option, Some, None, inl, inr}
-use Rattle.std.specs.Prelude.{◌==◌, not, ◌⊎◌, ◌&&◌, codes, nat_eq}
+use Rattle.std.proofs.Common.{◌≡◌, ◌≢◌, ℕ, Bool, true, false, List, [], ◌∷◌, ◌++◌, take, drop, Result, Ok, Err, IfOk, refl, sym, ap, subst, ◌∙◌, Option, Some, None, inl, inr}
+use Rattle.std.specs.Prelude.{◌⊎◌, codes, nat_eq}
 use Rattle.std.specs.List.{list_all}
 use Rattle.std.specs.declared.alloc.AllocError.{AllocError}
-use Rattle.std.proofs.lemmas.Bool.{and_parts, and_from, both_ways, cases_Bool, eqb-true, eq-eqb}
+use Rattle.std.proofs.lemmas.Bool.{and_parts, both_ways, cases_Bool, eqb-true, eq-eqb}
 use Rattle.std.proofs.lemmas.List.{append_cancel_left, take-append-drop}
 use Rattle.std.specs.Bool.{then_some}
 use Rattle.std.specs.Cmp.Lexicographic.{pointwise}
@@ -13,7 +13,7 @@ use Rattle.f_tree.specs.declared.statements.ListItem.{ListItem}
 use Rattle.f_tree.specs.declared.statements.Direction.TheVariants as direction
 use Rattle.f_tree.specs.Characters.{is_letter_or_digit}
 use Rattle.f_tree.specs.StatementKind.{StatementKind, Assignment, Print, End}
-use Rattle.f_tree.specs.Spelling.{IsName, Level, Primary, Sum, SpellsExpr, star, printed, Spells, assignment, print, end}
+use Rattle.f_tree.specs.Spelling.{IsName, Sum, SpellsExpr, star, printed, Spells, assignment, print, end}
 use Rattle.f_tree.specs.declared.expressions.Expr.{Expr}
 use Rattle.f_tree.specs.declared.expressions.Expr as expr
 use Rattle.f_tree.specs.declared.statements.Body.{Body}

@@ -1,10 +1,10 @@
 -- Texts cut at the first or the last place of a byte.
-use Rattle.std.proofs.Common.{◌≡◌, ◌≢◌, ℕ, zero, suc, ◌+◌, ◌-◌, ◌<◌, ◌≤◌, Bool, true, false, List, [], ◌∷◌, ◌++◌, length, take, drop, get_or, refl, sym, ap, subst, ◌∙◌, arith, Option, Some, None, inl, inr, ⊎_elim}
+use Rattle.std.proofs.Common.{◌≡◌, ℕ, suc, ◌+◌, ◌-◌, ◌<◌, Bool, true, false, List, [], ◌∷◌, ◌++◌, length, take, drop, get_or, refl, sym, ap, subst, ◌∙◌, arith, Some, None, inl, inr}
 use Rattle.std.specs.Prelude.{◌==◌, not, slice_index, ◌⊎◌}
 use Rattle.std.specs.List.{list_all}
-use Rattle.std.proofs.lemmas.Bool.{cases_Bool, eqb-true, eq-eqb}
+use Rattle.std.proofs.lemmas.Bool.{cases_Bool, eqb-true}
 use Rattle.std.proofs.lemmas.List.{get_or-take, get_or-drop, take-append-drop, drop_more, length-take, length-drop, take_rest, append_assoc, append-nil}
-use Rattle.memchr.specs.Find.{IsFirst, IsLast, IsFirstByte, IsLastByte, Passes, is_byte}
+use Rattle.memchr.specs.Find.{IsFirstByte, IsLastByte, is_byte}
 use Rattle.first_reader.specs.Readings.{is_other, CutsFirst, CutsLast, SplitsLine}
 
 not_false : (b : Bool) → b ≡ false → not b ≡ true

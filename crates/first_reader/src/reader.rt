@@ -4,9 +4,9 @@
 mod cards;
 mod expressions;
 mod statements;
-mod texts;
 #[cfg(test)]
 mod tests;
+mod texts;
 
 ghost use Rattle.std.specs.Prelude.{◌≡◌, [], ◌∷◌, IfOk, IfErr, MatchOption, ◌≤◌, length};
 ghost use Rattle.f_tree.specs.declared.refusals.Fail.TheVariants.{Refused};

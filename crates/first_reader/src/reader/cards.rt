@@ -17,11 +17,7 @@ const FIELD: usize = 6;
 
 /// What the statement on a card says; none where the card is not of the form that is built. The line
 /// comes without its line feed.
-pub(super) fn read_card(
-    alloc: Global,
-    line: &[u8],
-    last: bool,
-) -> Result<Option<Body>, AllocError>
+pub(super) fn read_card(alloc: Global, line: &[u8], last: bool) -> Result<Option<Body>, AllocError>
     ensures { IfOk result (IsReading (IsCardBody last line.now)) }
 {
     let card = front(line, COLUMNS);

@@ -81,7 +81,8 @@ fn begins_integer(text: &[u8]) -> bool
 fn is_plain(text: &[u8]) -> bool
     ensures { result ≡ list_all is_letter_or_digit text.now }
 {
-    text.iter().all(|b| b.is_ascii_lowercase() || b.is_ascii_digit())
+    text.iter()
+        .all(|b| b.is_ascii_lowercase() || b.is_ascii_digit())
 }
 
 /// The value of an unsigned integer constant; none where the text is not one, or past the greatest

@@ -5,11 +5,11 @@ use Rattle.first_reader.proofs.reader.read_next.Goals.{then-place-ge-MOST_CARDS-
 
 pub returns-then-place-ge-MOST_CARDS : goal.returns-then-place-ge-MOST_CARDS
 returns-then-place-ge-MOST_CARDS c =
-    elim c.then-place-ge-MOST_CARDS.branch
-    [ then-place-ge-MOST_CARDS-via-then-place-ge-MOST_CARDS w ↦
-        past_cards c.args.place c.args.bytes.now c.args.line.now c.args.after.now w.if-place-ge-MOST_CARDS.true
-    | then-place-ge-MOST_CARDS-via-else-place-ge-MOST_CARDS+then-bytes-after-gt-MOST_BYTES w ↦
-        past_bytes c.args.place c.args.bytes.now c.args.line.now c.args.after.now w.if-bytes-after-gt-MOST_BYTES.true
+    elim c.then-place-ge-MOST_CARDS.branch [
+      | then-place-ge-MOST_CARDS-via-then-place-ge-MOST_CARDS w ↦
+          past_cards c.args.place c.args.bytes.now c.args.line.now c.args.after.now w.if-place-ge-MOST_CARDS.true
+      | then-place-ge-MOST_CARDS-via-else-place-ge-MOST_CARDS+then-bytes-after-gt-MOST_BYTES w ↦
+          past_bytes c.args.place c.args.bytes.now c.args.line.now c.args.after.now w.if-bytes-after-gt-MOST_BYTES.true
     ]
 
 pub returns-in-Some : goal.returns-in-Some

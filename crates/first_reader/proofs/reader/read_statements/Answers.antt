@@ -1,5 +1,5 @@
 use Rattle.std.proofs.Common.{sym, ◌∙◌, arith}
-use Rattle.first_reader.proofs.AnswerLemmas.{stops, stopped, went_on, goes_on_with, begins, comes_to_end, place_fits, shorter}
+use Rattle.first_reader.proofs.AnswerLemmas.{stops, stopped, went_on, goes_on_with, begins, comes_to_end, place_fits}
 use Rattle.first_reader.proofs.ExpressionLemmas.{positive_length}
 use Rattle.first_reader.proofs.reader.read_statements.Goals as goal
 

@@ -1,4 +1,3 @@
-use Rattle.std.proofs.Common.{sym, ◌∙◌, true, false}
 use Rattle.std.proofs.lemmas.Bool.{both_ways}
 use Rattle.f_tree.specs.Spelling.{Sum, SpellsExpr}
 use Rattle.first_reader.proofs.ExpressionLemmas.{reads_none, reads_some}

@@ -1,8 +1,5 @@
-use Rattle.std.proofs.Common.{subst, sym, Some, None}
-use Rattle.std.specs.Prelude.{◌≡◌, true, MatchOption}
-use Rattle.std.specs.List.{list_all}
+use Rattle.std.proofs.Common.{subst}
 use Rattle.memchr.specs.Find.{IsFirstByte, is_byte}
-use Rattle.first_reader.specs.Readings.{is_other, CutsFirst}
 use Rattle.first_reader.proofs.TextLemmas.{first_none, first_cut}
 use Rattle.first_reader.proofs.reader.texts.cut_first.Goals as goal
 

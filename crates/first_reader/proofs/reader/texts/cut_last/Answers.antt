@@ -1,8 +1,5 @@
-use Rattle.std.proofs.Common.{subst, sym, Some, None}
-use Rattle.std.specs.Prelude.{◌≡◌, true, MatchOption}
-use Rattle.std.specs.List.{list_all}
+use Rattle.std.proofs.Common.{subst}
 use Rattle.memchr.specs.Find.{IsLastByte, is_byte}
-use Rattle.first_reader.specs.Readings.{is_other, CutsLast}
 use Rattle.first_reader.proofs.TextLemmas.{last_none, last_cut}
 use Rattle.first_reader.proofs.reader.texts.cut_last.Goals as goal
 
