@@ -1,4 +1,5 @@
 pub mod ListedRows
+pub mod FormatRows
 pub mod ItemSteps
 pub mod ListRows
 pub mod ListReadBack

@@ -235,7 +235,7 @@ fn long_texts_are_cut(rt: HostRuntime) {
 }
 
 #[test]
-fn a_repeat_nulls_and_a_slash_are_read(rt: HostRuntime) {
+fn a_repeat_and_a_null_are_read(rt: HostRuntime) {
     let mut reader = ListReader::start();
     let first: &[u8] = b"3*7,,";
     assert_eq!(rt; reader.next(first, ItemKind::Int), ListItem::Int(7));
@@ -243,5 +243,4 @@ fn a_repeat_nulls_and_a_slash_are_read(rt: HostRuntime) {
     assert_eq!(rt; reader.next(first, ItemKind::Int), ListItem::Int(7));
     assert_eq!(rt; reader.next(first, ItemKind::Int), ListItem::Null);
     assert_eq!(rt; reader.next(first, ItemKind::Int), ListItem::NeedLine);
-    assert_eq!(rt; reader.next(b"/", ItemKind::Int), ListItem::Slash);
 }
