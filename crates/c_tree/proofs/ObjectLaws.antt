@@ -1,10 +1,10 @@
 -- What a store changes and what it keeps: the number that was stored is read back, and no other object changes.
-use Rattle.std.specs.Prelude.{◌≡◌, ◌≢◌, refl, ℕ, zero, suc, ◌+◌, ◌%◌, ◌<◌, ◌≤◌, nat_eq, ℤ, FitsSigned, List, [], ◌∷◌, ◌++◌, map, length, take, drop, Option, Some, Ok, slice_get, slice_set, if◌then◌else◌}
+use Rattle.std.specs.Prelude.{nat_le, ◌≡◌, ◌≢◌, refl, ℕ, zero, suc, ◌+◌, ◌%◌, ◌<◌, ◌≤◌, nat_eq, ℤ, FitsSigned, List, [], ◌∷◌, ◌++◌, map, length, take, drop, Option, Some, Ok, slice_get, slice_set, if◌then◌else◌}
 use Rattle.std.specs.Int.{w32, cast_signed, cast_unsigned}
 use Rattle.std.proofs.Common.{sym, ◌∙◌, ap, subst, arith}
-use Rattle.std.proofs.Math.Seq.{drop-append_seam, take-append_seam}
+use Rattle.std.proofs.Math.Seq.{drop-append_seam, drop-append-add, take-append_seam}
 use Rattle.std.proofs.Math.Facts.{Fits-of_z, Fits-lt-pow}
-use Rattle.std.proofs.lemmas.List.{append_assoc, length-take-le, length-map, length-append, length-drop, length-set}
+use Rattle.std.proofs.lemmas.List.{append_assoc, length-take-le, length-map, length-append, take-append-le, take-append-drop, drop-take, length-drop, length-set}
 use Rattle.std.proofs.lemmas.Int.{to_z-of_z}
 use Rattle.std.proofs.lemmas.Nat.{from_le_bytes-to_le_bytes_4}
 use Rattle.std.proofs.lemmas.Bool.{le-leb}
@@ -106,3 +106,62 @@ slice_get-slice_set_other (first ∷ rest) (suc index) (suc other) new apart = s
 
 pub length-slice_set : {A : Type 0} → (list : List A) (index : ℕ) (new : A) → length (slice_set list index new) ≡ length list
 length-slice_set list index new = length-set list index new
+
+-- what stands before the bytes that were laid over others stays
+pub overlaid-before : (offset other count : ℕ) (new : List ℕ) (bytes : List (Option ℕ)) → other + count ≤ offset → offset ≤ length bytes → take count (drop other (overlaid offset new bytes)) ≡ take count (drop other bytes)
+overlaid-before offset other count new bytes apart within =
+    let front = take offset bytes in
+    let behind = map Some new ++ drop (offset + length new) bytes in
+    let fits : other + count ≤ length front = subst (λ n. other + count ≤ n) (sym (length-take-le offset bytes within)) apart in
+    let changed : take (other + count) (overlaid offset new bytes) ≡ take (other + count) front =
+    ap (take (other + count)) (append_assoc front (map Some new) (drop (offset + length new) bytes))
+    ∙ take-append-le (other + count) front behind fits in
+    let kept : take (other + count) bytes ≡ take (other + count) front =
+    ap (take (other + count)) (sym (take-append-drop offset bytes))
+    ∙ take-append-le (other + count) front (drop offset bytes) fits in
+    sym (drop-take other count (overlaid offset new bytes))
+    ∙ ap (drop other) (changed ∙ sym kept)
+    ∙ drop-take other count bytes
+
+-- what stands behind them stays
+pub overlaid-behind : (offset distance : ℕ) (new : List ℕ) (bytes : List (Option ℕ)) → offset + length new ≤ length bytes → drop (offset + length new + distance) (overlaid offset new bytes) ≡ drop (offset + length new + distance) bytes
+overlaid-behind offset distance new bytes within =
+    let until = offset + length new in
+    let front = take offset bytes ++ map Some new in
+    let rest = drop until bytes in
+    let size : length front ≡ until =
+    let two = length-append (take offset bytes) (map Some new) in
+    let of_front = length-take-le offset bytes (omega (arith, within)) in
+    let of_middle = length-map new Some in
+    omega (arith, two, of_front, of_middle) in
+    let changed : drop (until + distance) (front ++ rest) ≡ drop distance rest =
+    subst (λ n. drop (n + distance) (front ++ rest) ≡ drop distance rest) size (drop-append-add front rest distance) in
+    let kept : drop (until + distance) (take until bytes ++ rest) ≡ drop distance rest =
+    subst (λ n. drop (n + distance) (take until bytes ++ rest) ≡ drop distance rest) (length-take-le until bytes within) (drop-append-add (take until bytes) rest distance) in
+    changed ∙ sym kept ∙ ap (drop (until + distance)) (take-append-drop until bytes)
+
+pub number_at-same : (offset : ℕ) (old new : List (Option ℕ)) → length new ≡ length old → take 4 (drop offset new) ≡ take 4 (drop offset old) → number_at offset new ≡ number_at offset old
+number_at-same offset old new size slice =
+    let read : bytes_at offset 4 new ≡ bytes_at offset 4 old =
+    ap (λ n. if nat_le (offset + 4) n then all_set (take 4 (drop offset new)) else failing Outside) size
+    ∙ ap (λ four. if nat_le (offset + 4) (length old) then all_set four else failing Outside) slice in
+    ap (λ found. if nat_eq (offset % 4) 0 then after found (λ four. Ok (number_from four)) else failing Outside) read
+
+-- a store of a number keeps the numbers before it and behind it
+pub number_at-before : (offset other : ℕ) (number : ℤ) (bytes : List (Option ℕ)) → other + 4 ≤ offset → offset + 4 ≤ length bytes → number_at other (overlaid offset (bytes_of_number number) bytes) ≡ number_at other bytes
+number_at-before offset other number bytes apart within =
+    number_at-same
+    other
+    bytes
+    (overlaid offset (bytes_of_number number) bytes)
+    (length-overlaid offset (bytes_of_number number) bytes within)
+    (overlaid-before offset other 4 (bytes_of_number number) bytes apart (omega (arith, within)))
+
+pub number_at-behind : (offset distance : ℕ) (number : ℤ) (bytes : List (Option ℕ)) → offset + 4 ≤ length bytes → number_at (offset + 4 + distance) (overlaid offset (bytes_of_number number) bytes) ≡ number_at (offset + 4 + distance) bytes
+number_at-behind offset distance number bytes within =
+    number_at-same
+    (offset + 4 + distance)
+    bytes
+    (overlaid offset (bytes_of_number number) bytes)
+    (length-overlaid offset (bytes_of_number number) bytes within)
+    (ap (take 4) (overlaid-behind offset distance (bytes_of_number number) bytes within))

@@ -114,3 +114,6 @@ body-For variable first test next turn = ap (for_loop variable first test next) 
 pub body-DoWhile : (turn : List CStmt) (test : CExpr) → body (stmt.DoWhile turn test) ≡ do_while (body_of_all turn) test
 unfolding trees_opened
 body-DoWhile turn test = ap (λ turns. do_while turns test) (body-Block turn)
+
+-- all of them
+pub ruleset tree_equations = (linked-Number, linked-Str, linked-Name, linked-Unary, linked-Cast, linked-Binary, linked-Choose, linked-Index, linked-Field, linked-SizeInt, linked-MaxMin, linked-Abs, body-Set, body-SetCall, body-Call, body-Empty, body-Block, body-Label, body-Goto, body-Return, body-ReturnCall, body-If, body-IfElse, body-Switch, body-For, body-DoWhile)
