@@ -1,5 +1,6 @@
 pub mod CNameLaws
 pub mod CutLemmas
+pub mod FoldLaws
 pub mod LineLemmas
 pub mod LongFileLemmas
 pub mod RefusalLemmas

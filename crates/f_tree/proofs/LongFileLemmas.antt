@@ -48,14 +48,14 @@ module _ (xs ys : List ℕ) (long : most_bytes < length xs) (long' : most_bytes 
   fault_before card low (too_many_bytes many is) = absurd (omega arith)
 
 -- a fault of a set of one file is a fault of the file
-fault_of_one : (bytes : List ℕ) (r : Refusal) → Fault (bytes ∷ []) r → (r.file ≡ 0) × CardFault bytes r.card
+pub fault_of_one : (bytes : List ℕ) (r : Refusal) → Fault (bytes ∷ []) r → (r.file ≡ 0) × CardFault bytes r.card
 fault_of_one bytes r h = only r.file h.bytes h.is_file h.at
   where
     only : (file : ℕ) (found : List ℕ) → slice_get (bytes ∷ []) file ≡ Some found → CardFault found r.card → (file ≡ 0) × CardFault bytes r.card
     only zero found is at = let same : bytes ≡ found = cc in (refl, subst (λ w. CardFault w r.card) (sym same) at)
     only (suc file) found is at = absurd (cc)
 
-one_fault : (bytes : List ℕ) (r : Refusal) → r.file ≡ 0 → CardFault bytes r.card → r.kind ≡ row.NotBuiltYet → Fault (bytes ∷ []) r
+pub one_fault : (bytes : List ℕ) (r : Refusal) → r.file ≡ 0 → CardFault bytes r.card → r.kind ≡ row.NotBuiltYet → Fault (bytes ∷ []) r
 one_fault bytes r file at kind = record {
   bytes = bytes;
   is_file = ap (λ w. slice_get (bytes ∷ []) w) file;

@@ -9,7 +9,9 @@ use Rattle.f_tree.specs.Values.{Act}
 use Rattle.f_tree.specs.Facts.{Home, Member, ProgramUnit}
 use Rattle.f_tree.specs.World.{Ending}
 use Rattle.f_tree.specs.Setting.{Setting}
-use Rattle.f_tree.specs.Meaning.{ftn, units_of, ending_of, act_of, records_of}
+use Rattle.simulation.specs.Machine.{next}
+use Rattle.f_tree.specs.Step.{fortran}
+use Rattle.f_tree.specs.Meaning.{program, ftn, units_of, ending_of, act_of, records_of}
 
 abbrev pub no_options : Options
 no_options = record { undeclared = false; onetrip = false; long_cards = false; checks = false }
@@ -57,6 +59,18 @@ RunsApart options set = Runs options set (setting_apart (units_of options set))
 
 abbrev pub MeetsApart : Options → FileSet → List (List ℕ) → ℕ → Act → Type 0
 MeetsApart options set = Meets options set (setting_apart (units_of options set))
+
+-- the state after one more step is one step on, and a run that has ended or met an act stays so
+abbrev pub GoesByStep : Type 0
+GoesByStep = (g : Setting) (S : List ProgramUnit) (units : Units) (n : ℕ) → ftn g S units (suc n) ≡ next fortran (program g S) (ftn g S units n)
+
+abbrev pub EndingStays : Type 0
+EndingStays = (g : Setting) (S : List ProgramUnit) (units : Units) (n : ℕ) (e : Ending) →
+    ending_of (ftn g S units n) ≡ Some e → ftn g S units (suc n) ≡ ftn g S units n
+
+abbrev pub ActStays : Type 0
+ActStays = (g : Setting) (S : List ProgramUnit) (units : Units) (n : ℕ) (act : Act) →
+    act_of (ftn g S units n) ≡ Some act → ftn g S units (suc n) ≡ ftn g S units n
 
 unfoldable pub runs_opened : Unit {0}
 unfolding homes_apart all_homes_apart all_sizes setting_apart

@@ -7,7 +7,7 @@ ghost use Rattle.f_tree.specs.Values.{ActiveProcedure, BadAssignedLabel, BadChar
 ghost use Rattle.f_tree.specs.World.{Io, Plain, Stop};
 ghost use Rattle.f_tree.specs.Meaning.{units_of, Closed};
 ghost use Rattle.f_tree.specs.Setting.{IsSetting};
-ghost use Rattle.f_tree.specs.Runs.{Runs, RunsApart, Meets, MeetsApart, no_options, setting_apart};
+ghost use Rattle.f_tree.specs.Runs.{Runs, RunsApart, Meets, MeetsApart, no_options, setting_apart, GoesByStep, EndingStays, ActStays};
 ghost use Rattle.f_tree.specs.WorkedSources.{alternate_returns, argument_too_many, arms, array_of_a_dummy, arrays_equivalenced, arrays_setting, assigned_branch, call_of_nothing, code_of_no_character, common_seen_twice, common_setting, constant_defined, constants_and_bounds, decided_and, dimension_of_no_element, division_by_zero, dummies_that_overlap, dummy_of_another_entry, element_past_the_argument, element_past_the_last, entries_of_two_types, entries_share_a_result, function_of_any_length, function_without_result, implied_loops, least_integer, loop_look_alike, loop_that_never_turns, loop_to_the_last_integer, operands_from_the_left, procedure_passed, recursion, shared_terminal, statement_function_in_another, status_in, step_of_zero, stopped, sum_printed, text_apart_from_itself, text_moved_within_itself, texts_and_a_statement_function, transfer_in_a_transfer, types_equivalenced, types_setting, unit_not_connected, values_from_data, variable_changed_in_its_loop, variable_without_value, written_over};
 
 /// `I=2`, `PRINT *,I+3`, `END`: the assignment, the start, the item and the end of the PRINT, and END.
@@ -15,6 +15,14 @@ pub fn sum_is_printed()
     ensures closed { Closed (units_of no_options sum_printed) }
     ensures placed { IsSetting (units_of no_options sum_printed) (setting_apart (units_of no_options sum_printed)) }
     ensures runs { RunsApart no_options sum_printed [] 4 Plain (codes "  5" ∷ []) }
+{}
+
+/// A run goes on by one step at a time, from a state that all its steps before have made; one that has
+/// ended, or has met an act of which nothing is said, stays.
+pub fn runs_go_by_steps()
+    ensures steps { GoesByStep }
+    ensures ending { EndingStays }
+    ensures act { ActStays }
 {}
 
 /// The worked runs of DO loops and implied DO loops.
