@@ -29,7 +29,7 @@ const MOST_CARDS: u32 = 65_536;
 /// # Errors
 ///
 /// The refusal of the first card that is not of the form that is built, or want of memory.
-pub(crate) fn read_file(alloc: Global, bytes: &[u8], file: usize) -> Result<File, Fail>
+pub fn read_file(alloc: Global, bytes: &[u8], file: usize) -> Result<File, Fail>
     ensures read { IfOk result (IsRead file bytes.now) }
     ensures failed { IfErr result (IsFailure file bytes.now) }
     // The only file of a set.
