@@ -1,5 +1,9 @@
 -- Formats whose edits are known from outside, computed.
-use Rattle.std.proofs.Common.{◌≡◌, None, Some, [], ◌∷◌, refl}
+use Rattle.std.proofs.Common.{◌≡◌, pos, true, None, Some, [], ◌∷◌, refl}
+use Rattle.std.specs.Fmt.{digits}
+use Rattle.edit_rules.specs.EditedFields.{int_field}
+use Rattle.edit_rules.specs.EditedRecords.{made}
+use Rattle.edit_rules.specs.Listed.{Int}
 use Rattle.edit_rules.specs.Formats.{IntIn, RightBy, NextRecord, Empty, Takes, Does, Group, Item, Act, edits_for}
 
 -- (I3,2(1X,I2.2)/) goes on at its group: I3, then pairs, each before a new record
@@ -12,3 +16,11 @@ reverts : edits_for (Takes 1 (IntIn 3 None) (Group 2 (Does 1 (RightBy 1) (Takes 
     }
 unfolding edits_for
 reverts = refl
+
+-- 1 to 9 under that format: eight records, every other one of them empty
+pairs : (made (Takes 1 (IntIn 3 None) (Group 2 (Does 1 (RightBy 1) (Takes 1 (IntIn 2 (Some 2)) Empty)) (Does 1 NextRecord Empty)))
+    (Int (pos 1) ∷ Int (pos 2) ∷ Int (pos 3) ∷ Int (pos 4) ∷ Int (pos 5) ∷ Int (pos 6) ∷ Int (pos 7) ∷ Int (pos 8) ∷ Int (pos 9) ∷ []) true).complete
+    ≡ (32 ∷ 32 ∷ 49 ∷ 32 ∷ 48 ∷ 50 ∷ 32 ∷ 48 ∷ 51 ∷ []) ∷ [] ∷ (32 ∷ 48 ∷ 52 ∷ 32 ∷ 48 ∷ 53 ∷ []) ∷ [] ∷ (32 ∷ 48 ∷ 54 ∷ 32 ∷ 48 ∷ 55 ∷ [])
+    ∷ [] ∷ (32 ∷ 48 ∷ 56 ∷ 32 ∷ 48 ∷ 57 ∷ []) ∷ [] ∷ []
+unfolding made edits_for int_field digits
+pairs = refl

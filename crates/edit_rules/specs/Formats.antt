@@ -1,5 +1,5 @@
 -- Formats as trees, and the edits that items take from them. ANSI X3.9-1978, sections 13.1 to 13.5.
-use Rattle.std.specs.Prelude.{ℕ, zero, suc, Bool, true, false, ◌||◌, Option, None, Some, unwrap_or, List, [], ◌∷◌, ◌++◌}
+use Rattle.std.specs.Prelude.{ℕ, zero, suc, Bool, true, false, Option, None, Some, unwrap_or, List, [], ◌∷◌, ◌++◌}
 
 -- the edit descriptors that take an item: Iw or Iw.m, Lw, A or Aw
 pub data Descriptor : Type 0 where

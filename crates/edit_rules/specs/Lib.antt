@@ -1,5 +1,6 @@
 pub mod Answers
 pub mod EditedFields
+pub mod EditedRecords
 pub mod Formats
 pub mod ListInput
 pub mod ListItems
