@@ -1,4 +1,6 @@
-mod Equations
+pub mod DistinctNames
+pub mod Equations
+mod FirstRow
 mod Folds
 mod Noting
 mod Walks

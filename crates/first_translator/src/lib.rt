@@ -40,3 +40,6 @@ pub fn translate(alloc: Global, file: &File) -> Result<CFile, AllocError>
         functions,
     })
 }
+
+#[cfg(test)]
+mod tests;
