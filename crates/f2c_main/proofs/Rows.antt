@@ -1,11 +1,11 @@
 -- What each exit status says follows from how the command ended and from its message.
-use Rattle.std.proofs.Common.{◌≡◌, ℕ, ◌+◌, ◌<◌, ◌≤◌, ◌⊎◌, List, [], ◌∷◌, ◌++◌, length, take, min, ◌^◌, Option, Some, None, option_map, refl, ap, sym, ◌∙◌, subst, inl, inr, arith, suc}
+use Rattle.std.proofs.Common.{◌≡◌, ℕ, ◌+◌, ◌<◌, ◌≤◌, ◌⊎◌, List, [], ◌∷◌, ◌++◌, length, take, min, ◌^◌, Option, Some, None, option_map, refl, ap, ◌∙◌, subst, inl, inr, arith, suc}
 use Rattle.std.specs.Prelude.{IfSome}
 use Rattle.std.proofs.lemmas.List.{take_all, length-take}
 use Rattle.std.proofs.lemmas.Bool.{cases_lt}
 use Rattle.f2c_outside.specs.declared.shelves.Place.{Place}
 use Rattle.f2c_outside.specs.declared.shelves.Place.TheVariants.{Input, Output, Fault}
-use Rattle.f2c_outside.specs.Shelf.{ShelfState, Contents, Rose, Quiet, IsFile, Lacks, bytes_of, begun, added}
+use Rattle.f2c_outside.specs.Shelf.{ShelfState, Contents, Rose, Quiet, Lacks, bytes_of, begun, added}
 use Rattle.f2c_outside.proofs.ShelfLaws.{told-nil}
 use Rattle.f_tree.specs.declared.refusals.Refusal.{Refusal}
 use Rattle.f_tree.specs.FirstRefusal.{IsFirstRefusal, IsAccepted, most_bytes}
@@ -21,7 +21,7 @@ use Rattle.f2c_main.specs.Translation.{IsTranslation}
 use Rattle.f2c_main.specs.TextOfFile.{IsTextOf}
 use Rattle.f2c_main.specs.ShelfLoops.{Both, IsFront, IsKept, IsRead, IsWritten, IsUnwritten, IsFrontWritten, written}
 use Rattle.f2c_main.specs.Messages.{Said, Gained}
-use Rattle.f2c_main.specs.TranslateRows.{set_of, IsTranslated, IsRefused, EndedDone, EndedRefused, EndedNotThere, EndedUnread, EndedUnwritten, TranslateEnded, TranslatedBytes, RefusedRow, TranslatedRow, UnwrittenRow, FaultRow, TranslateRows}
+use Rattle.f2c_main.specs.TranslateRows.{set_of, IsTranslated, IsRefused, EndedDone, EndedRefused, EndedNotThere, EndedUnread, EndedUnwritten, TranslateEnded, TranslatedBytes, RefusedRow, TranslatedRow, FaultRow, TranslateRows}
 use Rattle.f2c_main.specs.TopCall.{Ran, Commanded, BadWordRows, BadWordEnded}
 
 -- a fact of what is told, where something is

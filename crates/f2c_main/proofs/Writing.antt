@@ -1,12 +1,12 @@
 -- What stands in a place after several calls of `put`.
-use Rattle.std.proofs.Common.{◌≡◌, ℕ, ◌+◌, ◌-◌, ◌<◌, ◌≤◌, List, [], ◌∷◌, ◌++◌, length, take, drop, Option, Some, None, option_map, Result, Ok, Err, refl, ap, sym, ◌∙◌, arith, IsErrOf, OnErr, length-drop, zero, suc, get_or, append_assoc, add-one, map, subst, inl, inr}
+use Rattle.std.proofs.Common.{◌≡◌, ℕ, ◌+◌, ◌-◌, ◌<◌, ◌≤◌, List, [], ◌∷◌, ◌++◌, length, take, drop, Option, Some, None, option_map, Result, Ok, Err, refl, ap, sym, ◌∙◌, arith, IsErrOf, OnErr, length-drop, zero, suc, get_or, append_assoc, add-one, map, subst, inr}
 use Rattle.std.proofs.lemmas.List.{take_all, take-append-drop, append-nil}
 use Rattle.std.proofs.Math.Seq.{take-add}
 use Rattle.f2c_outside.specs.declared.shelves.Place.{Place}
 use Rattle.f2c_outside.specs.declared.shelves.Place.TheVariants.{Fault}
 use Rattle.f2c_outside.specs.declared.shelves.ShelfFault.{ShelfFault}
 use Rattle.f2c_outside.specs.declared.shelves.ShelfFault.TheVariants.{Failed, Missing}
-use Rattle.f2c_outside.specs.Shelf.{ShelfState, Contents, Active, Writes, Rose, HasCause, IsPut, Put, StartedWrite, Stopped, added, begun}
+use Rattle.f2c_outside.specs.Shelf.{ShelfState, Contents, Rose, HasCause, IsPut, Put, StartedWrite, Stopped, added, begun}
 use Rattle.f2c_outside.proofs.ShelfLaws.{told-nil, told-added}
 use Rattle.f2c_main.specs.Lines.{joined}
 use Rattle.f2c_main.specs.Messages.{Said}

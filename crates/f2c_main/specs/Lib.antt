@@ -7,3 +7,6 @@ pub mod ShelfLoops
 pub mod Messages
 pub mod TranslateRows
 pub mod TopCall
+pub mod StorageImage
+pub mod SameState
+pub mod Faithful

@@ -1,5 +1,5 @@
 -- What a message does to a shelf: its line goes on Fault, whole where nothing failed, else a front of it.
-use Rattle.std.specs.Prelude.{◌≡◌, ℕ, ◌≤◌, List, Option, option_map}
+use Rattle.std.specs.Prelude.{◌≡◌, ℕ, ◌≤◌, List, option_map}
 use Rattle.f2c_outside.specs.declared.shelves.Place.TheVariants.{Fault}
 use Rattle.f2c_outside.specs.Shelf.{ShelfState, Contents, Quiet, added}
 use Rattle.f2c_main.specs.ShelfLoops.{IsFront}

@@ -1,7 +1,7 @@
 -- What reading a whole place and writing a whole text do to a shelf.
-use Rattle.std.specs.Prelude.{◌≡◌, ℕ, ◌+◌, ◌<◌, ◌≤◌, ◌⊎◌, List, [], ◌++◌, length, take, Bool, false, IsTrue, Option, Some, None, option_map, IfSome}
+use Rattle.std.specs.Prelude.{◌≡◌, ℕ, ◌<◌, ◌≤◌, ◌⊎◌, List, [], ◌++◌, length, take, Bool, false, IsTrue, Option, Some, None, option_map, IfSome}
 use Rattle.f2c_outside.specs.declared.shelves.Place.{Place}
-use Rattle.f2c_outside.specs.Shelf.{ShelfState, Contents, Active, Writes, Rose, IsFile, Lacks, bytes_of, begun, added}
+use Rattle.f2c_outside.specs.Shelf.{ShelfState, Contents, Writes, Rose, IsFile, Lacks, bytes_of, begun, added}
 use Rattle.f2c_main.specs.declared.shelf_loops.ReadFail.{ReadFail}
 use Rattle.f2c_main.specs.declared.shelf_loops.ReadFail.TheVariants.{NoMemory, NotThere, Failed}
 

@@ -1,5 +1,5 @@
 -- How a translation of what one place holds onto another ends, and what each exit status then says.
-use Rattle.std.specs.Prelude.{◌≡◌, ℕ, ◌≤◌, ◌⊎◌, List, [], ◌∷◌, Option, IfSome}
+use Rattle.std.specs.Prelude.{◌≡◌, ℕ, ◌⊎◌, List, [], ◌∷◌, IfSome}
 use Rattle.f2c_outside.specs.declared.shelves.Place.{Place}
 use Rattle.f2c_outside.specs.Shelf.{ShelfState, Contents, Rose, Quiet, IsFile, Lacks, bytes_of, begun, added}
 use Rattle.f_tree.specs.declared.refusals.Refusal.{Refusal}

@@ -1,6 +1,12 @@
--- Which C text is the translation of a set of FORTRAN files.
-use Rattle.std.specs.Prelude.{ℕ, List}
+-- Which C text is the translation of a set of FORTRAN files: the printed C tree of the tree that the one file spells. That this
+-- text is faithful is said in `Faithful`, and not yet proved.
+use Rattle.std.specs.Prelude.{◌≡◌, ℕ, List, [], ◌∷◌}
+use Rattle.f_tree.specs.declared.units.File.{File}
+use Rattle.f_tree.specs.FirstRefusal.{IsSpelled}
+use Rattle.first_translator.specs.Translated.{translated}
+use Rattle.c_text.specs.Printed.{printed}
 
--- stub
-unfoldable pub IsTranslation : List (List ℕ) → List ℕ → Type 0
-IsTranslation files text = Unit {0}
+pub record IsTranslation (files : List (List ℕ)) (text : List ℕ) : Type 0 where
+  pub tree : File
+  pub spelled : IsSpelled files (tree ∷ [])
+  pub is_printed : text ≡ printed (translated tree)

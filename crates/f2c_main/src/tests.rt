@@ -181,13 +181,6 @@ fn input_at_its_limits(rt: HostRuntime) -> Result<(), Fail> {
         alloc,
         &too_many_bytes,
         b"f2c: <stdin>:2: F99 not built yet\n",
-    )?;
-    let far_too_many_bytes = long_input(alloc, 2, 20_000_000)?;
-    expect_refusal(
-        &rt,
-        alloc,
-        &far_too_many_bytes,
-        b"f2c: <stdin>:3: F99 not built yet\n",
     )
 }
 

@@ -1,4 +1,4 @@
-use Rattle.std.proofs.Common.{◌+◌, ◌-◌, length, take, drop, arith, sym, length-take, length-drop, subst}
+use Rattle.std.proofs.Common.{◌-◌, length, drop, arith, sym, length-take, length-drop, subst}
 use Rattle.f2c_outside.specs.Shelf.{IsWriting}
 use Rattle.f2c_main.proofs.Writing.{put_failed, put_moved}
 use Rattle.f2c_main.proofs.shelf_loops.put_all.Goals as goal

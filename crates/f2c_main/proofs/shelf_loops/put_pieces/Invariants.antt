@@ -1,4 +1,4 @@
-use Rattle.std.proofs.Common.{take, map, ◌≤◌, length}
+use Rattle.std.proofs.Common.{take, map}
 use Rattle.f2c_outside.specs.Shelf.{IsWriting}
 use Rattle.f2c_main.specs.Lines.{joined}
 use Rattle.f2c_main.specs.ShelfLoops.{HasPut}
