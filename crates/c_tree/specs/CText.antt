@@ -248,15 +248,15 @@ pub data AreFields (scope : Scope) : List CField → List Token → Type 0 where
 pub data IsLocal (scope : Scope) : CLocal → List ℕ → List Token → Type 0 where
   an_extern : (of : ResultType) (name : List ℕ) (types : List ArgumentType) (tokens : List Token) → AreTypes types tokens
       → IsLocal scope (local.Extern of name types) name
-        (Word (codes "extern") ∷ Word (result_word of) ∷ Word name ∷ sign (codes "(") ∷ (tokens ++ (sign (codes ")") ∷ sign (codes ";") ∷ [])))
+      (Word (codes "extern") ∷ Word (result_word of) ∷ Word name ∷ sign (codes "(") ∷ (tokens ++ (sign (codes ")") ∷ sign (codes ";") ∷ [])))
   a_static : (of : NumberType) (name : List ℕ)
       → IsLocal scope (local.StaticNumber of name None) name (Word (codes "static") ∷ Word (number_word of) ∷ Word name ∷ sign (codes ";") ∷ [])
   a_static_value : (of : NumberType) (name : List ℕ) (value : ℤ) (tokens : List Token) → IsValue value tokens
       → IsLocal scope (local.StaticNumber of name (Some value)) name
-        (Word (codes "static") ∷ Word (number_word of) ∷ Word name ∷ sign (codes "=") ∷ (tokens ++ (sign (codes ";") ∷ [])))
+      (Word (codes "static") ∷ Word (number_word of) ∷ Word name ∷ sign (codes "=") ∷ (tokens ++ (sign (codes ";") ∷ [])))
   a_list : (of : ListType) (name : List ℕ) (fields : List CField) (tokens : List Token) → AreFields scope fields tokens
       → IsLocal scope (local.StaticList of name fields) name
-        (Word (codes "static") ∷ Word (list_word of) ∷ Word name ∷ sign (codes "=") ∷ sign (codes "{") ∷ (tokens ++ (sign (codes "}") ∷ sign (codes ";") ∷ [])))
+      (Word (codes "static") ∷ Word (list_word of) ∷ Word name ∷ sign (codes "=") ∷ sign (codes "{") ∷ (tokens ++ (sign (codes "}") ∷ sign (codes ";") ∷ [])))
   an_automatic : (of : NumberType) (name : List ℕ)
       → IsLocal scope (local.Number of name) name (Word (number_word of) ∷ Word name ∷ sign (codes ";") ∷ [])
 
@@ -281,7 +281,7 @@ pub data ReadsFunction (scope : Scope) : CFunction → List Token → List Token
   without_parameters : (of : ResultType) (name : List ℕ) (locals : List CLocal) (body : List CStmt) (inner : Scope) (before statements after : List Token)
       → ReadsLocals (record scope { functions = name ∷ scope.functions }) [] locals inner before statements → ReadsBody inner body statements after
       → ReadsFunction scope (record { result = of; name = name; params = []; locals = locals; body = body })
-        (Word (result_word of) ∷ Word name ∷ sign (codes "(") ∷ Word (codes "void") ∷ sign (codes ")") ∷ sign (codes "{") ∷ before) after
+      (Word (result_word of) ∷ Word name ∷ sign (codes "(") ∷ Word (codes "void") ∷ sign (codes ")") ∷ sign (codes "{") ∷ before) after
 
 -- the functions of a file, up to its end
 pub data ReadsFunctions : Scope → List (List ℕ) → List CFunction → List Token → Type 0 where
@@ -299,7 +299,7 @@ pub data ReadsFile : Scope → List (List ℕ) → List CConstant → List CFunc
       (tokens rest : List Token) → IsValue value tokens → IsNew name here
       → ReadsFile (record scope { objects = name ∷ scope.objects }) (name ∷ here) later functions rest
       → ReadsFile scope here (record { name = name; value = value } ∷ later) functions
-        (Word (codes "static") ∷ Word (codes "integer") ∷ Word name ∷ sign (codes "=") ∷ (tokens ++ (sign (codes ";") ∷ rest)))
+      (Word (codes "static") ∷ Word (codes "integer") ∷ Word name ∷ sign (codes "=") ∷ (tokens ++ (sign (codes ";") ∷ rest)))
 
 -- the tree that the bytes of a text spell
 pub record CText (bytes : List ℕ) (file : CFile) : Type 0 where
