@@ -109,7 +109,7 @@ letter_is_in c [] = false
 letter_is_in c (r ∷ rs) = (nat_le r.first c && nat_le c r.last) || letter_is_in c rs
 
 unfoldable pub by_default : ℕ → Option TypeSpec
-by_default c = if nat_le 73 c && nat_le c 78 then Some (record { basic = Integer; length = None }) else None
+by_default c = if nat_le 105 c && nat_le c 110 then Some (record { basic = Integer; length = None }) else None
 
 unfoldable pub by_letter : ℕ → List ImplicitGroup → Option TypeSpec
 by_letter c [] = by_default c

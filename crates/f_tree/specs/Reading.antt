@@ -36,26 +36,26 @@ pub record Intrinsic : Type 0 where
 
 unfoldable pub intrinsics : List Intrinsic
 intrinsics =
-    record { name = codes "INT"; function = Truncation } ∷
-    record { name = codes "ABS"; function = Magnitude } ∷
-    record { name = codes "IABS"; function = Magnitude } ∷
-    record { name = codes "MOD"; function = Remainder } ∷
-    record { name = codes "SIGN"; function = SignTransfer } ∷
-    record { name = codes "ISIGN"; function = SignTransfer } ∷
-    record { name = codes "DIM"; function = PositiveDifference } ∷
-    record { name = codes "IDIM"; function = PositiveDifference } ∷
-    record { name = codes "MAX"; function = Largest } ∷
-    record { name = codes "MAX0"; function = Largest } ∷
-    record { name = codes "MIN"; function = Smallest } ∷
-    record { name = codes "MIN0"; function = Smallest } ∷
-    record { name = codes "ICHAR"; function = CharacterCode } ∷
-    record { name = codes "CHAR"; function = CharacterOfCode } ∷
-    record { name = codes "LEN"; function = TextLength } ∷
-    record { name = codes "INDEX"; function = IndexOf } ∷
-    record { name = codes "LGE"; function = LexicallyGreaterOrEqual } ∷
-    record { name = codes "LGT"; function = LexicallyGreater } ∷
-    record { name = codes "LLE"; function = LexicallyLessOrEqual } ∷
-    record { name = codes "LLT"; function = LexicallyLess } ∷ []
+    record { name = codes "int"; function = Truncation } ∷
+    record { name = codes "abs"; function = Magnitude } ∷
+    record { name = codes "iabs"; function = Magnitude } ∷
+    record { name = codes "mod"; function = Remainder } ∷
+    record { name = codes "sign"; function = SignTransfer } ∷
+    record { name = codes "isign"; function = SignTransfer } ∷
+    record { name = codes "dim"; function = PositiveDifference } ∷
+    record { name = codes "idim"; function = PositiveDifference } ∷
+    record { name = codes "max"; function = Largest } ∷
+    record { name = codes "max0"; function = Largest } ∷
+    record { name = codes "min"; function = Smallest } ∷
+    record { name = codes "min0"; function = Smallest } ∷
+    record { name = codes "ichar"; function = CharacterCode } ∷
+    record { name = codes "char"; function = CharacterOfCode } ∷
+    record { name = codes "len"; function = TextLength } ∷
+    record { name = codes "index"; function = IndexOf } ∷
+    record { name = codes "lge"; function = LexicallyGreaterOrEqual } ∷
+    record { name = codes "lgt"; function = LexicallyGreater } ∷
+    record { name = codes "lle"; function = LexicallyLessOrEqual } ∷
+    record { name = codes "llt"; function = LexicallyLess } ∷ []
 
 unfoldable pub function_in : List Intrinsic → Bytes → Option Function
 function_in [] x = None

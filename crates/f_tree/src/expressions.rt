@@ -3,7 +3,7 @@
 
 use plain_data::{Boxed, Items};
 
-/// The bytes of a name, in upper case, or of a character constant.
+/// The bytes of a name, in lower case, or of a character constant.
 pub type Text = Items<u8>;
 
 /// An operator between two operands.

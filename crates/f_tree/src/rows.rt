@@ -57,7 +57,7 @@ pub fn acts_of_values()
     ensures overflow { MeetsApart no_options loop_to_the_last_integer [] 8 Overflow }
     ensures zero_divide { MeetsApart no_options division_by_zero [] 0 ZeroDivide }
     ensures no_value { MeetsApart no_options variable_without_value [] 0 NoValue }
-    ensures out_of_bounds { MeetsApart no_options element_past_the_last [] 0 (OutOfBounds (codes "A") (pos 3)) }
+    ensures out_of_bounds { MeetsApart no_options element_past_the_last [] 0 (OutOfBounds (codes "a") (pos 3)) }
 {}
 
 /// Acts of which nothing is said: those of loops, branches and transfers.
@@ -94,8 +94,8 @@ pub fn texts_run()
 pub fn storage_is_shared()
     ensures common { Runs no_options common_seen_twice common_setting [] 10 Plain (codes "  1 2 3" ∷ []) }
     ensures arrays { Runs no_options arrays_equivalenced arrays_setting [] 4 Plain (codes "  7" ∷ []) }
-    ensures types { Runs no_options (types_equivalenced (codes "L")) types_setting [] 9 Plain (codes "  T" ∷ codes "  6" ∷ []) }
-    ensures other_type { Meets no_options (types_equivalenced (codes "I")) types_setting [] 3 NoValue }
+    ensures types { Runs no_options (types_equivalenced (codes "l")) types_setting [] 9 Plain (codes "  T" ∷ codes "  6" ∷ []) }
+    ensures other_type { Meets no_options (types_equivalenced (codes "i")) types_setting [] 3 NoValue }
 {}
 
 /// The worked runs of DATA, PARAMETER and bounds.
@@ -115,7 +115,7 @@ pub fn procedures_and_lengths()
 /// The worked runs of statements on units, and of STOP.
 pub fn units_change()
     ensures fails { RunsApart no_options (unit_not_connected []) [] 0 (Io (pos 6)) ([]) }
-    ensures status { RunsApart no_options (unit_not_connected (status_in (codes "N") ∷ [])) [] 4 Plain (codes "  6" ∷ []) }
+    ensures status { RunsApart no_options (unit_not_connected (status_in (codes "n") ∷ [])) [] 4 Plain (codes "  6" ∷ []) }
     ensures over { RunsApart no_options written_over [] 10 (Io (pos 9)) (codes "  2" ∷ []) }
     ensures stops { RunsApart no_options stopped [] 0 (Stop (codes "7")) ([]) }
 {}

@@ -96,7 +96,7 @@ pub struct EquivalenceGroup {
     pub places: Items<Expr>,
 }
 
-/// The letters from `first` to `last`, in upper case.
+/// The letters from `first` to `last`, in lower case.
 #[derive(Clone, Copy, Debug, PartialEq, Eq)]
 pub struct LetterRange {
     pub first: u8,
