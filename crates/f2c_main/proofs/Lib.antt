@@ -1,2 +1,3 @@
 mod Writing
 mod Rows
+pub mod FirstRow

@@ -1,10 +1,9 @@
 -- When the C texts are faithful to the FORTRAN files: what the later theorem says of every translation.
-use Rattle.std.specs.Prelude.{◌≡◌, ℕ, ◌*◌, ◌≤◌, List, [], ◌∷◌, map, length, Option, Some, None}
-use Rattle.simulation.specs.Machine.{State}
+use Rattle.std.specs.Prelude.{◌≡◌, ℕ, ◌*◌, ◌≤◌, List, [], ◌∷◌, length, Some, None}
 use Rattle.f2c_outside.specs.Units.{Units}
 use Rattle.f_tree.specs.declared.names.Options.{Options}
 use Rattle.f_tree.specs.declared.units.File.{File}
-use Rattle.f_tree.specs.Values.{Act, NoMeaning}
+use Rattle.f_tree.specs.Values.{NoMeaning}
 use Rattle.f_tree.specs.Facts.{ProgramUnit, BlockDataUnit}
 use Rattle.f_tree.specs.FirstRefusal.{IsSpelled}
 use Rattle.f_tree.specs.Setting.{Setting, IsSetting, HasUnit}

@@ -10,3 +10,4 @@ pub mod TopCall
 pub mod StorageImage
 pub mod SameState
 pub mod Faithful
+pub mod FirstRow

@@ -1,9 +1,8 @@
 -- When a state of the FORTRAN run and a state of the C run are the same: equal units, transfers that agree, the storage
 -- image, the functions of the active procedures in their order, and both running or both ended in one way.
-use Rattle.std.specs.Prelude.{◌≡◌, ℕ, ℤ, List, [], ◌∷◌, map, filter, Option, Some, None, option_map, option_and_then, slice_get, is_none, Bool, true, false}
-use Rattle.simulation.specs.Machine.{State, Runs, Over, Broken, Frame, Has, numbers}
-use Rattle.edit_rules.specs.Listed.{ListedValue}
-use Rattle.f_tree.specs.Facts.{ProgramUnit, EntryPoint, Formal, Direction, Input, Output, Layout, Listed}
+use Rattle.std.specs.Prelude.{◌≡◌, ℕ, ℤ, List, [], ◌∷◌, map, filter, Option, Some, None, option_and_then, slice_get, is_none, Bool, false}
+use Rattle.simulation.specs.Machine.{State, Runs, Over, Frame, Has, numbers}
+use Rattle.f_tree.specs.Facts.{ProgramUnit, Direction, Input, Output, Layout, Listed}
 use Rattle.f_tree.specs.Setting.{Setting}
 use Rattle.f_tree.specs.World as fortran
 use Rattle.f_tree.specs.Meaning.{RunState}

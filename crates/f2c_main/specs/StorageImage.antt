@@ -2,10 +2,10 @@
 -- name, a local in the static object of its name, each place at the same distance from the start; an integer as four
 -- bytes, the low one first, true as 1 and false as 0, a label as its number, a character as its byte.
 -- Source: Feldman, Gay, Maimone and Schryer, "A Fortran-to-C Converter" (CSTR 149).
-use Rattle.std.specs.Prelude.{◌≡◌, ℕ, ◌+◌, ◌-◌, ◌<◌, ℤ, pos, Bool, true, false, ◌||◌, List, [], ◌∷◌, ◌++◌, map, length, position, find, Option, Some, None, option_map, option_and_then, bytes_eq, slice_get, if◌then◌else◌}
+use Rattle.std.specs.Prelude.{◌≡◌, ℕ, ◌+◌, ◌-◌, ◌<◌, ℤ, pos, Bool, true, false, List, [], ◌∷◌, ◌++◌, length, position, find, Option, Some, None, option_map, option_and_then, bytes_eq, slice_get}
 use Rattle.std.specs.List.{list_any}
 use Rattle.f_tree.specs.Store.{Store, Sequence, Cell, Undefined, Chr, Part, Whole, Number, Truth, Label}
-use Rattle.f_tree.specs.Facts.{Home, Member, Block, UnitKind, MainProgram, EntryPoint, ProgramUnit}
+use Rattle.f_tree.specs.Facts.{Home, Member, Block, MainProgram, EntryPoint, ProgramUnit}
 use Rattle.f_tree.specs.Setting.{Setting, HasUnit, IsIn, unit_home}
 use Rattle.f_tree.specs.CNames.{external_name, main_name, blank_common_name, entries_name, variable_name}
 use Rattle.c_tree.specs.declared.file.CFile.{CFile}

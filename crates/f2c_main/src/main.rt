@@ -9,6 +9,7 @@ mod shelf_loops;
 mod tests;
 mod top_call;
 mod translation;
+pub mod worked_rows;
 
 use f2c_outside::host_shelf::HostShelf;
 use f2c_outside::texts::{NoMemory, Words};
