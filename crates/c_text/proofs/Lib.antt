@@ -2,3 +2,4 @@ pub mod ArmLemmas
 pub mod Equations
 pub mod LocalLemmas
 pub mod StatementEquations
+pub mod PrintedRows

@@ -6,3 +6,4 @@ pub mod Phrases
 pub mod Expressions
 pub mod Declarations
 pub mod Printed
+pub mod Opened

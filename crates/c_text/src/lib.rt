@@ -11,6 +11,7 @@ mod level;
 mod local;
 mod out;
 mod phrase;
+pub mod rows;
 mod statement;
 #[cfg(test)]
 mod tests;

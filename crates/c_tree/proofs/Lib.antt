@@ -2,3 +2,16 @@ pub mod TreeEquations
 pub mod ObjectLaws
 pub mod StepLaws
 pub mod ValueLaws
+pub mod FormatLaws
+pub mod ExpressionReading
+pub mod StatementReading
+pub mod DeclarationReading
+pub mod TextReading
+pub mod TokenLaws
+pub mod CleanTokens
+pub mod Refusals
+pub mod RefusedFronts
+pub mod RefusalRows
+pub mod GuardLaws
+pub mod TokenSpellings
+pub mod RefusalLaws

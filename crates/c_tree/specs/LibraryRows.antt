@@ -7,7 +7,7 @@ use Rattle.f2c_outside.specs.Units.{Units, UnitState, Offered}
 use Rattle.c_tree.specs.Faults.{Or, after}
 use Rattle.c_tree.specs.Objects.{Object, Bytes, Values, bytes_of_number}
 use Rattle.c_tree.specs.World.{World, Ending, Reply, Gives, Void, Stops}
-use Rattle.c_tree.specs.Builtins.{Builtin, s_wsle, do_lio, e_wsle, s_wsli, f_open, f_clos}
+use Rattle.c_tree.specs.Builtins.{Builtin, s_cat, s_wsle, do_lio, e_wsle, s_rsle, e_rsle, s_wsli, f_open, f_clos}
 use Rattle.c_tree.specs.Library.{library}
 use Rattle.c_tree.specs.RowTexts.{no_units, output_unit, empty_unit}
 
@@ -39,6 +39,21 @@ of_texts function left left_size right right_size =
     function
     (memory (text left ∷ text right ∷ []))
     (start_of 0 ∷ start_of 1 ∷ size left_size ∷ size right_size ∷ [])
+
+-- `s_cat` of the first so many of two pieces, of two and three bytes, into six bytes; the third address is not set
+abbrev pub pieces_into : ℕ → ℕ → Or Reply
+pieces_into length count =
+    library
+    s_cat
+    (memory
+    (text (codes "......")
+    ∷ Values (Some (start_of 2) ∷ Some (start_of 3) ∷ None ∷ [])
+    ∷ text (codes "AB")
+    ∷ text (codes "XYZ")
+    ∷ text (bytes_of_number (pos 2) ++ bytes_of_number (pos 3) ++ bytes_of_number (pos 1) ++ bytes_of_number (pos 1))
+    ∷ number (pos count)
+    ∷ []))
+    (start_of 0 ∷ start_of 1 ∷ start_of 4 ∷ start_of 5 ∷ size length ∷ [])
 
 -- the number that a call gives
 abbrev pub given_number : Reply → Option ℤ
@@ -167,10 +182,13 @@ abbrev pub offered : List ℕ → Offered
 offered file = record { name = file; records = codes "R" ∷ []; position = 0 }
 
 -- an `olist`, with the file's name in the object 1 or null, and BLANK in the object 2 or null
-abbrev pub open_list : ℕ → CValue → ℕ → CValue → Object
-open_list unit file length blanks =
+abbrev pub open_list_asking : ℕ → ℕ → CValue → ℕ → CValue → Object
+open_list_asking asks unit file length blanks =
     list_object
-    (size 1 ∷ size unit ∷ file ∷ size length ∷ Null ∷ Null ∷ Null ∷ size 0 ∷ blanks ∷ [])
+    (size asks ∷ size unit ∷ file ∷ size length ∷ Null ∷ Null ∷ Null ∷ size 0 ∷ blanks ∷ [])
+
+abbrev pub open_list : ℕ → CValue → ℕ → CValue → Object
+open_list unit file length blanks = open_list_asking 1 unit file length blanks
 
 abbrev pub drawer_units : Units
 drawer_units = record output_unit { drawer = offered (codes "D") ∷ offered (codes "fort.9") ∷ [] }
@@ -209,3 +227,55 @@ zero_blanks_in (Some unit) = Some unit.zero_blanks
 -- the blank mode of a unit after a call, where it is connected
 abbrev pub blanks_after : ℤ → Or Reply → Or (Option Bool)
 blanks_after unit reply = after reply λ given. Ok (zero_blanks_in ((world_after given).units.connected unit))
+
+-- a unit 5 with these records, none of them read
+abbrev pub input_units : List (List ℕ) → Units
+input_units lines = record no_units {
+  connected =
+      λ asked. if int_eq asked (pos 5) then Some (record empty_unit { records = lines }) else None;
+}
+
+-- calls on a unit 5 with these records. The objects are a list for unit 5 that asks for errors and ends, the kinds
+-- 3, 8 and 9, the counts 1 and 5, five integers of 8, 9 and so on, a logical, and a text of five bytes
+abbrev pub on_input : List (List ℕ) → List Call → Or Reply
+on_input lines made =
+    calls
+    (with_units
+    (input_units lines)
+    (control_list 1 5 1
+    ∷ number (pos 3)
+    ∷ number (pos 8)
+    ∷ number (pos 9)
+    ∷ number (pos 1)
+    ∷ number (pos 5)
+    ∷ text
+    (bytes_of_number (pos 8)
+    ++ bytes_of_number (pos 9)
+    ++ bytes_of_number (pos 10)
+    ++ bytes_of_number (pos 11)
+    ++ bytes_of_number (pos 12))
+    ∷ number (pos 0)
+    ∷ text (codes ".....")
+    ∷ []))
+    (calling s_rsle (start_of 0 ∷ []) ∷ made)
+
+abbrev pub end_input : Call
+end_input = calling e_rsle []
+
+-- five integers end to end
+abbrev pub five_numbers : ℤ → ℤ → ℤ → ℤ → ℤ → Object
+five_numbers first second third fourth fifth =
+    text
+    (bytes_of_number first
+    ++ bytes_of_number second
+    ++ bytes_of_number third
+    ++ bytes_of_number fourth
+    ++ bytes_of_number fifth)
+
+abbrev pub position_in : Option UnitState → Option ℕ
+position_in None = None
+position_in (Some unit) = Some unit.position
+
+-- how many records of a unit stand before its position after a call, where it is connected
+abbrev pub position_after : ℤ → Or Reply → Or (Option ℕ)
+position_after unit reply = after reply λ given. Ok (position_in ((world_after given).units.connected unit))

@@ -90,10 +90,18 @@ read_held access None = failing Outside
 read_held access (Some None) = failing Unset
 read_held access (Some (Some value)) = read_value access value
 
+-- an access to what an object of values holds; one of another type is a fault, whatever stands there
+abbrev pub is_held : Access → Bool
+is_held (ToField kind) = true
+is_held (ToPointer through) = true
+is_held ToFunction = true
+is_held access = false
+
 abbrev pub read_object : Access → ℕ → Option Object → Or Typed
 read_object access offset None = failing Outside
 read_object access offset (Some (Bytes bytes)) = read_bytes access offset bytes
-read_object access offset (Some (Values values)) = read_held access (slice_get values offset)
+read_object access offset (Some (Values values)) =
+    if is_held access then read_held access (slice_get values offset) else failing Kind
 
 -- what an access reads through a value
 abbrev pub read_through : List Object → CValue → Access → Or Typed

@@ -1,5 +1,5 @@
 -- The worked programs.
-use Rattle.std.specs.Prelude.{ℕ, pos, List, [], ◌∷◌, Some, None, codes}
+use Rattle.std.specs.Prelude.{ℕ, zero, suc, pos, List, [], ◌∷◌, ◌++◌, Some, None, codes}
 use Rattle.c_tree.specs.declared.expression.UnaryOp.TheVariants as prefix
 use Rattle.c_tree.specs.declared.statement.CStmt.{CStmt}
 use Rattle.c_tree.specs.declared.types.NumberType.TheVariants as number
@@ -11,6 +11,11 @@ use Rattle.c_tree.specs.declared.expression.CExpr.{CExpr}
 use Rattle.c_tree.specs.declared.expression.CExpr.TheVariants as expr
 use Rattle.c_tree.specs.declared.statement.CStmt.TheVariants as stmt
 use Rattle.c_tree.specs.declared.declaration.CLocal.TheVariants as local
+use Rattle.c_tree.specs.declared.types.ListType.TheVariants as list
+use Rattle.c_tree.specs.declared.types.CastType.TheVariants as to
+use Rattle.c_tree.specs.declared.declaration.CLocal.{CLocal}
+use Rattle.c_tree.specs.declared.declaration.CField.{CField}
+use Rattle.c_tree.specs.declared.declaration.CField.TheVariants as given
 use Rattle.c_tree.specs.declared.file.CFile.{CFile}
 use Rattle.c_tree.specs.declared.file.CObject.TheVariants as object
 use Rattle.c_tree.specs.declared.expression.BinaryOp.{BinaryOp}
@@ -338,3 +343,55 @@ undeclared_name = body_with [] (set (codes "k") (whole_number 1) ∷ [])
 
 abbrev pub missing_label : List CFile
 missing_label = body_with [] (stmt.Goto (codes "L10") ∷ [])
+
+-- `- - .. 0` with so many signs
+abbrev pub negated : ℕ → CExpr
+negated zero = whole_number 0
+negated (suc more) = expr.Unary prefix.Minus (negated more)
+
+-- `return` of 0 behind a thousand signs
+abbrev pub returns_deeply : List CFile
+returns_deeply =
+    file_of (function_named (codes "MAIN__") [] (stmt.Return (Some (negated 1000)) ∷ []) ∷ []) ∷ []
+
+-- a body of one empty statement, whose end is one more step
+abbrev pub ends_without_return : List CFile
+ends_without_return = file_of (function_named (codes "MAIN__") [] (stmt.Empty ∷ []) ∷ []) ∷ []
+
+-- a list whose format is as given, and one number
+abbrev pub writes_under : List CLocal → CField → List CFile
+writes_under locals format =
+    body_with
+    (locals
+    ++ local.StaticList
+    list.Transfer
+    (codes "io___1")
+    (given.Number (pos 0)
+    ∷ given.Number (pos 6)
+    ∷ given.Number (pos 0)
+    ∷ format
+    ∷ given.Number (pos 0)
+    ∷ [])
+    ∷ extern_int (codes "s_wsfe")
+    ∷ extern_int (codes "do_fio")
+    ∷ extern_int (codes "e_wsfe")
+    ∷ [])
+    (set (codes "i__1") (whole_number 1)
+    ∷ set (codes "i__2") (whole_number 42)
+    ∷ do_call (codes "s_wsfe") (address (codes "io___1") ∷ [])
+    ∷ do_call
+    (codes "do_fio")
+    (address (codes "i__1") ∷ expr.Cast to.Chars (address (codes "i__2")) ∷ whole_number 4 ∷ [])
+    ∷ do_call (codes "e_wsfe") []
+    ∷ [])
+
+-- the format in `static char fmt_10[] = "(I5,' is ',I5)";`
+abbrev pub prints_by_a_format : List CFile
+prints_by_a_format =
+    writes_under
+    (local.StaticChars (codes "fmt_10") None (Some (codes "(I5,' is ',I5)")) ∷ [])
+    (given.Name (codes "fmt_10"))
+
+-- the format in the list itself
+abbrev pub prints_by_a_string : List CFile
+prints_by_a_string = writes_under [] (given.Str (codes "(1X,I5)"))

@@ -1,7 +1,11 @@
 -- What all functions of a run share: the objects, the external units and the transfer in progress; and how a
 -- run ends that meets no fault.
-use Rattle.std.specs.Prelude.{ℕ, ℤ, List, Option}
+use Rattle.std.specs.Prelude.{ℕ, ℤ, Bool, false, List, [], Option, None}
+use Rattle.edit_rules.specs.Formats.{Format, Empty}
 use Rattle.edit_rules.specs.Listed.{ListedValue}
+use Rattle.edit_rules.specs.ListInput.{Place, Between}
+use Rattle.edit_rules.specs.TakenRecords as taken
+use Rattle.edit_rules.specs.Transfers.{Progress, begun}
 use Rattle.f2c_outside.specs.Units.{Units}
 use Rattle.c_tree.specs.Objects.{Object}
 
@@ -9,9 +13,9 @@ pub data Direction : Type 0 where
   Output : Direction
   Input : Direction
 
--- how values are written or read: by a format, whose text was copied at the start, or list-directed
+-- how values are written or read: by a format, which was read at the start, or list-directed
 pub data Layout : Type 0 where
-  Formatted : List ℕ → Layout
+  Formatted : Format → Layout
   Listed : Layout
 
 -- an internal file: the object and the offset of its first record, the bytes of a record, how many records it
@@ -27,8 +31,10 @@ pub data Medium : Type 0 where
   Unit : ℤ → Medium
   Internal : InternalFile → Medium
 
--- a transfer in progress: whether an error, and whether an end, is answered to the caller, where it is not 0; the
--- values so far; and how many of its records are written
+-- a transfer in progress: whether an error, and whether an end, is answered to the caller, where it is not 0; of an
+-- output the values so far, and how many of its records are written; of list-directed input the place in the
+-- record that is being read, and whether a slash was met, which leaves the later items; and of formatted input the
+-- edits that are left and the place in the record
 pub record Transfer : Type 0 where
   pub direction : Direction
   pub layout : Layout
@@ -37,6 +43,17 @@ pub record Transfer : Type 0 where
   pub on_end : ℤ
   pub values : List ListedValue
   pub written : ℕ
+  pub place : Place
+  pub slashed : Bool
+  pub course : Progress taken.Input
+
+-- before the first record is read
+abbrev pub no_place : Place
+no_place = Between false []
+
+abbrev pub no_course : Progress taken.Input
+no_course =
+    begun Empty (record { line = []; later = []; before = 0; zeros = false; values = []; halted = None })
 
 pub record World : Type 0 where
   pub objects : List Object

@@ -2,14 +2,15 @@
 //! does nothing, and its contract is the rows.
 #![tactic(auto, unfolding(crate::specs::Opened::meaning_opened))]
 
-ghost use Rattle.std.specs.Prelude.{◌≡◌, [], ◌∷◌, pos, negsuc, codes, None, Some, Ok, Err};
+ghost use Rattle.std.specs.Prelude.{◌≡◌, [], ◌∷◌, ◌++◌, pos, negsuc, codes, None, Some, Ok, Err};
 ghost use Rattle.c_tree.specs.declared.outcome.CValue.TheVariants.{Number, Pointer, Null};
 ghost use Rattle.c_tree.specs.declared.outcome.CFault.TheVariants as fault;
 ghost use Rattle.c_tree.specs.Faults.{failing};
 ghost use Rattle.c_tree.specs.World.{Plain, Stop, Io};
 ghost use Rattle.c_tree.specs.Builtins as builtin;
+ghost use Rattle.c_tree.specs.Objects.{bytes_of_number};
 ghost use Rattle.c_tree.specs.Library.{library};
-ghost use Rattle.c_tree.specs.LibraryRows.{text, number, start_of, size, memory, of_numbers, of_texts, gives, ends_with, leaves};
+ghost use Rattle.c_tree.specs.LibraryRows.{text, number, start_of, size, memory, of_numbers, of_texts, pieces_into, list_object, gives, ends_with, leaves};
 
 /// `pow_ii`
 pub fn powers()
@@ -44,7 +45,21 @@ pub fn comparisons()
     ensures not_below { gives (of_texts builtin.l_ge (codes "A") 1 (codes "A ") 2) ≡ Ok (Some (pos 1)) }
     ensures above { gives (of_texts builtin.l_gt (codes "A") 1 (codes "A ") 2) ≡ Ok (Some (pos 0)) }
     ensures not_above { gives (of_texts builtin.l_le (codes "B") 1 (codes "A") 1) ≡ Ok (Some (pos 0)) }
+    ensures no_such_length { gives (of_texts builtin.i_indx (codes "A") 1 (codes "A") 2) ≡ failing fault.Outside }
+    ensures past_the_left_end { gives (of_texts builtin.l_ge (codes "A") 2 (codes "A") 1) ≡ failing fault.Outside }
     ensures below { gives (of_texts builtin.l_lt (codes "A") 1 (codes "B") 1) ≡ Ok (Some (pos 1)) }
+{}
+
+/// `l_ge`, `l_gt`, `l_le` and `l_lt`, each on texts in order, on texts that are equal when the shorter is padded, and past the end of
+/// the object.
+pub fn order_of_texts()
+    ensures ge_ordinary { gives (of_texts builtin.l_ge (codes "B") 1 (codes "A") 1) ≡ Ok (Some (pos 1)) }
+    ensures gt_ordinary { gives (of_texts builtin.l_gt (codes "B") 1 (codes "A") 1) ≡ Ok (Some (pos 1)) }
+    ensures gt_refused { gives (of_texts builtin.l_gt (codes "A") 2 (codes "A") 1) ≡ failing fault.Outside }
+    ensures le_edge { gives (of_texts builtin.l_le (codes "A") 1 (codes "A ") 2) ≡ Ok (Some (pos 1)) }
+    ensures le_refused { gives (of_texts builtin.l_le (codes "A") 2 (codes "A") 1) ≡ failing fault.Outside }
+    ensures lt_edge { gives (of_texts builtin.l_lt (codes "A") 1 (codes "A ") 2) ≡ Ok (Some (pos 0)) }
+    ensures lt_refused { gives (of_texts builtin.l_lt (codes "A") 2 (codes "A") 1) ≡ failing fault.Outside }
 {}
 
 /// `s_copy`
@@ -59,6 +74,17 @@ pub fn copies()
     ensures past_the_end { leaves 0 (of_texts builtin.s_copy (codes "..") 3 (codes "AB") 2) ≡ failing fault.Outside }
     ensures through_null { leaves 0 (library builtin.s_copy (memory (text (codes "ABCD") ∷ [])) (start_of 0 ∷ Null ∷ size 1 ∷ size 1 ∷ []))
         ≡ failing fault.Outside }
+{}
+
+/// `s_cat`
+pub fn concatenations()
+    ensures padded { leaves 0 (pieces_into 6 2) ≡ Ok (Some (text (codes "ABXYZ "))) }
+    ensures cut { leaves 0 (pieces_into 4 2) ≡ Ok (Some (text (codes "ABXY.."))) }
+    ensures no_pieces { leaves 0 (pieces_into 3 0) ≡ Ok (Some (text (codes "   ..."))) }
+    ensures fetched_first { leaves 0 (library builtin.s_cat (memory (text (codes "ABCD") ∷ list_object (Pointer 0 2 ∷ start_of 0 ∷ []) ∷ text (bytes_of_number (pos 2) ++ bytes_of_number (pos 2)) ∷ number (pos 2) ∷ [])) (start_of 0 ∷ start_of 1 ∷ start_of 2 ∷ start_of 3 ∷ size 4 ∷ []))
+        ≡ Ok (Some (text (codes "CDAB"))) }
+    ensures negative_count { leaves 0 (library builtin.s_cat (memory (text (codes "ABCD") ∷ number (negsuc 0) ∷ [])) (start_of 0 ∷ start_of 0 ∷ start_of 0 ∷ start_of 1 ∷ size 4 ∷ [])) ≡ failing fault.Library }
+    ensures address_not_set { leaves 0 (pieces_into 6 3) ≡ failing fault.Unset }
 {}
 
 /// `s_stop`

@@ -4,7 +4,7 @@
 
 ghost use Rattle.std.specs.Prelude.{◌≡◌, [], ◌∷◌, pos, codes, None, Some};
 ghost use Rattle.c_tree.specs.RowTexts.{output_unit, no_units, records_of, EndsPrinting};
-ghost use Rattle.c_tree.specs.Rows.{first_path, divides_by_zero, nothing, overflows, reads_unset, stores_outside, stores_pointer, passes_too_much, calls_itself, ends_no_transfer, first_of_two, second_of_two, prints_least, adds_through_pointers, returns_a_call, switches_on, counts_up, counts_down, counts_by_two, counts_nothing, turns_once, takes_an_arm, takes_no_arm, entry_functions, enters_second, compares_texts, undeclared_name, missing_label};
+ghost use Rattle.c_tree.specs.Rows.{first_path, divides_by_zero, nothing, overflows, reads_unset, stores_outside, stores_pointer, passes_too_much, calls_itself, ends_no_transfer, first_of_two, second_of_two, prints_least, adds_through_pointers, returns_a_call, switches_on, counts_up, counts_down, counts_by_two, counts_nothing, turns_once, takes_an_arm, takes_no_arm, entry_functions, enters_second, compares_texts, undeclared_name, missing_label, returns_deeply, ends_without_return, prints_by_a_format, prints_by_a_string};
 ghost use Rattle.c_tree.specs.Linking.{first_broken_rule};
 ghost use Rattle.c_tree.specs.Meaning.{meaning, outcome, function_name, step_factor, Running, Ended, Fault, Meaningless};
 ghost use Rattle.c_tree.specs.World.{Plain, Io};
@@ -97,6 +97,19 @@ pub fn entries()
 /// Texts and strings through the library.
 pub fn texts()
     ensures equal { EndsPrinting compares_texts 6 (codes "  0") }
+{}
+
+/// A thousand signs before a number are one step, and so is the end of a body that returns nothing.
+pub fn single_steps()
+    ensures deep { outcome (meaning returns_deeply no_units 1) ≡ Ended Plain }
+    ensures before_the_end { outcome (meaning ends_without_return no_units 1) ≡ Running }
+    ensures end { outcome (meaning ends_without_return no_units 2) ≡ Ended Plain }
+{}
+
+/// A format in a static array, which a list points to, and one that stands in the list.
+pub fn formats()
+    ensures printed { EndsPrinting prints_by_a_format 6 (codes "   42 is ") }
+    ensures printed_by_a_string { EndsPrinting prints_by_a_string 6 (codes "    42") }
 {}
 
 /// What no well-formed text has stays apart from every fault.

@@ -3,6 +3,9 @@
 #![tactic(auto, unfolding(crate::specs::Opened::meaning_opened))]
 
 ghost use Rattle.std.specs.Prelude.{◌≡◌, [], ◌∷◌, pos, codes};
+ghost use Rattle.c_tree.specs.World.{Plain};
+ghost use Rattle.c_tree.specs.CPrograms.{Ends, null_by_value, functions_compared, reads_automatic_after_return, reads_automatic_at_next_call};
+ghost use Rattle.c_tree.specs.FaultPrograms.{FaultsIn};
 ghost use Rattle.c_tree.specs.declared.types.CastType.TheVariants as to;
 ghost use Rattle.c_tree.specs.declared.expression.UnaryOp.TheVariants as prefix;
 ghost use Rattle.c_tree.specs.declared.expression.BinaryOp.TheVariants as op;
@@ -40,6 +43,8 @@ pub fn pointers()
     ensures number_is_no_pointer { FaultsAt (values (equal (expr.Cast to.Chars (whole_number 1)) (null to.Chars))) 1 fault.Kind 0 }
     ensures past_the_end { FaultsAt (values (equal (expr.Binary op.Add second_address (whole_number 2)) second_address)) 1 fault.Outside 0 }
     ensures through_null { FaultsAt (values (read (null to.Integers))) 1 fault.Outside 0 }
+    ensures null_by_its_value { Ends null_by_value 20 Plain (codes "  1" ∷ []) }
+    ensures functions_are_compared { Ends functions_compared 20 Plain (codes "  8" ∷ []) }
 {}
 
 /// Calls: whose name a fault has, and what a parameter of function type may be.
@@ -51,6 +56,8 @@ pub fn calls()
     ensures library_function { FaultsAt passes_library_function 2 fault.Library 1 }
     ensures number_for_a_function { FaultsAt passes_number 1 fault.Disagree 0 }
     ensures automatic_of_an_earlier_call { FaultsAt reads_old_automatic 9 fault.Unset 1 }
+    ensures automatic_after_its_return { Ends reads_automatic_after_return 30 Plain (codes "  7" ∷ []) }
+    ensures automatic_of_another_call { FaultsIn reads_automatic_at_next_call fault.Unset 0 }
 {}
 
 /// Fields of lists.

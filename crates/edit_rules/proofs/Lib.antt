@@ -1,5 +1,12 @@
 pub mod ListedRows
 pub mod FormatRows
+pub mod FormatTextRows
+pub mod FormatSteps
+pub mod FormatSpelled
+pub mod FormatFound
+pub mod FormatLaws
+pub mod FormatMoves
+pub mod FormatViable
 pub mod ItemSteps
 pub mod ListRows
 pub mod ListReadBack
@@ -9,3 +16,13 @@ pub mod ListScans
 pub mod ReaderSteps
 pub mod TakeSteps
 pub mod WriterSteps
+pub mod EditLaws
+pub mod TransferLaws
+pub mod PartSteps
+pub mod FormatReads
+pub mod FormatScanSteps
+pub mod WalkSteps
+pub mod FieldsBack
+pub mod RecordsBack
+pub mod FieldsFollow
+pub mod WalkEnds

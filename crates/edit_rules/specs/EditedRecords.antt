@@ -1,14 +1,22 @@
 -- Formatted output: the records that a format and a list of values make, and the record in the making. ANSI X3.9-1978, section 13.5.
-use Rattle.std.specs.Prelude.{ℕ, zero, suc, ◌+◌, ◌-◌, nat_le, Bool, true, false, if◌then◌else◌, Option, None, Some, unwrap_or, List, [], ◌∷◌, ◌++◌, length, take, drop, replicate}
+use Rattle.std.specs.Prelude.{ℕ, ◌+◌, ◌-◌, nat_le, nat_lt, min, Bool, true, false, if◌then◌else◌, Option, None, Some, unwrap_or, List, [], ◌∷◌, ◌++◌, length, take, drop, replicate}
 use Rattle.edit_rules.specs.EditedFields.{int_field, logical_field, text_field}
-use Rattle.edit_rules.specs.Formats.{Descriptor, IntIn, LogicalIn, TextIn, Control, Literal, ToColumn, LeftBy, RightBy, NextRecord, PlusSigns, ZeroBlanks, Format, Edit, Item, Act, Stop, edits_for, closing}
+use Rattle.edit_rules.specs.Formats.{Descriptor, IntIn, LogicalIn, TextIn, Control, Literal, ToColumn, LeftBy, RightBy, NextRecord, PlusSigns, ZeroBlanks, Format, Edit, edits_for, closing}
+use Rattle.edit_rules.specs.Halts.{Halt, Number, EndOfRecords, OtherType}
 use Rattle.edit_rules.specs.Listed.{ListedValue, Int, Logical, Text}
+use Rattle.edit_rules.specs.Transfers.{Direction, closed_by, transferred}
 
--- why an output goes no further: a position past column 1,025 is number 5, an item that no descriptor takes number 4; a descriptor for
--- another type than the item's has no meaning
-pub data Halt : Type 0 where
-  Number : ℕ → Halt
-  OtherType : Halt
+-- what an output may fill: the columns of its records, and how many records an internal file has
+pub record Sheet : Type 0 where
+  pub columns : ℕ
+  pub records : Option ℕ
+
+-- the records of a unit, and those of an internal file
+abbrev pub unit_sheet : Sheet
+unit_sheet = record { columns = 1024; records = None }
+
+abbrev pub internal_sheet : ℕ → ℕ → Sheet
+internal_sheet records columns = record { columns = min columns 1024; records = Some records }
 
 -- an output so far: its complete records, the record in the making up to the last column written, how many columns stand before the
 -- position, whether plus signs are written, and why it goes no further
@@ -19,10 +27,20 @@ pub record Output : Type 0 where
   pub plus : Bool
   pub halted : Option Halt
 
-abbrev pub output_start : Output
-output_start = record { complete = []; making = []; before = 0; plus = false; halted = None }
+abbrev pub has_record : Option ℕ → ℕ → Bool
+has_record None complete = true
+has_record (Some records) complete = nat_lt complete records
 
--- the position moves
+-- the output comes to its next record; an internal file may be used up
+abbrev pub arrived : Sheet → List (List ℕ) → Output → Output
+arrived sheet complete out =
+    let next : Output = record out { complete = complete; making = []; before = 0 } in
+    if has_record sheet.records (length complete) then next else record next { halted = Some EndOfRecords }
+
+abbrev pub output_start : Sheet → Output
+output_start sheet = arrived sheet [] (record { complete = []; making = []; before = 0; plus = false; halted = None })
+
+-- the position moves; past column 1,025 it is error number 5
 abbrev pub moved_to : ℕ → Output → Output
 moved_to columns out =
     if nat_le columns 1024 then record out { before = columns } else record out { halted = Some (Number 5) }
@@ -31,20 +49,21 @@ moved_to columns out =
 abbrev pub written_at : ℕ → List ℕ → List ℕ → List ℕ
 written_at columns text line = take columns line ++ replicate (columns - length line) 32 ++ text ++ drop (columns + length text) line
 
--- characters at the position, which moves behind them; nothing is written past column 1,024
-abbrev pub with_text : List ℕ → Output → Output
-with_text text out =
-    if nat_le (out.before + length text) 1024 then record out { making = written_at out.before text out.making; before = out.before + length text }
+-- characters at the position, which moves behind them; a record past its last column is error number 5
+abbrev pub with_text : Sheet → List ℕ → Output → Output
+with_text sheet text out =
+    if nat_le (out.before + length text) sheet.columns then
+    record out { making = written_at out.before text out.making; before = out.before + length text }
     else record out { halted = Some (Number 5) }
 
-abbrev pub with_control : Control → Output → Output
-with_control (Literal text) out = with_text text out
-with_control (ToColumn column) out = moved_to (column - 1) out
-with_control (LeftBy columns) out = moved_to (out.before - columns) out
-with_control (RightBy columns) out = moved_to (out.before + columns) out
-with_control NextRecord out = record out { complete = out.complete ++ out.making ∷ []; making = []; before = 0 }
-with_control (PlusSigns plus) out = record out { plus = plus }
-with_control (ZeroBlanks zeros) out = out
+abbrev pub with_control : Sheet → Control → Output → Output
+with_control sheet (Literal text) out = with_text sheet text out
+with_control sheet (ToColumn column) out = moved_to (column - 1) out
+with_control sheet (LeftBy columns) out = moved_to (out.before - columns) out
+with_control sheet (RightBy columns) out = moved_to (out.before + columns) out
+with_control sheet NextRecord out = arrived sheet (out.complete ++ out.making ∷ []) out
+with_control sheet (PlusSigns plus) out = record out { plus = plus }
+with_control sheet (ZeroBlanks zeros) out = out
 
 -- the field of a value under a descriptor
 abbrev pub field_of : Descriptor → ListedValue → Bool → Option (List ℕ)
@@ -58,38 +77,38 @@ field_of (LogicalIn width) (Text text) plus = None
 field_of (TextIn width) (Int number) plus = None
 field_of (TextIn width) (Logical truth) plus = None
 
-abbrev pub with_field : Option (List ℕ) → Output → Output
-with_field None out = record out { halted = Some OtherType }
-with_field (Some field) out = with_text field out
+-- a descriptor for another type than the value's has no meaning, wherever the position is
+abbrev pub with_field : Sheet → Option (List ℕ) → Output → Output
+with_field sheet None out = record out { halted = Some OtherType }
+with_field sheet (Some field) out = with_text sheet field out
 
--- the edits over the values, until the output goes no further
-abbrev pub edited : Option Halt → List Edit → List ListedValue → Output → Output
-edited (Some halt) edits values out = out
-edited None [] values out = out
-edited None (Item descriptor ∷ edits) [] out = out
-edited None (Item descriptor ∷ edits) (value ∷ values) out =
-    edited (with_field (field_of descriptor value out.plus) out).halted edits values (with_field (field_of descriptor value out.plus) out)
-edited None (Act control ∷ edits) values out = edited (with_control control out).halted edits values (with_control control out)
-edited None (Stop ∷ edits) values out = edited None edits values out
-
--- an item that gets no descriptor halts the output, where nothing did before
-abbrev pub unserved_by : ℕ → Option Halt → Output → Output
-unserved_by zero halted out = out
-unserved_by (suc more) None out = record out { halted = Some (Number 4) }
-unserved_by (suc more) (Some halt) out = out
+abbrev pub output : Sheet → Direction Output ListedValue
+output sheet = record {
+  halted = λ out. out.halted;
+  act = with_control sheet;
+  item = λ descriptor value out. with_field sheet (field_of descriptor value out.plus) out;
+  halt = λ halt out. record out { halted = Some halt };
+}
 
 -- the end of an output writes its record
 abbrev pub ended : Option Halt → Output → Output
 ended (Some halt) out = out
 ended None out = record out { complete = out.complete ++ out.making ∷ [] }
 
-abbrev pub finished : Bool → List Edit → Output → Output
-finished false edits out = out
-finished true edits out = ended (edited out.halted edits [] out).halted (edited out.halted edits [] out)
+-- the output is closed: what the format gives behind the last item, and the last record
+abbrev pub output_closed : Sheet → List Edit → Output → Output
+output_closed sheet left out =
+    let last : Output = closed_by (output sheet) (closing left) out in ended last.halted last
+
+abbrev pub finished : Bool → Sheet → List Edit → Output → Output
+finished false sheet left out = out
+finished true sheet left out = output_closed sheet left out
 
 -- the output of a format over values; where it is closed, with what the format gives behind the last item, and its last record
-unfoldable pub made : Format → List ListedValue → Bool → Output
-made format values closed =
-    let served = edits_for format (length values) in
-    let out = edited None served.edits values output_start in
-    finished closed (closing served.left) (unserved_by served.unserved out.halted out)
+unfoldable pub made_on : Sheet → Format → List ListedValue → Bool → Output
+made_on sheet format values closed =
+    finished closed sheet (edits_for format (length values)).left (transferred (output sheet) format values (output_start sheet))
+
+-- the output on a unit
+abbrev pub made : Format → List ListedValue → Bool → Output
+made format values closed = made_on unit_sheet format values closed

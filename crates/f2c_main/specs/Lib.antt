@@ -11,3 +11,4 @@ pub mod StorageImage
 pub mod SameState
 pub mod Faithful
 pub mod FirstRow
+pub mod Program

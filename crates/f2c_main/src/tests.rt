@@ -1,11 +1,14 @@
 //! What no clause says: the texts of worked rows, and that calls succeed with ample memory.
 
+use crate::program::{NoWords, command_words};
 use crate::top_call::f2c;
 use f2c_outside::memory_shelf::MemoryShelf;
 use f2c_outside::texts::Words;
 use f2c_outside::unit_table::UnitTable;
-use std::alloc::Global;
+use std::alloc::{Alloc, Global};
+use std::env::FillError;
 use std::process::Abort;
+use std::rt::Env;
 use std::test::Fail;
 
 const CARDS: &[u8] = b"      I=2\n      PRINT *,I+3\n      END\n";
@@ -222,5 +225,63 @@ fn a_message_that_fails_keeps_its_status(rt: HostRuntime) -> Result<(), Fail> {
         assert_eq!(rt; status, 1);
         assert!(rt; NOT_BUILT_AT_1.starts_with(shelf.fault_text()));
     }
+    Ok(())
+}
+
+/// A command line: the program's name and the words.
+#[derive(Drop)]
+struct CommandLine<'a> {
+    alloc: Global,
+    arguments: &'a [&'a [u8]],
+}
+
+impl Alloc for CommandLine<'_> {
+    type A = Global;
+
+    fn alloc(&self) -> Global {
+        self.alloc
+    }
+}
+
+impl Env for CommandLine<'_> {
+    fn arg(&self, i: usize, buf: &mut [u8]) -> Result<usize, FillError> {
+        let Some(argument) = self.arguments.get(i) else {
+            return Err(FillError::NotPresent);
+        };
+        let Some(front) = buf.get_mut(..argument.len()) else {
+            return Err(FillError::TooLong);
+        };
+        front.copy_from_slice(argument);
+        Ok(argument.len())
+    }
+
+    fn var(&self, _name: &str, _buf: &mut [u8]) -> Result<usize, FillError> {
+        Err(FillError::NotPresent)
+    }
+
+    fn var_at(&self, _i: usize, _buf: &mut [u8]) -> Result<usize, FillError> {
+        Err(FillError::NotPresent)
+    }
+}
+
+#[test]
+fn words_of_the_command_line(rt: HostRuntime) -> Result<(), Fail> {
+    let alloc = rt.alloc();
+    let arguments: [&[u8]; 3] = [b"f2c", b"-q", b"a.f"];
+    let words = command_words(&CommandLine {
+        alloc,
+        arguments: &arguments,
+    });
+    assert!(rt;
+        words.is_ok_and(|words| words.get(1) == Some(b"-q")
+            && words.get(2) == Some(b"a.f")
+            && words.len() == 2)
+    );
+    let arguments: [&[u8]; 2] = [b"f2c", b"\xff"];
+    let none = command_words(&CommandLine {
+        alloc,
+        arguments: &arguments,
+    });
+    assert!(rt; matches!(none, Err(NoWords::NotText)));
     Ok(())
 }

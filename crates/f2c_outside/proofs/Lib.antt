@@ -3,4 +3,6 @@ mod TextLemmas
 mod MemoryLaws
 mod TapeLaws
 mod TableLaws
+mod FinishLaws
 pub mod MeaningLaws
+mod PlacedMeaning

@@ -1,31 +1,35 @@
 -- The calls of the unit table mean what the statements on the units mean.
-use Rattle.std.proofs.Common.{◌≡◌, ℕ, zero, suc, ◌+◌, ◌-◌, ◌<◌, ◌≤◌, ℤ, Bool, true, false, ◌||◌, List, [], ◌∷◌, ◌++◌, length, map, take, drop, Option, Some, None, refl, ap, sym, ◌∙◌, subst, arith}
-use Rattle.std.specs.Prelude.{Result, Ok, Err, IfErr, IsErrOf, IsSome, IsOk, OnOk, OnErr, IfSome, IsSomeAnd, option_map, slice_get, unwrap_or, if◌then◌else◌}
-use Rattle.std.specs.List.{list_any}
+use Rattle.std.proofs.Common.{◌≡◌, ℕ, ◌+◌, ◌-◌, ◌≤◌, ℤ, Bool, true, false, ◌||◌, List, [], ◌∷◌, ◌++◌, length, take, drop, Option, Some, None, refl, ap, sym, ◌∙◌, subst}
+use Rattle.std.specs.Prelude.{Result, Ok, Err, IfErr, IsErrOf, IsSome, OnOk, IfSome, IsSomeAnd, option_map, slice_get, unwrap_or, if◌then◌else◌}
 use Rattle.std.specs.Ordering.{int_eq}
 use Rattle.std.proofs.lemmas.Bool.Decides.{Decides-int_eq}
 use mathlib.Core.Path.{fun_ext}
-use Rattle.f2c_outside.specs.Device.{DeviceState, DidRead, Wrote, WentBack, Rewound, EndedFile, written_at, IsLine, IsLong, IsAtEnd}
+use Rattle.f2c_outside.specs.Device.{DeviceState, written_at}
 use Rattle.f2c_outside.specs.Table.{Row, Offers, Connects, Closed, AtUnit, OnUnit, ReadFrom, WrittenTo, BackOn, RewoundOn, EndedOn, IsFailed, at_unit, is_connected}
-use Rattle.f2c_outside.specs.Units.{UnitState, Offered, Units, with_unit, with_record, unless_ended, one_back, read_at, write_at, back_at, rewind_at, end_at, read_unit, write_unit, back_unit, rewind_unit, end_unit}
-use Rattle.f2c_outside.specs.Meaning.{records_of, unit_of, connected_in, drawer_in, units_of, Tells, Means, MeansReading, ReadsLine}
+use Rattle.f2c_outside.specs.Units.{UnitState, Offered, Units, with_unit, with_record, unless_ended, one_back, read_at, write_at, back_at, rewind_at, end_at, read_unit, write_unit, back_unit, rewind_unit, end_unit, Reading, behind}
+use Rattle.f2c_outside.specs.Meaning.{records_of, unit_of, connected_in, drawer_in, units_of, Tells, Means, MeansReading, ReadsAs}
 use Rattle.f2c_outside.specs.declared.unit_table.UnitRefusal.{UnitRefusal}
 use Rattle.f2c_outside.specs.declared.unit_table.UnitRefusal.TheVariants.{NotConnected, NotOffered, Taken, PastEnd, Failed}
+use Rattle.f2c_outside.specs.declared.devices.Got.{Got}
+use Rattle.f2c_outside.specs.declared.devices.Got.TheVariants.{Line, End, Long}
+use Rattle.f2c_outside.specs.declared.devices.Got.TheVariants as got
+use Rattle.std.proofs.lemmas.Option.{slice_get_past}
+use Rattle.std.specs.Prelude.{IfOk}
 use Rattle.f2c_outside.proofs.TableLaws.{none-front}
 
-chosen-true : {X : Type 0} (b : Bool) (x y : X) → b ≡ true → (if b then x else y) ≡ x
+pub chosen-true : {X : Type 0} (b : Bool) (x y : X) → b ≡ true → (if b then x else y) ≡ x
 chosen-true true x y is = refl
 chosen-true false x y is = absurd (cc)
 
-chosen-false : {X : Type 0} (b : Bool) (x y : X) → b ≡ false → (if b then x else y) ≡ y
+pub chosen-false : {X : Type 0} (b : Bool) (x y : X) → b ≡ false → (if b then x else y) ≡ y
 chosen-false false x y is = refl
 chosen-false true x y is = absurd (cc)
 
-or-false-left : (a b : Bool) → (a || b) ≡ false → a ≡ false
+pub or-false-left : (a b : Bool) → (a || b) ≡ false → a ≡ false
 or-false-left false b is = refl
 or-false-left true b is = is
 
-or-false-right : (a b : Bool) → (a || b) ≡ false → b ≡ false
+pub or-false-right : (a b : Bool) → (a || b) ≡ false → b ≡ false
 or-false-right false b is = is
 or-false-right true b is = absurd (cc)
 
@@ -43,7 +47,7 @@ connected-behind (Offers name device ∷ front) rest unit none = connected-behin
 connected-behind (Closed ∷ front) rest unit none = connected-behind front rest unit none
 
 -- the state of the unit of a row
-unit-there :
+pub unit-there :
     (front back : List Row) (unit : ℤ) (device : DeviceState) (m z : Bool)
     → is_connected unit front ≡ false
     → connected_in (front ++ Connects unit device m z ∷ back) unit ≡ Some (unit_of device m z)
@@ -116,7 +120,7 @@ units-changed front back unit device device' m m' z none =
     both p q = cc
 
 -- the device of a connected row tells
-told-there :
+pub told-there :
     (front back : List Row) (unit : ℤ) (device : DeviceState) (m z : Bool)
     → Tells (front ++ Connects unit device m z ∷ back)
     → IsSome device.told
@@ -126,7 +130,7 @@ told-there (Offers name d ∷ front) back unit device m z tells = told-there fro
 told-there (Closed ∷ front) back unit device m z tells = told-there front back unit device m z tells
 
 -- no row is connected to the unit
-connected-none : (rows : List Row) (unit : ℤ) → is_connected unit rows ≡ false → connected_in rows unit ≡ None
+pub connected-none : (rows : List Row) (unit : ℤ) → is_connected unit rows ≡ false → connected_in rows unit ≡ None
 connected-none [] unit none = refl
 connected-none (Connects own device m z ∷ rest) unit none =
     chosen-false (int_eq own unit) (Some (unit_of device m z)) (connected_in rest unit)
@@ -393,3 +397,112 @@ back-means {T = T} unit b a result on tells =
         (now-is unit b a c.device' c.end_mark' c.zero_blanks
         (one_back c.end_mark (unit_of c.device c.end_mark c.zero_blanks)) c.now
         (by-mark x c.device c.device' c.end_mark c.end_mark' c.zero_blanks c.end_mark refl c.did))
+
+-- the record at the position of a device that tells
+record LineAt (records : List (List ℕ)) (position : ℕ) (P : List ℕ → Type 0) : Type 0 where
+  line : List ℕ
+  at : slice_get records position ≡ Some line
+  holds : P line
+
+line-in : (found : Option (List ℕ)) (P : List ℕ → Type 0) → IsSomeAnd found P → (line : List ℕ) × (found ≡ Some line) × P line
+line-in (Some line) P holds = (line, refl, holds)
+line-in None P holds = absurd holds
+
+line-at :
+    (told : Option (List (List ℕ))) (position : ℕ) (P : List ℕ → Type 0)
+    → IsSome told
+    → IfSome told (λ records. IsSomeAnd (slice_get records position) P)
+    → LineAt (unwrap_or told []) position P
+line-at (Some records) position P some holds =
+    let found : (line : List ℕ) × (slice_get records position ≡ Some line) × P line = line-in (slice_get records position) P holds
+    in record { line = found.0; at = found.1; holds = found.2 }
+line-at None position P some holds = absurd (cc)
+
+end-at :
+    (told : Option (List (List ℕ))) (position : ℕ)
+    → IsSome told
+    → IfSome told (λ records. length records ≤ position)
+    → slice_get (unwrap_or told []) position ≡ None
+end-at (Some records) position some past = slice_get_past records position past
+end-at None position some past = absurd (cc)
+
+abbrev ok_reading : Reading → Result Reading UnitRefusal
+ok_reading reading = Ok reading
+
+-- what reading finds, and the units after it
+read-is :
+    (unit : ℤ) (b a : List Row) (d d' : DeviceState) (m m' z : Bool) (found : Option (List ℕ))
+    → connected_in b unit ≡ Some (unit_of d m z)
+    → units_of a ≡ with_unit unit (Some (unit_of d' m' z)) (units_of b)
+    → slice_get (records_of d) d.position ≡ found
+    → behind found (unit_of d m z) ≡ unit_of d' m' z
+    → read_at unit (connected_in b unit) (units_of b) ≡ Ok (record { found = found; after = units_of a })
+read-is unit b a d d' m m' z found was now at state =
+    ap (λ (s : Option UnitState). read_at unit s (units_of b)) was
+    ∙ ap
+    (λ (f : Option (List ℕ)).
+    let r : Reading = record { found = f; after = with_unit unit (Some (behind f (unit_of d m z))) (units_of b) } in ok_reading r)
+    at
+    ∙ ap (λ (u : Units). let r : Reading = record { found = found; after = u } in ok_reading r)
+    (now-is unit b a d' m' z (behind found (unit_of d m z)) now state)
+
+-- reading means reading
+pub read-means :
+    (unit : ℤ) (b a : List Row) (old new : List ℕ) (result : Result Got UnitRefusal)
+    → OnUnit unit b a result (λ d m d' m'. ReadFrom d m d' m' old new result)
+    → Tells b
+    → MeansReading result (read_unit unit (units_of b)) a old new
+unfolding read_unit
+read-means unit b a old new result on tells =
+    record {
+      done = by-result result on;
+      missing = λ is. ap (λ (s : Option UnitState). read_at unit s (units_of b)) (connected-none b unit (on.refused.0 is));
+    }
+  where
+    changed : (got : Got) → OnUnit unit b a (let r : Result Got UnitRefusal = Ok got in r) (λ d m d' m'. ReadFrom d m d' m' old new (Ok got)) → Change unit b a (λ d m d' m'. ReadFrom d m d' m' old new (Ok got))
+    changed got there =
+        change unit b a (λ d m d' m'. ReadFrom d m d' m' old new (Ok got))
+        (on-there unit b a (Ok got) (λ d m d' m'. ReadFrom d m d' m' old new (Ok got)) there (ok-not NotConnected)) tells
+
+    moved : (d d' : DeviceState) (m m' z : Bool) → d'.told ≡ d.told → d'.position ≡ d.position + 1 → m' ≡ m → (line : List ℕ) → behind (Some line) (unit_of d m z) ≡ unit_of d' m' z
+    moved d d' m m' z told position mark line =
+        same-unit (records_of d) (records_of d') (d.position + 1) d'.position m m' z
+        (sym (ap (λ (o : Option (List (List ℕ))). unwrap_or o []) told)) (sym position) (sym mark)
+
+    by-result :
+        (answer : Result Got UnitRefusal)
+        → OnUnit unit b a answer (λ d m d' m'. ReadFrom d m d' m' old new answer)
+        → IfOk answer (λ got. ReadsAs got (read_at unit (connected_in b unit) (units_of b)) (units_of a) old new)
+    by-result (Err refused) there = tt
+    by-result (Ok got.Failed) there = tt
+    by-result (Ok (Line n)) there =
+        let c : Change unit b a (λ d m d' m'. ReadFrom d m d' m' old new (Ok (Line n))) = changed (Line n) there
+        in let l : LineAt (records_of c.device) c.device.position (λ line. (length line ≡ n) × (new ≡ line ++ drop n old)) =
+        line-at c.device.told c.device.position (λ line. (length line ≡ n) × (new ≡ line ++ drop n old)) c.tells
+        c.did.read.bytes
+        in record {
+          line = l.line;
+          is =
+              read-is unit b a c.device c.device' c.end_mark c.end_mark' c.zero_blanks (Some l.line) c.was c.now l.at
+              (moved c.device c.device' c.end_mark c.end_mark' c.zero_blanks c.did.read.told c.did.read.position c.did.mark l.line);
+          holds = l.holds;
+        }
+    by-result (Ok (Long n)) there =
+        let c : Change unit b a (λ d m d' m'. ReadFrom d m d' m' old new (Ok (Long n))) = changed (Long n) there
+        in let l : LineAt (records_of c.device) c.device.position (λ line. length line ≡ n) =
+        line-at c.device.told c.device.position (λ line. length line ≡ n) c.tells c.did.read.bytes
+        in record {
+          line = l.line;
+          is =
+              read-is unit b a c.device c.device' c.end_mark c.end_mark' c.zero_blanks (Some l.line) c.was c.now l.at
+              (moved c.device c.device' c.end_mark c.end_mark' c.zero_blanks c.did.read.told c.did.read.position c.did.mark l.line);
+          holds = (l.holds, c.did.read.longer);
+        }
+    by-result (Ok End) there =
+        let c : Change unit b a (λ d m d' m'. ReadFrom d m d' m' old new (Ok End)) = changed End there
+        in read-is unit b a c.device c.device' c.end_mark c.end_mark' c.zero_blanks None c.was c.now
+        (end-at c.device.told c.device.position c.tells c.did.read.at_end)
+        (same-unit (records_of c.device) (records_of c.device') c.device.position c.device'.position true c.end_mark'
+        c.zero_blanks
+        (sym (ap (λ (o : Option (List (List ℕ))). unwrap_or o []) c.did.read.told))
+        (sym c.did.read.position) (sym c.did.mark))

@@ -1,18 +1,17 @@
 -- Lemmas on the files of a shelf in memory.
-use Rattle.std.proofs.Common.{◌≡◌, ◌≢◌, ℕ, zero, suc, ◌+◌, ◌-◌, ◌<◌, ◌≤◌, List, [], ◌∷◌, ◌++◌, length, map, take, drop, get_or, set, min, Some, None, Option, option_map, Bool, true, false, refl, ap, sym, ◌∙◌, subst, arith, append_assoc, add-one, length-append}
+use Rattle.std.proofs.Common.{◌≡◌, ℕ, zero, suc, ◌+◌, ◌<◌, ◌≤◌, List, [], ◌∷◌, ◌++◌, length, map, take, get_or, set, min, Some, None, Option, option_map, Bool, true, false, refl, ap, sym, ◌∙◌, subst, arith, add-one, length-append}
 use Rattle.std.specs.Prelude.{if◌then◌else◌, bytes_eq, slice_get, Result, Ok, Err, OnErr}
-use Rattle.std.proofs.lemmas.List.{append-nil, map-append, map-set, take-append-drop, take-map, length-map, length-take}
-use Rattle.std.proofs.Math.Seq.{take-suc, take-suc-set, map-set_same, take-append_seam}
+use Rattle.std.proofs.lemmas.List.{map-append, length-map, length-take}
+use Rattle.std.proofs.Math.Seq.{take-suc, map-set_same}
 use Rattle.std.proofs.lemmas.Slice.Eq.{bytes_eq-Decides}
-use Rattle.std.proofs.lemmas.Option.{slice_get-map, slice_get_read, slice_get_past}
 use mathlib.Core.Path.{fun_ext}
-use Rattle.f2c_outside.specs.Shelf.{Contents, Active, Idle, Reads, Writes, with_file, begun, added, bytes_of, text_or_none, Lacks}
+use Rattle.f2c_outside.specs.Shelf.{Contents, Active, Idle, Reads, Writes, with_file, added, text_or_none}
 use Rattle.f2c_outside.specs.Memory.{Named, file_of, later_of, last_name, name_of, text_of, IsNewestAt, IsNewest, IsSourceOf, IsTargetOf, IsGrown, IsExtended, held}
 use Rattle.f2c_outside.specs.Entries.{named}
 use Rattle.f2c_outside.specs.declared.memory_shelf.Entry.{Entry}
 use Rattle.f2c_outside.specs.declared.memory_shelf.Opened.TheVariants as opened
 use Rattle.f2c_outside.specs.declared.shelves.Place.{Place}
-use Rattle.f2c_outside.specs.declared.shelves.Place.TheVariants.{Input, Output, Fault, File}
+use Rattle.f2c_outside.specs.declared.shelves.Place.TheVariants.{Input, File}
 use Rattle.f2c_outside.proofs.ShelfLaws.{with_file-at, with_file-twice}
 
 later-none : (text : Option (List ℕ)) → later_of None text ≡ text

@@ -1,12 +1,12 @@
 -- Laws on what a place holds once bytes have been put behind it: nothing changes nothing, and to append
 -- twice is to append once.
 use Rattle.std.proofs.Common.{◌≡◌, ◌≢◌, ℕ, List, [], ◌++◌, Some, None, Option, option_map, Bool, true, false, refl, ap, sym, ◌∙◌, append_assoc}
-use Rattle.std.specs.Prelude.{if◌then◌else◌, bytes_eq, Err, take, length}
-use Rattle.std.proofs.Common.{arith, ◌≤◌, ◌∷◌}
+use Rattle.std.specs.Prelude.{if◌then◌else◌, bytes_eq, Err, take}
+use Rattle.std.proofs.Common.{arith, ◌∷◌}
 use Rattle.std.proofs.lemmas.List.{append-nil}
 use Rattle.std.proofs.lemmas.Slice.Eq.{bytes_eq-Decides}
 use mathlib.Core.Path.{fun_ext}
-use Rattle.f2c_outside.specs.Shelf.{Contents, ShelfState, Put, IsPut, added, begun, with_file, bytes_of, text_or_none}
+use Rattle.f2c_outside.specs.Shelf.{Contents, ShelfState, Put, added, begun, with_file, bytes_of, text_or_none}
 use Rattle.f2c_outside.specs.declared.shelves.Place.{Place}
 use Rattle.f2c_outside.specs.declared.shelves.Place.TheVariants.{Input, Output, Fault, File}
 use Rattle.f2c_outside.specs.declared.shelves.ShelfFault.TheVariants.{Failed}

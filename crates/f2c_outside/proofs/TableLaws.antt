@@ -1,5 +1,5 @@
 -- Lemmas on the rows of a unit table.
-use Rattle.std.proofs.Common.{◌≡◌, ℕ, zero, suc, ◌+◌, ◌<◌, ◌≤◌, min, ℤ, Bool, true, false, not, ◌&&◌, ◌||◌, List, [], ◌∷◌, ◌++◌, length, map, take, drop, get_or, set, Option, Some, None, is_some, refl, ap, sym, ◌∙◌, subst, arith, add-one, append_assoc, length-append, ◌⊎◌, inl, inr}
+use Rattle.std.proofs.Common.{◌≡◌, ℕ, zero, suc, ◌<◌, ◌≤◌, min, ℤ, Bool, true, false, not, ◌&&◌, ◌||◌, List, [], ◌∷◌, ◌++◌, length, map, take, drop, get_or, set, Option, Some, None, is_some, refl, ap, sym, ◌∙◌, subst, arith, length-append, ◌⊎◌, inl, inr}
 use Rattle.std.specs.List.{list_any}
 use Rattle.std.specs.Ordering.{int_eq}
 use Rattle.std.proofs.lemmas.List.{map-append, length-take, append-nil}
@@ -614,7 +614,7 @@ opened {V = V} {H = H} state name unit zero_blanks rows n r r' x free is at beco
     in record {
       taken = (λ wrong. absurd (ok-err wrong), λ there. absurd (true-false (sym there ∙ free)));
       not_offered = (λ wrong. absurd (ok-err wrong), λ both. absurd (true-false (sym offered ∙ both.1)));
-      refused = λ _. (free, offered);
+      done = (λ _. (free, offered), λ _. refl);
       opened =
           record {
             front = map (shown state) is.front;
@@ -639,7 +639,7 @@ open-taken {T = T} state name unit zero_blanks rows there =
     record {
       taken = (λ _. there, λ _. refl);
       not_offered = (λ wrong. absurd (taken-not-offered {T = T} (Err Taken) refl wrong), λ both. absurd (true-false (sym there ∙ both.0)));
-      refused = λ wrong. absurd (true-false (sym wrong));
+      done = (λ wrong. absurd (true-false (sym wrong)), λ both. absurd (true-false (sym there ∙ both.0)));
       opened = tt;
       kept = refl;
     }
@@ -653,7 +653,7 @@ open-nothing {T = T} state name unit zero_blanks rows free none =
     record {
       taken = (λ wrong. absurd (taken-not-offered {T = T} (Err NotOffered) wrong refl), λ there. absurd (true-false (sym there ∙ free)));
       not_offered = (λ _. (free, any-name state name rows ∙ none), λ _. refl);
-      refused = λ wrong. absurd (true-false (sym wrong));
+      done = (λ wrong. absurd (true-false (sym wrong)), λ both. absurd (true-false (sym both.1 ∙ any-name state name rows ∙ none)));
       opened = tt;
       kept = refl;
     }

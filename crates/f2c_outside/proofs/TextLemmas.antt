@@ -1,6 +1,5 @@
 -- Lemmas on words that are counted from 1.
-use Rattle.std.proofs.Common.{◌≡◌, ℕ, zero, suc, ◌+◌, ◌-◌, ◌<◌, ◌≤◌, List, length, map, get_or, Some, None, option_map, refl, ap, sym, ◌∙◌, subst, arith, sub-one}
-use Rattle.std.specs.List.{slice_get}
+use Rattle.std.proofs.Common.{◌≡◌, ℕ, zero, suc, ◌-◌, ◌<◌, ◌≤◌, List, length, map, get_or, Some, None, option_map, refl, ap, ◌∙◌, arith, sub-one}
 use Rattle.std.proofs.lemmas.Option.{slice_get-map, slice_get_read, slice_get_past}
 use Rattle.f2c_outside.specs.Texts.{word_at}
 

@@ -3,6 +3,7 @@ pub mod Shelf
 pub mod Device
 pub mod Units
 pub mod Table
+pub mod Finishing
 pub mod Shown
 pub mod Rows
 pub mod Placing
@@ -10,5 +11,6 @@ pub mod Plan
 pub mod Memory
 pub mod Entries
 pub mod Host
+pub mod HostState
 pub mod Tape
 pub mod Meaning

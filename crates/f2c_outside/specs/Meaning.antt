@@ -1,12 +1,13 @@
 -- What the rows of a unit table mean as the state of the units, where every device tells its records
 -- (ANSI X3.9-1978, section 12).
-use Rattle.std.specs.Prelude.{◌≡◌, ℕ, ◌<◌, ℤ, Bool, List, [], ◌∷◌, ◌++◌, length, drop, Option, Some, None, Result, Ok, Err, IsSome, IsErrOf, IfOk, OnOk, if◌then◌else◌, unwrap_or}
+use Rattle.std.specs.Prelude.{◌≡◌, ℕ, ◌<◌, ℤ, Bool, List, [], ◌∷◌, ◌++◌, length, drop, Option, Some, None, Result, Ok, Err, IsSome, IsErrOf, IfOk, IfErr, OnOk, if◌then◌else◌, unwrap_or}
 use Rattle.std.specs.Ordering.{int_eq}
 use Rattle.f2c_outside.specs.Device.{DeviceState}
 use Rattle.f2c_outside.specs.Table.{Row, Offers, Connects, Closed}
-use Rattle.f2c_outside.specs.Units.{UnitState, Offered, Units, Reading}
+use Rattle.f2c_outside.specs.Units.{UnitState, Offered, Units, Reading, Closing}
 use Rattle.f2c_outside.specs.declared.devices.Got.{Got}
 use Rattle.f2c_outside.specs.declared.devices.Got.TheVariants.{Line, End, Long, Failed}
+use Rattle.f2c_outside.specs.declared.unit_table.Closed as declared
 use Rattle.f2c_outside.specs.declared.unit_table.UnitRefusal.{UnitRefusal}
 use Rattle.f2c_outside.specs.declared.unit_table.UnitRefusal.TheVariants as refusal
 
@@ -74,3 +75,13 @@ ReadsAs Failed reading after old new = Unit {0}
 pub record MeansReading (result : Result Got UnitRefusal) (reading : Result Reading UnitRefusal) (after : List Row) (old new : List ℕ) : Type 0 where
   pub done : IfOk result (λ got. ReadsAs got reading (units_of after) old new)
   pub missing : IsErrOf result refusal.NotConnected → reading ≡ Err refusal.NotConnected
+
+-- `open_unit` means the same as opening, also where it is refused
+pub record MeansOpening {T : Type 0} (result : Result T UnitRefusal) (opening : Result Units UnitRefusal) (after : List Row) : Type 0 where
+  pub done : OnOk result (opening ≡ Ok (units_of after))
+  pub refused : IfErr result (λ refused. opening ≡ Err refused)
+
+-- `close_unit` means the same as closing, unless the device failed
+pub record MeansClosing (result : Result declared.Closed UnitRefusal) (closing : Result Closing UnitRefusal) (after : List Row) : Type 0 where
+  pub done : IfOk result (λ closed. closing ≡ Ok (record { count = closed.records; after = units_of after }))
+  pub missing : IsErrOf result refusal.NotConnected → closing ≡ Err refusal.NotConnected

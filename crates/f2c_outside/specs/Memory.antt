@@ -1,5 +1,5 @@
 -- A shelf in memory.
-use Rattle.std.specs.Prelude.{◌≡◌, ℕ, ◌+◌, ◌<◌, ◌≤◌, ◌↔◌, List, [], ◌∷◌, ◌++◌, length, drop, Option, Some, None, Result, IsErrOf, IsTrue, if◌then◌else◌, bytes_eq, slice_get}
+use Rattle.std.specs.Prelude.{◌≡◌, ℕ, ◌+◌, ◌<◌, ◌≤◌, ◌↔◌, List, [], ◌∷◌, ◌++◌, length, Option, Some, None, Result, IsErrOf, IsTrue, if◌then◌else◌, bytes_eq, slice_get}
 use Rattle.f2c_outside.specs.Shelf.{Contents, Active, Idle, Reads, Writes, ShelfState, Rose, Lacks, bytes_of, begun, added}
 use Rattle.f2c_outside.specs.Plan.{Plan, next_fails, after_call}
 use Rattle.f2c_outside.specs.declared.shelves.Place.{Place}

@@ -1,5 +1,5 @@
 -- What comes back where a device is not placed in the table, and what a row becomes that is opened or closed.
-use Rattle.std.specs.Prelude.{◌≡◌, ℕ, ℤ, Bool, true, false, Option, Some, None}
+use Rattle.std.specs.Prelude.{◌≡◌, ℤ, Bool, true, false, Option, Some, None}
 use Rattle.std.specs.declared.alloc.Global.{Global}
 use Rattle.std.specs.declared.dyn_box.DynBox.{DynBox}
 use Rattle.f2c_outside.specs.declared.unit_table.Row.{Row}

@@ -2,7 +2,7 @@
 -- A shelf keeps the files of a translation or a run and its three streams. Where it tells what it holds,
 -- the contents before a call decide the contents after it; where it does not, only the count of faults
 -- and the active place are known.
-use Rattle.std.specs.Prelude.{◌≡◌, ℕ, ◌+◌, ◌-◌, ◌^◌, ◌<◌, ◌≤◌, ◌↔◌, List, [], ◌++◌, length, take, drop, Option, Some, None, option_map, Result, Bool, IsTrue, IsSome, IfSome, IfOk, OnOk, OnErr, IsErr, IsErrOf, if◌then◌else◌, bytes_eq}
+use Rattle.std.specs.Prelude.{◌≡◌, ℕ, ◌+◌, ◌^◌, ◌<◌, ◌≤◌, ◌↔◌, List, [], ◌++◌, length, take, drop, Option, Some, None, option_map, Result, Bool, IsTrue, IsSome, IfSome, IfOk, OnOk, OnErr, IsErr, IsErrOf, if◌then◌else◌, bytes_eq}
 use Rattle.f2c_outside.specs.declared.shelves.Place.{Place}
 use Rattle.f2c_outside.specs.declared.shelves.Place.TheVariants.{Input, Output, Fault, File}
 use Rattle.f2c_outside.specs.declared.shelves.ShelfFault.{ShelfFault}

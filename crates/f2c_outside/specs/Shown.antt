@@ -1,10 +1,11 @@
 -- The rows of a unit table as its contracts see them: a device is seen as its state.
-use Rattle.std.specs.Prelude.{ℕ, ℤ, Bool, false, true, not, ◌&&◌, List, [], ◌∷◌, bytes_eq}
+use Rattle.std.specs.Prelude.{ℕ, ℤ, Bool, false, true, not, ◌&&◌, List, [], ◌∷◌, Option, Some, bytes_eq, if◌then◌else◌}
 use Rattle.std.specs.List.{list_any}
 use Rattle.std.specs.Ordering.{int_eq}
 use Rattle.std.specs.declared.alloc.Global.{Global}
 use Rattle.std.specs.declared.dyn_box.DynBox.{DynBox}
 use Rattle.f2c_outside.specs.Device.{DeviceState}
+use Rattle.f2c_outside.specs.Finishing.{is_above, is_below}
 use Rattle.f2c_outside.specs.Table as table
 use Rattle.f2c_outside.specs.Table.{Offers, Connects, Closed}
 use Rattle.f2c_outside.specs.declared.unit_table.Row.{Row}
@@ -38,3 +39,9 @@ units_in (row.Closed ∷ rest) = units_in rest
 abbrev pub distinct_units : List ℤ → Bool
 distinct_units [] = true
 distinct_units (unit ∷ rest) = not (list_any (λ other. int_eq other unit) rest) && distinct_units rest
+
+-- the lesser of the least unit so far and that of a connected row, where it is above the last one
+abbrev pub next_in : {V : Type 0} {H : V → Type 0} → Option ℤ → Option ℤ → Row V H → Option ℤ
+next_in last least (row.Connected c) = if is_above last c.unit && is_below least c.unit then Some c.unit else least
+next_in last least (row.Offered name device) = least
+next_in last least row.Closed = least

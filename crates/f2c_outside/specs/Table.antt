@@ -143,7 +143,7 @@ pub record IsOpened (unit : ℤ) (name : List ℕ) (zero_blanks : Bool) (b a : L
 pub record OpenedUnit {T : Type 0} (unit : ℤ) (name : List ℕ) (zero_blanks : Bool) (b a : List Row) (result : Result T UnitRefusal) : Type 0 where
   pub taken : IsErrOf result refusal.Taken ↔ (is_connected unit b ≡ true)
   pub not_offered : IsErrOf result refusal.NotOffered ↔ ((is_connected unit b ≡ false) × (is_offered name b ≡ false))
-  pub refused : IsOk result → (is_connected unit b ≡ false) × (is_offered name b ≡ true)
+  pub done : IsOk result ↔ ((is_connected unit b ≡ false) × (is_offered name b ≡ true))
   pub opened : OnOk result (IsOpened unit name zero_blanks b a)
   pub kept : OnErr result (a ≡ b)
 

@@ -1,5 +1,5 @@
 -- A device in memory.
-use Rattle.std.specs.Prelude.{◌≡◌, ℕ, ◌+◌, ◌<◌, ◌≤◌, ◌↔◌, Bool, false, List, [], ◌∷◌, ◌++◌, length, drop, Some, IsTrue}
+use Rattle.std.specs.Prelude.{◌≡◌, ℕ, ◌+◌, ◌<◌, ◌≤◌, ◌↔◌, Bool, false, List, [], ◌++◌, length, drop, Some, IsTrue}
 use Rattle.f2c_outside.specs.Shelf.{Rose}
 use Rattle.f2c_outside.specs.Device.{DeviceState}
 use Rattle.f2c_outside.specs.Plan.{Plan, next_fails, after_call}

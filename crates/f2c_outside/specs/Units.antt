@@ -1,6 +1,6 @@
 -- The state of the external units as plain data, and what each input and output statement does to it
 -- (ANSI X3.9-1978, section 12).
-use Rattle.std.specs.Prelude.{◌≡◌, ℕ, ◌+◌, ◌-◌, ℤ, Bool, true, false, List, [], ◌∷◌, ◌++◌, length, take, Option, Some, None, is_some, option_map, Result, Ok, Err, slice_get, if◌then◌else◌, bytes_eq}
+use Rattle.std.specs.Prelude.{ℕ, ◌+◌, ◌-◌, ℤ, Bool, true, false, List, [], ◌∷◌, ◌++◌, length, take, Option, Some, None, is_some, Result, Ok, Err, slice_get, if◌then◌else◌, bytes_eq}
 use Rattle.std.specs.Ordering.{int_eq}
 use Rattle.f2c_outside.specs.declared.unit_table.UnitRefusal.{UnitRefusal}
 use Rattle.f2c_outside.specs.declared.unit_table.UnitRefusal.TheVariants.{NotConnected, NotOffered, Taken, PastEnd}
@@ -28,6 +28,17 @@ pub record Units : Type 0 where
 abbrev pub with_unit : ℤ → Option UnitState → Units → Units
 with_unit unit state units =
     record units { connected = λ asked. if int_eq asked unit then state else units.connected asked }
+
+-- a unit that is connected to a file before the program begins (12.3.2): it does not stand behind an endfile
+-- record, and blanks in a number are ignored
+abbrev pub preconnect : ℤ → List (List ℕ) → ℕ → Units → Units
+preconnect number records position units =
+    with_unit number (Some (record { records = records; position = position; end_mark = false; zero_blanks = false })) units
+
+-- one more file that exists for the program (12.2.1), behind the others
+abbrev pub put_in_drawer : List ℕ → List (List ℕ) → ℕ → Units → Units
+put_in_drawer name records position units =
+    record units { drawer = units.drawer ++ record { name = name; records = records; position = position } ∷ [] }
 
 abbrev pub is_connected : ℤ → Units → Bool
 is_connected unit units = is_some (units.connected unit)

@@ -3,6 +3,8 @@
 #![tactic(auto)]
 
 pub mod devices;
+pub mod host_devices;
+pub mod host_file;
 pub mod host_shelf;
 pub mod memory_device;
 pub mod memory_shelf;

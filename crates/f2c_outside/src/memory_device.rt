@@ -165,7 +165,7 @@ impl Device for MemoryDevice {
 }
 
 /// Hands out a record: into the front of the slice where it fits.
-fn give(line: &[u8], into: &mut [u8]) -> Got
+pub(crate) fn give(line: &[u8], into: &mut [u8]) -> Got
     ensures { Gives result line.now into.old into.new }
 {
     let count = line.len();

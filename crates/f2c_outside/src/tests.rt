@@ -1,50 +1,49 @@
-//! What no clause says: that each call succeeds with ample memory, and what real files hold.
+//! What no clause says: that each call succeeds with ample memory, when a device is dropped, and what
+//! real files hold.
 
-use crate::devices::Got;
+ghost use Rattle.f2c_outside.specs.Tape.{tape_state};
+ghost use Rattle.f2c_outside.specs.Shelf.{IsSource, IsTarget};
+
+use crate::devices::{Device, DeviceFault, Got};
+use crate::host_devices::{HostInput, HostOutput};
+use crate::host_file::HostFile;
 use crate::host_shelf::HostShelf;
 use crate::memory_device::MemoryDevice;
 use crate::memory_shelf::MemoryShelf;
 use crate::shelves::{Place, Shelf, ShelfFault};
-use crate::texts::{Name, NameFail, Words};
-use crate::unit_table::{Closed, UnitTable};
+use crate::texts::{Name, Words};
+use crate::unit_table::{Closed, NotPlaced, UnitFault, UnitRefusal, UnitTable};
+use std::alloc::Global;
 use std::fs;
+use std::process::Abort;
+use std::rc::Rc;
 use std::test::Fail;
 
 #[test]
-fn words_are_counted_from_one(rt: HostRuntime) -> Result<(), Fail> {
+fn words_and_names_are_made(rt: HostRuntime) -> Result<(), Fail> {
     let mut words = Words::new(rt.alloc())?;
-    words.push(b"-run")?;
     words.push(b"add.f")?;
-    assert_eq!(rt; words.len(), 2);
-    assert!(rt; words.get(0).is_none());
-    assert!(rt; words.get(1) == Some(b"-run".as_slice()));
-    assert!(rt; words.get(2) == Some(b"add.f".as_slice()));
-    assert!(rt; words.get(3).is_none());
-    Ok(())
-}
-
-#[test]
-fn names_have_1_to_255_bytes(rt: HostRuntime) -> Result<(), Fail> {
-    let long = [b'x'; 256];
-    let name = Name::new(rt.alloc(), &long[..255])?;
-    assert_eq!(rt; name.as_bytes().len(), 255);
-    assert!(rt; matches!(Name::new(rt.alloc(), &long), Err(NameFail::BadName)));
-    assert!(rt; matches!(Name::new(rt.alloc(), b""), Err(NameFail::BadName)));
-    let copy = name.copy(rt.alloc())?;
-    let place = Place::File(copy).copy(rt.alloc())?;
+    assert_eq!(rt; words.len(), 1);
+    assert!(rt; words.get(1) == Some(b"add.f".as_slice()));
+    let name = Name::new(rt.alloc(), b"add.f")?;
+    let place = Place::File(name.copy(rt.alloc())?).copy(rt.alloc())?;
     assert!(rt; matches!(place, Place::File(_)));
     Ok(())
 }
 
-#[test]
-fn a_memory_shelf_gives_its_input(rt: HostRuntime) -> Result<(), Fail> {
-    let mut shelf = MemoryShelf::new(rt.alloc())?;
-    shelf.set_input(b"END\n")?;
-    let mut into = [0u8; 9];
-    shelf.start_read(&Place::Input)?;
-    assert_eq!(rt; shelf.take(&mut into)?, 4);
-    assert!(rt; into[..4] == b"END\n"[..]);
-    Ok(())
+/// Reads from the start of a place and takes up to four bytes, and says whether they are these.
+fn gives<S: Shelf>(shelf: &mut S, place: &Place, bytes: &[u8; 4]) -> bool
+    requires { IsSource place.now }
+{
+    let mut into = [0u8; 4];
+    shelf.start_read(place).is_ok() && shelf.take(&mut into) == Ok(4) && into == *bytes
+}
+
+/// Puts four bytes on a place, and says whether no call failed.
+fn holds<S: Shelf>(shelf: &mut S, place: &Place, bytes: &[u8; 4]) -> bool
+    requires { IsTarget place.now }
+{
+    shelf.start_write(place).is_ok() && shelf.put(bytes) == Ok(4) && shelf.stop() == Ok(())
 }
 
 #[test]
@@ -52,45 +51,18 @@ fn a_memory_shelf_holds_what_was_put(rt: HostRuntime) -> Result<(), Fail> {
     let mut shelf = MemoryShelf::new(rt.alloc())?;
     let name = Name::new(rt.alloc(), b"add.f")?;
     let place = Place::File(name.copy(rt.alloc())?);
-    shelf.start_write(&place)?;
-    let put = shelf.put(b"I=2")?;
-    shelf.stop()?;
-    assert_eq!(rt; put, 3);
-    assert!(rt; shelf.is_there(&name)?);
-    assert!(rt; shelf.file(&name) == Some(b"I=2".as_slice()));
-    Ok(())
-}
-
-#[test]
-fn a_memory_shelf_keeps_its_streams(rt: HostRuntime) -> Result<(), Fail> {
-    let mut shelf = MemoryShelf::new(rt.alloc())?;
-    shelf.start_write(&Place::Output)?;
-    shelf.put(b"O")?;
-    shelf.start_write(&Place::Fault)?;
-    shelf.put(b"F")?;
-    assert!(rt; shelf.output() == b"O".as_slice());
-    assert!(rt; shelf.fault_text() == b"F".as_slice());
-    Ok(())
-}
-
-#[test]
-fn a_memory_shelf_takes_files(rt: HostRuntime) -> Result<(), Fail> {
-    let mut shelf = MemoryShelf::new(rt.alloc())?;
-    let name = Name::new(rt.alloc(), b"add.f")?;
-    let place = Place::File(name.copy(rt.alloc())?);
-    assert!(rt; shelf.start_read(&place) == Err(ShelfFault::Missing));
-    shelf.set_file(name, b"END")?;
-    assert!(rt; shelf.start_read(&place) == Ok(()));
-    Ok(())
-}
-
-#[test]
-fn a_memory_shelf_fails_at_the_planned_calls(rt: HostRuntime) -> Result<(), Fail> {
-    let mut shelf = MemoryShelf::new(rt.alloc())?;
-    shelf.fail_at(2)?;
-    assert!(rt; shelf.stop() == Ok(()));
-    assert!(rt; shelf.stop() == Err(ShelfFault::Failed));
-    assert!(rt; shelf.stop() == Ok(()));
+    shelf.set_file(name.copy(rt.alloc())?, b"END\n")?;
+    shelf.set_input(b"I=2\n")?;
+    shelf.fail_at(99)?;
+    assert!(rt; gives(&mut shelf, &place, b"END\n"));
+    assert!(rt; gives(&mut shelf, &Place::Input, b"I=2\n"));
+    assert!(rt; holds(&mut shelf, &place, b"I=3\n"));
+    assert!(rt; holds(&mut shelf, &Place::Output, b"OUT\n"));
+    assert!(rt; holds(&mut shelf, &Place::Fault, b"BAD\n"));
+    assert!(rt; shelf.is_there(&name) == Ok(true));
+    assert!(rt; shelf.file(&name) == Some(b"I=3\n".as_slice()));
+    assert!(rt; shelf.output() == b"OUT\n".as_slice());
+    assert!(rt; shelf.fault_text() == b"BAD\n".as_slice());
     Ok(())
 }
 
@@ -99,16 +71,10 @@ fn real_files_hold_what_was_put(rt: HostRuntime) -> Result<(), Fail> {
     let mut shelf = HostShelf::new(rt.alloc(), rt, rt.stderr());
     let name = Name::new(rt.alloc(), b"shelf_test.txt")?;
     let place = Place::File(name.copy(rt.alloc())?);
-    shelf.start_write(&place)?;
-    let put = shelf.put(b"A\0\nB")?;
-    shelf.stop()?;
-    assert_eq!(rt; put, 4);
-    assert!(rt; fs::read(&rt, "shelf_test.txt")?.as_slice() == b"A\0\nB".as_slice());
-    shelf.start_read(&place)?;
-    let mut into = [0u8; 9];
-    assert!(rt; shelf.take(&mut into) == Ok(4));
-    assert!(rt; into[..4] == b"A\0\nB"[..]);
-    assert!(rt; shelf.take(&mut into) == Ok(0));
+    assert!(rt; holds(&mut shelf, &place, b"A\0\nB"));
+    assert!(rt; file_holds(&rt, "shelf_test.txt", b"A\0\nB"));
+    assert!(rt; gives(&mut shelf, &place, b"A\0\nB"));
+    assert!(rt; shelf.take(&mut [0u8; 4]) == Ok(0));
     assert!(rt; shelf.is_there(&name) == Ok(true));
     fs::remove_file(&rt, "shelf_test.txt")?;
     assert!(rt; shelf.is_there(&name) == Ok(false));
@@ -116,27 +82,244 @@ fn real_files_hold_what_was_put(rt: HostRuntime) -> Result<(), Fail> {
     Ok(())
 }
 
+/// Whether a real file has these bytes.
+fn file_holds(rt: &HostRuntime, path: &str, bytes: &[u8]) -> bool {
+    match fs::read(rt, path) {
+        Ok(read) => read.as_slice() == bytes,
+        Err(_) => false,
+    }
+}
+
+/// Calls of a unit, each of which calls its device once: which of them failed.
+fn failed_calls(table: &mut UnitTable) -> [bool; 6] {
+    let mut into = [0u8; 4];
+    [
+        table.rewind_unit(3) == Err(UnitRefusal::Failed),
+        table.read_from(3, &mut into) == Err(UnitRefusal::Failed),
+        table.back_unit(3) == Err(UnitRefusal::Failed),
+        table.write_to(3, b"TWO") == Err(UnitRefusal::Failed),
+        table.end_unit(3) == Err(UnitRefusal::Failed),
+        table.close_unit(3) == Err(UnitRefusal::Failed),
+    ]
+}
+
 #[test]
-fn a_unit_is_written_and_closed(rt: HostRuntime) -> Result<(), Fail> {
-    let device = MemoryDevice::new(rt.alloc())?;
+fn each_failing_device_call_is_told(rt: HostRuntime) -> Result<(), Fail> {
+    for call in 0..7u8 {
+        let mut device = MemoryDevice::new(rt.alloc())?;
+        device.add(b"ONE")?;
+        device.fail_at(u64::from(call))?;
+        let mut table = UnitTable::new(rt.alloc())?;
+        assert!(rt; table.connect(3, Box::new(rt.alloc(), device)?).is_ok());
+        let wanted = [1u8, 2, 3, 4, 5, 6].map(|number| number == call);
+        assert_eq!(rt; failed_calls(&mut table), wanted, "call {call}");
+    }
+    Ok(())
+}
+
+/// A device in memory that holds a token, so that the token tells whether the device was dropped.
+#[derive(Drop)]
+struct Counted {
+    device: MemoryDevice,
+    token: Rc<u8>,
+}
+
+impl Device for Counted {
+    ghost device_state = { λ d. tape_state d.device };
+
+    fn read_record(&mut self, into: &mut [u8]) -> Got {
+        self.device.read_record(into)
+    }
+
+    fn write_record(&mut self, bytes: &[u8]) -> Result<(), DeviceFault> {
+        self.device.write_record(bytes)
+    }
+
+    fn back(&mut self) -> Result<(), DeviceFault> {
+        self.device.back()
+    }
+
+    fn rewind(&mut self) -> Result<(), DeviceFault> {
+        self.device.rewind()
+    }
+
+    fn end_file(&mut self) -> Result<(), DeviceFault> {
+        self.device.end_file()
+    }
+
+    fn finish(&mut self) -> Result<u64, DeviceFault> {
+        self.device.finish()
+    }
+}
+
+/// A device with the token, the call of which with this number fails.
+fn token_device(alloc: Global, token: &Rc<u8>, fails: u64) -> Result<Box<Counted>, Fail> {
+    let mut device = MemoryDevice::new(alloc)?;
+    device.fail_at(fails)?;
+    let token = Rc::clone(token)?;
+    Ok(Box::new(alloc, Counted { device, token })?)
+}
+
+#[test]
+fn a_unit_is_connected_and_closed_once(rt: HostRuntime) -> Result<(), Fail> {
+    let token = Rc::new(rt.alloc(), 0u8)?;
     let mut table = UnitTable::new(rt.alloc())?;
-    assert!(rt; table.connect(3, Box::new(rt.alloc(), device)?).is_ok());
-    assert!(rt; table.write_to(3, b"A").is_ok());
-    assert!(rt; table.close_unit(3) == Ok(Closed { records: 1 }));
-    assert!(rt; !table.is_connected(3));
+    assert!(rt;
+        table
+            .connect(3, token_device(rt.alloc(), &token, 0)?)
+            .is_ok()
+    );
+    let refused = table.connect(3, token_device(rt.alloc(), &token, 0)?);
+    assert!(rt; matches!(&refused, Err(NotPlaced::Taken(_))));
+    assert_eq!(rt; Rc::strong_count(&token), 3);
+    assert!(rt; table.write_to(3, b"A") == Ok(()) && table.write_to(3, b"B") == Ok(()));
+    assert!(rt; table.close_unit(3) == Ok(Closed { records: 2 }));
+    assert_eq!(rt; Rc::strong_count(&token), 2);
+    assert!(rt; table.close_unit(3) == Err(UnitRefusal::NotConnected));
     Ok(())
 }
 
 #[test]
-fn a_unit_is_opened_and_read(rt: HostRuntime) -> Result<(), Fail> {
-    let mut device = MemoryDevice::new(rt.alloc())?;
-    device.add(b"ONE")?;
+fn a_failing_finish_keeps_the_device(rt: HostRuntime) -> Result<(), Fail> {
+    let token = Rc::new(rt.alloc(), 0u8)?;
     let mut table = UnitTable::new(rt.alloc())?;
     let name = Name::new(rt.alloc(), b"D")?;
-    assert!(rt; table.offer(name, Box::new(rt.alloc(), device)?).is_ok());
-    assert!(rt; table.open_unit(4, b"D", true).is_ok());
-    let mut into = [0u8; 4];
-    assert!(rt; table.read_from(4, &mut into) == Ok(Got::Line(3)));
-    assert!(rt; into[..3] == b"ONE"[..]);
+    assert!(rt;
+        table
+            .offer(name, token_device(rt.alloc(), &token, 1)?)
+            .is_ok()
+    );
+    assert!(rt;
+        table
+            .connect(7, token_device(rt.alloc(), &token, 0)?)
+            .is_ok()
+    );
+    assert!(rt;
+        table
+            .connect(-3, token_device(rt.alloc(), &token, 1)?)
+            .is_ok()
+    );
+    assert!(rt; table.finish_all() == Err(UnitFault { unit: -3 }));
+    assert!(rt; table.finish_all() == Ok(()));
+    assert!(rt; table.open_unit(4, b"D", true) == Ok(()) && table.zero_blanks(4));
+    assert!(rt; table.close_unit(4) == Err(UnitRefusal::Failed));
+    assert!(rt; table.is_connected(4) && Rc::strong_count(&token) == 4);
+    assert!(rt; table.close_unit(4) == Ok(Closed { records: 0 }));
+    assert_eq!(rt; Rc::strong_count(&token), 3);
+    drop(table);
+    assert_eq!(rt; Rc::strong_count(&token), 1);
+    Ok(())
+}
+
+/// A call of a device that is to succeed.
+#[derive(Clone, Copy)]
+enum Step<'a> {
+    /// It reads this record.
+    Read(&'a [u8]),
+    /// It reads into four bytes a record of more, so many.
+    Long(usize),
+    /// It reads at the end.
+    End,
+    /// It writes this record.
+    Write(&'a [u8]),
+    /// It goes back.
+    Back,
+    /// It goes before the first record.
+    Rewind,
+    /// It cuts off the records from the position on.
+    Cut,
+    /// It finds so many records where it finishes.
+    Finish(u64),
+}
+
+/// Whether the call of a step does as the step says.
+fn does<D: Device>(device: &mut D, step: &Step) -> bool {
+    let mut into = [0u8; 5000];
+    match step {
+        Step::Read(line) => {
+            device.read_record(&mut into) == Got::Line(line.len()) && into.starts_with(line)
+        }
+        Step::Long(count) => device.read_record(&mut into[..4]) == Got::Long(*count),
+        Step::End => device.read_record(&mut into) == Got::End,
+        Step::Write(line) => device.write_record(line) == Ok(()),
+        Step::Back => device.back() == Ok(()),
+        Step::Rewind => device.rewind() == Ok(()),
+        Step::Cut => device.end_file() == Ok(()),
+        Step::Finish(records) => device.finish() == Ok(*records),
+    }
+}
+
+/// Calls a device as the steps say.
+fn run_steps<D: Device>(rt: &impl Abort, device: &mut D, steps: &[Step]) {
+    for (number, step) in steps.iter().enumerate() {
+        assert!(rt; does(device, step), "step {number}");
+    }
+}
+
+#[test]
+fn a_real_file_holds_what_was_written(rt: HostRuntime) -> Result<(), Fail> {
+    use Step::{Back, Cut, End, Finish, Long, Read, Rewind, Write};
+    let path = "file_test.txt";
+    let long = [b'x'; 5000];
+    let mut device = HostFile::new(rt.alloc(), rt, Name::new(rt.alloc(), path.as_bytes())?);
+    assert!(rt;
+        fs::read(&rt, path).is_err(),
+        "it is opened at the first call"
+    );
+    fs::write(&rt, path, b"ONE\n\nTHREE".as_slice())?;
+    run_steps(
+        &rt,
+        &mut device,
+        &[
+            Finish(3),
+            Read(b"ONE"),
+            Read(b""),
+            Long(5),
+            End,
+            Write(b"FOUR"),
+        ],
+    );
+    assert!(rt; file_holds(&rt, path, b"ONE\n\nTHREE\nFOUR\n"));
+    run_steps(
+        &rt,
+        &mut device,
+        &[Back, Back, Back, Write(b"2"), Finish(2)],
+    );
+    assert!(rt; file_holds(&rt, path, b"ONE\n2\n"));
+    run_steps(&rt, &mut device, &[Rewind, Read(b"ONE"), Cut, Finish(1)]);
+    assert!(rt; file_holds(&rt, path, b"ONE\n"));
+    run_steps(
+        &rt,
+        &mut device,
+        &[
+            Write(&long),
+            Write(b"END"),
+            Back,
+            Back,
+            Read(&long),
+            Read(b"END"),
+        ],
+    );
+    fs::remove_file(&rt, path)?;
+    Ok(())
+}
+
+#[test]
+fn a_stream_takes_and_gives_records(rt: HostRuntime) -> Result<(), Fail> {
+    use Step::{Back, End, Finish, Long, Read, Rewind, Write};
+    let path = "stream_test.txt";
+    let mut output = HostOutput::new(fs::create(&rt, path)?);
+    run_steps(&rt, &mut output, &[Write(b"ONE"), Write(b""), Finish(2)]);
+    assert!(rt; !does(&mut output, &Back));
+    assert!(rt; file_holds(&rt, path, b"ONE\n\n"));
+    fs::write(&rt, path, b"ONE\n\nTHREE".as_slice())?;
+    let mut input = HostInput::new(rt.alloc(), fs::open(&rt, path)?);
+    run_steps(
+        &rt,
+        &mut input,
+        &[Read(b"ONE"), Read(b""), Long(5), End, Finish(3)],
+    );
+    assert!(rt; !does(&mut input, &Rewind));
+    fs::remove_file(&rt, path)?;
     Ok(())
 }

@@ -1,16 +1,18 @@
 //! The table of the external units (ANSI X3.9-1978, section 12).
 
 ghost use Rattle.std.specs.Prelude.{◌≡◌, ◌<◌, ◌++◌, ◌∷◌, [], true, false, length, map, IsTrue, IsSome, Some, IfOk, IfErr, OnOk, OnErr};
-ghost use Rattle.f2c_outside.specs.Shown.{shown, holds_unit, holds_name, units_in, distinct_units};
+ghost use Rattle.f2c_outside.specs.Shown.{shown, holds_unit, holds_name, units_in, distinct_units, next_in};
+ghost use Rattle.f2c_outside.specs.Finishing.{FinishedAll, IsNext, is_above, is_below};
 ghost use Rattle.f2c_outside.specs.Placing.{ComesBack, device_in, zeros_in, BecomesConnected};
 ghost use Rattle.f2c_outside.specs.Units as units;
-ghost use Rattle.f2c_outside.specs.Meaning.{Tells, Means, units_of};
+ghost use Rattle.f2c_outside.specs.Meaning.{Tells, Means, MeansReading, MeansOpening, MeansClosing, units_of, records_of};
 ghost use Rattle.f2c_outside.specs.Table.{Offers, Connects, FinishedOn, OnClosedRow, OpenedUnit, ClosedUnit, reads_zeros, ReadFrom, WrittenTo, BackOn, RewoundOn, EndedOn, OnRow, OnUnit, IsFirst, is_connected};
 
 use crate::devices::{Device, Got};
 use crate::texts::{Name, NoMemory};
 use std::alloc::Global;
 use std::mem;
+use thiserror::Error;
 
 /// A unit that is connected to a device.
 #[derive(Drop)]
@@ -53,6 +55,19 @@ impl Row {
         }
     }
 
+    /// The lesser of `least` and the unit of the row, where it is above `last`.
+    fn next(&self, last: Option<i32>, least: Option<i32>) -> Option<i32>
+        ensures { result ≡ next_in last least self.now }
+    {
+        match self {
+            Row::Connected(connection)
+                if is_above(connection.unit, last) && is_below(connection.unit, least) => {
+                Some(connection.unit)
+            }
+            _ => least,
+        }
+    }
+
     /// Whether the row is offered under this name.
     fn has_name(&self, name: &[u8]) -> bool
         ensures { result ≡ holds_name name.now self.now }
@@ -81,6 +96,31 @@ fn device_of(row: Row) -> Box<dyn Device>
         ) => device,
         Row::Closed => unreachable!(),
     }
+}
+
+/// Whether a unit is above the last one, where there is one.
+fn is_above(unit: i32, last: Option<i32>) -> bool
+    ensures { result ≡ is_above last unit }
+{
+    last.is_none_or(|last| last < unit)
+}
+
+/// Whether a unit is below the least one so far, where there is one.
+fn is_below(unit: i32, least: Option<i32>) -> bool
+    ensures { result ≡ is_below least unit }
+{
+    least.is_none_or(|least| unit < least)
+}
+
+/// The least connected unit above the last one.
+fn next_unit(rows: &[Row], last: Option<i32>) -> Option<i32>
+    ensures { IsNext last (units_in rows.now) result }
+{
+    let mut least = None;
+    for row in rows {
+        least = row.next(last, least);
+    }
+    least
 }
 
 /// The number of the row of this unit.
@@ -361,14 +401,16 @@ impl UnitTable {
 
     /// Whether the unit is connected.
     pub fn is_connected(&self, unit: i32) -> bool
-        ensures { result ≡ is_connected unit (rows_of (λ b. device_state b) self.now) }
+        ensures is { result ≡ is_connected unit (rows_of (λ b. device_state b) self.now) }
+        ensures means { result ≡ units.is_connected unit (units_of (rows_of (λ b. device_state b) self.now)) }
     {
         row_of(self.rows.as_slice(), unit).is_some()
     }
 
     /// Whether blanks in a number are read as zeros on this unit; false where it is not connected.
     pub fn zero_blanks(&self, unit: i32) -> bool
-        ensures { result ≡ reads_zeros unit (rows_of (λ b. device_state b) self.now) }
+        ensures is { result ≡ reads_zeros unit (rows_of (λ b. device_state b) self.now) }
+        ensures means { result ≡ units.reads_zero_blanks unit (units_of (rows_of (λ b. device_state b) self.now)) }
     {
         match row_of(self.rows.as_slice(), unit) {
             Some(number) => self.rows[number].reads_zeros(),
@@ -384,6 +426,8 @@ impl UnitTable {
         ensures free { OnOk result (is_connected unit (rows_of (λ b. device_state b) self.old) ≡ false) }
         ensures kept { OnErr result (rows_of (λ b. device_state b) self.new ≡ rows_of (λ b. device_state b) self.old) }
         ensures refused { IfErr result (ComesBack (is_connected unit (rows_of (λ b. device_state b) self.old)) device) }
+        ensures means { OnOk result (units_of (rows_of (λ b. device_state b) self.new)
+            ≡ units.preconnect unit (records_of (device_state device)) (device_state device).position (units_of (rows_of (λ b. device_state b) self.old))) }
     {
         if self.is_connected(unit) {
             return Err(NotPlaced::Taken(device));
@@ -407,6 +451,8 @@ impl UnitTable {
             ≡ rows_of (λ b. device_state b) self.old ++ Offers name (device_state device) ∷ []) }
         ensures kept { OnErr result (rows_of (λ b. device_state b) self.new ≡ rows_of (λ b. device_state b) self.old) }
         ensures refused { IfErr result (ComesBack false device) }
+        ensures means { OnOk result (units_of (rows_of (λ b. device_state b) self.new)
+            ≡ units.put_in_drawer name (records_of (device_state device)) (device_state device).position (units_of (rows_of (λ b. device_state b) self.old))) }
     {
         match self.rows.push(Row::Offered { name, device }) {
             Ok(()) => Ok(()),
@@ -423,7 +469,9 @@ impl UnitTable {
         name: &[u8],
         zero_blanks: bool,
     ) -> Result<(), UnitRefusal>
-        ensures { OpenedUnit unit name.now zero_blanks (rows_of (λ b. device_state b) self.old) (rows_of (λ b. device_state b) self.new) result }
+        ensures did { OpenedUnit unit name.now zero_blanks (rows_of (λ b. device_state b) self.old) (rows_of (λ b. device_state b) self.new) result }
+        ensures means { MeansOpening result (units.open_unit unit name.now zero_blanks (units_of (rows_of (λ b. device_state b) self.old)))
+            (rows_of (λ b. device_state b) self.new) }
     {
         if self.is_connected(unit) {
             return Err(UnitRefusal::Taken);
@@ -441,7 +489,9 @@ impl UnitTable {
     /// `NotConnected` comes exactly where the unit is not connected, `Failed` only where its device
     /// failed; then the unit is still connected and keeps its device.
     pub fn close_unit(&mut self, unit: i32) -> Result<Closed, UnitRefusal>
-        ensures { ClosedUnit unit (rows_of (λ b. device_state b) self.old) (rows_of (λ b. device_state b) self.new) result }
+        ensures did { ClosedUnit unit (rows_of (λ b. device_state b) self.old) (rows_of (λ b. device_state b) self.new) result }
+        ensures means { Tells (rows_of (λ b. device_state b) self.old)
+            → MeansClosing result (units.close_unit unit (units_of (rows_of (λ b. device_state b) self.old))) (rows_of (λ b. device_state b) self.new) }
     {
         match row_of(self.rows.as_slice(), unit) {
             Some(number) => close_row(&mut self.rows[number]),
@@ -449,11 +499,41 @@ impl UnitTable {
         }
     }
 
+    /// Finishes the device of a unit, and answers how many records it has. The unit stays connected.
+    fn finish_unit(&mut self, unit: i32) -> Result<u64, UnitRefusal>
+        ensures { OnUnit unit (rows_of (λ b. device_state b) self.old) (rows_of (λ b. device_state b) self.new) result
+            (λ d m d' m'. FinishedOn d m d' m' result) }
+    {
+        match row_of(self.rows.as_slice(), unit) {
+            Some(number) => finish_row(&mut self.rows[number]),
+            None => Err(UnitRefusal::NotConnected),
+        }
+    }
+
+    /// Finishes the device of each connected unit, in ascending order. The units stay connected.
+    /// The first unit whose device fails is answered, and those above it are not reached.
+    pub fn finish_all(&mut self) -> Result<(), UnitFault>
+        ensures did { FinishedAll (rows_of (λ b. device_state b) self.old) (rows_of (λ b. device_state b) self.new) result }
+        ensures means { units_of (rows_of (λ b. device_state b) self.new) ≡ units_of (rows_of (λ b. device_state b) self.old) }
+    {
+        let mut last = None;
+        while let Some(unit) = next_unit(self.rows.as_slice(), last) {
+            match self.finish_unit(unit) {
+                Ok(_) => last = Some(unit),
+                Err(_) => return Err(UnitFault { unit }),
+            }
+        }
+        Ok(())
+    }
+
     /// Reads the next record of a unit into the front of `into`, and sets the end mark at the end.
     /// `NotConnected` comes exactly where the unit is not connected, `Failed` only where its device failed.
     pub fn read_from(&mut self, unit: i32, into: &mut [u8]) -> Result<Got, UnitRefusal>
-        ensures { OnUnit unit (rows_of (λ b. device_state b) self.old) (rows_of (λ b. device_state b) self.new) result
+        ensures did { OnUnit unit (rows_of (λ b. device_state b) self.old) (rows_of (λ b. device_state b) self.new) result
             (λ d m d' m'. ReadFrom d m d' m' into.old into.new result) }
+        ensures means { Tells (rows_of (λ b. device_state b) self.old)
+            → MeansReading result (units.read_unit unit (units_of (rows_of (λ b. device_state b) self.old))) (rows_of (λ b. device_state b) self.new)
+            into.old into.new }
     {
         match row_of(self.rows.as_slice(), unit) {
             Some(number) => read_row(&mut self.rows[number], into),
@@ -524,6 +604,14 @@ impl UnitTable {
 pub struct Closed {
     /// How many records the file has.
     pub records: u64,
+}
+
+/// The first unit whose device failed where all were to be finished.
+#[derive(Clone, Copy, Debug, PartialEq, Eq, Error)]
+#[error("unit {unit}: device fault")]
+pub struct UnitFault {
+    /// The unit.
+    pub unit: i32,
 }
 
 /// Why a device was not placed in the table. It comes back in the answer.

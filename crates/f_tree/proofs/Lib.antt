@@ -3,7 +3,11 @@ pub mod CutLemmas
 pub mod FoldLaws
 pub mod LineLemmas
 pub mod LongFileLemmas
+pub mod MeantLemmas
 pub mod RefusalLemmas
+pub mod SettingChecks
+pub mod SettingExamples
 pub mod SettingLaws
 pub mod SpellingLemmas
+pub mod StatementLemmas
 pub mod SyntaxExamples

@@ -8,6 +8,18 @@ use Rattle.f_tree.specs.Facts.{Home, Member, Block, Tie, ProgramUnit}
 use Rattle.f_tree.specs.Setting.{Setting, IsSetting, IsIn, first_in, later_in, Spoken, AreTied, itself, back, along, by_block, by_equivalence, HasUnit, StandsAt, unit_home, home_among, homes_at, all_homes, IsNumbered, none_left, is_next}
 use Rattle.f_tree.specs.Runs.{homes_apart, all_homes_apart, all_sizes, setting_apart}
 
+-- a home that is found is that of the name, or is found later
+home_found_if : (P : Bytes → Home → Type 0) (y x : Bytes) (i h : Home) (rest : Option Home) (b : Bool) → bytes_eq y x ≡ b →
+    cond b (Some i) rest ≡ Some h → P y i → (rest ≡ Some h → P x h) → P x h
+home_found_if P y x i h rest true t e own later =
+    let q : i ≡ h = cc in
+    subst (λ z. P x z) q (subst (λ z. P z i) ((bytes_eq-Decides y x).0 t) own)
+home_found_if P y x i h rest false t e own later = later e
+
+pub home_found : (P : Bytes → Home → Type 0) (y x : Bytes) (i h : Home) (rest : Option Home) → cond (bytes_eq y x) (Some i) rest ≡ Some h →
+    P y i → (rest ≡ Some h → P x h) → P x h
+home_found P y x i h rest e own later = home_found_if P y x i h rest (bytes_eq y x) refl e own later
+
 -- no name stands twice
 pub data Distinct : List Member → Type 0 where
   none : Distinct []

@@ -1,9 +1,9 @@
 -- The storage before the run: undefined units, and what DATA statements define (9, 17.2).
 -- ANSI X3.9-1978, sections 9 (DATA) and 17.2.
-use Rattle.std.specs.Prelude.{ℕ, zero, suc, ◌+◌, ◌/◌, ℤ, ◌+ℤ◌, List, [], ◌∷◌, ◌++◌, map}
+use Rattle.std.specs.Prelude.{ℕ, zero, suc, ℤ, ◌+ℤ◌, List, [], ◌∷◌, ◌++◌, map}
 use Rattle.f_tree.specs.Values.{Spot, Datum, IsInt, IsSpot, NoMeaning, Checked, Gives, Fails, given_that}
 use Rattle.f_tree.specs.Terms.{Term}
-use Rattle.f_tree.specs.Store.{Store, define, undefined_units}
+use Rattle.f_tree.specs.Store.{Store, define, undefined_units, elements}
 use Rattle.f_tree.specs.Facts.{DataPlace, DataPlaces, WholeName, OnePlace, EachOf, NoPlaces, AndPlaces, Image, ProgramUnit, Facts}
 use Rattle.f_tree.specs.Valuing.{Red, Valued, Bad, reduce}
 use Rattle.f_tree.specs.Step.{turns}
@@ -15,14 +15,6 @@ unfoldable pub spot_of : Red Datum Term → Checked Spot
 spot_of (Valued (IsSpot p)) = Gives p
 spot_of (Bad act) = Fails act
 spot_of _ = Fails NoMeaning
-
--- the elements of a place, one after the other
-unfoldable pub elements_from : ℕ → Spot → List Spot
-elements_from zero p = []
-elements_from (suc n) p = p ∷ elements_from n (record p { first = p.first + p.width })
-
-unfoldable pub elements : Spot → List Spot
-elements p = elements_from (p.extent / p.width) p
 
 -- the places of so many turns, from a value on
 unfoldable pub each_turn : ℕ → (ℤ → Checked (List Spot)) → ℤ → ℤ → Checked (List Spot)
@@ -66,5 +58,5 @@ unfoldable pub image_store : Setting → List ProgramUnit → Checked Store
 image_store g S = images_from g 0 (Gives (undefined_store g)) S
 
 unfoldable pub images_opened : Unit {0}
-unfolding spot_of elements_from elements each_turn places_in all_places_in define_each imaged images_from undefined_store image_store
+unfolding spot_of each_turn places_in all_places_in define_each imaged images_from undefined_store image_store
 images_opened = tt

@@ -32,7 +32,7 @@ use Rattle.f_tree.specs.Folds.{fold_item, fold_body, layer_of}
 use Rattle.f_tree.specs.declared.statements.DataGroup.{DataGroup}
 use Rattle.f_tree.specs.declared.statements.DataValue.{DataValue}
 use Rattle.f_tree.specs.Values.{Bytes, Datum, IsInt, IsSpot, Nothing}
-use Rattle.f_tree.specs.Terms.{Term, Val, At, Terms, NoMore, More, terms, Bound, All}
+use Rattle.f_tree.specs.Terms.{Term, Val, At, Terms, NoMore, More, terms, Bound, All, Alone}
 use Rattle.f_tree.specs.Facts.{Attribute, Formal, Named, Alternate, MainProgram, SubroutineUnit, FunctionUnit, BlockDataUnit, UnitKind, EntryPoint, Direction, Input, Output, Layout, Listed, Labelled, Computed, Word, UnitWord, FormatWord, StatusWord, FileWord, FileStatusWord, AccessWord, FormWord, BlankWord, Controls, AuxiliaryKind, OpenUnit, CloseUnit, BackspaceUnit, EndFileUnit, RewindUnit, Job, Item, Repeated, Work, Done, Before, ToSet, ToSetText, ToSetLabel, ToGo, ToPick, ToGoAssigned, ToGoBySign, ToGuard, ToEnterArm, ToLoop, ToCall, ToReturn, ToStop, ToBegin, ToAuxiliary, ToEnd, Form, Passes, On, Mark, Plain, Opens, Arm, Closes, Line, LabelledFormat, Member, Block, Tied, Tie, ProgramUnit, Facts, Image, DataPlace, DataPlaces, WholeName, OnePlace, EachOf, NoPlaces, AndPlaces}
 use Rattle.f_tree.specs.Valuing.{Red, Valued, reduce, elements_of, extent_of}
 use Rattle.f_tree.specs.Reading.{Read, read}
@@ -69,7 +69,7 @@ array_or t names None = t
 array_or t names (Some x) = if is_array (names x) then All x else t
 
 unfoldable pub item_of : Direction → Naming → Expr → Term
-item_of Input names e = array_or (place_of names e) names (read names e).named
+item_of Input names e = array_or (Alone (place_of names e)) names (read names e).named
 item_of Output names e = array_or (value_of names e) names (read names e).named
 
 unfoldable pub work_of : List Job → Work
@@ -114,19 +114,27 @@ nothing_written = record { words = []; operands = []; on_error = None; on_end = 
 unfoldable pub with_operand : Word → Term → Written → Written
 with_operand w t more = record more { words = w ∷ more.words; operands = t ∷ more.operands }
 
+-- a text whose characters are fetched later: a variable, an element, an array or a substring; and the value of any other expression
+unfoldable pub if_placed : Read → Option Bytes → Term
+if_placed r None = r.value
+if_placed r (Some x) = Alone r.actual
+
+unfoldable pub settled_text : Naming → Read → Term
+settled_text names r = array_or (if_placed r r.base) names r.named
+
 -- a word whose operand is valued, or, for a variable, an element, an array or a substring that is written as it stands, settled
 unfoldable pub control_written : Direction → Naming → ControlWord → ControlValue → Written → Written
 control_written way names word.Unit value.Star more = with_operand UnitWord (Val (IsInt (standard_unit way))) more
 control_written way names word.Unit (value.Label l) more = more
 control_written way names word.Unit (value.Value e) more =
-    with_operand UnitWord (if is_text names (read names e).base then place_of names e else value_of names e) more
+    with_operand UnitWord (if is_text names (read names e).base then settled_text names (read names e) else value_of names e) more
 control_written way names word.Format value.Star more = record more { layout = Some Listed }
 control_written way names word.Format (value.Label l) more = record more { layout = Some (Labelled l) }
-control_written way names word.Format (value.Value e) more = record (with_operand FormatWord (place_of names e) more) { layout = Some Computed }
+control_written way names word.Format (value.Value e) more = record (with_operand FormatWord (settled_text names (read names e)) more) { layout = Some Computed }
 control_written way names word.Status (value.Value e) more = with_operand StatusWord (place_of names e) more
 control_written way names word.OnError (value.Label l) more = record more { on_error = Some l }
 control_written way names word.OnEnd (value.Label l) more = record more { on_end = Some l }
-control_written way names word.File (value.Value e) more = with_operand FileWord (place_of names e) more
+control_written way names word.File (value.Value e) more = with_operand FileWord (settled_text names (read names e)) more
 control_written way names word.FileStatus (value.Value e) more = with_operand FileStatusWord (value_of names e) more
 control_written way names word.Access (value.Value e) more = with_operand AccessWord (value_of names e) more
 control_written way names word.Form (value.Value e) more = with_operand FormWord (value_of names e) more
@@ -381,5 +389,5 @@ unfoldable pub unit_read : Options → WrittenUnit → ProgramUnit
 unit_read options u = with_ties u (program_of options u (all_described u))
 
 unfoldable pub lines_opened : Unit {0}
-unfolding value_of place_of arguments_of step_of control_of is_array array_or item_of work_of layer_job job_of jobs_of is_character is_text standard_unit nothing_written with_operand control_written controls_written controls_of layout_or_listed way_of transfer_form auxiliary_of auxiliary_form is_statement_function assignment assign_form return_form layer_form form_of mark_of line_of formals_of entry_in entries_from name_or_none format_in formats_of size_by size_of is_stored stored_among is_procedure procedures_among member_of same_block into_block blocks_from common_in tied_at tied_of tieds_of ties_among equivalence_in ties_of bound_within all_places place_by layer_place places_read count_of repeats_of values_read data_in image_of unit_kind program_of apart with_ties unit_read
+unfolding value_of place_of arguments_of step_of control_of is_array array_or item_of work_of layer_job job_of jobs_of is_character is_text standard_unit nothing_written with_operand if_placed settled_text control_written controls_written controls_of layout_or_listed way_of transfer_form auxiliary_of auxiliary_form is_statement_function assignment assign_form return_form layer_form form_of mark_of line_of formals_of entry_in entries_from name_or_none format_in formats_of size_by size_of is_stored stored_among is_procedure procedures_among member_of same_block into_block blocks_from common_in tied_at tied_of tieds_of ties_among equivalence_in ties_of bound_within all_places place_by layer_place places_read count_of repeats_of values_read data_in image_of unit_kind program_of apart with_ties unit_read
 lines_opened = tt

@@ -14,7 +14,11 @@ use Rattle.f_tree.specs.Valuing.{valuing_opened}
 use Rattle.f_tree.specs.World.{World, Called, TheMain, Procedure, Passed, Ending, fortran_sorts, world_opened}
 use Rattle.f_tree.specs.Places.{places_opened}
 use Rattle.f_tree.specs.Association.{association_opened}
+use Rattle.f_tree.specs.FormatChoice.{format_choice_opened}
+use Rattle.f_tree.specs.Records.{records_opened}
+use Rattle.f_tree.specs.Statuses.{statuses_opened}
 use Rattle.f_tree.specs.Transfers.{transfers_opened}
+use Rattle.f_tree.specs.UnitStatements.{unit_statements_opened}
 use Rattle.f_tree.specs.Step.{fortran, step_opened}
 use Rattle.f_tree.specs.Attributes.{no_facts, attributes_opened}
 use Rattle.f_tree.specs.Folds.{folds_opened}
@@ -122,5 +126,5 @@ records_of unit (Broken act ks) = []
 
 -- `unfolding everything` opens every definition of the meaning, for a run that is computed
 unfoldable pub everything : Unit {0}
-unfolding machine_opened folds_opened images_opened values_opened terms_opened store_opened valuing_opened world_opened places_opened association_opened transfers_opened step_opened attributes_opened reading_opened uses_opened lines_opened setting_opened units_in units_of is_main has_entry answers_to found_from facts_at program world_with start_world call_of_main started ftn mains is_found all_found all_references_found ending_of act_of records_in records_of
+unfolding machine_opened folds_opened images_opened values_opened terms_opened store_opened valuing_opened world_opened places_opened association_opened statuses_opened records_opened format_choice_opened transfers_opened unit_statements_opened step_opened attributes_opened reading_opened uses_opened lines_opened setting_opened units_in units_of is_main has_entry answers_to found_from facts_at program world_with start_world call_of_main started ftn mains is_found all_found all_references_found ending_of act_of records_in records_of
 everything = tt

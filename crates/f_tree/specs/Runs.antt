@@ -1,6 +1,6 @@
 -- What is said of one run of a set that stands in one file: at which step it ends and how, and which
 -- records unit 6 has then. Unit 5 holds the records given, unit 6 holds none.
-use Rattle.std.specs.Prelude.{◌≡◌, ℕ, suc, ◌+◌, pos, false, List, [], ◌∷◌, ◌++◌, map, length, Some, None, if◌then◌else◌}
+use Rattle.std.specs.Prelude.{◌≡◌, ℕ, suc, ◌+◌, pos, false, List, [], ◌∷◌, ◌++◌, map, length, Option, Some, None, if◌then◌else◌}
 use Rattle.std.specs.Ordering.{int_eq}
 use Rattle.f_tree.specs.declared.names.Options.{Options}
 use Rattle.f_tree.specs.declared.units.FileSet.{FileSet}
@@ -11,7 +11,7 @@ use Rattle.f_tree.specs.World.{Ending}
 use Rattle.f_tree.specs.Setting.{Setting}
 use Rattle.simulation.specs.Machine.{next}
 use Rattle.f_tree.specs.Step.{fortran}
-use Rattle.f_tree.specs.Meaning.{program, ftn, units_of, ending_of, act_of, records_of}
+use Rattle.f_tree.specs.Meaning.{RunState, program, ftn, units_of, ending_of, act_of, records_of}
 
 abbrev pub no_options : Options
 no_options = record { undeclared = false; onetrip = false; long_cards = false; checks = false }
@@ -53,6 +53,27 @@ pub record Meets (options : Options) (set : FileSet) (g : Setting) (input : List
   pub goes_on : act_of (ftn g (units_of options set) (standard_units input) n) ≡ None
   pub meets : act_of (ftn g (units_of options set) (standard_units input) (suc n)) ≡ Some act
 
+-- what a run comes to: how it ends, and the records of unit 6 then
+pub record Outcome : Type 0 where
+  pub ending : Ending
+  pub records : List (List ℕ)
+
+unfoldable pub outcome_by : Option Ending → List (List ℕ) → Option Outcome
+outcome_by None records = None
+outcome_by (Some ending) records = Some (record { ending = ending; records = records })
+
+unfoldable pub outcome_of : RunState → Option Outcome
+outcome_of state = outcome_by (ending_of state) (records_of (pos 6) state)
+
+-- the standard units, and files without records that can be opened by their names
+abbrev pub units_with : List (List ℕ) → List (List ℕ) → Units
+units_with input names = record (standard_units input) { drawer = map (λ x. record { name = x; records = []; position = 0 }) names }
+
+-- the run ends, and comes to this
+pub record Ends (options : Options) (set : FileSet) (g : Setting) (units : Units) (ending : Ending) (output : List (List ℕ)) : Type 0 where
+  pub steps : ℕ
+  pub comes_to : outcome_of (ftn g (units_of options set) units steps) ≡ Some (record { ending = ending; records = output })
+
 -- the same of a set whose names stand apart
 abbrev pub RunsApart : Options → FileSet → List (List ℕ) → ℕ → Ending → List (List ℕ) → Type 0
 RunsApart options set = Runs options set (setting_apart (units_of options set))
@@ -73,5 +94,5 @@ ActStays = (g : Setting) (S : List ProgramUnit) (units : Units) (n : ℕ) (act :
     act_of (ftn g S units n) ≡ Some act → ftn g S units (suc n) ≡ ftn g S units n
 
 unfoldable pub runs_opened : Unit {0}
-unfolding homes_apart all_homes_apart all_sizes setting_apart
+unfolding outcome_by outcome_of homes_apart all_homes_apart all_sizes setting_apart
 runs_opened = tt

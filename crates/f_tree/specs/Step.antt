@@ -15,7 +15,9 @@ use Rattle.f_tree.specs.World.{World, View, Now, Doing, Turning, Waits, Returnin
 use Rattle.f_tree.specs.World as world
 use Rattle.f_tree.specs.Places.{place_of_label, arm_after, arrived, passed, gone_to}
 use Rattle.f_tree.specs.Association.{call, answer, alternate_of, start, resume}
-use Rattle.f_tree.specs.Transfers.{next_of, followed_by, begins, item_done, finished, auxiliary}
+use Rattle.f_tree.specs.Records.{text_from}
+use Rattle.f_tree.specs.Transfers.{next_of, followed_by, begins, item_done, finished}
+use Rattle.f_tree.specs.UnitStatements.{auxiliary}
 
 -- the statement is done
 unfoldable pub onward : Facts → View → World → Happening
@@ -32,11 +34,6 @@ onward_with c v w (Fails act) = Breaks act
 -- be, so far, a position that is defined
 unfoldable pub overlaps : Spot → ℕ → Spot → Bool
 overlaps q count p = nat_eq q.sequence p.sequence && (nat_lt 0 count && (nat_lt q.first (p.first + p.width) && nat_lt p.first (q.first + count)))
-
-unfoldable pub text_from : Checked Datum → Checked Bytes
-text_from (Gives (IsText cs)) = Gives cs
-text_from (Gives _) = Fails NoMeaning
-text_from (Fails act) = Fails act
 
 unfoldable pub piece_from : Store → Spot → ℕ → Spot → Checked Bytes
 piece_from s q count p =
@@ -259,5 +256,5 @@ abbrev pub fortran : Lang Ending
 fortran = record { sorts = fortran_sorts; step = step; start = start; resume = resume; missing = MissingProcedure; busy = ActiveProcedure; plain = world.Plain }
 
 unfoldable pub step_opened : Unit {0}
-unfolding onward go onward_with overlaps text_from piece_from piece_for pieces_for text_stored text_set picked nth_label contains is_allowed block_is_entered block_end enters_from enters_block name_of gone_by by_sign guarded at_arm next_arm arm_entered turns_of turns at_least_once looped loop_stored loop_begun grown_to grown_from grown turned_with turned work_after repeated repeat_begun item_turned deed valued doing step
+unfolding onward go onward_with overlaps piece_from piece_for pieces_for text_stored text_set picked nth_label contains is_allowed block_is_entered block_end enters_from enters_block name_of gone_by by_sign guarded at_arm next_arm arm_entered turns_of turns at_least_once looped loop_stored loop_begun grown_to grown_from grown turned_with turned work_after repeated repeat_begun item_turned deed valued doing step
 step_opened = tt

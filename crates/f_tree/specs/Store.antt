@@ -2,9 +2,9 @@
 -- ANSI X3.9-1978, sections 2.11, 2.13 (storage), 17.2 and 17.3 (how units become defined and undefined).
 -- Sequences are counted in character units. An integer, a logical or a label stands in four of them, from
 -- a multiple of four on; only `fetch`, `define` and what they are made of here look at the units.
-use Rattle.std.specs.Prelude.{ℕ, zero, suc, ◌+◌, ◌-◌, nat_le, ℤ, Bool, false, List, [], ◌∷◌, ◌++◌, length, take, drop, replicate, Option, Some, None, slice_get, slice_set, if◌then◌else◌}
+use Rattle.std.specs.Prelude.{ℕ, zero, suc, ◌+◌, ◌-◌, ◌/◌, nat_le, ℤ, Bool, false, List, [], ◌∷◌, ◌++◌, length, take, drop, replicate, Option, Some, None, slice_get, slice_set, if◌then◌else◌}
 use Rattle.f_tree.specs.declared.names.Basic.{Basic}
-use Rattle.f_tree.specs.declared.names.Basic.TheVariants.{Integer, Logical, Character, Untyped}
+use Rattle.f_tree.specs.declared.names.Basic.TheVariants.{Integer, Logical, Character}
 use Rattle.f_tree.specs.Values.{Bytes, Spot, Datum, IsInt, IsLog, IsText, NoValue, PastExtent, DefinesReadOnly, NoMeaning, Checked, Gives, Fails}
 
 -- what a numeric storage unit holds
@@ -52,11 +52,12 @@ unfoldable pub as_text : Checked Bytes → Checked Datum
 as_text (Gives cs) = Gives (IsText cs)
 as_text (Fails act) = Fails act
 
+unfoldable pub fetch_as : Basic → Spot → List Cell → Checked Datum
+fetch_as Character p cells = as_text (characters (take p.width (drop p.first cells)))
+fetch_as basic p cells = value_of_type basic (slice_get cells p.first)
+
 unfoldable pub fetch_from : Spot → List Cell → Checked Datum
-fetch_from p cells = elim p.basic [
-  | Character ↦ as_text (characters (take p.width (drop p.first cells)))
-  | _ ↦ value_of_type p.basic (slice_get cells p.first)
-]
+fetch_from p cells = fetch_as p.basic p cells
 
 unfoldable pub fetch_in : Spot → Option Sequence → Checked Datum
 fetch_in p None = Fails NoMeaning
@@ -100,13 +101,11 @@ unfoldable pub fitted : ℕ → Bytes → Bytes
 fitted size text = take size text ++ replicate (size - length text) 32
 
 -- the units with a value at a place of its type
-unfoldable pub defined_as : Spot → Datum → List Cell → Checked (List Cell)
-defined_as p d cells = elim p.basic [
-  | Integer ↦ elim d [ IsInt z ↦ Gives (with_whole (Number z) p.first cells) | _ ↦ Fails NoMeaning ]
-  | Logical ↦ elim d [ IsLog b ↦ Gives (with_whole (Truth b) p.first cells) | _ ↦ Fails NoMeaning ]
-  | Character ↦ elim d [ IsText cs ↦ Gives (with_characters (fitted p.width cs) p.first cells) | _ ↦ Fails NoMeaning ]
-  | Untyped ↦ Fails NoMeaning
-]
+unfoldable pub defined_as : Basic → Spot → Datum → List Cell → Checked (List Cell)
+defined_as Integer p (IsInt z) cells = Gives (with_whole (Number z) p.first cells)
+defined_as Logical p (IsLog b) cells = Gives (with_whole (Truth b) p.first cells)
+defined_as Character p (IsText cs) cells = Gives (with_characters (fitted p.width cs) p.first cells)
+defined_as _ p d cells = Fails NoMeaning
 
 unfoldable pub stored_in : Store → ℕ → Checked (List Cell) → Checked Store
 stored_in s n (Gives cells) = Gives (slice_set s n (record { cells = cells; read_only = false }))
@@ -116,7 +115,7 @@ unfoldable pub define_in : Store → Spot → Datum → Option Sequence → Chec
 define_in s p d None = Fails NoMeaning
 define_in s p d (Some q) =
     if q.read_only then Fails DefinesReadOnly
-    else if nat_le p.width p.extent then stored_in s p.sequence (defined_as p d q.cells)
+    else if nat_le p.width p.extent then stored_in s p.sequence (defined_as p.basic p d q.cells)
     else Fails PastExtent
 
 -- the label that was assigned to a place (10.3)
@@ -146,6 +145,14 @@ labelled_in s p owner number (Some q) =
 unfoldable pub define_label : Store → Spot → Bytes → ℕ → Checked Store
 define_label s p owner number = labelled_in s p owner number (slice_get s p.sequence)
 
+-- the elements of a place, one after the other
+unfoldable pub elements_from : ℕ → Spot → List Spot
+elements_from zero p = []
+elements_from (suc n) p = p ∷ elements_from n (record p { first = p.first + p.width })
+
+unfoldable pub elements : Spot → List Spot
+elements p = elements_from (p.extent / p.width) p
+
 unfoldable pub store_opened : Unit {0}
-unfolding undefined_units value_of_type with_first characters as_text fetch_from fetch_in fetch with_whole no_part no_parts without_value_of with_character with_characters fitted defined_as stored_in define_in define label_of_cell label_in label_at labelled_in define_label
+unfolding elements_from elements undefined_units value_of_type with_first characters as_text fetch_as fetch_from fetch_in fetch with_whole no_part no_parts without_value_of with_character with_characters fitted defined_as stored_in define_in define label_of_cell label_in label_at labelled_in define_label
 store_opened = tt

@@ -69,6 +69,8 @@ mutual
     -- all elements of an array, where it stands in a list
     All : Bytes → Term
     Element : Bytes → Terms → Term
+    -- a place, without the elements behind it
+    Alone : Term → Term
     -- a substring of a place: its first character and its last; a last one that is `Nothing` is the place's own
     Part : Term → Term → Term → Term
     -- a concatenation: the pieces are places or values

@@ -1,12 +1,12 @@
 -- Valuing an expression: operands from left to right, until a value, an act of which nothing is said,
 -- or a call, which the rest of the expression waits for.
 -- ANSI X3.9-1978, sections 5.4 (subscripts), 5.7 (substrings), 6 (expressions) and 15.10 (intrinsic functions).
-use Rattle.std.specs.Prelude.{take, ℕ, zero, suc, ◌+◌, ◌-◌, ◌*◌, nat_eq, nat_le, nat_lt, ℤ, pos, negsuc, ◌+ℤ◌, ◌-ℤ◌, ◌*ℤ◌, neg_ℤ, nat_abs, int_lt, int_le, int_div, int_rem, Bool, true, false, ◌&&◌, ◌||◌, not, List, [], ◌∷◌, ◌++◌, length, Option, Some, None, slice_get, if◌then◌else◌}
+use Rattle.std.specs.Prelude.{take, ℕ, zero, suc, ◌+◌, ◌-◌, ◌*◌, nat_eq, nat_le, nat_lt, ℤ, pos, negsuc, ◌+ℤ◌, ◌-ℤ◌, ◌*ℤ◌, neg_ℤ, nat_abs, int_lt, int_le, int_div, int_rem, Bool, true, false, ◌&&◌, ◌||◌, not, List, [], ◌∷◌, ◌++◌, length, Option, Some, None, if◌then◌else◌}
 use Rattle.f_tree.specs.declared.names.Basic.{Basic}
 use Rattle.std.specs.Ordering.{int_eq}
 use Rattle.f_tree.specs.declared.names.Class.TheVariants as class
 use Rattle.f_tree.specs.Values.{Bytes, Spot, Datum, IsInt, IsLog, IsText, IsSpot, IsProc, Nothing, Act, ZeroDivide, OutOfBounds, PastExtent, Disagreement, NotOfThisEntry, BadCharacterCode, NoMeaning, Checked, Gives, Fails, given_that, checked}
-use Rattle.f_tree.specs.Terms.{Prefix, Negate, Complement, Operator, Add, Subtract, Multiply, Divide, IsLess, IsLessOrEqual, IsEqual, IsNotEqual, IsGreater, IsGreaterOrEqual, Both, Either, Same, Different, Function, Power, Truncation, Magnitude, Remainder, SignTransfer, PositiveDifference, Largest, Smallest, CharacterCode, CharacterOfCode, TextLength, IndexOf, LexicallyGreaterOrEqual, LexicallyGreater, LexicallyLessOrEqual, LexicallyLess, Front, Fitted, Callee, Term, Val, Fetch, At, All, Element, Part, Joined, Before, Between, Intrinsically, Refer, Bind, Bound, Terms, NoMore, More, valued_then}
+use Rattle.f_tree.specs.Terms.{Prefix, Negate, Complement, Operator, Add, Subtract, Multiply, Divide, IsLess, IsLessOrEqual, IsEqual, IsNotEqual, IsGreater, IsGreaterOrEqual, Both, Either, Same, Different, Function, Power, Truncation, Magnitude, Remainder, SignTransfer, PositiveDifference, Largest, Smallest, CharacterCode, CharacterOfCode, TextLength, IndexOf, LexicallyGreaterOrEqual, LexicallyGreater, LexicallyLessOrEqual, LexicallyLess, Front, Fitted, Callee, Term, Val, Fetch, At, All, Element, Alone, Part, Joined, Before, Between, Intrinsically, Refer, Bind, Bound, Terms, NoMore, More, valued_then}
 use Rattle.f_tree.specs.Store.{Store, fetch, fitted}
 use Rattle.f_tree.specs.Facts.{Attribute, Bounds, Facts, Frame, Home}
 
@@ -150,6 +150,11 @@ unfoldable pub character_of : ℤ → Checked Datum
 character_of (pos n) = if nat_lt n 256 then Gives (IsText (n ∷ [])) else Fails BadCharacterCode
 character_of (negsuc n) = Fails BadCharacterCode
 
+-- the first character of a text; a text is as if blanks followed it
+unfoldable pub first_character : Bytes → ℕ
+first_character [] = 32
+first_character (c ∷ cs) = c
+
 unfoldable pub applied : Function → List Datum → Checked Datum
 applied Power (IsInt a ∷ IsInt b ∷ []) = raised a b
 applied Truncation (IsInt a ∷ []) = Gives (IsInt a)
@@ -159,7 +164,7 @@ applied SignTransfer (IsInt a ∷ IsInt b ∷ []) = with_sign_of a b
 applied PositiveDifference (IsInt a ∷ IsInt b ∷ []) = difference_over a b
 applied Largest (IsInt a ∷ ds) = extreme int_max a ds
 applied Smallest (IsInt a ∷ ds) = extreme int_min a ds
-applied CharacterCode (IsText (c ∷ []) ∷ []) = Gives (IsInt (pos c))
+applied CharacterCode (IsText cs ∷ []) = Gives (IsInt (pos (first_character cs)))
 applied CharacterOfCode (IsInt z ∷ []) = character_of z
 applied TextLength (IsText cs ∷ []) = Gives (IsInt (pos (length cs)))
 applied TextLength (IsSpot p ∷ []) = Gives (IsInt (pos p.width))
@@ -261,6 +266,11 @@ all_elements bs _ = Fails NoMeaning
 unfoldable pub array_whole : Facts → Frame → Bytes → Checked Datum
 array_whole c f x = given_that (whole c f x) (all_elements (bounds_of c f x))
 
+-- one element
+unfoldable pub alone : Datum → Checked Datum
+alone (IsSpot p) = Gives (IsSpot (record p { extent = p.width }))
+alone _ = Fails NoMeaning
+
 -- substrings (5.7)
 unfoldable pub cut : Spot → ℤ → ℤ → Checked Datum
 cut p from to =
@@ -275,9 +285,13 @@ part (IsSpot p) (IsInt from) Nothing = cut p from (pos p.width)
 part _ _ _ = Fails NoMeaning
 
 -- concatenation: the pieces are fetched when all of them are settled (6.2)
+unfoldable pub as_characters : Datum → Checked Bytes
+as_characters (IsText cs) = Gives cs
+as_characters _ = Fails NoMeaning
+
 unfoldable pub piece : Store → Datum → Checked Bytes
 piece s (IsText cs) = Gives cs
-piece s (IsSpot p) = given_that (fetch s p) (λ d. elim d [ IsText cs ↦ Gives cs | _ ↦ Fails NoMeaning ])
+piece s (IsSpot p) = given_that (fetch s p) as_characters
 piece s _ = Fails NoMeaning
 
 unfoldable pub pieces : Store → List Datum → Checked Bytes
@@ -293,7 +307,9 @@ fetched s (IsSpot p) = fetch s p
 fetched s _ = Fails NoMeaning
 
 unfoldable pub bound_to : List Datum → ℕ → Checked Datum
-bound_to ds k = elim (slice_get ds k) [ None ↦ Fails NoMeaning | Some d ↦ Gives d ]
+bound_to [] k = Fails NoMeaning
+bound_to (d ∷ ds) zero = Gives d
+bound_to (d ∷ ds) (suc k) = bound_to ds k
 
 -- an expression in progress, over the store, with the arguments of the statement function in whose
 -- expression it stands
@@ -304,6 +320,7 @@ unfoldable mutual
   reduce c f s env (At x) = at_once (whole c f x)
   reduce c f s env (All x) = at_once (array_whole c f x)
   reduce c f s env (Element x ts) = then_by (reduce_all c f s env ts) (Element x) (λ ds. at_once (element c f x ds))
+  reduce c f s env (Alone t) = then_by (reduce c f s env t) Alone (λ d. at_once (alone d))
   reduce c f s env (Part t from to) =
       then_by (reduce c f s env t) (λ r. Part r from to) (λ p.
       then_by (reduce c f s env from) (λ r. Part (Val p) r to) (λ a.
@@ -329,5 +346,5 @@ unfoldable mutual
       then_by (reduce_all c f s env ts) (More (Val d)) (λ ds. Valued (d ∷ ds)))
 
 unfoldable pub valuing_opened : Unit {0}
-unfolding then_by at_once prefixed divided on_integers both_or_none on_logicals is_before on_texts operated left_of right_after power_of inverse_of raised int_max int_min extreme remainder_of with_sign_of difference_over begins_with index_from character_of applied elements_of extent_of stored_at if_bound if_there named_as whole is_within size_of_dimension elements_before further element_at either_bounds bounds_of element reaching all_elements array_whole cut part piece pieces joined fetched bound_to reduce reduce_all
+unfolding then_by at_once prefixed divided on_integers both_or_none on_logicals is_before on_texts operated left_of right_after power_of inverse_of raised int_max int_min extreme remainder_of with_sign_of difference_over begins_with index_from character_of first_character applied elements_of extent_of stored_at if_bound if_there named_as whole is_within size_of_dimension elements_before further element_at either_bounds bounds_of element reaching all_elements array_whole alone cut part as_characters piece pieces joined fetched bound_to reduce reduce_all
 valuing_opened = tt

@@ -1,8 +1,11 @@
 -- What all procedures of a run share, and what one active procedure keeps for itself.
 -- ANSI X3.9-1978, sections 2.13 (storage), 12 (units), 11.10 (active DO-loops).
-use Rattle.std.specs.Prelude.{ℕ, ℤ, List, Option}
+use Rattle.std.specs.Prelude.{ℕ, ℤ, Bool, List, Option}
 use Rattle.simulation.specs.Machine.{Sorts, Event, Goes, Breaks, Entry, Enters, Refused}
+use Rattle.edit_rules.specs.Formats.{Format}
+use Rattle.edit_rules.specs.ListInput.{Place}
 use Rattle.edit_rules.specs.Listed.{ListedValue}
+use Rattle.edit_rules.specs.TakenRecords.{Want}
 use Rattle.f2c_outside.specs.Units.{Units}
 use Rattle.f_tree.specs.Values.{Bytes, Spot, Datum, Act, Checked, Gives, Fails}
 use Rattle.f_tree.specs.Terms.{Wanted}
@@ -24,10 +27,19 @@ pub record Transfer : Type 0 where
   pub controls : Controls
   -- the place that IOSTAT names
   pub status : Option Spot
-  -- the values so far
+  -- the format, where the transfer is not list-directed
+  pub format : Format
+  -- the values of an output so far
   pub values : List ListedValue
-  -- how many of their records are written
+  -- how many of their records are written; of an internal file that is read, how many are read
   pub written : ℕ
+  -- where a list-directed input stands in the record that it reads, and whether a slash has ended it
+  pub place : Place
+  pub slashed : Bool
+  -- what a formatted input has read so far, what its items so far want, and whether blanks in a number are zeros at its start
+  pub lines : List Bytes
+  pub wants : List Want
+  pub zeros : Bool
 
 pub record World : Type 0 where
   pub store : Store

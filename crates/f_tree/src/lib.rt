@@ -2,11 +2,13 @@
 //! file is refused, and, in `specs/`, what a set of files means.
 #![tactic(auto)]
 
+pub mod example_rows;
 pub mod expressions;
 pub mod names;
 pub mod refusals;
 pub mod rows;
 pub mod statements;
+pub mod totality;
 pub mod units;
 
 pub use expressions::{BinaryOp, Expr, Text};

@@ -1,5 +1,4 @@
-use Rattle.std.proofs.Common.{◌≡◌, ◌-◌, List, refl, arith, map}
-use Rattle.f2c_outside.specs.Entries.{named}
+use Rattle.std.proofs.Common.{◌-◌, refl, arith}
 use Rattle.f2c_outside.proofs.MemoryLaws.{grown, unchanged, on_err}
 use Rattle.f2c_outside.proofs.memory_shelf.extend_last.Goals as goal
 

@@ -1,7 +1,5 @@
-use Rattle.std.proofs.Common.{◌≡◌, true, false, map, take, Some, subst, sym, ◌∙◌, ap, arith}
-use Rattle.std.specs.Prelude.{bytes_eq, List, ℕ, Option}
-use Rattle.f2c_outside.specs.Memory.{IsNewest}
-use Rattle.f2c_outside.specs.Entries.{named}
+use Rattle.std.proofs.Common.{◌≡◌, true, false, arith}
+use Rattle.std.specs.Prelude.{bytes_eq}
 use Rattle.f2c_outside.proofs.MemoryLaws.{newest-hit-next, newest-miss-next}
 use Rattle.f2c_outside.proofs.memory_shelf.newest.Goals as goal
 use Rattle.f2c_outside.proofs.memory_shelf.newest.Goals.{then-eq, else-eq}

@@ -1,4 +1,4 @@
-use Rattle.std.proofs.Common.{arith, sym, ◌∙◌}
+use Rattle.std.proofs.Common.{arith, sym}
 use Rattle.f2c_outside.specs.Shown.{holds_name}
 use Rattle.f2c_outside.proofs.TableLaws.{first-here}
 use Rattle.f2c_outside.proofs.unit_table.offer_of.Goals as goal

@@ -1,6 +1,6 @@
 use Rattle.std.proofs.Common.{◌≡◌, take, false}
 use Rattle.std.specs.List.{list_any}
-use Rattle.f2c_outside.specs.Shown.{holds_unit, holds_name}
+use Rattle.f2c_outside.specs.Shown.{holds_name}
 use Rattle.f2c_outside.proofs.unit_table.offer_of.Given as goal
 
 -- none of the rows that were looked at passes

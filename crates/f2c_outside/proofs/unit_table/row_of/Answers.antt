@@ -1,4 +1,4 @@
-use Rattle.std.proofs.Common.{◌≡◌, arith, sym, ◌∙◌, ℤ, true, false, take, to_z, of_z, w32, subst}
+use Rattle.std.proofs.Common.{◌≡◌, arith, sym, ℤ, true, false, take, to_z, of_z, w32, subst}
 use Rattle.std.specs.List.{list_any}
 use Rattle.std.proofs.Math.Facts.{to_z-of_z}
 use Rattle.f2c_outside.specs.Shown.{holds_unit}

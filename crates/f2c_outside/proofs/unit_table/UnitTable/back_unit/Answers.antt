@@ -1,8 +1,7 @@
 use Rattle.std.proofs.Common.{ℤ, Some, None, subst}
 use Rattle.std.proofs.Math.Facts.{to_z-of_z}
-use Rattle.f2c_outside.specs.Device.{DeviceState}
 use Rattle.f2c_outside.specs.Shown.{holds_unit}
-use Rattle.f2c_outside.specs.Table.{IsFirst, BackOn}
+use Rattle.f2c_outside.specs.Table.{IsFirst}
 use Rattle.f2c_outside.proofs.TableLaws.{on-unit, not-on-unit, still-distinct, failed-only}
 use Rattle.std.specs.Prelude.{Err}
 use Rattle.f2c_outside.specs.declared.unit_table.UnitRefusal.TheVariants.{NotConnected}

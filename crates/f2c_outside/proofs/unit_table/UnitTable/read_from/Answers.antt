@@ -1,9 +1,11 @@
 use Rattle.std.proofs.Common.{ℤ, Some, None, subst}
 use Rattle.std.proofs.Math.Facts.{to_z-of_z}
-use Rattle.f2c_outside.specs.Device.{DeviceState}
 use Rattle.f2c_outside.specs.Shown.{holds_unit}
-use Rattle.f2c_outside.specs.Table.{IsFirst, ReadFrom}
+use Rattle.f2c_outside.specs.Table.{IsFirst}
 use Rattle.f2c_outside.proofs.TableLaws.{on-unit, not-on-unit, still-distinct, failed-only}
+use Rattle.std.specs.Prelude.{Err}
+use Rattle.f2c_outside.specs.declared.unit_table.UnitRefusal.TheVariants.{NotConnected}
+use Rattle.f2c_outside.proofs.MeaningLaws.{read-means}
 use Rattle.f2c_outside.proofs.unit_table.UnitTable.read_from.Goals as goal
 
 pub invariant_of-self : goal.invariant_of-self
@@ -17,16 +19,24 @@ invariant_of-self g c =
           c.index_mut.ensures.value c.read_row.ensures;
     }
 
-pub returns-in-Some : goal.returns-in-Some
-returns-in-Some g c =
+pub returns-in-Some-clause-did : goal.returns-in-Some-clause-did
+returns-in-Some-clause-did g c =
     on-unit _ c.args.unit c.args.self.now.rows.items c.in-Some.number c.index_mut.result.now c.read_row.new.row c.read_row.result _
     c.args.self.now.distinct
     (subst (λ (unit : ℤ). IsFirst (holds_unit unit) c.args.self.now.rows.items (Some c.in-Some.number)) (to_z-of_z c.ranges.unit)
     (rw c.as_slice.ensures.value at c.in-Some.ensures))
     c.index_mut.ensures.value c.read_row.ensures (λ d m d' m' did. failed-only c.read_row.result did.refused)
 
-pub returns-in-None : goal.returns-in-None
-returns-in-None g c =
+pub returns-in-None-clause-did : goal.returns-in-None-clause-did
+returns-in-None-clause-did g c =
     not-on-unit _ c.args.unit c.args.self.now.rows.items _
     (subst (λ (unit : ℤ). IsFirst (holds_unit unit) c.args.self.now.rows.items None) (to_z-of_z c.ranges.unit)
     (rw c.as_slice.ensures.value at c.in-None.ensures))
+
+pub returns-in-Some-clause-means : goal.returns-in-Some-clause-means
+returns-in-Some-clause-means g c =
+    read-means c.args.unit _ _ c.args.into.now c.read_row.new.into c.read_row.result (returns-in-Some-clause-did g c)
+
+pub returns-in-None-clause-means : goal.returns-in-None-clause-means
+returns-in-None-clause-means g c =
+    read-means c.args.unit _ _ c.args.into.now c.args.into.now (Err NotConnected) (returns-in-None-clause-did g c)

@@ -1,0 +1,195 @@
+//! Devices over the real streams. No clause tells what these hold: they are the trusted edge.
+
+ghost use Rattle.std.specs.Prelude.{◌≡◌, ◌≤◌, false};
+ghost use Rattle.f2c_outside.specs.Shelf.{Rose};
+ghost use Rattle.f2c_outside.specs.HostState.{untold_device};
+
+use crate::devices::{Device, DeviceFault, Got};
+use crate::memory_device::give;
+use std::alloc::Global;
+use std::io::{Read, Write};
+
+/// The most turns of a loop of a host device. Each takes or puts at least one byte; a further turn is a fault.
+pub(crate) const MOST_TURNS: usize = 67_108_865;
+
+/// A stream that is written, as a device: each record goes out as its bytes and an LF. It fails at a
+/// read or a move, and `finish` flushes the stream.
+#[derive(Drop)]
+pub struct HostOutput<W: Write + Drop> {
+    writer: W,
+    records: u64,
+    finished: bool,
+    faults: u64,
+}
+
+impl<W: Write + Drop> HostOutput<W> {
+    /// A device over a stream, as standard output. No record has been written, and no call has failed.
+    pub fn new(writer: W) -> HostOutput<W>
+        ensures { untold_device result.records result.finished result.faults ≡ untold_device 0 false 0 }
+    {
+        HostOutput {
+            writer,
+            records: 0,
+            finished: false,
+            faults: 0,
+        }
+    }
+}
+
+impl<W: Write + Drop> Device for HostOutput<W> {
+    ghost device_state = { λ d. untold_device d.records d.finished d.faults };
+
+    fn read_record(&mut self, _into: &mut [u8]) -> Got {
+        let _fault = fail(&mut self.faults);
+        Got::Failed
+    }
+
+    fn write_record(&mut self, bytes: &[u8]) -> Result<(), DeviceFault> {
+        if self.records < u64::MAX && put_line(&mut self.writer, bytes) {
+            self.records += 1;
+            self.finished = false;
+            return Ok(());
+        }
+        Err(fail(&mut self.faults))
+    }
+
+    fn back(&mut self) -> Result<(), DeviceFault> {
+        Err(fail(&mut self.faults))
+    }
+
+    fn rewind(&mut self) -> Result<(), DeviceFault> {
+        Err(fail(&mut self.faults))
+    }
+
+    fn end_file(&mut self) -> Result<(), DeviceFault> {
+        self.finished = false;
+        Ok(())
+    }
+
+    fn finish(&mut self) -> Result<u64, DeviceFault> {
+        if self.writer.flush().is_err() {
+            self.finished = false;
+            return Err(fail(&mut self.faults));
+        }
+        self.finished = true;
+        Ok(self.records)
+    }
+}
+
+/// A stream that is read, as a device: each line is a record, without its LF. It fails at a write or a
+/// move, and `finish` answers how many records have been read.
+///
+/// It reads one byte at a time, so the stream is to be buffered.
+#[derive(Drop)]
+pub struct HostInput<F: Read + Drop> {
+    reader: F,
+    line: Vec<u8>,
+    records: u64,
+    finished: bool,
+    faults: u64,
+}
+
+impl<F: Read + Drop> HostInput<F> {
+    /// A device over a stream, as standard input. No record has been read, and no call has failed.
+    pub fn new(alloc: Global, reader: F) -> HostInput<F>
+        ensures { untold_device result.records result.finished result.faults ≡ untold_device 0 false 0 }
+    {
+        HostInput {
+            reader,
+            line: Vec::new(alloc),
+            records: 0,
+            finished: false,
+            faults: 0,
+        }
+    }
+}
+
+impl<F: Read + Drop> Device for HostInput<F> {
+    ghost device_state = { λ d. untold_device d.records d.finished d.faults };
+
+    fn read_record(&mut self, into: &mut [u8]) -> Got {
+        if self.records < u64::MAX {
+            match read_line(&mut self.reader, &mut self.line) {
+                Ok(true) => {
+                    self.records += 1;
+                    return give(self.line.as_slice(), into);
+                }
+                Ok(false) => return Got::End,
+                Err(_) => {}
+            }
+        }
+        let _fault = fail(&mut self.faults);
+        Got::Failed
+    }
+
+    fn write_record(&mut self, _bytes: &[u8]) -> Result<(), DeviceFault> {
+        Err(fail(&mut self.faults))
+    }
+
+    fn back(&mut self) -> Result<(), DeviceFault> {
+        Err(fail(&mut self.faults))
+    }
+
+    fn rewind(&mut self) -> Result<(), DeviceFault> {
+        Err(fail(&mut self.faults))
+    }
+
+    fn end_file(&mut self) -> Result<(), DeviceFault> {
+        Err(fail(&mut self.faults))
+    }
+
+    fn finish(&mut self) -> Result<u64, DeviceFault> {
+        self.finished = true;
+        Ok(self.records)
+    }
+}
+
+/// Counts a fault. A count at the end of its type stays there.
+pub(crate) fn fail(faults: &mut u64) -> DeviceFault
+    ensures later { faults.old ≤ faults.new }
+    ensures rose { Rose faults.old faults.new }
+{
+    *faults = faults.saturating_add(1);
+    DeviceFault::Failed
+}
+
+/// Writes a text and an LF, and says whether all of it went out.
+pub(crate) fn put_line<W: Write>(writer: &mut W, bytes: &[u8]) -> bool {
+    put_all(writer, bytes) && put_all(writer, b"\n")
+}
+
+/// Writes bytes, and says whether all of them went out.
+pub(crate) fn put_all<W: Write>(writer: &mut W, bytes: &[u8]) -> bool {
+    let mut rest = bytes;
+    for _ in 0..MOST_TURNS {
+        if rest.is_empty() {
+            return true;
+        }
+        match writer.write(rest) {
+            Ok(count) if count > 0 => rest = &rest[count..],
+            _ => return false,
+        }
+    }
+    rest.is_empty()
+}
+
+/// Reads a line without its LF, and says whether there was one. A last line may lack its LF.
+fn read_line<F: Read>(reader: &mut F, line: &mut Vec<u8>) -> Result<bool, DeviceFault> {
+    line.clear();
+    for _ in 0..MOST_TURNS {
+        let mut byte = [0u8; 1];
+        match reader.read(&mut byte) {
+            Ok(0) => return Ok(!line.is_empty()),
+            Ok(_) => {
+                if byte[0] == b'\n' {
+                    return Ok(true);
+                }
+                if line.push(byte[0]).is_err() {
+                    return Err(DeviceFault::Failed);
+                }
+            }
+            Err(_) => return Err(DeviceFault::Failed),
+        }
+    }
+    Err(DeviceFault::Failed)
+}

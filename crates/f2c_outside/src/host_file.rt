@@ -1,0 +1,296 @@
+//! A device over a real file. No clause tells what the file holds: it is the trusted edge.
+
+ghost use Rattle.std.specs.Prelude.{◌≡◌, false};
+ghost use Rattle.f2c_outside.specs.HostState.{untold_device};
+
+use crate::devices::{Device, DeviceFault, Got};
+use crate::host_devices::{MOST_TURNS, fail, put_all, put_line};
+use crate::memory_device::give;
+use crate::texts::Name;
+use std::alloc::Global;
+use std::fs;
+use std::fs::{OpenFile, OpenOptions};
+use std::io::{Read, Seek, SeekFrom, Write};
+use std::rt::Files;
+
+/// How many bytes are read at once.
+const CHUNK: usize = 4096;
+
+/// A file as a device: each line is a record, without its LF. It is opened at the first call, and made
+/// where it is not there. A write or an end of file cuts off the records from the position on.
+///
+/// `back` reads the file backwards to the start of a line, and `finish` reads it from the position on.
+#[derive(Drop)]
+pub struct HostFile<R: Files + Drop> {
+    rt: R,
+    name: Name,
+    file: Option<R::File>,
+    line: Vec<u8>,
+    offset: u64,
+    lacks_end: bool,
+    records: u64,
+    finished: bool,
+    faults: u64,
+}
+
+impl<R: Files + Drop> HostFile<R> {
+    /// A device over the file of this name, before its first record. No call has failed.
+    pub fn new(alloc: Global, rt: R, name: Name) -> HostFile<R>
+        ensures { untold_device result.records result.finished result.faults ≡ untold_device 0 false 0 }
+    {
+        HostFile {
+            rt,
+            name,
+            file: None,
+            line: Vec::new(alloc),
+            offset: 0,
+            lacks_end: false,
+            records: 0,
+            finished: false,
+            faults: 0,
+        }
+    }
+}
+
+impl<R: Files + Drop> Device for HostFile<R> {
+    ghost device_state = { λ d. untold_device d.records d.finished d.faults };
+
+    fn read_record(&mut self, into: &mut [u8]) -> Got {
+        let _open = is_open(&self.rt, &self.name, &mut self.file);
+        match next_line(&mut self.file, self.offset, &mut self.line) {
+            Ok(Some(ended)) if self.records < u64::MAX => {
+                self.records += 1;
+                self.offset = after_line(self.offset, self.line.len(), ended);
+                self.lacks_end = !ended;
+                give(self.line.as_slice(), into)
+            }
+            Ok(None) => Got::End,
+            _ => {
+                let _fault = fail(&mut self.faults);
+                Got::Failed
+            }
+        }
+    }
+
+    fn write_record(&mut self, bytes: &[u8]) -> Result<(), DeviceFault> {
+        let start = after_line(self.offset, 0, self.lacks_end);
+        let _open = is_open(&self.rt, &self.name, &mut self.file);
+        if self.records < u64::MAX
+            && write_line(&mut self.file, self.offset, self.lacks_end, bytes)
+        {
+            self.records += 1;
+            self.offset = after_line(start, bytes.len(), true);
+            self.lacks_end = false;
+            self.finished = false;
+            return Ok(());
+        }
+        Err(fail(&mut self.faults))
+    }
+
+    fn back(&mut self) -> Result<(), DeviceFault> {
+        if !is_open(&self.rt, &self.name, &mut self.file) {
+            return Err(fail(&mut self.faults));
+        }
+        if self.records == 0 {
+            return Ok(());
+        }
+        match line_start(&mut self.file, self.offset) {
+            Ok(start) => {
+                self.offset = start;
+                self.lacks_end = false;
+                self.records -= 1;
+                Ok(())
+            }
+            Err(_) => Err(fail(&mut self.faults)),
+        }
+    }
+
+    fn rewind(&mut self) -> Result<(), DeviceFault> {
+        if !is_open(&self.rt, &self.name, &mut self.file) {
+            return Err(fail(&mut self.faults));
+        }
+        self.offset = 0;
+        self.lacks_end = false;
+        self.records = 0;
+        Ok(())
+    }
+
+    fn end_file(&mut self) -> Result<(), DeviceFault> {
+        if is_open(&self.rt, &self.name, &mut self.file) && cut(&mut self.file, self.offset) {
+            self.finished = false;
+            return Ok(());
+        }
+        Err(fail(&mut self.faults))
+    }
+
+    fn finish(&mut self) -> Result<u64, DeviceFault> {
+        let _open = is_open(&self.rt, &self.name, &mut self.file);
+        match lines_from(&mut self.file, self.offset) {
+            Ok(more) if more <= u64::MAX - self.records => {
+                self.finished = true;
+                Ok(self.records + more)
+            }
+            _ => {
+                self.finished = false;
+                Err(fail(&mut self.faults))
+            }
+        }
+    }
+}
+
+/// The byte behind a line.
+fn after_line(offset: u64, length: usize, ended: bool) -> u64 {
+    offset
+        .saturating_add(length as u64)
+        .saturating_add(u64::from(ended))
+}
+
+/// Opens the file where it is not open, to be read alone where it cannot be written, and says whether it is open.
+fn is_open<R: Files>(rt: &R, name: &Name, file: &mut Option<R::File>) -> bool {
+    if file.is_some() {
+        return true;
+    }
+    let Ok(path) = str::from_utf8(name.as_bytes()) else {
+        return false;
+    };
+    let mut how = OpenOptions::new();
+    how.read(true).write(true).create(true);
+    let opened = match how.open(rt, path) {
+        Ok(opened) => Some(opened),
+        Err(_) => fs::open(rt, path).ok(),
+    };
+    *file = opened;
+    file.is_some()
+}
+
+/// Cuts the file off at an offset, and says whether that succeeded.
+fn cut<F: OpenFile>(file: &mut Option<F>, offset: u64) -> bool {
+    match file {
+        Some(file) => file.set_len(offset).is_ok(),
+        None => false,
+    }
+}
+
+/// Reads the line at an offset, without its LF, and says whether it has one; `None` at the end of the file.
+fn next_line<F: Read + Seek>(
+    file: &mut Option<F>,
+    offset: u64,
+    line: &mut Vec<u8>,
+) -> Result<Option<bool>, DeviceFault> {
+    line.clear();
+    let Some(file) = file else {
+        return Err(DeviceFault::Failed);
+    };
+    if file.seek(SeekFrom::Start(offset)).is_err() {
+        return Err(DeviceFault::Failed);
+    }
+    let mut chunk = [0u8; CHUNK];
+    for _ in 0..MOST_TURNS {
+        match file.read(&mut chunk) {
+            Ok(0) if line.is_empty() => return Ok(None),
+            Ok(0) => return Ok(Some(false)),
+            Ok(count) => match add_line(&chunk[..count], line) {
+                Ok(true) => return Ok(Some(true)),
+                Ok(false) => {}
+                Err(fault) => return Err(fault),
+            },
+            Err(_) => return Err(DeviceFault::Failed),
+        }
+    }
+    Err(DeviceFault::Failed)
+}
+
+/// Puts the bytes before the first LF behind a line, and says whether there is an LF.
+fn add_line(bytes: &[u8], line: &mut Vec<u8>) -> Result<bool, DeviceFault> {
+    let end = bytes.iter().position(|byte| *byte == b'\n');
+    let part = match end {
+        Some(end) => bytes.get(..end).unwrap_or(bytes),
+        None => bytes,
+    };
+    match line.extend_from_slice(part) {
+        Ok(()) => Ok(end.is_some()),
+        Err(_) => Err(DeviceFault::Failed),
+    }
+}
+
+/// Cuts the file off at an offset, and writes a line there, behind an LF where one is lacking. Says
+/// whether all of it went out.
+fn write_line<F: Write + Seek + OpenFile>(
+    file: &mut Option<F>,
+    offset: u64,
+    lacks_end: bool,
+    bytes: &[u8],
+) -> bool {
+    let Some(file) = file else {
+        return false;
+    };
+    file.set_len(offset).is_ok()
+        && file.seek(SeekFrom::Start(offset)).is_ok()
+        && (!lacks_end || put_all(file, b"\n"))
+        && put_line(file, bytes)
+}
+
+/// The offset at which the line before an offset begins.
+fn line_start<F: Read + Seek>(file: &mut Option<F>, offset: u64) -> Result<u64, DeviceFault> {
+    let Some(file) = file else {
+        return Err(DeviceFault::Failed);
+    };
+    let mut end = offset.saturating_sub(1);
+    let mut chunk = [0u8; CHUNK];
+    for _ in 0..MOST_TURNS {
+        if end == 0 {
+            return Ok(0);
+        }
+        let length = end.min(CHUNK as u64);
+        let start = end - length;
+        if file.seek(SeekFrom::Start(start)).is_err() {
+            return Err(DeviceFault::Failed);
+        }
+        let wanted = length as usize;
+        if file.read_exact(&mut chunk[..wanted]).is_err() {
+            return Err(DeviceFault::Failed);
+        }
+        if let Some(last) = last_end(&chunk[..wanted]) {
+            return Ok(start.saturating_add(last as u64).saturating_add(1));
+        }
+        end = start;
+    }
+    Err(DeviceFault::Failed)
+}
+
+/// Where the last LF stands.
+fn last_end(bytes: &[u8]) -> Option<usize> {
+    let mut found = None;
+    for (number, byte) in bytes.iter().enumerate() {
+        if *byte == b'\n' {
+            found = Some(number);
+        }
+    }
+    found
+}
+
+/// How many lines there are from an offset on. A last line may lack its LF.
+fn lines_from<F: Read + Seek>(file: &mut Option<F>, offset: u64) -> Result<u64, DeviceFault> {
+    let Some(file) = file else {
+        return Err(DeviceFault::Failed);
+    };
+    if file.seek(SeekFrom::Start(offset)).is_err() {
+        return Err(DeviceFault::Failed);
+    }
+    let mut chunk = [0u8; CHUNK];
+    let mut lines = 0u64;
+    let mut is_inside = false;
+    for _ in 0..MOST_TURNS {
+        match file.read(&mut chunk) {
+            Ok(0) => return Ok(lines.saturating_add(u64::from(is_inside))),
+            Ok(count) => {
+                let part = &chunk[..count];
+                let ends = part.iter().filter(|byte| **byte == b'\n').count();
+                lines = lines.saturating_add(ends as u64);
+                is_inside = part.last() != Some(&b'\n');
+            }
+            Err(_) => return Err(DeviceFault::Failed),
+        }
+    }
+    Err(DeviceFault::Failed)
+}

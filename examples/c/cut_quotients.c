@@ -1,0 +1,25 @@
+#include "f2c.h"
+
+static integer c__1 = 1;
+static integer c__3 = 3;
+
+int MAIN__(void)
+{
+    extern integer s_wsle(cilist *);
+    extern integer do_lio(integer *, integer *, char *, ftnlen);
+    extern integer e_wsle(void);
+    integer i__1;
+    integer i__2;
+    integer i__3;
+    static cilist io___1 = { 0, 6, 0, 0, 0 };
+
+    i__1 = -7 / 2;
+    i__2 = -7 % 2;
+    i__3 = -2147483647 - 1 + (7 % -4);
+    s_wsle(&io___1);
+    do_lio(&c__3, &c__1, (char *)&i__1, (ftnlen)sizeof(integer));
+    do_lio(&c__3, &c__1, (char *)&i__2, (ftnlen)sizeof(integer));
+    do_lio(&c__3, &c__1, (char *)&i__3, (ftnlen)sizeof(integer));
+    e_wsle();
+    return 0;
+}

@@ -1,0 +1,22 @@
+#include "f2c.h"
+
+static integer c__1 = 1;
+static integer c__3 = 3;
+
+int MAIN__(void)
+{
+    extern integer s_wsle(cilist *);
+    extern integer do_lio(integer *, integer *, char *, ftnlen);
+    extern integer e_wsle(void);
+    integer i__1;
+    static integer a[10] = { 1, 1 };
+    static cilist io___1 = { 0, 6, 0, 0, 0 };
+
+    for (i__1 = 2; i__1 < 10; ++i__1) {
+        a[i__1] = a[i__1 - 1] + a[i__1 - 2];
+    }
+    s_wsle(&io___1);
+    do_lio(&c__3, &c__1, (char *)&a[9], (ftnlen)sizeof(integer));
+    e_wsle();
+    return 0;
+}

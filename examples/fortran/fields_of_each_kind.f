@@ -1,0 +1,9 @@
+      CHARACTER*3 S
+      S='ABC'
+      WRITE (*,10) 7,-7,1234,0,5,.TRUE.,.FALSE.
+   10 FORMAT (I3,I3,I3,I3.0,I5.3,L1,L4)
+      WRITE (*,20) S,S,S,'ABCDEFGH'
+   20 FORMAT (A,A5,A2,A5)
+      WRITE (*,30) 5,5,-5,0
+   30 FORMAT (SP,I4,S,I4,SP,I4,I3)
+      END

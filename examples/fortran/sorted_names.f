@@ -1,0 +1,21 @@
+      CHARACTER*8 NAME(10),T
+      INTEGER COUNT(10)
+      NUM=0
+   10 READ (5,100,END=20) NAME(NUM+1),COUNT(NUM+1)
+      NUM=NUM+1
+      GO TO 10
+   20 DO 40 I=1,NUM-1
+      DO 30 J=I+1,NUM
+      IF (NAME(J).GE.NAME(I)) GO TO 30
+      T=NAME(I)
+      NAME(I)=NAME(J)
+      NAME(J)=T
+      K=COUNT(I)
+      COUNT(I)=COUNT(J)
+      COUNT(J)=K
+   30 CONTINUE
+   40 CONTINUE
+      WRITE (6,110) (NAME(I),COUNT(I),I=1,NUM)
+  100 FORMAT (A8,I4)
+  110 FORMAT (1X,A8,I6)
+      END
