@@ -7,7 +7,10 @@ use Rattle.c_tree.specs.declared.types.CastType.TheVariants as to
 use Rattle.c_tree.specs.declared.expression.BinaryOp.TheVariants as op
 use Rattle.c_tree.specs.declared.expression.CExpr.TheVariants as expr
 use Rattle.c_tree.specs.declared.statement.CStmt.TheVariants as stmt
+use Rattle.c_tree.specs.declared.declaration.CLocal.{CLocal}
+use Rattle.c_tree.specs.declared.declaration.CLocal.TheVariants as local
 use Rattle.c_tree.specs.declared.file.CFile.{CFile}
+use Rattle.c_tree.specs.declared.file.CObject.{CObject}
 use Rattle.c_tree.specs.declared.file.CObject.TheVariants as object
 use Rattle.c_tree.specs.Meaning.{meaning, outcome, Ended}
 use Rattle.c_tree.specs.World.{Plain}
@@ -121,3 +124,25 @@ passes_missing =
     (extern_int (codes "g_") ∷ [])
     (do_call (codes "f_") (expr.Cast (to.Function function_type.Subroutine) (name (codes "g_")) ∷
     []) ∷ return_zero ∷ []) ∷ [])
+
+-- a main program that returns, with an external object and local ones
+abbrev pub main_with : CObject → List CLocal → CFile
+main_with external locals =
+    record {
+      objects = (external ∷ []);
+      constants = [];
+      functions = (function_named (codes "MAIN__") locals (return_zero ∷ []) ∷ []);
+    }
+
+-- an external text of so many bytes
+abbrev pub with_text : ℕ → CFile
+with_text size = main_with (object.Chars (codes "t_") size None) []
+
+-- so many external integers
+abbrev pub with_integers : ℕ → CFile
+with_integers count = main_with (object.Integers (codes "b_") count None) []
+
+-- an external text and one in the frame of the main program
+abbrev pub with_two_texts : ℕ → ℕ → CFile
+with_two_texts size local_size =
+    main_with (object.Chars (codes "t_") size None) (local.Chars (codes "s") local_size ∷ [])

@@ -2,9 +2,9 @@
 //! the rows.
 #![tactic(auto, unfolding(crate::specs::Opened::meaning_opened))]
 
-ghost use Rattle.std.specs.Prelude.{◌≡◌, [], ◌∷◌, codes, None, Some};
+ghost use Rattle.std.specs.Prelude.{ℕ, ◌+◌, ◌*◌, ◌<◌, ◌≤◌, ◌≡◌, [], ◌∷◌, codes, None, Some};
 ghost use Rattle.c_tree.specs.Linking.{first_broken_rule};
-ghost use Rattle.c_tree.specs.LinkPrograms.{Prints, small_block, great_block, imaged_block, imaged_again, main_with_parameters, library_name, declares_unused, passes_missing};
+ghost use Rattle.c_tree.specs.LinkPrograms.{Prints, small_block, great_block, imaged_block, imaged_again, main_with_parameters, library_name, declares_unused, passes_missing, with_text, with_integers, with_two_texts};
 
 /// External objects of one name are one object, of the greatest size that a file gives it.
 pub fn shared_objects()
@@ -23,4 +23,14 @@ pub fn link_rules()
     ensures not_used { first_broken_rule (declares_unused ∷ []) ≡ None }
     ensures passed_on { first_broken_rule (passes_missing ∷ []) ≡ Some 3 }
     ensures keeps_all { first_broken_rule (small_block ∷ imaged_block ∷ []) ≡ None }
+{}
+
+/// Objects of more than 268,435,456 bytes in all break the fourth rule, those of a function counted once.
+pub fn greatest_size()
+    ensures text_past_the_limit { (size : ℕ) → 268435456 < size → first_broken_rule (with_text size ∷ []) ≡ Some 4 }
+    ensures text_within_the_limit { (size : ℕ) → size ≤ 268435456 → first_broken_rule (with_text size ∷ []) ≡ None }
+    ensures integers_past_the_limit { (count : ℕ) → 268435456 < 4 * count → first_broken_rule (with_integers count ∷ []) ≡ Some 4 }
+    ensures integers_within_the_limit { (count : ℕ) → 4 * count ≤ 268435456 → first_broken_rule (with_integers count ∷ []) ≡ None }
+    ensures sum_past_the_limit { (size : ℕ) → (local_size : ℕ) → 268435456 < size + local_size → first_broken_rule (with_two_texts size local_size ∷ []) ≡ Some 4 }
+    ensures sum_within_the_limit { (size : ℕ) → (local_size : ℕ) → size + local_size ≤ 268435456 → first_broken_rule (with_two_texts size local_size ∷ []) ≡ None }
 {}

@@ -1,5 +1,5 @@
 -- A well-typed expression never comes to a form without meaning: operator by operator, function by function, place by place.
-use Rattle.std.specs.Prelude.{◌≡◌, ℕ, zero, suc, ◌+◌, ◌-◌, ◌*◌, ◌<◌, nat_le, nat_lt, ℤ, pos, negsuc, int_lt, nat_abs, int_div, int_rem, neg_ℤ, ◌-ℤ◌, take, drop, Bool, true, false, not, List, [], ◌∷◌, ◌++◌, length, Option, Some, None, slice_get, codes, if◌then◌else◌}
+use Rattle.std.specs.Prelude.{◌≡◌, ℕ, zero, suc, ◌+◌, ◌-◌, ◌*◌, ◌<◌, nat_le, nat_lt, ℤ, pos, negsuc, int_lt, nat_abs, int_div, int_rem, neg_ℤ, ◌-ℤ◌, take, drop, Bool, true, false, not, List, [], ◌∷◌, ◌++◌, length, Option, Some, None, is_some, IsTrue, slice_get, codes, if◌then◌else◌}
 use Rattle.std.specs.Ordering.{int_eq}
 use Rattle.std.proofs.Common.{refl, sym, subst, arith}
 use Rattle.std.proofs.lemmas.Option.{slice_get-get_or}
@@ -12,7 +12,7 @@ use Rattle.f_tree.specs.Facts.{Bounds, Facts, Frame}
 use Rattle.f_tree.specs.Attributes.{bare, no_program, no_frame}
 use Rattle.f_tree.specs.Valuing.{named_as, stored_at, extent_of, either_bounds, Red, Valued, Bad, Asks, then_by, at_once, prefixed, divided, on_integers, on_logicals, on_texts, operated, left_of, right_after, inverse_of, raised, extreme, remainder_of, with_sign_of, difference_over, character_of, applied, is_within, size_of_dimension, elements_before, further, element_at, element, reaching, all_elements, array_whole, alone, cut, part, as_characters, piece, pieces, joined, fetched, bound_to, whole, bounds_of, elements_of, reduce, reduce_all}
 use Rattle.f_tree.specs.WellTyped as typed
-use Rattle.f_tree.specs.WellTyped.{Sort, ValueOf, PlaceOf, AProcedure, IsOf, AreOf, none_of, more_of, is_named, Answers, IsAnswer, Meant, IsValued, Precedes, Operates, Applies, integers_of, IsVariable, IsSized, IsPiece, ArePieces, IsLast, IsNth, Typed, AreTyped, Sound, rank_of, EachTermIsMeant, EachListIsMeant, IsMet, one_variable, is_variable, is_procedure_name}
+use Rattle.f_tree.specs.WellTyped.{Sort, ValueOf, PlaceOf, AProcedure, IsOf, AreOf, none_of, more_of, is_named, Answers, IsAnswer, Meant, IsValued, Precedes, Operates, Applies, integers_of, IsVariable, has_size, IsHeld, IsPiece, ArePieces, IsLast, IsNth, Typed, AreTyped, Sound, rank_of, EachTermIsMeant, EachListIsMeant, IsMet, one_variable, is_variable, is_procedure_name}
 
 -- any answer
 abbrev pub Any : {A : Type 0} → A → Type 0
@@ -28,17 +28,23 @@ unfolding Answers given_that
 given_meant P R (Gives a) go answers next = next a answers
 given_meant P R (Fails act) go answers next = answers
 
-pub then_meant : {A B S T : Type 0} (n : ℕ) (P : A → Type 0) (R : B → Type 0) (Q : S → Type 0) (U : T → Type 0) (r : Red A S) (back : S → T) (go : A → Red B T) →
-    Meant n P Q r → ((rest : S) → Q rest → U (back rest)) → ((a : A) → P a → Meant n R U (go a)) → Meant n R U (then_by r back go)
-unfolding Meant then_by
-then_meant n P R Q U (Valued a) back go meant behind next = next a meant
-then_meant n P R Q U (Bad act) back go meant behind next = meant
-then_meant n P R Q U (Asks callee ds rest) back go meant behind next = λ d answer. behind (rest d) (meant d answer)
+-- an answer with a property has each property that follows from it
+pub answers_more : {A : Type 0} (P Q : A → Type 0) (r : Checked A) → Answers P r → ((a : A) → P a → Q a) → Answers Q r
+unfolding Answers
+answers_more P Q (Gives a) answers more = more a answers
+answers_more P Q (Fails act) answers more = answers
 
-pub at_once_meant : {A T : Type 0} (n : ℕ) (P : A → Type 0) (Q : T → Type 0) (r : Checked A) → Answers P r → Meant n P Q (at_once r)
+pub then_meant : {A B S T : Type 0} (c : Facts) (n : ℕ) (P : A → Type 0) (R : B → Type 0) (Q : S → Type 0) (U : T → Type 0) (r : Red A S) (back : S → T) (go : A → Red B T) →
+    Meant c n P Q r → ((rest : S) → Q rest → U (back rest)) → ((a : A) → P a → Meant c n R U (go a)) → Meant c n R U (then_by r back go)
+unfolding Meant then_by
+then_meant c n P R Q U (Valued a) back go meant behind next = next a meant
+then_meant c n P R Q U (Bad act) back go meant behind next = meant
+then_meant c n P R Q U (Asks callee ds rest) back go meant behind next = (meant.0, λ d answer. behind (rest d) (meant.1 d answer))
+
+pub at_once_meant : {A T : Type 0} (c : Facts) (n : ℕ) (P : A → Type 0) (Q : T → Type 0) (r : Checked A) → Answers P r → Meant c n P Q (at_once r)
 unfolding Meant Answers at_once
-at_once_meant n P Q (Gives a) answers = answers
-at_once_meant n P Q (Fails act) answers = answers
+at_once_meant c n P Q (Gives a) answers = answers
+at_once_meant c n P Q (Fails act) answers = answers
 
 -- integers
 pub checked_meant : (n : ℕ) (z : ℤ) → Answers (IsOf n (ValueOf Integer)) (checked z)
@@ -80,31 +86,31 @@ operated_meant n op basic result a b typed.same (typed.logical x) (typed.logical
 operated_meant n op basic result a b typed.different (typed.logical x) (typed.logical y) = typed.logical _
 
 -- a left operand decides, or the right operand is valued
-pub right_meant : {T : Type 0} (n : ℕ) (op : Operator) (basic result : Basic) (a : Datum) (Q : T → Type 0) (right : Red Datum T) → Operates op basic result → IsOf n (ValueOf basic) a →
-    Meant n (IsOf n (ValueOf result)) Q right → Meant n (IsOf n (ValueOf result)) Q (right_after (left_of op a) right)
+pub right_meant : {T : Type 0} (c : Facts) (n : ℕ) (op : Operator) (basic result : Basic) (a : Datum) (Q : T → Type 0) (right : Red Datum T) → Operates op basic result → IsOf n (ValueOf basic) a →
+    Meant c n (IsOf n (ValueOf result)) Q right → Meant c n (IsOf n (ValueOf result)) Q (right_after (left_of op a) right)
 unfolding left_of right_after Meant
-right_meant n op basic result a Q right typed.adds (typed.integer x) meant = meant
-right_meant n op basic result a Q right typed.subtracts (typed.integer x) meant = meant
-right_meant n op basic result a Q right typed.multiplies (typed.integer x) meant = meant
-right_meant n op basic result a Q right typed.divides (typed.integer x) meant = meant
-right_meant n op basic result a Q right typed.less (typed.integer x) meant = meant
-right_meant n op basic result a Q right typed.less_or_equal (typed.integer x) meant = meant
-right_meant n op basic result a Q right typed.equal (typed.integer x) meant = meant
-right_meant n op basic result a Q right typed.not_equal (typed.integer x) meant = meant
-right_meant n op basic result a Q right typed.greater (typed.integer x) meant = meant
-right_meant n op basic result a Q right typed.greater_or_equal (typed.integer x) meant = meant
-right_meant n op basic result a Q right typed.text_less (typed.text x) meant = meant
-right_meant n op basic result a Q right typed.text_less_or_equal (typed.text x) meant = meant
-right_meant n op basic result a Q right typed.text_equal (typed.text x) meant = meant
-right_meant n op basic result a Q right typed.text_not_equal (typed.text x) meant = meant
-right_meant n op basic result a Q right typed.text_greater (typed.text x) meant = meant
-right_meant n op basic result a Q right typed.text_greater_or_equal (typed.text x) meant = meant
-right_meant n op basic result a Q right typed.both (typed.logical true) meant = meant
-right_meant n op basic result a Q right typed.both (typed.logical false) meant = typed.logical false
-right_meant n op basic result a Q right typed.either (typed.logical true) meant = typed.logical true
-right_meant n op basic result a Q right typed.either (typed.logical false) meant = meant
-right_meant n op basic result a Q right typed.same (typed.logical x) meant = meant
-right_meant n op basic result a Q right typed.different (typed.logical x) meant = meant
+right_meant c n op basic result a Q right typed.adds (typed.integer x) meant = meant
+right_meant c n op basic result a Q right typed.subtracts (typed.integer x) meant = meant
+right_meant c n op basic result a Q right typed.multiplies (typed.integer x) meant = meant
+right_meant c n op basic result a Q right typed.divides (typed.integer x) meant = meant
+right_meant c n op basic result a Q right typed.less (typed.integer x) meant = meant
+right_meant c n op basic result a Q right typed.less_or_equal (typed.integer x) meant = meant
+right_meant c n op basic result a Q right typed.equal (typed.integer x) meant = meant
+right_meant c n op basic result a Q right typed.not_equal (typed.integer x) meant = meant
+right_meant c n op basic result a Q right typed.greater (typed.integer x) meant = meant
+right_meant c n op basic result a Q right typed.greater_or_equal (typed.integer x) meant = meant
+right_meant c n op basic result a Q right typed.text_less (typed.text x) meant = meant
+right_meant c n op basic result a Q right typed.text_less_or_equal (typed.text x) meant = meant
+right_meant c n op basic result a Q right typed.text_equal (typed.text x) meant = meant
+right_meant c n op basic result a Q right typed.text_not_equal (typed.text x) meant = meant
+right_meant c n op basic result a Q right typed.text_greater (typed.text x) meant = meant
+right_meant c n op basic result a Q right typed.text_greater_or_equal (typed.text x) meant = meant
+right_meant c n op basic result a Q right typed.both (typed.logical true) meant = meant
+right_meant c n op basic result a Q right typed.both (typed.logical false) meant = typed.logical false
+right_meant c n op basic result a Q right typed.either (typed.logical true) meant = typed.logical true
+right_meant c n op basic result a Q right typed.either (typed.logical false) meant = meant
+right_meant c n op basic result a Q right typed.same (typed.logical x) meant = meant
+right_meant c n op basic result a Q right typed.different (typed.logical x) meant = meant
 
 -- functions
 pub raised_meant : (n : ℕ) (a b : ℤ) → Answers (IsOf n (ValueOf Integer)) (raised a b)
@@ -131,10 +137,7 @@ remainder_meant n a b =
 
 pub sign_meant : (n : ℕ) (a b : ℤ) → Answers (IsOf n (ValueOf Integer)) (with_sign_of a b)
 unfolding with_sign_of Answers
-sign_meant n a b =
-    given_meant (IsOf n (ValueOf Integer)) (IsOf n (ValueOf Integer)) (checked (pos (nat_abs a)))
-    (λ m. if int_lt b (pos 0) then Gives (IsInt (neg_ℤ (pos (nat_abs a)))) else Gives m) (checked_meant n (pos (nat_abs a)))
-    (λ m is. answers_if (IsOf n (ValueOf Integer)) (int_lt b (pos 0)) (Gives (IsInt (neg_ℤ (pos (nat_abs a))))) (Gives m) (typed.integer (neg_ℤ (pos (nat_abs a)))) is)
+sign_meant n a b = checked_meant n (if int_lt b (pos 0) then neg_ℤ (pos (nat_abs a)) else pos (nat_abs a))
 
 pub difference_meant : (n : ℕ) (a b : ℤ) → Answers (IsOf n (ValueOf Integer)) (difference_over a b)
 unfolding difference_over Answers
@@ -271,31 +274,37 @@ element_at_meant n x bs ds basic a are (typed.place p b is within) =
     given_meant Any (IsOf n (PlaceOf basic)) (elements_before x 1 bs ds) (further p) (subscripts_meant n x bs 1 ds are) (λ k any. further_meant n p k basic is within)
 
 pub variable_meant : (c : Facts) (f : Frame) (n : ℕ) → Sound c f n → (x : Bytes) (basic : Basic) → IsVariable c x basic → Answers (IsOf n (PlaceOf basic)) (whole c f x)
-variable_meant c f n sound x basic v = subst (λ b. Answers (IsOf n (PlaceOf b)) (whole c f x)) v.basic_is (sound.variables x v.class_is)
+variable_meant c f n sound x basic v =
+    subst (λ b. Answers (IsOf n (PlaceOf b)) (whole c f x)) v.basic_is
+    (answers_more (IsHeld c f n x) (IsOf n (PlaceOf (c.program.attribute x).basic)) (whole c f x) (sound.variables x v.class_is) (λ a held. held.placed))
 
 pub element_meant : (c : Facts) (f : Frame) (n : ℕ) → Sound c f n → (x : Bytes) (basic : Basic) → IsVariable c x basic → (ds : List Datum) → AreOf n (integers_of (rank_of c x)) ds →
     Answers (IsOf n (PlaceOf basic)) (element c f x ds)
 unfolding element
 element_meant c f n sound x basic v ds are =
-    given_meant (IsOf n (PlaceOf basic)) (IsOf n (PlaceOf basic)) (whole c f x) (element_at x (bounds_of c f x) ds) (variable_meant c f n sound x basic v)
-    (λ a is. element_at_meant n x (bounds_of c f x) ds basic a (subst (λ k. AreOf n (integers_of k) ds) (sym (sound.ranks x)) are) is)
+    given_meant (IsHeld c f n x) (IsOf n (PlaceOf basic)) (whole c f x) (element_at x (bounds_of c f x) ds) (sound.variables x v.class_is)
+    (λ a held. element_at_meant n x (bounds_of c f x) ds basic a (subst (λ k. AreOf n (integers_of k) ds) (sym held.ranked) are)
+    (subst (λ b. IsOf n (PlaceOf b) a) v.basic_is held.placed))
 
-pub reaching_meant : (n : ℕ) (p : Spot) (size : ℕ) (basic : Basic) → p.basic ≡ basic → p.sequence < n → Answers (IsOf n (PlaceOf basic)) (reaching p (Some size))
+pub reaching_meant : (n : ℕ) (p : Spot) (size : Option ℕ) (basic : Basic) → p.basic ≡ basic → p.sequence < n → IsTrue (is_some size) →
+    Answers (IsOf n (PlaceOf basic)) (reaching p size)
 unfolding reaching Answers is_named
-reaching_meant n p size basic is within =
+reaching_meant n p None basic is within sized = absurd (cc)
+reaching_meant n p (Some size) basic is within sized =
     answers_if (IsOf n (PlaceOf basic)) (nat_le (size * p.width) p.extent) (Gives (IsSpot (record p { extent = size * p.width }))) (Fails PastExtent)
     (typed.place (record p { extent = size * p.width }) basic is within) refl
 
-pub all_meant : (n : ℕ) (bs : List Bounds) (size : ℕ) (basic : Basic) (a : Datum) → elements_of bs ≡ Some size → IsOf n (PlaceOf basic) a → Answers (IsOf n (PlaceOf basic)) (all_elements bs a)
+pub all_meant : (n : ℕ) (bs : List Bounds) (basic : Basic) (a : Datum) → IsTrue (is_some (elements_of bs)) → IsOf n (PlaceOf basic) a →
+    Answers (IsOf n (PlaceOf basic)) (all_elements bs a)
 unfolding all_elements
-all_meant n bs size basic a sized (typed.place p b is within) =
-    subst (λ o. Answers (IsOf n (PlaceOf basic)) (reaching p o)) (sym sized) (reaching_meant n p size basic is within)
+all_meant n bs basic a sized (typed.place p b is within) = reaching_meant n p (elements_of bs) basic is within sized
 
-pub array_meant : (c : Facts) (f : Frame) (n : ℕ) → Sound c f n → (x : Bytes) (basic : Basic) → IsVariable c x basic → IsSized c f x → Answers (IsOf n (PlaceOf basic)) (array_whole c f x)
+pub array_meant : (c : Facts) (f : Frame) (n : ℕ) → Sound c f n → (x : Bytes) (basic : Basic) → IsVariable c x basic →
+    IsTrue (has_size (c.program.attribute x).dimensions) → Answers (IsOf n (PlaceOf basic)) (array_whole c f x)
 unfolding array_whole
-array_meant c f n sound x basic v z =
-    given_meant (IsOf n (PlaceOf basic)) (IsOf n (PlaceOf basic)) (whole c f x) (all_elements (bounds_of c f x)) (variable_meant c f n sound x basic v)
-    (λ a is. all_meant n (bounds_of c f x) z.size basic a z.sized is)
+array_meant c f n sound x basic v sized =
+    given_meant (IsHeld c f n x) (IsOf n (PlaceOf basic)) (whole c f x) (all_elements (bounds_of c f x)) (sound.variables x v.class_is)
+    (λ a held. all_meant n (bounds_of c f x) basic a (held.sized sized) (subst (λ b. IsOf n (PlaceOf b) a) v.basic_is held.placed))
 
 pub alone_meant : (n : ℕ) (basic : Basic) (a : Datum) → IsOf n (PlaceOf basic) a → Answers (IsOf n (PlaceOf basic)) (alone a)
 unfolding alone Answers
@@ -304,11 +313,14 @@ alone_meant n basic a (typed.place p b is within) = typed.place (record p { exte
 pub cut_meant : (n : ℕ) (p : Spot) (from to : ℤ) → p.basic ≡ Character → p.sequence < n → Answers (IsOf n (PlaceOf Character)) (cut p from to)
 unfolding cut Answers is_named
 cut_meant n p from to is within =
-    let q : Spot = record p { first = p.first + (nat_abs from - 1); extent = nat_abs to + 1 - nat_abs from; width = nat_abs to + 1 - nat_abs from } in
+    let q : Spot = record p { first = p.first + (nat_abs from - 1); extent = p.extent + 1 - nat_abs from; width = nat_abs to + 1 - nat_abs from } in
+    let within_length : Checked Datum = if int_lt (pos p.width) to then Fails (OutOfBounds [] to) else Gives (IsSpot q) in
+    let in_order : Checked Datum = if int_lt to from then Fails (OutOfBounds [] to) else within_length in
     answers_if (IsOf n (PlaceOf Character)) (int_lt from (pos 1)) (Fails (OutOfBounds [] from))
-    (if int_lt to from then Fails (OutOfBounds [] to) else if int_lt (pos p.width) to then Fails (OutOfBounds [] to) else Gives (IsSpot q)) refl
-    (answers_if (IsOf n (PlaceOf Character)) (int_lt to from) (Fails (OutOfBounds [] to)) (if int_lt (pos p.width) to then Fails (OutOfBounds [] to) else Gives (IsSpot q)) refl
-    (answers_if (IsOf n (PlaceOf Character)) (int_lt (pos p.width) to) (Fails (OutOfBounds [] to)) (Gives (IsSpot q)) refl (typed.place q Character is within)))
+    (if int_lt (pos p.width) from then Fails (OutOfBounds [] from) else in_order) refl
+    (answers_if (IsOf n (PlaceOf Character)) (int_lt (pos p.width) from) (Fails (OutOfBounds [] from)) in_order refl
+    (answers_if (IsOf n (PlaceOf Character)) (int_lt to from) (Fails (OutOfBounds [] to)) within_length refl
+    (answers_if (IsOf n (PlaceOf Character)) (int_lt (pos p.width) to) (Fails (OutOfBounds [] to)) (Gives (IsSpot q)) refl (typed.place q Character is within))))
 
 pub part_meant : (n : ℕ) (last : Sort) (a from to : Datum) → IsLast last → IsOf n (PlaceOf Character) a → IsOf n (ValueOf Integer) from → IsOf n last to →
     Answers (IsOf n (PlaceOf Character)) (part a from to)
@@ -323,7 +335,7 @@ bound_meant n env values k sort none_of nth = elim nth [ ]
 bound_meant n env values k sort (more_of _ _ d more is are) (typed.first_one _ _) = is
 bound_meant n env values k sort (more_of _ _ d more is are) (typed.later_one _ others j _ nth) = bound_meant n others more j sort are nth
 
-pub values_typed : (c : Facts) (f : Frame) (n : ℕ) (env sorts : List Sort) (ds : List Datum) → AreOf n sorts ds → AreTyped c f n env (valued_then ds NoMore) sorts
+pub values_typed : (c : Facts) (f : Frame) (n : ℕ) (env sorts : List Sort) (ds : List Datum) → AreOf n sorts ds → AreTyped c n env (valued_then ds NoMore) sorts
 unfolding valued_then
 values_typed c f n env sorts ds none_of = typed.no_terms env
 values_typed c f n env sorts ds (more_of sort others d more is are) =
@@ -334,40 +346,40 @@ mutual
   unfolding reduce reduce_all Meant IsAnswer
 
   pub term_meant : (c : Facts) (f : Frame) (n : ℕ) (s : Store) → n ≡ length s → Sound c f n → (env : List Sort) (values : List Datum) → AreOf n env values →
-      (t : Term) (sort : Sort) → Typed c f n env t sort →
-      Meant n (IsOf n sort) (λ rest. Typed c f n env rest sort) (reduce c f s values t)
+      (t : Term) (sort : Sort) → Typed c n env t sort →
+      Meant c n (IsOf n sort) (λ rest. Typed c n env rest sort) (reduce c f s values t)
   term_meant c f n s same h env values e t sort (typed.is_val _ d _ is) = is
   term_meant c f n s same h env values e t sort (typed.is_fetch _ u basic valued m) =
-      (then_meant n (IsOf n (PlaceOf basic)) (IsOf n (ValueOf basic)) (λ r. Typed c f n env r (PlaceOf basic)) (λ r. Typed c f n env r (ValueOf basic)) (reduce c f s values u) Fetch (λ d. at_once (fetched s d)) (term_meant c f n s same h env values e u (PlaceOf basic) m) (λ r q. typed.is_fetch env r basic valued q) (λ d is. (at_once_meant n (IsOf n (ValueOf basic)) (λ r. Typed c f n env r (ValueOf basic)) (fetched s d) (fetched_meant s n same d basic valued is))))
-  term_meant c f n s same h env values e t sort (typed.is_at _ x basic v) = (at_once_meant n (IsOf n (PlaceOf basic)) (λ r. Typed c f n env r (PlaceOf basic)) (whole c f x) (variable_meant c f n h x basic v))
-  term_meant c f n s same h env values e t sort (typed.is_named_procedure _ x v) = (at_once_meant n (IsOf n AProcedure) (λ r. Typed c f n env r AProcedure) (whole c f x) (h.procedures x v))
-  term_meant c f n s same h env values e t sort (typed.is_all _ x basic v z) = (at_once_meant n (IsOf n (PlaceOf basic)) (λ r. Typed c f n env r (PlaceOf basic)) (array_whole c f x) (array_meant c f n h x basic v z))
+      (then_meant c n (IsOf n (PlaceOf basic)) (IsOf n (ValueOf basic)) (λ r. Typed c n env r (PlaceOf basic)) (λ r. Typed c n env r (ValueOf basic)) (reduce c f s values u) Fetch (λ d. at_once (fetched s d)) (term_meant c f n s same h env values e u (PlaceOf basic) m) (λ r q. typed.is_fetch env r basic valued q) (λ d is. (at_once_meant c n (IsOf n (ValueOf basic)) (λ r. Typed c n env r (ValueOf basic)) (fetched s d) (fetched_meant s n same d basic valued is))))
+  term_meant c f n s same h env values e t sort (typed.is_at _ x basic v) = (at_once_meant c n (IsOf n (PlaceOf basic)) (λ r. Typed c n env r (PlaceOf basic)) (whole c f x) (variable_meant c f n h x basic v))
+  term_meant c f n s same h env values e t sort (typed.is_named_procedure _ x v) = (at_once_meant c n (IsOf n AProcedure) (λ r. Typed c n env r AProcedure) (whole c f x) (h.procedures x v))
+  term_meant c f n s same h env values e t sort (typed.is_all _ x basic v z) = (at_once_meant c n (IsOf n (PlaceOf basic)) (λ r. Typed c n env r (PlaceOf basic)) (array_whole c f x) (array_meant c f n h x basic v z))
   term_meant c f n s same h env values e t sort (typed.is_element _ x ts basic v ms) =
-      (then_meant n (AreOf n (integers_of (rank_of c x))) (IsOf n (PlaceOf basic)) (λ r. AreTyped c f n env r (integers_of (rank_of c x))) (λ r. Typed c f n env r (PlaceOf basic)) (reduce_all c f s values ts) (Element x) (λ ds. at_once (element c f x ds)) (terms_meant c f n s same h env values e ts (integers_of (rank_of c x)) ms) (λ r q. typed.is_element env x r basic v q) (λ ds are. (at_once_meant n (IsOf n (PlaceOf basic)) (λ r. Typed c f n env r (PlaceOf basic)) (element c f x ds) (element_meant c f n h x basic v ds are))))
+      (then_meant c n (AreOf n (integers_of (rank_of c x))) (IsOf n (PlaceOf basic)) (λ r. AreTyped c n env r (integers_of (rank_of c x))) (λ r. Typed c n env r (PlaceOf basic)) (reduce_all c f s values ts) (Element x) (λ ds. at_once (element c f x ds)) (terms_meant c f n s same h env values e ts (integers_of (rank_of c x)) ms) (λ r q. typed.is_element env x r basic v q) (λ ds are. (at_once_meant c n (IsOf n (PlaceOf basic)) (λ r. Typed c n env r (PlaceOf basic)) (element c f x ds) (element_meant c f n h x basic v ds are))))
   term_meant c f n s same h env values e t sort (typed.is_alone _ u basic m) =
-      (then_meant n (IsOf n (PlaceOf basic)) (IsOf n (PlaceOf basic)) (λ r. Typed c f n env r (PlaceOf basic)) (λ r. Typed c f n env r (PlaceOf basic)) (reduce c f s values u) Alone (λ d. at_once (alone d)) (term_meant c f n s same h env values e u (PlaceOf basic) m) (λ r q. typed.is_alone env r basic q) (λ d is. (at_once_meant n (IsOf n (PlaceOf basic)) (λ r. Typed c f n env r (PlaceOf basic)) (alone d) (alone_meant n basic d is))))
+      (then_meant c n (IsOf n (PlaceOf basic)) (IsOf n (PlaceOf basic)) (λ r. Typed c n env r (PlaceOf basic)) (λ r. Typed c n env r (PlaceOf basic)) (reduce c f s values u) Alone (λ d. at_once (alone d)) (term_meant c f n s same h env values e u (PlaceOf basic) m) (λ r q. typed.is_alone env r basic q) (λ d is. (at_once_meant c n (IsOf n (PlaceOf basic)) (λ r. Typed c n env r (PlaceOf basic)) (alone d) (alone_meant n basic d is))))
   term_meant c f n s same h env values e t sort (typed.is_part _ u from to last isl m mf mt) =
-      (then_meant n (IsOf n (PlaceOf Character)) (IsOf n (PlaceOf Character)) (λ r. Typed c f n env r (PlaceOf Character)) (λ r. Typed c f n env r (PlaceOf Character)) (reduce c f s values u) (λ r. Part r from to) (λ p. then_by (reduce c f s values from) (λ r. Part (Val p) r to) (λ a. then_by (reduce c f s values to) (Part (Val p) (Val a)) (λ b. at_once (part p a b)))) (term_meant c f n s same h env values e u (PlaceOf Character) m) (λ r q. typed.is_part env r from to last isl q mf mt) (λ p ip. (then_meant n (IsOf n (ValueOf Integer)) (IsOf n (PlaceOf Character)) (λ r. Typed c f n env r (ValueOf Integer)) (λ r. Typed c f n env r (PlaceOf Character)) (reduce c f s values from) (λ r. Part (Val p) r to) (λ a. then_by (reduce c f s values to) (Part (Val p) (Val a)) (λ b. at_once (part p a b))) (term_meant c f n s same h env values e from (ValueOf Integer) mf) (λ r q. typed.is_part env (Val p) r to last isl (typed.is_val env p (PlaceOf Character) ip) q mt) (λ a ia. (then_meant n (IsOf n last) (IsOf n (PlaceOf Character)) (λ r. Typed c f n env r last) (λ r. Typed c f n env r (PlaceOf Character)) (reduce c f s values to) (Part (Val p) (Val a)) (λ b. at_once (part p a b)) (term_meant c f n s same h env values e to last mt) (λ r q. typed.is_part env (Val p) (Val a) r last isl (typed.is_val env p (PlaceOf Character) ip) (typed.is_val env a (ValueOf Integer) ia) q) (λ b ib. (at_once_meant n (IsOf n (PlaceOf Character)) (λ r. Typed c f n env r (PlaceOf Character)) (part p a b) (part_meant n last p a b isl ip ia ib))))))))
+      (then_meant c n (IsOf n (PlaceOf Character)) (IsOf n (PlaceOf Character)) (λ r. Typed c n env r (PlaceOf Character)) (λ r. Typed c n env r (PlaceOf Character)) (reduce c f s values u) (λ r. Part r from to) (λ p. then_by (reduce c f s values from) (λ r. Part (Val p) r to) (λ a. then_by (reduce c f s values to) (Part (Val p) (Val a)) (λ b. at_once (part p a b)))) (term_meant c f n s same h env values e u (PlaceOf Character) m) (λ r q. typed.is_part env r from to last isl q mf mt) (λ p ip. (then_meant c n (IsOf n (ValueOf Integer)) (IsOf n (PlaceOf Character)) (λ r. Typed c n env r (ValueOf Integer)) (λ r. Typed c n env r (PlaceOf Character)) (reduce c f s values from) (λ r. Part (Val p) r to) (λ a. then_by (reduce c f s values to) (Part (Val p) (Val a)) (λ b. at_once (part p a b))) (term_meant c f n s same h env values e from (ValueOf Integer) mf) (λ r q. typed.is_part env (Val p) r to last isl (typed.is_val env p (PlaceOf Character) ip) q mt) (λ a ia. (then_meant c n (IsOf n last) (IsOf n (PlaceOf Character)) (λ r. Typed c n env r last) (λ r. Typed c n env r (PlaceOf Character)) (reduce c f s values to) (Part (Val p) (Val a)) (λ b. at_once (part p a b)) (term_meant c f n s same h env values e to last mt) (λ r q. typed.is_part env (Val p) (Val a) r last isl (typed.is_val env p (PlaceOf Character) ip) (typed.is_val env a (ValueOf Integer) ia) q) (λ b ib. (at_once_meant c n (IsOf n (PlaceOf Character)) (λ r. Typed c n env r (PlaceOf Character)) (part p a b) (part_meant n last p a b isl ip ia ib))))))))
   term_meant c f n s same h env values e t sort (typed.is_joined _ ts sorts are ms) =
-      (then_meant n (AreOf n sorts) (IsOf n (ValueOf Character)) (λ r. AreTyped c f n env r sorts) (λ r. Typed c f n env r (ValueOf Character)) (reduce_all c f s values ts) Joined (λ ds. at_once (joined (pieces s ds))) (terms_meant c f n s same h env values e ts sorts ms) (λ r q. typed.is_joined env r sorts are q) (λ ds of. (at_once_meant n (IsOf n (ValueOf Character)) (λ r. Typed c f n env r (ValueOf Character)) (joined (pieces s ds)) (joined_meant n (pieces s ds) (pieces_meant s n same sorts ds are of)))))
+      (then_meant c n (AreOf n sorts) (IsOf n (ValueOf Character)) (λ r. AreTyped c n env r sorts) (λ r. Typed c n env r (ValueOf Character)) (reduce_all c f s values ts) Joined (λ ds. at_once (joined (pieces s ds))) (terms_meant c f n s same h env values e ts sorts ms) (λ r q. typed.is_joined env r sorts are q) (λ ds of. (at_once_meant c n (IsOf n (ValueOf Character)) (λ r. Typed c n env r (ValueOf Character)) (joined (pieces s ds)) (joined_meant n (pieces s ds) (pieces_meant s n same sorts ds are of)))))
   term_meant c f n s same h env values e t sort (typed.is_before _ op u basic pre m) =
-      (then_meant n (IsOf n (ValueOf basic)) (IsOf n (ValueOf basic)) (λ r. Typed c f n env r (ValueOf basic)) (λ r. Typed c f n env r (ValueOf basic)) (reduce c f s values u) (Before op) (λ d. at_once (prefixed op d)) (term_meant c f n s same h env values e u (ValueOf basic) m) (λ r q. typed.is_before env op r basic pre q) (λ d is. (at_once_meant n (IsOf n (ValueOf basic)) (λ r. Typed c f n env r (ValueOf basic)) (prefixed op d) (prefixed_meant n op basic d pre is))))
+      (then_meant c n (IsOf n (ValueOf basic)) (IsOf n (ValueOf basic)) (λ r. Typed c n env r (ValueOf basic)) (λ r. Typed c n env r (ValueOf basic)) (reduce c f s values u) (Before op) (λ d. at_once (prefixed op d)) (term_meant c f n s same h env values e u (ValueOf basic) m) (λ r q. typed.is_before env op r basic pre q) (λ d is. (at_once_meant c n (IsOf n (ValueOf basic)) (λ r. Typed c n env r (ValueOf basic)) (prefixed op d) (prefixed_meant n op basic d pre is))))
   term_meant c f n s same h env values e t sort (typed.is_between _ op u w basic result operates m mw) =
-      (then_meant n (IsOf n (ValueOf basic)) (IsOf n (ValueOf result)) (λ r. Typed c f n env r (ValueOf basic)) (λ r. Typed c f n env r (ValueOf result)) (reduce c f s values u) (λ r. Between op r w) (λ a. right_after (left_of op a) (then_by (reduce c f s values w) (Between op (Val a)) (λ b. at_once (operated op a b)))) (term_meant c f n s same h env values e u (ValueOf basic) m) (λ r q. typed.is_between env op r w basic result operates q mw) (λ a ia. right_meant n op basic result a (λ r. Typed c f n env r (ValueOf result)) (then_by (reduce c f s values w) (Between op (Val a)) (λ b. at_once (operated op a b))) operates ia (then_meant n (IsOf n (ValueOf basic)) (IsOf n (ValueOf result)) (λ r. Typed c f n env r (ValueOf basic)) (λ r. Typed c f n env r (ValueOf result)) (reduce c f s values w) (Between op (Val a)) (λ b. at_once (operated op a b)) (term_meant c f n s same h env values e w (ValueOf basic) mw) (λ r q. typed.is_between env op (Val a) r basic result operates (typed.is_val env a (ValueOf basic) ia) q) (λ b ib. (at_once_meant n (IsOf n (ValueOf result)) (λ r. Typed c f n env r (ValueOf result)) (operated op a b) (operated_meant n op basic result a b operates ia ib))))))
+      (then_meant c n (IsOf n (ValueOf basic)) (IsOf n (ValueOf result)) (λ r. Typed c n env r (ValueOf basic)) (λ r. Typed c n env r (ValueOf result)) (reduce c f s values u) (λ r. Between op r w) (λ a. right_after (left_of op a) (then_by (reduce c f s values w) (Between op (Val a)) (λ b. at_once (operated op a b)))) (term_meant c f n s same h env values e u (ValueOf basic) m) (λ r q. typed.is_between env op r w basic result operates q mw) (λ a ia. right_meant c n op basic result a (λ r. Typed c n env r (ValueOf result)) (then_by (reduce c f s values w) (Between op (Val a)) (λ b. at_once (operated op a b))) operates ia (then_meant c n (IsOf n (ValueOf basic)) (IsOf n (ValueOf result)) (λ r. Typed c n env r (ValueOf basic)) (λ r. Typed c n env r (ValueOf result)) (reduce c f s values w) (Between op (Val a)) (λ b. at_once (operated op a b)) (term_meant c f n s same h env values e w (ValueOf basic) mw) (λ r q. typed.is_between env op (Val a) r basic result operates (typed.is_val env a (ValueOf basic) ia) q) (λ b ib. (at_once_meant c n (IsOf n (ValueOf result)) (λ r. Typed c n env r (ValueOf result)) (operated op a b) (operated_meant n op basic result a b operates ia ib))))))
   term_meant c f n s same h env values e t sort (typed.is_intrinsic _ function ts sorts basic applies ms) =
-      (then_meant n (AreOf n sorts) (IsOf n (ValueOf basic)) (λ r. AreTyped c f n env r sorts) (λ r. Typed c f n env r (ValueOf basic)) (reduce_all c f s values ts) (Intrinsically function) (λ ds. at_once (applied function ds)) (terms_meant c f n s same h env values e ts sorts ms) (λ r q. typed.is_intrinsic env function r sorts basic applies q) (λ ds of. (at_once_meant n (IsOf n (ValueOf basic)) (λ r. Typed c f n env r (ValueOf basic)) (applied function ds) (applied_meant n function sorts basic ds applies of))))
-  term_meant c f n s same h env values e t sort (typed.is_refer _ x basic width ts sorts ms) =
-      (then_meant n (AreOf n sorts) (IsOf n (ValueOf basic)) (λ r. AreTyped c f n env r sorts) (λ r. Typed c f n env r (ValueOf basic)) (reduce_all c f s values ts) (Refer (record { name = x; want = AsFunction basic width })) (λ ds. Asks (record { name = x; want = AsFunction basic width }) ds Val) (terms_meant c f n s same h env values e ts sorts ms) (λ r q. typed.is_refer env x basic width r sorts q) (λ ds of d is. typed.is_val env d (ValueOf basic) is))
+      (then_meant c n (AreOf n sorts) (IsOf n (ValueOf basic)) (λ r. AreTyped c n env r sorts) (λ r. Typed c n env r (ValueOf basic)) (reduce_all c f s values ts) (Intrinsically function) (λ ds. at_once (applied function ds)) (terms_meant c f n s same h env values e ts sorts ms) (λ r q. typed.is_intrinsic env function r sorts basic applies q) (λ ds of. (at_once_meant c n (IsOf n (ValueOf basic)) (λ r. Typed c n env r (ValueOf basic)) (applied function ds) (applied_meant n function sorts basic ds applies of))))
+  term_meant c f n s same h env values e t sort (typed.is_refer _ x basic width ts sorts callee ms) =
+      (then_meant c n (AreOf n sorts) (IsOf n (ValueOf basic)) (λ r. AreTyped c n env r sorts) (λ r. Typed c n env r (ValueOf basic)) (reduce_all c f s values ts) (Refer (record { name = x; want = AsFunction basic width })) (λ ds. Asks (record { name = x; want = AsFunction basic width }) ds Val) (terms_meant c f n s same h env values e ts sorts ms) (λ r q. typed.is_refer env x basic width r sorts callee q) (λ ds of. (record { class_is = callee; basic = basic; width = width; want_is = refl; sorts = sorts; operands = of }, λ d is. typed.is_val env d (ValueOf basic) is)))
   term_meant c f n s same h env values e t sort (typed.is_bind _ ts sorts u _ ms m) =
-      (then_meant n (AreOf n sorts) (IsOf n sort) (λ r. AreTyped c f n env r sorts) (λ r. Typed c f n env r sort) (reduce_all c f s values ts) (λ rs. Bind rs u) (λ ds. then_by (reduce c f s ds u) (Bind (valued_then ds NoMore)) Valued) (terms_meant c f n s same h env values e ts sorts ms) (λ r q. typed.is_bind env r sorts u sort q m) (λ ds of. (then_meant n (IsOf n sort) (IsOf n sort) (λ r. Typed c f n sorts r sort) (λ r. Typed c f n env r sort) (reduce c f s ds u) (Bind (valued_then ds NoMore)) Valued (term_meant c f n s same h sorts ds of u sort m) (λ r q. typed.is_bind env (valued_then ds NoMore) sorts r sort (values_typed c f n env sorts ds of) q) (λ d is. is))))
-  term_meant c f n s same h env values e t sort (typed.is_bound _ k _ nth) = (at_once_meant n (IsOf n sort) (λ r. Typed c f n env r sort) (bound_to values k) (bound_meant n env values k sort e nth))
+      (then_meant c n (AreOf n sorts) (IsOf n sort) (λ r. AreTyped c n env r sorts) (λ r. Typed c n env r sort) (reduce_all c f s values ts) (λ rs. Bind rs u) (λ ds. then_by (reduce c f s ds u) (Bind (valued_then ds NoMore)) Valued) (terms_meant c f n s same h env values e ts sorts ms) (λ r q. typed.is_bind env r sorts u sort q m) (λ ds of. (then_meant c n (IsOf n sort) (IsOf n sort) (λ r. Typed c n sorts r sort) (λ r. Typed c n env r sort) (reduce c f s ds u) (Bind (valued_then ds NoMore)) Valued (term_meant c f n s same h sorts ds of u sort m) (λ r q. typed.is_bind env (valued_then ds NoMore) sorts r sort (values_typed c f n env sorts ds of) q) (λ d is. is))))
+  term_meant c f n s same h env values e t sort (typed.is_bound _ k _ nth) = (at_once_meant c n (IsOf n sort) (λ r. Typed c n env r sort) (bound_to values k) (bound_meant n env values k sort e nth))
 
   pub terms_meant : (c : Facts) (f : Frame) (n : ℕ) (s : Store) → n ≡ length s → Sound c f n → (env : List Sort) (values : List Datum) → AreOf n env values →
-      (ts : Terms) (sorts : List Sort) → AreTyped c f n env ts sorts →
-      Meant n (AreOf n sorts) (λ rest. AreTyped c f n env rest sorts) (reduce_all c f s values ts)
+      (ts : Terms) (sorts : List Sort) → AreTyped c n env ts sorts →
+      Meant c n (AreOf n sorts) (λ rest. AreTyped c n env rest sorts) (reduce_all c f s values ts)
   terms_meant c f n s same h env values e ts sorts (typed.no_terms _) = none_of
   terms_meant c f n s same h env values e ts sorts (typed.more_terms _ t us sort more m ms) =
-      (then_meant n (IsOf n sort) (AreOf n (sort ∷ more)) (λ r. Typed c f n env r sort) (λ r. AreTyped c f n env r (sort ∷ more)) (reduce c f s values t) (λ r. More r us) (λ d. then_by (reduce_all c f s values us) (More (Val d)) (λ ds. Valued (d ∷ ds))) (term_meant c f n s same h env values e t sort m) (λ r q. typed.more_terms env r us sort more q ms) (λ d is. (then_meant n (AreOf n more) (AreOf n (sort ∷ more)) (λ r. AreTyped c f n env r more) (λ r. AreTyped c f n env r (sort ∷ more)) (reduce_all c f s values us) (More (Val d)) (λ ds. Valued (d ∷ ds)) (terms_meant c f n s same h env values e us more ms) (λ r q. typed.more_terms env (Val d) r sort more (typed.is_val env d sort is) q) (λ ds of. more_of sort more d ds is of))))
+      (then_meant c n (IsOf n sort) (AreOf n (sort ∷ more)) (λ r. Typed c n env r sort) (λ r. AreTyped c n env r (sort ∷ more)) (reduce c f s values t) (λ r. More r us) (λ d. then_by (reduce_all c f s values us) (More (Val d)) (λ ds. Valued (d ∷ ds))) (term_meant c f n s same h env values e t sort m) (λ r q. typed.more_terms env r us sort more q ms) (λ d is. (then_meant c n (AreOf n more) (AreOf n (sort ∷ more)) (λ r. AreTyped c n env r more) (λ r. AreTyped c n env r (sort ∷ more)) (reduce_all c f s values us) (More (Val d)) (λ ds. Valued (d ∷ ds)) (terms_meant c f n s same h env values e us more ms) (λ r q. typed.more_terms env (Val d) r sort more (typed.is_val env d sort is) q) (λ ds of. more_of sort more d ds is of))))
 
 pub each_term : EachTermIsMeant
 each_term c f s sound sorts env are t sort is = term_meant c f (length s) s refl sound sorts env are t sort is
@@ -380,9 +392,8 @@ pub is_met : IsMet
 unfolding one_variable no_program no_frame bare is_variable is_procedure_name Answers named_as stored_at elements_of extent_of whole bounds_of either_bounds
 is_met = record {
   sound = record {
-    variables = λ x is. typed.place _ Integer refl (omega arith);
+    variables = λ x is. record { placed = typed.place _ Integer refl (omega arith); ranked = refl; sized = λ has. refl };
     procedures = λ x is. absurd (cc);
-    ranks = λ x. refl;
   };
   typed = typed.is_between [] Add (Fetch (At (codes "i"))) (Val (IsInt (pos 3))) Integer Integer typed.adds
       (typed.is_fetch [] (At (codes "i")) Integer typed.integers (typed.is_at [] (codes "i") Integer (record { class_is = refl; basic_is = refl })))

@@ -1,16 +1,16 @@
 -- The settings of the programs over COMMON and EQUIVALENCE, checked against what a setting is.
-use Rattle.std.proofs.Common.{List, [], ◌∷◌, Some, None, codes, refl}
-use Rattle.f_tree.specs.Facts.{Member, Block, Tied, Tie}
-use Rattle.f_tree.specs.Setting.{IsSetting, setting_opened, first_in, later_in, here, there, none_left, is_next, Spoken}
+use Rattle.std.proofs.Common.{[], ◌∷◌, Some, None, codes, refl}
+use Rattle.f_tree.specs.Setting.{IsSetting, setting_opened, first_in, later_in, here, there, none_left, is_next}
 use Rattle.f_tree.specs.Lines.{lines_opened}
 use Rattle.f_tree.specs.Meaning.{everything, units_of}
 use Rattle.f_tree.specs.Runs.{no_options}
-use Rattle.f_tree.specs.StorageSources.{overlay_of_a_matrix, overlay_of_a_matrix_setting, overlay_in_a_chain, overlay_in_a_chain_setting, common_that_differs_by_unit, common_that_differs_by_unit_setting, common_made_longer, common_made_longer_setting, texts_that_overlap, texts_that_overlap_setting, values_of_a_block, values_of_a_block_setting, storage_sources_opened}
+use Rattle.f_tree.specs.StorageSources.{overlay_of_a_matrix, overlay_of_a_matrix_setting, overlay_in_a_chain, overlay_in_a_chain_setting, common_that_differs_by_unit, common_that_differs_by_unit_setting, common_made_longer, common_made_longer_setting, texts_that_overlap, texts_that_overlap_setting, arrays_over_their_file, arrays_over_their_file_setting, values_of_a_block, values_of_a_block_setting, block_named_external, block_named_external_setting, storage_sources_opened}
 use Rattle.f_tree.specs.ProceduresSources.{common_that_is_passed, common_that_is_passed_setting, procedures_sources_opened}
 use Rattle.f_tree.specs.TransferSources.{stock_report, stock_report_setting, transfer_sources_opened}
 use Rattle.f_tree.specs.FurtherSources.{block_with_values, block_with_values_setting, further_sources_opened}
+use Rattle.f_tree.specs.SubstringsSources.{right_side_before_a_function, right_side_before_a_function_setting, substrings_sources_opened}
 use Rattle.f_tree.specs.WorkedSources.{common_seen_twice, common_setting, arrays_equivalenced, arrays_setting, types_equivalenced, types_setting, sources_opened}
-use Rattle.f_tree.proofs.SettingChecks.{Layout, Checks, Furthest, InSequence, block_among, leader_among, one_name, turned, joined, in_block, in_tie, seen, checks_opened, written_setting}
+use Rattle.f_tree.proofs.SettingChecks.{Layout, Checks, block_among, leader_among, one_name, turned, joined, in_block, in_tie, seen, checks_opened, written_setting}
 
 overlay_of_a_matrix_unit_0 : Layout
 overlay_of_a_matrix_unit_0 = record {
@@ -141,6 +141,29 @@ pub texts_that_overlap_placed : IsSetting (units_of no_options (texts_that_overl
 unfolding everything checks_opened storage_sources_opened texts_that_overlap_unit_0
 texts_that_overlap_placed = written_setting (units_of no_options (texts_that_overlap)) texts_that_overlap_setting (texts_that_overlap_unit_0 ∷ []) (block_among []) (leader_among (record { unit = 0; name = (codes "a") } ∷ [])) refl refl texts_that_overlap_checks
 
+arrays_over_their_file_unit_0 : Layout
+arrays_over_their_file_unit_0 = record {
+  stored = (record { name = (codes "s"); size = 6 } ∷ record { name = (codes "t"); size = 6 } ∷ record { name = (codes "u"); size = 6 } ∷ record { name = (codes "v"); size = 6 } ∷ []);
+  blocks = [];
+  ties = (record { one = record { name = (codes "s"); before = 2 }; other = record { name = (codes "t"); before = 0 } } ∷ record { one = record { name = (codes "u"); before = 0 }; other = record { name = (codes "v"); before = 4 } } ∷ []);
+}
+
+arrays_over_their_file_checks : Checks (arrays_over_their_file_unit_0 ∷ []) arrays_over_their_file_setting (block_among []) (leader_among (record { unit = 0; name = (codes "s") } ∷ record { unit = 0; name = (codes "v") } ∷ []))
+unfolding setting_opened checks_opened lines_opened storage_sources_opened arrays_over_their_file_unit_0
+arrays_over_their_file_checks = record {
+  blocks = (tt, tt);
+  ties = (((refl, refl), ((refl, refl), tt)), tt);
+  linked = ((one_name, (turned (in_tie refl first_in), (in_tie refl (later_in first_in), (one_name, tt)))), tt);
+  numbered = is_next refl (seen 0 refl (is_next refl (seen 0 refl none_left)));
+  least = (refl, (refl, tt));
+  within = (((2, refl), ((0, refl), ((0, refl), ((4, refl), tt)))), tt);
+  reached = (record { unit = 0; layout = arrays_over_their_file_unit_0; member = record { name = (codes "t"); size = 6 }; first = 2; is_there = refl; is_in = (later_in first_in); stands = refl; ends = refl }, (record { unit = 0; layout = arrays_over_their_file_unit_0; member = record { name = (codes "u"); size = 6 }; first = 4; is_there = refl; is_in = (later_in (later_in first_in)); stands = refl; ends = refl }, tt));
+}
+
+pub arrays_over_their_file_placed : IsSetting (units_of no_options (arrays_over_their_file)) arrays_over_their_file_setting
+unfolding everything checks_opened storage_sources_opened arrays_over_their_file_unit_0
+arrays_over_their_file_placed = written_setting (units_of no_options (arrays_over_their_file)) arrays_over_their_file_setting (arrays_over_their_file_unit_0 ∷ []) (block_among []) (leader_among (record { unit = 0; name = (codes "s") } ∷ record { unit = 0; name = (codes "v") } ∷ [])) refl refl arrays_over_their_file_checks
+
 values_of_a_block_unit_0 : Layout
 values_of_a_block_unit_0 = record {
   stored = (record { name = (codes "i"); size = 20 } ∷ record { name = (codes "c"); size = 3 } ∷ []);
@@ -170,6 +193,29 @@ values_of_a_block_checks = record {
 pub values_of_a_block_placed : IsSetting (units_of no_options (values_of_a_block)) values_of_a_block_setting
 unfolding everything checks_opened storage_sources_opened values_of_a_block_unit_0 values_of_a_block_unit_1
 values_of_a_block_placed = written_setting (units_of no_options (values_of_a_block)) values_of_a_block_setting (values_of_a_block_unit_0 ∷ values_of_a_block_unit_1 ∷ []) (block_among (record { block = Some (codes "t"); sequence = 0 } ∷ record { block = Some (codes "u"); sequence = 1 } ∷ [])) (leader_among (record { unit = 0; name = (codes "i") } ∷ record { unit = 0; name = (codes "c") } ∷ [])) refl refl values_of_a_block_checks
+
+block_named_external_unit : Layout
+block_named_external_unit = record {
+  stored = (record { name = (codes "i"); size = 4 } ∷ []);
+  blocks = (record { name = Some (codes "t"); members = (record { name = (codes "i"); size = 4 } ∷ []) } ∷ []);
+  ties = [];
+}
+
+block_named_external_checks : Checks (block_named_external_unit ∷ block_named_external_unit ∷ []) block_named_external_setting (block_among (record { block = Some (codes "t"); sequence = 0 } ∷ [])) (leader_among (record { unit = 0; name = (codes "i") } ∷ []))
+unfolding setting_opened checks_opened lines_opened storage_sources_opened block_named_external_unit
+block_named_external_checks = record {
+  blocks = (((refl, tt), tt), (((refl, tt), tt), tt));
+  ties = (tt, (tt, tt));
+  linked = ((one_name, tt), ((in_block refl refl first_in first_in refl here here, tt), tt));
+  numbered = is_next refl (seen 0 refl none_left);
+  least = (refl, tt);
+  within = (((0, refl), tt), (((0, refl), tt), tt));
+  reached = (record { unit = 0; layout = block_named_external_unit; member = record { name = (codes "i"); size = 4 }; first = 0; is_there = refl; is_in = first_in; stands = refl; ends = refl }, tt);
+}
+
+pub block_named_external_placed : IsSetting (units_of no_options (block_named_external)) block_named_external_setting
+unfolding everything checks_opened storage_sources_opened block_named_external_unit
+block_named_external_placed = written_setting (units_of no_options (block_named_external)) block_named_external_setting (block_named_external_unit ∷ block_named_external_unit ∷ []) (block_among (record { block = Some (codes "t"); sequence = 0 } ∷ [])) (leader_among (record { unit = 0; name = (codes "i") } ∷ [])) refl refl block_named_external_checks
 
 common_that_is_passed_unit_0 : Layout
 common_that_is_passed_unit_0 = record {
@@ -336,3 +382,37 @@ types_equivalenced_checks = record {
 pub types_equivalenced_placed : IsSetting (units_of no_options (types_equivalenced (codes "l"))) types_setting
 unfolding everything checks_opened sources_opened types_equivalenced_unit_0
 types_equivalenced_placed = written_setting (units_of no_options (types_equivalenced (codes "l"))) types_setting (types_equivalenced_unit_0 ∷ []) (block_among []) (leader_among (record { unit = 0; name = (codes "l") } ∷ [])) refl refl types_equivalenced_checks
+
+pub other_type_placed : IsSetting (units_of no_options (types_equivalenced (codes "i"))) types_setting
+unfolding everything checks_opened sources_opened types_equivalenced_unit_0
+other_type_placed = written_setting (units_of no_options (types_equivalenced (codes "i"))) types_setting (types_equivalenced_unit_0 ∷ []) (block_among []) (leader_among (record { unit = 0; name = (codes "l") } ∷ [])) refl refl types_equivalenced_checks
+
+right_side_before_a_function_unit_0 : Layout
+right_side_before_a_function_unit_0 = record {
+  stored = (record { name = (codes "s"); size = 3 } ∷ record { name = (codes "t"); size = 3 } ∷ []);
+  blocks = (record { name = Some (codes "b"); members = (record { name = (codes "t"); size = 3 } ∷ []) } ∷ []);
+  ties = [];
+}
+
+right_side_before_a_function_unit_1 : Layout
+right_side_before_a_function_unit_1 = record {
+  stored = (record { name = (codes "t"); size = 3 } ∷ []);
+  blocks = (record { name = Some (codes "b"); members = (record { name = (codes "t"); size = 3 } ∷ []) } ∷ []);
+  ties = [];
+}
+
+right_side_before_a_function_checks : Checks (right_side_before_a_function_unit_0 ∷ right_side_before_a_function_unit_1 ∷ []) right_side_before_a_function_setting (block_among (record { block = Some (codes "b"); sequence = 1 } ∷ [])) (leader_among (record { unit = 0; name = (codes "s") } ∷ record { unit = 0; name = (codes "t") } ∷ []))
+unfolding setting_opened checks_opened lines_opened substrings_sources_opened right_side_before_a_function_unit_0 right_side_before_a_function_unit_1
+right_side_before_a_function_checks = record {
+  blocks = (((refl, tt), tt), (((refl, tt), tt), tt));
+  ties = (tt, (tt, tt));
+  linked = ((one_name, (one_name, tt)), ((in_block refl refl first_in first_in refl here here, tt), tt));
+  numbered = is_next refl (is_next refl (seen 0 refl none_left));
+  least = (refl, (refl, tt));
+  within = (((0, refl), ((0, refl), tt)), (((0, refl), tt), tt));
+  reached = (record { unit = 0; layout = right_side_before_a_function_unit_0; member = record { name = (codes "s"); size = 3 }; first = 0; is_there = refl; is_in = first_in; stands = refl; ends = refl }, (record { unit = 0; layout = right_side_before_a_function_unit_0; member = record { name = (codes "t"); size = 3 }; first = 0; is_there = refl; is_in = (later_in first_in); stands = refl; ends = refl }, tt));
+}
+
+pub right_side_before_a_function_placed : IsSetting (units_of no_options (right_side_before_a_function)) right_side_before_a_function_setting
+unfolding everything checks_opened substrings_sources_opened right_side_before_a_function_unit_0 right_side_before_a_function_unit_1
+right_side_before_a_function_placed = written_setting (units_of no_options (right_side_before_a_function)) right_side_before_a_function_setting (right_side_before_a_function_unit_0 ∷ right_side_before_a_function_unit_1 ∷ []) (block_among (record { block = Some (codes "b"); sequence = 1 } ∷ [])) (leader_among (record { unit = 0; name = (codes "s") } ∷ record { unit = 0; name = (codes "t") } ∷ [])) refl refl right_side_before_a_function_checks

@@ -8,6 +8,8 @@ use Rattle.f_tree.specs.declared.statements.ListItem as item
 use Rattle.f_tree.specs.declared.statements.ControlValue.TheVariants as value
 use Rattle.f_tree.specs.declared.statements.ControlWord.TheVariants as word
 use Rattle.f_tree.specs.declared.statements.Direction.TheVariants as way
+use Rattle.f_tree.specs.declared.statements.UnitKind.TheVariants as kind
+use Rattle.f_tree.specs.declared.statements.DummyArgument.TheVariants as dummy
 use Rattle.f_tree.specs.declared.units.FileSet.{FileSet}
 use Rattle.f_tree.specs.WorkedSources.{on_card, labelled, main_program, one_file, num, from_to, I, J, K, N, plus, minus, times, text}
 
@@ -140,6 +142,42 @@ jumps_to_the_outer_loop = one_file (
     on_card 9 body.End ∷ []) ∷
     [])
 
+-- examples/fortran/returns_into_a_loop.f
+unfoldable pub returns_into_a_loop : FileSet
+returns_into_a_loop = one_file (
+    main_program (
+    on_card 1 (body.Assign (expr.Name K) (num 0)) ∷
+    on_card 2 (body.Do 30 (from_to I (num 1) (num 3))) ∷
+    on_card 3 (body.IfThen (expr.Binary op.Equal (expr.Name I) (num 2))) ∷
+    on_card 4 (body.Do 10 (from_to J (num 1) (num 2))) ∷
+    on_card 5 (body.IfOne (expr.Binary op.Equal (expr.Name J) (num 2)) (body.Goto 20)) ∷
+    labelled 10 6 (body.Assign (expr.Name K) (plus (expr.Name K) (num 1))) ∷
+    labelled 20 7 (body.Assign (expr.Name K) (plus (expr.Name K) (num 10))) ∷
+    on_card 8 (body.ElseIf (expr.Binary op.Equal (expr.Name I) (num 3))) ∷
+    on_card 9 (body.Call (codes "s") ((expr.Name I) ∷ (expr.AltReturn 30) ∷ (expr.AltReturn 40) ∷ [])) ∷
+    on_card 10 (body.Assign (expr.Name K) (plus (expr.Name K) (num 100))) ∷
+    on_card 11 body.EndIf ∷
+    on_card 12 (body.Assign (expr.Name K) (plus (expr.Name K) (num 1000))) ∷
+    labelled 30 13 body.Continue ∷
+    on_card 14 (body.Assign (expr.Name K) (plus (expr.Name K) (num 10000))) ∷
+    labelled 40 15 (body.Transfer way.Write (record { word = word.Unit; value = value.Star } ∷ record { word = word.Format; value = value.Value (text (codes "(2I6)")) } ∷ []) ((item.Item (expr.Name I)) ∷ (item.Item (expr.Name K)) ∷ [])) ∷
+    on_card 16 (body.IfOne (expr.Binary op.Equal (expr.Name I) (num 4)) (body.Call (codes "s") ((expr.Name I) ∷ (expr.AltReturn 40) ∷ (expr.AltReturn 50) ∷ []))) ∷
+    on_card 17 (body.Assign (expr.Name K) (num 0)) ∷
+    labelled 50 18 (body.Transfer way.Write (record { word = word.Unit; value = value.Star } ∷ record { word = word.Format; value = value.Value (text (codes "(2I6)")) } ∷ []) ((item.Item (expr.Name I)) ∷ (item.Item (expr.Name K)) ∷ [])) ∷
+    on_card 19 body.End ∷ []) ∷
+    record {
+      file = 0;
+      card = 20;
+      kind = kind.Subroutine;
+      name = Some (codes "s");
+      dummies = (dummy.Named N ∷ dummy.AlternateReturn ∷ dummy.AlternateReturn ∷ []);
+      statements =
+          on_card 21 (body.Do 10 (from_to I (num 1) (expr.Name N))) ∷
+          labelled 10 22 (body.IfOne (expr.Binary op.Equal (expr.Name I) (minus (expr.Name N) (num 2))) (body.Return (Some (minus (expr.Name N) (num 2))))) ∷
+          on_card 23 body.End ∷ [];
+    } ∷
+    [])
+
 unfoldable pub control_sources_opened : Unit {0}
-unfolding loops_that_share_their_end jumps_out_of_loops limits_valued_once branches_by_number assigned_branches blocks_in_blocks jumps_to_the_outer_loop
+unfolding loops_that_share_their_end jumps_out_of_loops limits_valued_once branches_by_number assigned_branches blocks_in_blocks jumps_to_the_outer_loop returns_into_a_loop
 control_sources_opened = tt

@@ -62,6 +62,8 @@ pub data Layout : Type 0 where
   Labelled : ℕ → Layout
   -- by the text of an operand
   Computed : Layout
+  -- no format is written: a form that is not built (12.8.1)
+  Unformatted : Layout
 
 -- the control words whose operands stand, in this order, in the statement's operands, and its labels
 pub data Word : Type 0 where

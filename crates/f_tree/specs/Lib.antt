@@ -1,10 +1,13 @@
 pub mod ActsSources
+pub mod ApartSources
 pub mod Association
 pub mod Attributes
 pub mod CNames
 pub mod CardKinds
 pub mod Characters
+pub mod Checks
 pub mod ControlSources
+pub mod ErrorSources
 pub mod ExpressionsSources
 pub mod Facts
 pub mod FirstRefusal
@@ -12,10 +15,15 @@ pub mod Folds
 pub mod FormatChoice
 pub mod FormatsSources
 pub mod FurtherSources
+pub mod Holding
+pub mod IllFormedSources
 pub mod Images
 pub mod InputSources
 pub mod Lines
+pub mod LongSources
 pub mod Meaning
+pub mod OperandsSources
+pub mod OrderSources
 pub mod Places
 pub mod ProceduresSources
 pub mod Reading
@@ -30,6 +38,7 @@ pub mod Statuses
 pub mod Step
 pub mod StorageSources
 pub mod Store
+pub mod SubstringsSources
 pub mod Terms
 pub mod TextsSources
 pub mod TransferSources

@@ -32,12 +32,12 @@ use Rattle.f_tree.specs.Folds.{fold_item, fold_body, layer_of}
 use Rattle.f_tree.specs.declared.statements.DataGroup.{DataGroup}
 use Rattle.f_tree.specs.declared.statements.DataValue.{DataValue}
 use Rattle.f_tree.specs.Values.{Bytes, Datum, IsInt, IsSpot, Nothing}
-use Rattle.f_tree.specs.Terms.{Term, Val, At, Terms, NoMore, More, terms, Bound, All, Alone}
-use Rattle.f_tree.specs.Facts.{Attribute, Formal, Named, Alternate, MainProgram, SubroutineUnit, FunctionUnit, BlockDataUnit, UnitKind, EntryPoint, Direction, Input, Output, Layout, Listed, Labelled, Computed, Word, UnitWord, FormatWord, StatusWord, FileWord, FileStatusWord, AccessWord, FormWord, BlankWord, Controls, AuxiliaryKind, OpenUnit, CloseUnit, BackspaceUnit, EndFileUnit, RewindUnit, Job, Item, Repeated, Work, Done, Before, ToSet, ToSetText, ToSetLabel, ToGo, ToPick, ToGoAssigned, ToGoBySign, ToGuard, ToEnterArm, ToLoop, ToCall, ToReturn, ToStop, ToBegin, ToAuxiliary, ToEnd, Form, Passes, On, Mark, Plain, Opens, Arm, Closes, Line, LabelledFormat, Member, Block, Tied, Tie, ProgramUnit, Facts, Image, DataPlace, DataPlaces, WholeName, OnePlace, EachOf, NoPlaces, AndPlaces}
+use Rattle.f_tree.specs.Terms.{Term, Val, At, Terms, NoMore, More, terms, refers, Bound, All, Alone}
+use Rattle.f_tree.specs.Facts.{Attribute, Formal, Named, Alternate, MainProgram, SubroutineUnit, FunctionUnit, BlockDataUnit, UnitKind, EntryPoint, Direction, Input, Output, Layout, Listed, Labelled, Computed, Unformatted, Word, UnitWord, FormatWord, StatusWord, FileWord, FileStatusWord, AccessWord, FormWord, BlankWord, Controls, AuxiliaryKind, OpenUnit, CloseUnit, BackspaceUnit, EndFileUnit, RewindUnit, Job, Item, Repeated, Work, Done, Before, ToSet, ToSetText, ToSetLabel, ToGo, ToPick, ToGoAssigned, ToGoBySign, ToGuard, ToEnterArm, ToLoop, ToCall, ToReturn, ToStop, ToBegin, ToAuxiliary, ToEnd, Form, Passes, On, Mark, Plain, Opens, Arm, Closes, Line, LabelledFormat, Member, Block, Tied, Tie, ProgramUnit, Facts, Image, DataPlace, DataPlaces, WholeName, OnePlace, EachOf, NoPlaces, AndPlaces}
 use Rattle.f_tree.specs.Valuing.{Red, Valued, reduce, elements_of, extent_of}
 use Rattle.f_tree.specs.Reading.{Read, read}
-use Rattle.f_tree.specs.Uses.{heading_of}
-use Rattle.f_tree.specs.Attributes.{from_all, Described, all_described, attribute_in, no_frame, no_facts, value_if_valued}
+use Rattle.f_tree.specs.Uses.{heading_of, Use, Manner, Declared, uses_of_statements}
+use Rattle.f_tree.specs.Attributes.{from_all, is_used_as, arrays_of, Described, all_described, attribute_in, no_frame, no_facts, value_if_valued}
 
 abbrev pub Naming : Type 0
 Naming = Bytes → Attribute
@@ -148,9 +148,10 @@ controls_written way names (c ∷ cs) = control_written way names c.word c.value
 unfoldable pub controls_of : Written → Controls
 controls_of w = record { words = w.words; on_error = w.on_error; on_end = w.on_end }
 
-unfoldable pub layout_or_listed : Option Layout → Layout
-layout_or_listed None = Listed
-layout_or_listed (Some l) = l
+-- a transfer whose control words name no format is unformatted
+unfoldable pub layout_written : Option Layout → Layout
+layout_written None = Unformatted
+layout_written (Some l) = l
 
 unfoldable pub way_of : direction.Direction → Direction
 way_of way.Read = Input
@@ -158,7 +159,7 @@ way_of way.Write = Output
 
 unfoldable pub transfer_form : Direction → Naming → List ListItem → Written → Form
 transfer_form way names items w =
-    On (ToBegin way (layout_or_listed w.layout) (controls_of w) (jobs_of way names items)) (terms w.operands)
+    On (ToBegin way (layout_written w.layout) (controls_of w) (jobs_of way names items)) (terms w.operands)
 
 unfoldable pub auxiliary_of : auxiliary.AuxiliaryKind → AuxiliaryKind
 auxiliary_of act.OpenUnit = OpenUnit
@@ -174,11 +175,17 @@ unfoldable pub is_statement_function : Naming → Option Bytes → Bool
 is_statement_function names None = false
 is_statement_function names (Some x) = elim (names x).class [ class.StatementFunction ↦ true | _ ↦ false ]
 
--- an assignment: of a text its pieces are settled and fetched when the target is settled too (10.1 to 10.4)
+-- the right side is valued, and then the target settled
+unfoldable pub value_assignment : Read → Read → Form
+value_assignment target e = On ToSet (More e.value (More target.actual NoMore))
+
+-- of a text the pieces are settled, and fetched when the target is settled too; where the target has a reference they are fetched before it
+unfoldable pub text_assignment : Read → Read → Form
+text_assignment target e = if refers target.actual then value_assignment target e else On ToSetText (terms (e.pieces ++ target.actual ∷ []))
+
+-- an assignment (10.1 to 10.4)
 unfoldable pub assignment : Naming → Read → Read → Form
-assignment names target e =
-    if is_text names target.base then On ToSetText (terms (e.pieces ++ target.actual ∷ []))
-    else On ToSet (More e.value (More target.actual NoMore))
+assignment names target e = if is_text names target.base then text_assignment target e else value_assignment target e
 
 unfoldable pub assign_form : Naming → Expr → Expr → Form
 assign_form names target e =
@@ -264,6 +271,19 @@ is_procedure a = elim a.class [ class.Procedure ↦ true | _ ↦ false ]
 unfoldable pub procedures_among : List Described → List Bytes
 procedures_among [] = []
 procedures_among (d ∷ ds) = if is_procedure d.attribute then d.name ∷ procedures_among ds else procedures_among ds
+
+-- of these names, those that are referenced or passed, and not declared alone: EXTERNAL may name a unit that is never called, such as a
+-- block data subprogram (8.7)
+unfoldable pub is_reference : Manner → Bool
+is_reference Declared = false
+is_reference _ = true
+
+unfoldable pub referenced_among : List Use → List Bytes → List Bytes
+referenced_among uses [] = []
+referenced_among uses (x ∷ xs) = if is_used_as is_reference x uses then x ∷ referenced_among uses xs else referenced_among uses xs
+
+unfoldable pub references_of : WrittenUnit → List Described → List Bytes
+references_of u ds = referenced_among (uses_of_statements (arrays_of u) u.statements) (procedures_among ds)
 
 -- common blocks: the items of all groups of a block, in their order (8.3)
 unfoldable pub member_of : Naming → ArrayDeclarator → Member
@@ -372,7 +392,7 @@ program_of options u ds = record {
   blocks = blocks_from (attribute_in ds) [] (from_all common_in u.statements);
   ties = [];
   images = map (image_of (attribute_in ds)) (from_all data_in u.statements);
-  references = procedures_among ds;
+  references = references_of u ds;
   stored = stored_among ds;
   onetrip = options.onetrip;
 }
@@ -389,5 +409,5 @@ unfoldable pub unit_read : Options → WrittenUnit → ProgramUnit
 unit_read options u = with_ties u (program_of options u (all_described u))
 
 unfoldable pub lines_opened : Unit {0}
-unfolding value_of place_of arguments_of step_of control_of is_array array_or item_of work_of layer_job job_of jobs_of is_character is_text standard_unit nothing_written with_operand if_placed settled_text control_written controls_written controls_of layout_or_listed way_of transfer_form auxiliary_of auxiliary_form is_statement_function assignment assign_form return_form layer_form form_of mark_of line_of formals_of entry_in entries_from name_or_none format_in formats_of size_by size_of is_stored stored_among is_procedure procedures_among member_of same_block into_block blocks_from common_in tied_at tied_of tieds_of ties_among equivalence_in ties_of bound_within all_places place_by layer_place places_read count_of repeats_of values_read data_in image_of unit_kind program_of apart with_ties unit_read
+unfolding value_of place_of arguments_of step_of control_of is_array array_or item_of work_of layer_job job_of jobs_of is_character is_text standard_unit nothing_written with_operand if_placed settled_text control_written controls_written controls_of layout_written way_of transfer_form auxiliary_of auxiliary_form is_statement_function value_assignment text_assignment assignment assign_form return_form layer_form form_of mark_of line_of formals_of entry_in entries_from name_or_none format_in formats_of size_by size_of is_stored stored_among is_procedure procedures_among is_reference referenced_among references_of member_of same_block into_block blocks_from common_in tied_at tied_of tieds_of ties_among equivalence_in ties_of bound_within all_places place_by layer_place places_read count_of repeats_of values_read data_in image_of unit_kind program_of apart with_ties unit_read
 lines_opened = tt

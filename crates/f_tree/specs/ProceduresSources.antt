@@ -12,7 +12,7 @@ use Rattle.f_tree.specs.declared.statements.UnitKind.TheVariants as kind
 use Rattle.f_tree.specs.declared.units.FileSet.{FileSet}
 use Rattle.f_tree.specs.declared.statements.DummyArgument.TheVariants as dummy
 use Rattle.f_tree.specs.declared.statements.UpperBound.TheVariants as upper
-use Rattle.f_tree.specs.declared.names.Basic.TheVariants.{Integer}
+use Rattle.f_tree.specs.declared.names.Basic.TheVariants.{Integer, Logical}
 use Rattle.f_tree.specs.Setting.{Setting}
 use Rattle.f_tree.specs.WorkedSources.{on_card, labelled, main_program, one_file, num, from_to, I, J, K, M, N, plus, minus, times, text}
 
@@ -114,6 +114,29 @@ entries_with_one_result = one_file (
           on_card 10 (body.Assign (expr.Name (codes "nb")) (minus (expr.Name (codes "l")) (num 1))) ∷
           labelled 10 11 (body.IfOne (expr.Binary op.Greater (expr.Name (codes "nc")) (num 3)) (body.Assign (expr.Name (codes "nc")) (plus (expr.Name (codes "nc")) (num 100)))) ∷
           on_card 12 body.End ∷ [];
+    } ∷
+    [])
+
+-- examples/fortran/entry_of_another_type.f
+unfoldable pub entry_of_another_type : FileSet
+entry_of_another_type = one_file (
+    main_program (
+    on_card 1 (body.Declare (record { basic = Logical; length = None }) (record { name = (codes "ig"); dimensions = []; length = None } ∷ [])) ∷
+    on_card 2 (body.Transfer way.Write (record { word = word.Unit; value = value.Star } ∷ record { word = word.Format; value = value.Value (text (codes "(I4,L2)")) } ∷ []) ((item.Item (expr.Apply (codes "if1") ((num 3) ∷ []))) ∷ (item.Item (expr.Apply (codes "ig") ((num 0) ∷ []))) ∷ [])) ∷
+    on_card 3 body.End ∷ []) ∷
+    record {
+      file = 0;
+      card = 4;
+      kind = kind.Function (record { basic = Integer; length = None });
+      name = Some (codes "if1");
+      dummies = (dummy.Named K ∷ []);
+      statements =
+          on_card 5 (body.Declare (record { basic = Logical; length = None }) (record { name = (codes "ig"); dimensions = []; length = None } ∷ [])) ∷
+          on_card 6 (body.Entry (codes "ig") (dummy.Named K ∷ [])) ∷
+          on_card 7 (body.Assign (expr.Name (codes "ig")) (expr.Binary op.Greater (expr.Name K) (num 0))) ∷
+          on_card 8 (body.IfOne (expr.Name (codes "ig")) (body.Assign (expr.Name (codes "if1")) (plus (expr.Name K) (num 1)))) ∷
+          on_card 9 (body.Return None) ∷
+          on_card 10 body.End ∷ [];
     } ∷
     [])
 
@@ -289,5 +312,5 @@ values_that_are_passed = one_file (
     [])
 
 unfoldable pub procedures_sources_opened : Unit {0}
-unfolding two_names_of_one_place parts_of_one_array common_that_is_passed common_that_is_passed_setting entries_with_one_result entries_with_their_dummies returns_to_labels functions_of_statements procedures_that_are_passed dimensions_by_the_call values_that_are_passed
+unfolding two_names_of_one_place parts_of_one_array common_that_is_passed common_that_is_passed_setting entries_with_one_result entry_of_another_type entries_with_their_dummies returns_to_labels functions_of_statements procedures_that_are_passed dimensions_by_the_call values_that_are_passed
 procedures_sources_opened = tt

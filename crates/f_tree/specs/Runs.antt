@@ -1,14 +1,17 @@
 -- What is said of one run of a set that stands in one file: at which step it ends and how, and which
 -- records unit 6 has then. Unit 5 holds the records given, unit 6 holds none.
-use Rattle.std.specs.Prelude.{◌≡◌, ℕ, suc, ◌+◌, pos, false, List, [], ◌∷◌, ◌++◌, map, length, Option, Some, None, if◌then◌else◌}
+use Rattle.std.specs.Prelude.{◌≡◌, ℕ, suc, ◌+◌, pos, Bool, true, false, ◌&&◌, ◌||◌, not, bytes_eq, IsTrue, List, [], ◌∷◌, ◌++◌, map, length, Option, Some, None, if◌then◌else◌}
 use Rattle.std.specs.Ordering.{int_eq}
 use Rattle.f_tree.specs.declared.names.Options.{Options}
+use Rattle.f_tree.specs.declared.units.File.{File}
 use Rattle.f_tree.specs.declared.units.FileSet.{FileSet}
 use Rattle.f2c_outside.specs.Units.{Units, UnitState}
-use Rattle.f_tree.specs.Values.{Act}
+use Rattle.f_tree.specs.Values.{Bytes, Act}
 use Rattle.f_tree.specs.Facts.{Home, Member, ProgramUnit}
+use Rattle.f_tree.specs.Attributes.{is_not_empty}
 use Rattle.f_tree.specs.World.{Ending}
-use Rattle.f_tree.specs.Setting.{Setting}
+use Rattle.f_tree.specs.FirstRefusal.{IsSpelled}
+use Rattle.f_tree.specs.Setting.{Setting, IsSetting}
 use Rattle.simulation.specs.Machine.{next}
 use Rattle.f_tree.specs.Step.{fortran}
 use Rattle.f_tree.specs.Meaning.{RunState, program, ftn, units_of, ending_of, act_of, records_of}
@@ -41,6 +44,31 @@ all_sizes (u ∷ us) = map (λ m. m.size) u.stored ++ all_sizes us
 
 unfoldable pub setting_apart : List ProgramUnit → Setting
 setting_apart S = record { homes = all_homes_apart 0 S; sizes = all_sizes S }
+
+-- No unit has a common block or an EQUIVALENCE, and no stored name of a unit stands twice.
+unfoldable pub is_named_in : Bytes → List Member → Bool
+is_named_in x [] = false
+is_named_in x (m ∷ ms) = bytes_eq x m.name || is_named_in x ms
+
+unfoldable pub names_differ : List Member → Bool
+names_differ [] = true
+names_differ (m ∷ ms) = not (is_named_in m.name ms) && names_differ ms
+
+unfoldable pub shares_nothing : ProgramUnit → Bool
+shares_nothing u = not (is_not_empty u.blocks) && (not (is_not_empty u.ties) && names_differ u.stored)
+
+unfoldable pub share_nothing : List ProgramUnit → Bool
+share_nothing [] = true
+share_nothing (u ∷ us) = shares_nothing u && share_nothing us
+
+-- of such a set, each name in a sequence of its own is the setting
+abbrev pub ApartIsASetting : Type 0
+ApartIsASetting = (S : List ProgramUnit) → IsTrue (share_nothing S) → IsSetting S (setting_apart S)
+
+-- all of these sets are such
+unfoldable pub all_share_nothing : List FileSet → Bool
+all_share_nothing [] = true
+all_share_nothing (set ∷ sets) = share_nothing (units_of no_options set) && all_share_nothing sets
 
 -- the run ends at step n + 1 and not before
 pub record Runs (options : Options) (set : FileSet) (g : Setting) (input : List (List ℕ)) (n : ℕ) (ending : Ending) (output : List (List ℕ)) : Type 0 where
@@ -93,6 +121,15 @@ abbrev pub ActStays : Type 0
 ActStays = (g : Setting) (S : List ProgramUnit) (units : Units) (n : ℕ) (act : Act) →
     act_of (ftn g S units n) ≡ Some act → ftn g S units (suc n) ≡ ftn g S units n
 
+-- where the stored names of the units of a set of files stand leaves no choice
+abbrev pub EachFileSetHasOneSetting : Type 0
+EachFileSetHasOneSetting = (options : Options) (set : FileSet) (g h : Setting) → IsSetting (units_of options set) g → IsSetting (units_of options set) h → g ≡ h
+
+-- a set that spells trees has a setting: each stored name in a sequence of its own
+abbrev pub EachSpelledSetStandsApart : Type 0
+EachSpelledSetStandsApart = (options : Options) (set : List (List ℕ)) (files : List File) → IsSpelled set files →
+    IsSetting (units_of options (record { files = files })) (setting_apart (units_of options (record { files = files })))
+
 unfoldable pub runs_opened : Unit {0}
-unfolding outcome_by outcome_of homes_apart all_homes_apart all_sizes setting_apart
+unfolding is_named_in names_differ shares_nothing share_nothing all_share_nothing outcome_by outcome_of homes_apart all_homes_apart all_sizes setting_apart
 runs_opened = tt

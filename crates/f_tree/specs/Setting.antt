@@ -91,6 +91,25 @@ pub record IsSetting (S : List ProgramUnit) (g : Setting) : Type 0 where
       (k : ℕ) × (u : ProgramUnit) × (m : Member) × (first : ℕ) × HasUnit S k u × IsIn m u.stored ×
       (unit_home g k u m.name ≡ Some (record { sequence = n; first = first })) × (first + m.size ≡ size)
 
+-- no name stands twice
+pub data AreDistinct : List Member → Type 0 where
+  no_names : AreDistinct []
+  another_name : {m : Member} {ms : List Member} → (IsMember m.name ms → ⊥) → AreDistinct ms → AreDistinct (m ∷ ms)
+
+-- no stored name of the unit stands twice, and what its EQUIVALENCE statements name is stored (8.2)
+pub record IsNamed (u : ProgramUnit) : Type 0 where
+  pub distinct : AreDistinct u.stored
+  pub tied : (t : Tie) → IsIn t u.ties → IsMember t.one.name u.stored × IsMember t.other.name u.stored
+
+-- where the names of a set stand leaves no choice
+abbrev pub EachSetHasOneSetting : Type 0
+EachSetHasOneSetting = (S : List ProgramUnit) → ((k : ℕ) (u : ProgramUnit) → HasUnit S k u → IsNamed u) → (g h : Setting) → IsSetting S g → IsSetting S h → g ≡ h
+
+-- each stored name of each unit of a set stands in one of the sequences
+abbrev pub EachStoredNameStands : Type 0
+EachStoredNameStands = (S : List ProgramUnit) (g : Setting) → IsSetting S g → (k : ℕ) (u : ProgramUnit) → HasUnit S k u → (x : Bytes) → IsMember x u.stored →
+    (h : Home) × (unit_home g k u x ≡ Some h) × (h.sequence < length g.sizes)
+
 unfoldable pub setting_opened : Unit {0}
 unfolding home_among homes_at unit_home all_homes
 setting_opened = tt

@@ -209,6 +209,11 @@ item_turned v w items rest p left by (Fails act) = Breaks act
 item_turned v w items rest p left by (Gives g) =
     Goes (record v { now = Doing (next_of (work_after items rest p (left - 1) by g.given)) }) (record w { store = g.store })
 
+-- STOP (11.12): without a text the run ends as by the END of the main program
+unfoldable pub stop_ending : Bytes → Ending
+stop_ending [] = world.Plain
+stop_ending (c ∷ cs) = Stop (c ∷ cs)
+
 -- what a statement does once its operands are valued
 unfoldable pub deed : Facts → View → World → Head → List Datum → Happening
 deed c v w ToSet (d ∷ IsSpot p ∷ []) = onward_with c v w (define w.store p d)
@@ -224,7 +229,7 @@ deed c v w (ToLoop label) (IsSpot p ∷ IsInt first ∷ IsInt limit ∷ IsInt by
 deed c v w (ToCall name) ds = call c v w (record { name = name; want = AsSubroutine }) ds Returning
 deed c v w ToReturn [] = answer c.program.kind v w Nothing
 deed c v w ToReturn (IsInt z ∷ []) = answer c.program.kind v w (alternate_of v.frame.alternates z)
-deed c v w (ToStop text) [] = Ends (Stop text) v w
+deed c v w (ToStop text) [] = Ends (stop_ending text) v w
 deed c v w (ToBegin direction layout controls work) ds = begins c v w direction layout controls work ds w.transfer
 deed c v w (ToTransfer rest) (d ∷ []) = item_done c v w rest d w.transfer
 deed c v w (ToRepeat items rest) (IsSpot p ∷ IsInt first ∷ IsInt limit ∷ IsInt by ∷ []) = repeat_begun v w items rest p first limit by
@@ -256,5 +261,5 @@ abbrev pub fortran : Lang Ending
 fortran = record { sorts = fortran_sorts; step = step; start = start; resume = resume; missing = MissingProcedure; busy = ActiveProcedure; plain = world.Plain }
 
 unfoldable pub step_opened : Unit {0}
-unfolding onward go onward_with overlaps piece_from piece_for pieces_for text_stored text_set picked nth_label contains is_allowed block_is_entered block_end enters_from enters_block name_of gone_by by_sign guarded at_arm next_arm arm_entered turns_of turns at_least_once looped loop_stored loop_begun grown_to grown_from grown turned_with turned work_after repeated repeat_begun item_turned deed valued doing step
+unfolding onward go onward_with overlaps piece_from piece_for pieces_for text_stored text_set picked nth_label contains is_allowed block_is_entered block_end enters_from enters_block name_of gone_by by_sign guarded at_arm next_arm arm_entered turns_of turns at_least_once looped loop_stored loop_begun grown_to grown_from grown turned_with turned work_after repeated repeat_begun item_turned stop_ending deed valued doing step
 step_opened = tt

@@ -143,6 +143,34 @@ texts_that_overlap_setting = record {
   sizes = (7 ∷ []);
 }
 
+-- examples/fortran/arrays_over_their_file.f
+unfoldable pub arrays_over_their_file : FileSet
+arrays_over_their_file = one_file (
+    main_program (
+    on_card 1 (body.Declare (record { basic = Character; length = Some (length'.Value (num 2)) }) (record { name = (codes "s"); dimensions = (record { lower = None; upper = upper.Value (num 3) } ∷ []); length = None } ∷ record { name = (codes "t"); dimensions = (record { lower = None; upper = upper.Value (num 3) } ∷ []); length = None } ∷ record { name = (codes "u"); dimensions = (record { lower = None; upper = upper.Value (num 3) } ∷ []); length = None } ∷ record { name = (codes "v"); dimensions = (record { lower = None; upper = upper.Value (num 3) } ∷ []); length = None } ∷ [])) ∷
+    on_card 2 (body.Equivalence (record { places = ((expr.Apply (codes "s") ((num 2) ∷ [])) ∷ (expr.Apply (codes "t") ((num 1) ∷ [])) ∷ []) } ∷ record { places = ((expr.Apply (codes "u") ((num 1) ∷ [])) ∷ (expr.Apply (codes "v") ((num 3) ∷ [])) ∷ []) } ∷ [])) ∷
+    on_card 3 (body.Assign (expr.Apply (codes "s") ((num 1) ∷ [])) (text (codes "ab"))) ∷
+    on_card 4 (body.Assign (expr.Apply (codes "s") ((num 2) ∷ [])) (text (codes "cd"))) ∷
+    on_card 5 (body.Assign (expr.Apply (codes "s") ((num 3) ∷ [])) (text (codes "ef"))) ∷
+    on_card 6 (body.Transfer way.Read (record { word = word.Unit; value = value.Value (expr.Name (codes "s")) } ∷ record { word = word.Format; value = value.Value (text (codes "(A2)")) } ∷ []) ((item.Item (expr.Name (codes "t"))) ∷ [])) ∷
+    on_card 7 (body.Transfer way.Write (record { word = word.Unit; value = value.Star } ∷ record { word = word.Format; value = value.Value (text (codes "(3A)")) } ∷ []) ((item.Item (expr.Name (codes "t"))) ∷ [])) ∷
+    on_card 8 (body.Assign (expr.Apply (codes "s") ((num 1) ∷ [])) (text (codes "gh"))) ∷
+    on_card 9 (body.Transfer way.Read (record { word = word.Unit; value = value.Value (expr.Name (codes "s")) } ∷ record { word = word.Format; value = value.Star } ∷ []) ((item.Item (expr.Name (codes "t"))) ∷ [])) ∷
+    on_card 10 (body.Transfer way.Write (record { word = word.Unit; value = value.Star } ∷ record { word = word.Format; value = value.Value (text (codes "(3A)")) } ∷ []) ((item.Item (expr.Name (codes "t"))) ∷ [])) ∷
+    on_card 11 (body.Assign (expr.Apply (codes "v") ((num 1) ∷ [])) (text (codes "uv"))) ∷
+    on_card 12 (body.Assign (expr.Apply (codes "v") ((num 2) ∷ [])) (text (codes "wx"))) ∷
+    on_card 13 (body.Assign (expr.Apply (codes "v") ((num 3) ∷ [])) (text (codes "yz"))) ∷
+    on_card 14 (body.Transfer way.Write (record { word = word.Unit; value = value.Value (expr.Name (codes "u")) } ∷ record { word = word.Format; value = value.Value (text (codes "(A2)")) } ∷ []) ((item.Item (expr.Name (codes "v"))) ∷ [])) ∷
+    on_card 15 (body.Transfer way.Write (record { word = word.Unit; value = value.Star } ∷ record { word = word.Format; value = value.Value (text (codes "(3A)")) } ∷ []) ((item.Item (expr.Name (codes "u"))) ∷ [])) ∷
+    on_card 16 body.End ∷ []) ∷
+    [])
+
+unfoldable pub arrays_over_their_file_setting : Setting
+arrays_over_their_file_setting = record {
+  homes = ((record { sequence = 0; first = 0 } ∷ record { sequence = 0; first = 2 } ∷ record { sequence = 1; first = 4 } ∷ record { sequence = 1; first = 0 } ∷ []) ∷ []);
+  sizes = (8 ∷ 10 ∷ []);
+}
+
 -- examples/fortran/values_of_a_block.f
 unfoldable pub values_of_a_block : FileSet
 values_of_a_block = one_file (
@@ -171,6 +199,33 @@ unfoldable pub values_of_a_block_setting : Setting
 values_of_a_block_setting = record {
   homes = ((record { sequence = 0; first = 0 } ∷ record { sequence = 1; first = 0 } ∷ []) ∷ (record { sequence = 0; first = 0 } ∷ record { sequence = 0; first = 8 } ∷ record { sequence = 1; first = 0 } ∷ []) ∷ []);
   sizes = (20 ∷ 3 ∷ []);
+}
+
+-- examples/fortran/block_named_external.f
+unfoldable pub block_named_external : FileSet
+block_named_external = one_file (
+    main_program (
+    on_card 1 (body.External ((codes "bd") ∷ [])) ∷
+    on_card 2 (body.Common (record { block = Some (codes "t"); items = (record { name = I; dimensions = [] } ∷ []) } ∷ [])) ∷
+    on_card 3 (body.Transfer way.Write (record { word = word.Unit; value = value.Star } ∷ record { word = word.Format; value = value.Value (text (codes "(I3)")) } ∷ []) ((item.Item (expr.Name I)) ∷ [])) ∷
+    on_card 4 body.End ∷ []) ∷
+    record {
+      file = 0;
+      card = 5;
+      kind = kind.BlockData;
+      name = Some (codes "bd");
+      dummies = [];
+      statements =
+          on_card 6 (body.Common (record { block = Some (codes "t"); items = (record { name = I; dimensions = [] } ∷ []) } ∷ [])) ∷
+          on_card 7 (body.Init (record { places = ((item.Item (expr.Name I)) ∷ []); values = (record { count = None; value = (num 7) } ∷ []) } ∷ [])) ∷
+          on_card 8 body.End ∷ [];
+    } ∷
+    [])
+
+unfoldable pub block_named_external_setting : Setting
+block_named_external_setting = record {
+  homes = ((record { sequence = 0; first = 0 } ∷ []) ∷ (record { sequence = 0; first = 0 } ∷ []) ∷ []);
+  sizes = (4 ∷ []);
 }
 
 -- examples/fortran/values_before_the_run.f
@@ -210,5 +265,5 @@ locals_that_stay = one_file (
     [])
 
 unfoldable pub storage_sources_opened : Unit {0}
-unfolding overlay_of_a_matrix overlay_of_a_matrix_setting overlay_in_a_chain overlay_in_a_chain_setting common_that_differs_by_unit common_that_differs_by_unit_setting common_made_longer common_made_longer_setting texts_that_overlap texts_that_overlap_setting values_of_a_block values_of_a_block_setting values_before_the_run locals_that_stay
+unfolding overlay_of_a_matrix overlay_of_a_matrix_setting overlay_in_a_chain overlay_in_a_chain_setting common_that_differs_by_unit common_that_differs_by_unit_setting common_made_longer common_made_longer_setting texts_that_overlap texts_that_overlap_setting arrays_over_their_file arrays_over_their_file_setting values_of_a_block values_of_a_block_setting block_named_external block_named_external_setting values_before_the_run locals_that_stay
 storage_sources_opened = tt

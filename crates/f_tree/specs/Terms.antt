@@ -1,6 +1,6 @@
 -- Expressions as the meaning sees them: each name is told apart, each value that is read is a fetch
 -- of a place, and operands already valued are values. ANSI X3.9-1978, section 6.
-use Rattle.std.specs.Prelude.{ℕ, List, [], ◌∷◌}
+use Rattle.std.specs.Prelude.{ℕ, Bool, true, false, ◌||◌, List, [], ◌∷◌}
 use Rattle.f_tree.specs.declared.names.Basic.{Basic}
 use Rattle.f_tree.specs.Values.{Bytes, Datum}
 
@@ -98,6 +98,28 @@ unfoldable pub terms : List Term → Terms
 terms [] = NoMore
 terms (t ∷ ts) = More t (terms ts)
 
+-- has it a reference to a function or to a statement function
+unfoldable mutual
+  pub refers : Term → Bool
+  refers (Val d) = false
+  refers (Fetch t) = refers t
+  refers (At x) = false
+  refers (All x) = false
+  refers (Element x ts) = any_refers ts
+  refers (Alone t) = refers t
+  refers (Part t from to) = refers t || (refers from || refers to)
+  refers (Joined ts) = any_refers ts
+  refers (Before op t) = refers t
+  refers (Between op t u) = refers t || refers u
+  refers (Intrinsically function ts) = any_refers ts
+  refers (Refer callee ts) = true
+  refers (Bind ts t) = true
+  refers (Bound k) = false
+
+  pub any_refers : Terms → Bool
+  any_refers NoMore = false
+  any_refers (More t ts) = refers t || any_refers ts
+
 unfoldable pub terms_opened : Unit {0}
-unfolding valued_then terms
+unfolding valued_then terms refers any_refers
 terms_opened = tt

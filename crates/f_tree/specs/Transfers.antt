@@ -18,7 +18,7 @@ use Rattle.f_tree.specs.declared.names.Basic.TheVariants.{Integer, Logical, Char
 use Rattle.f_tree.specs.Values.{Bytes, Spot, Datum, IsInt, IsLog, IsText, IsSpot, Act, TransferInTransfer, WrongDescriptor, FormatEndsEarly, NoMeaning, Checked, Gives, Fails, given_that}
 use Rattle.f_tree.specs.Terms.{NoMore, More}
 use Rattle.f_tree.specs.Store.{Store, fetch, define, elements}
-use Rattle.f_tree.specs.Facts.{Direction, Input, Output, Layout, Listed, Labelled, Computed, Word, UnitWord, FormatWord, StatusWord, Controls, Item, Repeated, Turn, Work, Done, Before, ToTransfer, ToRepeat, ToTurn, ToFinish, Form, On, LabelledFormat, ProgramUnit, Facts}
+use Rattle.f_tree.specs.Facts.{Direction, Input, Output, Layout, Listed, Labelled, Computed, Unformatted, Word, UnitWord, FormatWord, StatusWord, Controls, Item, Repeated, Turn, Work, Done, Before, ToTransfer, ToRepeat, ToTurn, ToFinish, Form, On, LabelledFormat, ProgramUnit, Facts}
 use Rattle.f_tree.specs.World.{Medium, External, Internal, Transfer, World, View, Doing, Happening}
 use Rattle.f_tree.specs.Statuses.{end_of_file, too_long, not_a_format, fails_with, ends_well}
 use Rattle.f_tree.specs.Records.{text_now, record_count, Writing, Wrote, StoppedBy, Broken, put_lines, EndOfFile, LongRecord, Unfetched, Supply, supply, world_after}
@@ -90,15 +90,39 @@ after_writing c v t halted (Broken act) next = Breaks act
 unfoldable pub records_put : World → Transfer → Made → Writing
 records_put w t m = put_lines t.medium t.written (drop t.written m.complete) w
 
+-- the complete records are written, and control goes on behind them
+unfoldable pub put_then : Facts → View → World → Transfer → Made → (World → Transfer → Happening) → Happening
+put_then c v w t m next = after_writing c v t m.halted (records_put w t m) (λ after. next after (record t { written = length m.complete }))
+
 unfoldable pub item_put : Facts → View → World → Work → Transfer → Made → Happening
-item_put c v w rest t m =
-    after_writing c v t m.halted (records_put w t m) (λ after. going_on v after (record t { written = length m.complete }) rest)
+item_put c v w rest t m = put_then c v w t m (λ after longer. going_on v after longer rest)
 
 unfoldable pub values_put : Facts → View → World → Work → Transfer → Checked (List listed.ListedValue) → Happening
 values_put c v w rest t (Fails act) = Breaks act
 values_put c v w rest t (Gives values) =
     let after = record t { values = t.values ++ values } in
     item_put c v w rest after (made_by t.layout after false)
+
+-- under a format each element of an item is fetched when the one before it is put, since it may stand in a record of the internal file
+unfoldable pub element_put : Facts → View → World → Transfer → Checked listed.ListedValue → (World → Transfer → Happening) → Happening
+element_put c v w t (Fails act) next = Breaks act
+element_put c v w t (Gives value) next =
+    let longer = record t { values = t.values ++ value ∷ [] } in
+    put_then c v w longer (made_by t.layout longer false) next
+
+unfoldable pub each_put : Facts → View → World → Work → Transfer → List Spot → Happening
+each_put c v w rest t [] = going_on v w t rest
+each_put c v w rest t (p ∷ ps) =
+    element_put c v w t (given_that (fetch w.store p) listed_value) (λ after longer. each_put c v after rest longer ps)
+
+unfoldable pub formatted_put : Facts → View → World → Work → Transfer → Datum → Happening
+formatted_put c v w rest t (IsSpot p) = each_put c v w rest t (elements p)
+formatted_put c v w rest t d = element_put c v w t (listed_value d) (λ after longer. going_on v after longer rest)
+
+-- the values of a list-directed item are fetched before any of them is put
+unfoldable pub item_written : Layout → Facts → View → World → Work → Transfer → Datum → Happening
+item_written Listed c v w rest t d = values_put c v w rest t (values_of w.store d)
+item_written _ c v w rest t d = formatted_put c v w rest t d
 
 unfoldable pub output_ended : Facts → View → World → Transfer → Made → Happening
 output_ended c v w t m = after_writing c v t m.halted (records_put w t m) (λ after. ends_well c v after t.status)
@@ -219,13 +243,22 @@ items_taken _ t all ps s = format_taken t all ps s
 unfoldable pub counted : ℕ → Transfer → Transfer
 counted count t = elim t.medium [ External unit ↦ t | Internal p ↦ record t { written = t.written + count } ]
 
+unfoldable pub taken_then : Facts → View → World → Transfer → Taking → (World → Transfer → Happening) → Happening
+taken_then c v w t (Serves after count s) next = next (record (world_after count w t) { store = s }) (counted count after)
+taken_then c v w t (Numbered number count s) next = fails_with c v (record (world_after count w t) { store = s }) number t.controls t.status
+taken_then c v w t (Unsaid act) next = Breaks act
+
 unfoldable pub after_taking : Facts → View → World → Transfer → Work → Taking → Happening
-after_taking c v w t rest (Serves after count s) = going_on v (record (world_after count w t) { store = s }) (counted count after) rest
-after_taking c v w t rest (Numbered number count s) = fails_with c v (record (world_after count w t) { store = s }) number t.controls t.status
-after_taking c v w t rest (Unsaid act) = Breaks act
+after_taking c v w t rest taking = taken_then c v w t taking (λ after longer. going_on v after longer rest)
+
+-- each element of an item is filled before the next, whose records are fetched when the transfer comes to them
+unfoldable pub each_filled : Facts → View → World → Work → Transfer → List Spot → Happening
+each_filled c v w rest t [] = going_on v w t rest
+each_filled c v w rest t (p ∷ ps) =
+    taken_then c v w t (items_taken t.layout t (supply w t) (p ∷ []) w.store) (λ after longer. each_filled c v after rest longer ps)
 
 unfoldable pub place_filled : Facts → View → World → Work → Transfer → Datum → Happening
-place_filled c v w rest t (IsSpot p) = after_taking c v w t rest (items_taken t.layout t (supply w t) (elements p) w.store)
+place_filled c v w rest t (IsSpot p) = each_filled c v w rest t (elements p)
 place_filled c v w rest t _ = Breaks NoMeaning
 
 -- what the format gives behind the last item
@@ -242,7 +275,7 @@ input_ended c v w t (Unsaid act) = Breaks act
 unfoldable pub item_done : Facts → View → World → Work → Datum → Option Transfer → Happening
 item_done c v w rest d None = Breaks NoMeaning
 item_done c v w rest d (Some t) = elim t.direction [
-  | Output ↦ values_put c v w rest t (values_of w.store d)
+  | Output ↦ item_written t.layout c v w rest t d
   | Input ↦ place_filled c v w rest t d
 ]
 
@@ -289,6 +322,7 @@ unfoldable pub format_for : ProgramUnit → Store → Layout → Option Datum �
 format_for u s Listed d = Gives (IsFormat Empty)
 format_for u s (Labelled label) d = found_in (labelled_text u.formats label)
 format_for u s Computed d = found_in (operand_text s d)
+format_for u s Unformatted d = Fails NoMeaning
 
 unfoldable pub is_usable : Medium → Units → Bool
 is_usable (External unit) units = is_connected unit units
@@ -348,5 +382,5 @@ begins c v w direction layout controls work ds None =
     (format_for c.program w.store layout (operand_for is_format_word controls.words ds))
 
 unfoldable pub transfers_opened : Unit {0}
-unfolding next_of followed_by going_on listed_value element_values values_of sheet_of made_of made_by halted_by unless_halted after_writing records_put item_put values_put output_ended ran_out taking_with value_stored front_stored kind_of runs_out records_needed listed_stop items_listed listed_taken want_of values_stored taken_so_far lines_with input_by input_taken format_taken items_taken counted after_taking place_filled closing_taken input_ended item_done finished operand_for is_format_word medium_of status_of labelled_text operand_text found_in format_for is_usable zero_blanks_on new_transfer first_read started_with started_by begun_on begins listed.listed_whole edited.made_on taken.taken edits_for given int_field logical_field text_field int_in logical_in text_in
+unfolding next_of followed_by going_on listed_value element_values values_of sheet_of made_of made_by halted_by unless_halted after_writing records_put put_then item_put values_put element_put each_put formatted_put item_written output_ended ran_out taking_with value_stored front_stored kind_of runs_out records_needed listed_stop items_listed listed_taken want_of values_stored taken_so_far lines_with input_by input_taken format_taken items_taken counted taken_then after_taking each_filled place_filled closing_taken input_ended item_done finished operand_for is_format_word medium_of status_of labelled_text operand_text found_in format_for is_usable zero_blanks_on new_transfer first_read started_with started_by begun_on begins listed.listed_whole edited.made_on taken.taken edits_for given int_field logical_field text_field int_in logical_in text_in
 transfers_opened = tt

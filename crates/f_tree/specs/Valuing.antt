@@ -131,7 +131,7 @@ unfoldable pub remainder_of : ℤ → ℤ → Checked Datum
 remainder_of a b = if int_eq b (pos 0) then Fails ZeroDivide else given_that (checked (int_div a b)) (λ q. Gives (IsInt (int_rem a b)))
 
 unfoldable pub with_sign_of : ℤ → ℤ → Checked Datum
-with_sign_of a b = given_that (checked (pos (nat_abs a))) (λ m. if int_lt b (pos 0) then Gives (IsInt (neg_ℤ (pos (nat_abs a)))) else Gives m)
+with_sign_of a b = checked (if int_lt b (pos 0) then neg_ℤ (pos (nat_abs a)) else pos (nat_abs a))
 
 unfoldable pub difference_over : ℤ → ℤ → Checked Datum
 difference_over a b = if int_lt b a then checked (a -ℤ b) else Gives (IsInt (pos 0))
@@ -271,13 +271,15 @@ unfoldable pub alone : Datum → Checked Datum
 alone (IsSpot p) = Gives (IsSpot (record p { extent = p.width }))
 alone _ = Fails NoMeaning
 
--- substrings (5.7)
+-- substrings (5.7); behind one stands the rest of what it is a part of, which a dummy array may reach (15.9.3.3). Told is the first place where
+-- it is outside 1 to the length, else the second
 unfoldable pub cut : Spot → ℤ → ℤ → Checked Datum
 cut p from to =
     if int_lt from (pos 1) then Fails (OutOfBounds [] from)
+    else if int_lt (pos p.width) from then Fails (OutOfBounds [] from)
     else if int_lt to from then Fails (OutOfBounds [] to)
     else if int_lt (pos p.width) to then Fails (OutOfBounds [] to)
-    else Gives (IsSpot (record p { first = p.first + (nat_abs from - 1); extent = nat_abs to + 1 - nat_abs from; width = nat_abs to + 1 - nat_abs from }))
+    else Gives (IsSpot (record p { first = p.first + (nat_abs from - 1); extent = p.extent + 1 - nat_abs from; width = nat_abs to + 1 - nat_abs from }))
 
 unfoldable pub part : Datum → Datum → Datum → Checked Datum
 part (IsSpot p) (IsInt from) (IsInt to) = cut p from to

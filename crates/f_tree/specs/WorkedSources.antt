@@ -152,6 +152,13 @@ least_integer = one_file (main_program (
     on_card 2 (print (expr.Name I ∷ [])) ∷
     on_card 3 body.End ∷ []) ∷ [])
 
+-- `I=-2147483647-1`, `PRINT *,SIGN(I,-1)`, `END`; and with `SIGN(I,1)`
+unfoldable pub sign_of_the_least : Expr → FileSet
+sign_of_the_least sign = one_file (main_program (
+    on_card 1 (body.Assign (expr.Name I) (minus (expr.Minus (num 2147483647)) (num 1))) ∷
+    on_card 2 (print (expr.Apply (codes "sign") (expr.Name I ∷ sign ∷ []) ∷ [])) ∷
+    on_card 3 body.End ∷ []) ∷ [])
+
 -- `K=1`, `I=K+NF(K)`, `PRINT *,I,K`, `END`, `INTEGER FUNCTION NF(M)`, `M=10`, `NF=5`, `END`
 unfoldable pub operands_from_the_left : FileSet
 operands_from_the_left = one_file (
@@ -601,5 +608,5 @@ entries_of_two_types = one_file (
     on_card 9 body.End ∷ []) ∷ [])
 
 unfoldable pub sources_opened : Unit {0}
-unfolding sum_printed loop_look_alike loop_that_never_turns loop_to_the_last_integer least_integer operands_from_the_left decided_and dummies_that_overlap entries_share_a_result alternate_returns assigned element_past_the_last step_of_zero variable_changed_in_its_loop calling printing_a_function dummy_of_another_entry assigned_branch arms shared_terminal implied_loops division_by_zero variable_without_value recursion constant_defined argument_too_many function_without_result transfer_in_a_transfer call_of_nothing dimension_of_no_element element_past_the_argument texts_and_a_statement_function statement_function_in_another text_assigned text_moved_within_itself text_apart_from_itself code_of_no_character common_seen_twice common_setting arrays_equivalenced arrays_setting types_equivalenced types_setting values_from_data constants_and_bounds procedure_passed function_of_any_length unit_not_connected written_over stopped array_of_a_dummy entries_of_two_types
+unfolding sum_printed loop_look_alike loop_that_never_turns loop_to_the_last_integer least_integer sign_of_the_least operands_from_the_left decided_and dummies_that_overlap entries_share_a_result alternate_returns assigned element_past_the_last step_of_zero variable_changed_in_its_loop calling printing_a_function dummy_of_another_entry assigned_branch arms shared_terminal implied_loops division_by_zero variable_without_value recursion constant_defined argument_too_many function_without_result transfer_in_a_transfer call_of_nothing dimension_of_no_element element_past_the_argument texts_and_a_statement_function statement_function_in_another text_assigned text_moved_within_itself text_apart_from_itself code_of_no_character common_seen_twice common_setting arrays_equivalenced arrays_setting types_equivalenced types_setting values_from_data constants_and_bounds procedure_passed function_of_any_length unit_not_connected written_over stopped array_of_a_dummy entries_of_two_types
 sources_opened = tt

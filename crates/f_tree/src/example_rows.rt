@@ -2,16 +2,18 @@
 //! definition of what a set of files means. The programs in examples/fortran were run by another processor too.
 #![tactic(auto)]
 
-ghost use Rattle.std.specs.Prelude.{◌∷◌, [], codes, negsuc, pos};
-ghost use Rattle.f_tree.specs.World.{Io, Plain, Stop};
+ghost use Rattle.std.specs.Prelude.{◌∷◌, [], IsTrue, codes, negsuc, pos};
+ghost use Rattle.f_tree.specs.World.{Io, Plain};
 ghost use Rattle.f_tree.specs.Meaning.{units_of};
 ghost use Rattle.f_tree.specs.Setting.{IsSetting};
 ghost use Rattle.f_tree.specs.Values.{BadAssignedLabel, BadDimension, Disagreement, FormatEndsEarly, NoValue, OutOfBounds, Overflow, TransferInTransfer, WrongDescriptor, ZeroDivide};
-ghost use Rattle.f_tree.specs.Runs.{Ends, MeetsApart, no_options, setting_apart, units_with};
+ghost use Rattle.f_tree.specs.Runs.{ApartIsASetting, Ends, all_share_nothing, MeetsApart, no_options, setting_apart, units_with};
+ghost use Rattle.f_tree.specs.ApartSources.{sources_apart};
 ghost use Rattle.f_tree.specs.ActsSources.{argument_of_another_type, close_in_a_transfer, descriptor_of_another_type, dimension_past_32_bits, format_that_ends_early, function_of_another_type, item_of_another_type, label_in_a_block, label_of_another_unit, part_past_its_text, record_without_value, remainder_past_32_bits, text_too_short_for_its_dummy, zero_to_a_negative_power};
-ghost use Rattle.f_tree.specs.StorageSources.{common_made_longer, common_made_longer_setting, common_that_differs_by_unit, common_that_differs_by_unit_setting, locals_that_stay, overlay_in_a_chain, overlay_in_a_chain_setting, overlay_of_a_matrix, overlay_of_a_matrix_setting, texts_that_overlap, texts_that_overlap_setting, values_before_the_run, values_of_a_block, values_of_a_block_setting};
-ghost use Rattle.f_tree.specs.ControlSources.{assigned_branches, blocks_in_blocks, branches_by_number, jumps_out_of_loops, jumps_to_the_outer_loop, limits_valued_once, loops_that_share_their_end};
-ghost use Rattle.f_tree.specs.ProceduresSources.{common_that_is_passed, common_that_is_passed_setting, dimensions_by_the_call, entries_with_one_result, entries_with_their_dummies, functions_of_statements, parts_of_one_array, procedures_that_are_passed, returns_to_labels, two_names_of_one_place, values_that_are_passed};
+ghost use Rattle.f_tree.specs.StorageSources.{arrays_over_their_file, arrays_over_their_file_setting, block_named_external, block_named_external_setting, common_made_longer, common_made_longer_setting, common_that_differs_by_unit, common_that_differs_by_unit_setting, locals_that_stay, overlay_in_a_chain, overlay_in_a_chain_setting, overlay_of_a_matrix, overlay_of_a_matrix_setting, texts_that_overlap, texts_that_overlap_setting, values_before_the_run, values_of_a_block, values_of_a_block_setting};
+ghost use Rattle.f_tree.specs.ControlSources.{assigned_branches, blocks_in_blocks, branches_by_number, jumps_out_of_loops, jumps_to_the_outer_loop, limits_valued_once, loops_that_share_their_end, returns_into_a_loop};
+ghost use Rattle.f_tree.specs.ProceduresSources.{common_that_is_passed, common_that_is_passed_setting, dimensions_by_the_call, entries_with_one_result, entry_of_another_type, entries_with_their_dummies, functions_of_statements, parts_of_one_array, procedures_that_are_passed, returns_to_labels, two_names_of_one_place, values_that_are_passed};
+ghost use Rattle.f_tree.specs.SubstringsSources.{part_that_begins_an_array, parts_that_are_one_item};
 ghost use Rattle.f_tree.specs.TextsSources.{entries_of_texts, functions_of_any_length, functions_of_texts, parts_of_elements, texts_compared, texts_cut_and_filled};
 ghost use Rattle.f_tree.specs.FormatsSources.{columns_of_a_record, fields_of_each_kind, formats_that_are_texts, lists_in_lists, reversion_to_the_last_group, texts_as_files};
 ghost use Rattle.f_tree.specs.InputSources.{ends_and_errors, fields_with_blanks, records_and_columns, sorted_names, values_by_lists};
@@ -28,7 +30,9 @@ pub fn storage_programs()
     ensures common_that_differs_by_unit_ends { Ends no_options common_that_differs_by_unit common_that_differs_by_unit_setting (units_with [] []) Plain (codes "  1 14  0  4  5" ∷ []) }
     ensures common_made_longer_ends { Ends no_options common_made_longer common_made_longer_setting (units_with [] []) Plain (codes "  1  2  3" ∷ []) }
     ensures texts_that_overlap_ends { Ends no_options texts_that_overlap texts_that_overlap_setting (units_with [] []) Plain (codes "PQbcQbcxyz" ∷ []) }
+    ensures arrays_over_their_file_ends { Ends no_options arrays_over_their_file arrays_over_their_file_setting (units_with [] []) Plain (codes "ababab" ∷ codes "ghghgh" ∷ codes "uvwxuv" ∷ []) }
     ensures values_of_a_block_ends { Ends no_options values_of_a_block values_of_a_block_setting (units_with [] []) Plain (codes "  4  4  1  9  9 ab " ∷ []) }
+    ensures block_named_external_ends { Ends no_options block_named_external block_named_external_setting (units_with [] []) Plain (codes "  7" ∷ []) }
     ensures values_before_the_run_ends { Ends no_options values_before_the_run (setting_apart (units_of no_options values_before_the_run)) (units_with [] []) Plain (codes "  1  3  5  2  4  6 -1 -1 -1 -1" ∷ codes "xyq vw T" ∷ []) }
     ensures locals_that_stay_ends { Ends no_options locals_that_stay (setting_apart (units_of no_options locals_that_stay)) (units_with [] []) Plain (codes " 101" ∷ codes " 103" ∷ codes " 106" ∷ []) }
 {}
@@ -42,6 +46,7 @@ pub fn control_programs()
     ensures assigned_branches_ends { Ends no_options assigned_branches (setting_apart (units_of no_options assigned_branches)) (units_with [] []) Plain (codes "  20" ∷ []) }
     ensures blocks_in_blocks_ends { Ends no_options blocks_in_blocks (setting_apart (units_of no_options blocks_in_blocks)) (units_with [] []) Plain (codes "  1  1" ∷ codes "  2  2" ∷ codes "  3  3" ∷ codes "  4  9" ∷ []) }
     ensures jumps_to_the_outer_loop_ends { Ends no_options jumps_to_the_outer_loop (setting_apart (units_of no_options jumps_to_the_outer_loop)) (units_with [] []) Plain (codes "   4   3  63" ∷ []) }
+    ensures returns_into_a_loop_ends { Ends no_options returns_into_a_loop (setting_apart (units_of no_options returns_into_a_loop)) (units_with [] []) Plain (codes "     4 12011" ∷ codes "     4 12011" ∷ []) }
 {}
 
 /// Programs of calls, arguments, entries and returns end with the records that another processor writes for them.
@@ -50,6 +55,7 @@ pub fn procedures_programs()
     ensures parts_of_one_array_ends { Ends no_options parts_of_one_array (setting_apart (units_of no_options parts_of_one_array)) (units_with [] []) Plain (codes "    1   12  123 123412345    6" ∷ []) }
     ensures common_that_is_passed_ends { Ends no_options common_that_is_passed common_that_is_passed_setting (units_with [] []) Plain (codes "  23" ∷ []) }
     ensures entries_with_one_result_ends { Ends no_options entries_with_one_result (setting_apart (units_of no_options entries_with_one_result)) (units_with [] []) Plain (codes " 104 108 104   1" ∷ []) }
+    ensures entry_of_another_type_ends { Ends no_options entry_of_another_type (setting_apart (units_of no_options entry_of_another_type)) (units_with [] []) Plain (codes "   4 F" ∷ []) }
     ensures entries_with_their_dummies_ends { Ends no_options entries_with_their_dummies (setting_apart (units_of no_options entries_with_their_dummies)) (units_with [] []) Plain (codes "   8  12" ∷ []) }
     ensures returns_to_labels_ends { Ends no_options returns_to_labels (setting_apart (units_of no_options returns_to_labels)) (units_with [] []) Plain (codes "  0  0" ∷ codes "  1  1" ∷ codes "  2  2" ∷ codes "  3  0" ∷ []) }
     ensures functions_of_statements_ends { Ends no_options functions_of_statements (setting_apart (units_of no_options functions_of_statements)) (units_with [] []) Plain (codes "  17   9   7" ∷ []) }
@@ -108,7 +114,7 @@ pub fn transfers_run()
     ensures many_continuations_ends { Ends no_options many_continuations (setting_apart (units_of no_options many_continuations)) (units_with [] []) Plain (codes "  20" ∷ []) }
     ensures reversion_and_fields_ends { Ends no_options reversion_and_fields (setting_apart (units_of no_options reversion_and_fields)) (units_with [] []) Plain (codes "  1 02 03" ∷ [] ∷ codes " 04 05" ∷ [] ∷ codes " 06 07" ∷ [] ∷ codes " 08 09" ∷ [] ∷ codes "***" ∷ codes "  ABC" ∷ codes "ABCDE" ∷ []) }
     ensures nulls_and_a_slash_ends { Ends no_options nulls_and_a_slash (setting_apart (units_of no_options nulls_and_a_slash)) (units_with (codes "3*7,," ∷ codes "/" ∷ []) []) Plain (codes "  7 7 7 8 9" ∷ codes "  -1" ∷ codes "  6" ∷ []) }
-    ensures stock_report_ends { Ends no_options stock_report stock_report_setting (units_with (codes "NUTS      40" ∷ codes "BOLTS    125" ∷ codes "WASHERS    7" ∷ []) []) (Stop []) (codes " BOLTS      125" ∷ codes " NUTS        40" ∷ codes " WASHERS      7" ∷ codes " TOTAL      172" ∷ []) }
+    ensures stock_report_ends { Ends no_options stock_report stock_report_setting (units_with (codes "NUTS      40" ∷ codes "BOLTS    125" ∷ codes "WASHERS    7" ∷ []) []) Plain (codes " BOLTS      125" ∷ codes " NUTS        40" ∷ codes " WASHERS      7" ∷ codes " TOTAL      172" ∷ []) }
     ensures digits_of_a_square_ends { Ends no_options digits_of_a_square (setting_apart (units_of no_options digits_of_a_square)) (units_with [] []) Plain (codes " 025! 3 T" ∷ []) }
     ensures nothing_to_read_ends { Ends no_options nothing_to_read (setting_apart (units_of no_options nothing_to_read)) (units_with [] []) (Io (negsuc 0)) [] }
     ensures bounds_from_zero_ends { Ends no_options bounds_from_zero (setting_apart (units_of no_options bounds_from_zero)) (units_with [] []) Plain (codes "  -1 T 9" ∷ []) }
@@ -149,6 +155,13 @@ pub fn further_acts()
     ensures dimension_past_32_bits_meets { MeetsApart no_options dimension_past_32_bits [] 0 BadDimension }
 {}
 
+/// Where no unit has a common block or an EQUIVALENCE, and no stored name of a unit stands twice, each name in a sequence of its own is the
+/// setting of the definition; and so it is for the programs whose runs are computed over it.
+pub fn settings_apart_are_settings()
+    ensures law { ApartIsASetting }
+    ensures worked { IsTrue (all_share_nothing sources_apart) }
+{}
+
 /// The settings of the programs over COMMON and EQUIVALENCE are those of the definition: blocks end to end in order of
 /// appearance, equivalenced places one, all else apart, numbered as their names are first seen.
 pub fn settings_of_storage()
@@ -157,11 +170,20 @@ pub fn settings_of_storage()
     ensures common_that_differs_by_unit_placed { IsSetting (units_of no_options common_that_differs_by_unit) common_that_differs_by_unit_setting }
     ensures common_made_longer_placed { IsSetting (units_of no_options common_made_longer) common_made_longer_setting }
     ensures texts_that_overlap_placed { IsSetting (units_of no_options texts_that_overlap) texts_that_overlap_setting }
+    ensures arrays_over_their_file_placed { IsSetting (units_of no_options arrays_over_their_file) arrays_over_their_file_setting }
     ensures values_of_a_block_placed { IsSetting (units_of no_options values_of_a_block) values_of_a_block_setting }
+    ensures block_named_external_placed { IsSetting (units_of no_options block_named_external) block_named_external_setting }
     ensures common_that_is_passed_placed { IsSetting (units_of no_options common_that_is_passed) common_that_is_passed_setting }
     ensures stock_report_placed { IsSetting (units_of no_options stock_report) stock_report_setting }
     ensures block_with_values_placed { IsSetting (units_of no_options block_with_values) block_with_values_setting }
     ensures common_seen_twice_placed { IsSetting (units_of no_options common_seen_twice) common_setting }
     ensures arrays_equivalenced_placed { IsSetting (units_of no_options arrays_equivalenced) arrays_setting }
     ensures types_equivalenced_placed { IsSetting (units_of no_options (types_equivalenced (codes "l"))) types_setting }
+    ensures other_type_placed { IsSetting (units_of no_options (types_equivalenced (codes "i"))) types_setting }
+{}
+
+/// Programs over substrings end with the records that another processor writes for them.
+pub fn substrings_programs()
+    ensures part_that_begins_an_array_ends { Ends no_options part_that_begins_an_array (setting_apart (units_of no_options part_that_begins_an_array)) (units_with [] []) Plain (codes " de" ∷ []) }
+    ensures parts_that_are_one_item_ends { Ends no_options parts_that_are_one_item (setting_apart (units_of no_options parts_that_are_one_item)) (units_with (codes "'xyz' 'u'" ∷ []) (codes "d" ∷ [])) Plain (codes "axydef auv -1  0" ∷ []) }
 {}

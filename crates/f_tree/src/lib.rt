@@ -7,6 +7,7 @@ pub mod expressions;
 pub mod names;
 pub mod refusals;
 pub mod rows;
+pub mod settings;
 pub mod statements;
 pub mod totality;
 pub mod units;

@@ -31,3 +31,7 @@ returns-clause-blocks_in_blocks_ends c = record { steps = 250; comes_to = refl }
 pub returns-clause-jumps_to_the_outer_loop_ends : goal.returns-clause-jumps_to_the_outer_loop_ends
 unfolding everything runs_opened control_sources_opened
 returns-clause-jumps_to_the_outer_loop_ends c = record { steps = 250; comes_to = refl }
+
+pub returns-clause-returns_into_a_loop_ends : goal.returns-clause-returns_into_a_loop_ends
+unfolding everything runs_opened control_sources_opened
+returns-clause-returns_into_a_loop_ends c = record { steps = 250; comes_to = refl }

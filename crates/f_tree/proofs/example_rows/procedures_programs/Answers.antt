@@ -20,6 +20,10 @@ pub returns-clause-entries_with_one_result_ends : goal.returns-clause-entries_wi
 unfolding everything runs_opened procedures_sources_opened
 returns-clause-entries_with_one_result_ends c = record { steps = 250; comes_to = refl }
 
+pub returns-clause-entry_of_another_type_ends : goal.returns-clause-entry_of_another_type_ends
+unfolding everything runs_opened procedures_sources_opened
+returns-clause-entry_of_another_type_ends c = record { steps = 250; comes_to = refl }
+
 pub returns-clause-entries_with_their_dummies_ends : goal.returns-clause-entries_with_their_dummies_ends
 unfolding everything runs_opened procedures_sources_opened
 returns-clause-entries_with_their_dummies_ends c = record { steps = 250; comes_to = refl }

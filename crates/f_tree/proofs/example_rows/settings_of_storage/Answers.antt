@@ -1,4 +1,4 @@
-use Rattle.f_tree.proofs.SettingExamples.{overlay_of_a_matrix_placed, overlay_in_a_chain_placed, common_that_differs_by_unit_placed, common_made_longer_placed, texts_that_overlap_placed, values_of_a_block_placed, common_that_is_passed_placed, stock_report_placed, block_with_values_placed, common_seen_twice_placed, arrays_equivalenced_placed, types_equivalenced_placed}
+use Rattle.f_tree.proofs.SettingExamples.{arrays_over_their_file_placed, other_type_placed, block_named_external_placed, overlay_of_a_matrix_placed, overlay_in_a_chain_placed, common_that_differs_by_unit_placed, common_made_longer_placed, texts_that_overlap_placed, values_of_a_block_placed, common_that_is_passed_placed, stock_report_placed, block_with_values_placed, common_seen_twice_placed, arrays_equivalenced_placed, types_equivalenced_placed}
 use Rattle.f_tree.proofs.example_rows.settings_of_storage.Goals as goal
 
 pub returns-clause-overlay_of_a_matrix_placed : goal.returns-clause-overlay_of_a_matrix_placed
@@ -16,8 +16,14 @@ returns-clause-common_made_longer_placed c = common_made_longer_placed
 pub returns-clause-texts_that_overlap_placed : goal.returns-clause-texts_that_overlap_placed
 returns-clause-texts_that_overlap_placed c = texts_that_overlap_placed
 
+pub returns-clause-arrays_over_their_file_placed : goal.returns-clause-arrays_over_their_file_placed
+returns-clause-arrays_over_their_file_placed c = arrays_over_their_file_placed
+
 pub returns-clause-values_of_a_block_placed : goal.returns-clause-values_of_a_block_placed
 returns-clause-values_of_a_block_placed c = values_of_a_block_placed
+
+pub returns-clause-block_named_external_placed : goal.returns-clause-block_named_external_placed
+returns-clause-block_named_external_placed c = block_named_external_placed
 
 pub returns-clause-common_that_is_passed_placed : goal.returns-clause-common_that_is_passed_placed
 returns-clause-common_that_is_passed_placed c = common_that_is_passed_placed
@@ -36,3 +42,6 @@ returns-clause-arrays_equivalenced_placed c = arrays_equivalenced_placed
 
 pub returns-clause-types_equivalenced_placed : goal.returns-clause-types_equivalenced_placed
 returns-clause-types_equivalenced_placed c = types_equivalenced_placed
+
+pub returns-clause-other_type_placed : goal.returns-clause-other_type_placed
+returns-clause-other_type_placed c = other_type_placed

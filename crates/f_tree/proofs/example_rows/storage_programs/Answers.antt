@@ -24,9 +24,17 @@ pub returns-clause-texts_that_overlap_ends : goal.returns-clause-texts_that_over
 unfolding everything runs_opened storage_sources_opened
 returns-clause-texts_that_overlap_ends c = record { steps = 250; comes_to = refl }
 
+pub returns-clause-arrays_over_their_file_ends : goal.returns-clause-arrays_over_their_file_ends
+unfolding everything runs_opened storage_sources_opened
+returns-clause-arrays_over_their_file_ends c = record { steps = 250; comes_to = refl }
+
 pub returns-clause-values_of_a_block_ends : goal.returns-clause-values_of_a_block_ends
 unfolding everything runs_opened storage_sources_opened
 returns-clause-values_of_a_block_ends c = record { steps = 250; comes_to = refl }
+
+pub returns-clause-block_named_external_ends : goal.returns-clause-block_named_external_ends
+unfolding everything runs_opened storage_sources_opened
+returns-clause-block_named_external_ends c = record { steps = 250; comes_to = refl }
 
 pub returns-clause-values_before_the_run_ends : goal.returns-clause-values_before_the_run_ends
 unfolding everything runs_opened storage_sources_opened

@@ -2,6 +2,7 @@ use Rattle.std.proofs.Common.{refl}
 use Rattle.f_tree.specs.Meaning.{everything}
 use Rattle.f_tree.specs.Runs.{runs_opened}
 use Rattle.f_tree.specs.WorkedSources.{sources_opened}
+use Rattle.f_tree.specs.OrderSources.{order_sources_opened}
 use Rattle.f_tree.proofs.rows.acts_of_calls.Goals as goal
 
 pub returns-clause-active : goal.returns-clause-active
@@ -15,6 +16,14 @@ returns-clause-read_only c = record { goes_on = refl; meets = refl }
 pub returns-clause-disagrees : goal.returns-clause-disagrees
 unfolding everything runs_opened sources_opened
 returns-clause-disagrees c = record { goes_on = refl; meets = refl }
+
+pub returns-clause-label : goal.returns-clause-label
+unfolding everything runs_opened sources_opened order_sources_opened
+returns-clause-label c = record { goes_on = refl; meets = refl }
+
+pub returns-clause-procedure : goal.returns-clause-procedure
+unfolding everything runs_opened sources_opened order_sources_opened
+returns-clause-procedure c = record { goes_on = refl; meets = refl }
 
 pub returns-clause-no_result : goal.returns-clause-no_result
 unfolding everything runs_opened sources_opened

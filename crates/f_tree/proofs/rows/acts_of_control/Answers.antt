@@ -2,11 +2,16 @@ use Rattle.std.proofs.Common.{refl}
 use Rattle.f_tree.specs.Meaning.{everything}
 use Rattle.f_tree.specs.Runs.{runs_opened}
 use Rattle.f_tree.specs.WorkedSources.{sources_opened}
+use Rattle.f_tree.specs.ErrorSources.{error_sources_opened}
 use Rattle.f_tree.proofs.rows.acts_of_control.Goals as goal
 
 pub returns-clause-zero_step : goal.returns-clause-zero_step
 unfolding everything runs_opened sources_opened
 returns-clause-zero_step c = record { goes_on = refl; meets = refl }
+
+pub returns-clause-zero_step_of_items : goal.returns-clause-zero_step_of_items
+unfolding everything runs_opened sources_opened error_sources_opened
+returns-clause-zero_step_of_items c = record { goes_on = refl; meets = refl }
 
 pub returns-clause-variable_changed : goal.returns-clause-variable_changed
 unfolding everything runs_opened sources_opened

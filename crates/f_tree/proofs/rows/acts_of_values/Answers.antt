@@ -19,3 +19,7 @@ returns-clause-no_value c = record { goes_on = refl; meets = refl }
 pub returns-clause-out_of_bounds : goal.returns-clause-out_of_bounds
 unfolding everything runs_opened sources_opened
 returns-clause-out_of_bounds c = record { goes_on = refl; meets = refl }
+
+pub returns-clause-sign_overflow : goal.returns-clause-sign_overflow
+unfolding everything runs_opened sources_opened
+returns-clause-sign_overflow c = record { goes_on = refl; meets = refl }

@@ -27,3 +27,7 @@ returns-clause-assigned c = record { goes_on = refl; ends = refl; wrote = refl }
 pub returns-clause-least : goal.returns-clause-least
 unfolding everything runs_opened sources_opened
 returns-clause-least c = record { goes_on = refl; ends = refl; wrote = refl }
+
+pub returns-clause-sign_of_least : goal.returns-clause-sign_of_least
+unfolding everything runs_opened sources_opened
+returns-clause-sign_of_least c = record { goes_on = refl; ends = refl; wrote = refl }
