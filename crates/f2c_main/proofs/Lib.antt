@@ -1,3 +1,31 @@
-mod Writing
-mod Rows
 pub mod FirstRow
+pub mod PathCSteps
+pub mod PathCode
+pub mod PathContents
+pub mod PathDeclared
+pub mod PathFaithful
+pub mod PathImage
+pub mod PathLinking
+pub mod PathMachine
+pub mod PathMembers
+pub mod PathNaming
+pub mod PathObjects
+pub mod PathPlaces
+pub mod PathProgram
+pub mod PathScope
+pub mod PathSet
+pub mod PathSimulation
+pub mod PathStart
+pub mod PathStore
+pub mod PathSums
+pub mod PathText
+pub mod PathTextLength
+pub mod PathTextLines
+pub mod PathTextNames
+pub mod PathTextScope
+pub mod PathTextStatements
+pub mod PathTextTokens
+pub mod PathTextUses
+pub mod PathUnit
+mod Rows
+mod Writing

@@ -18,6 +18,7 @@ use Rattle.f2c_main.specs.declared.outcome.Outcome.TheVariants as outcome
 use Rattle.f2c_main.specs.Outcomes.{status_of}
 use Rattle.f2c_main.specs.Lines.{line_of, refusal_line, bad_word_line, not_there_line, shelf_fault_line, no_memory_line}
 use Rattle.f2c_main.specs.Translation.{IsTranslation}
+use Rattle.f2c_main.specs.Faithful.{IsFaithful}
 use Rattle.f2c_main.specs.TextOfFile.{IsTextOf}
 use Rattle.f2c_main.specs.ShelfLoops.{Both, IsFront, IsKept, IsRead, IsWritten, IsUnwritten, IsFrontWritten, written}
 use Rattle.f2c_main.specs.Messages.{Said, Gained}
@@ -360,6 +361,7 @@ translated_at from most bytes text (Some c) long there front done =
       there = there;
       accepted = subst (λ (file : List ℕ). IsAccepted (file ∷ [])) whole done.accepted;
       translation = subst (λ (file : List ℕ). IsTranslation (file ∷ []) text) whole done.translation;
+      faithful = subst (λ (file : List ℕ). IsFaithful (file ∷ []) (text ∷ [])) whole done.faithful;
     }
 
 refused_at :

@@ -1,11 +1,11 @@
--- When the C texts are faithful to the FORTRAN files: what the later theorem says of every translation.
+-- When the C texts are faithful to the FORTRAN files: what the contract of the top call says of every translation.
 use Rattle.std.specs.Prelude.{◌≡◌, ℕ, ◌*◌, ◌≤◌, List, [], ◌∷◌, length, Some, None}
 use Rattle.f2c_outside.specs.Units.{Units}
 use Rattle.f_tree.specs.declared.names.Options.{Options}
 use Rattle.f_tree.specs.declared.units.File.{File}
 use Rattle.f_tree.specs.Values.{NoMeaning}
 use Rattle.f_tree.specs.Facts.{ProgramUnit, BlockDataUnit}
-use Rattle.f_tree.specs.FirstRefusal.{IsSpelled}
+use Rattle.f_tree.specs.FirstRefusal.{IsSpelled, IsAccepted}
 use Rattle.f_tree.specs.Setting.{Setting, IsSetting, HasUnit}
 use Rattle.f_tree.specs.Meaning.{units_in, ftn, act_of, Closed}
 use Rattle.c_tree.specs.declared.file.CFile.{CFile}
@@ -13,6 +13,7 @@ use Rattle.c_tree.specs.Meaning.{meaning, step_factor}
 use Rattle.c_tree.specs.CText.{CText}
 use Rattle.f2c_main.specs.StorageImage.{function_number}
 use Rattle.f2c_main.specs.SameState.{Same}
+use Rattle.f2c_main.specs.Translation.{IsTranslation}
 
 -- one tree for each text, which the text spells
 pub data SpellAll : List (List ℕ) → List CFile → Type 0 where
@@ -42,3 +43,12 @@ pub record Faithful (options : Options) (files texts : List (List ℕ)) : Type 0
   pub is_setting : IsSetting (units_in options trees) setting
   pub runs : Closed (units_in options trees) → (homes : Setting) → IsSetting (units_in options trees) homes
       → (units : Units) (n : ℕ) → SameRuns (units_in options trees) homes c_trees units n
+
+-- whatever the options
+abbrev pub IsFaithful : List (List ℕ) → List (List ℕ) → Type 0
+IsFaithful files texts = (options : Options) → Faithful options files texts
+
+-- the translation of an accepted file is faithful
+abbrev pub EachTranslationIsFaithful : Type 0
+EachTranslationIsFaithful =
+    (bytes text : List ℕ) → IsAccepted (bytes ∷ []) → IsTranslation (bytes ∷ []) text → IsFaithful (bytes ∷ []) (text ∷ [])

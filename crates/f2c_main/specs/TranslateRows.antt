@@ -8,6 +8,7 @@ use Rattle.f2c_main.specs.declared.outcome.Outcome.{Outcome}
 use Rattle.f2c_main.specs.declared.outcome.Outcome.TheVariants.{Done, Refused, BadWord, NotThere, Unread, Unwritten, NoMemory}
 use Rattle.f2c_main.specs.Lines.{refusal_line, not_there_line, shelf_fault_line, no_memory_line}
 use Rattle.f2c_main.specs.Translation.{IsTranslation}
+use Rattle.f2c_main.specs.Faithful.{IsFaithful}
 use Rattle.f2c_main.specs.TextOfFile.{IsTextOf}
 use Rattle.f2c_main.specs.ShelfLoops.{Both, IsKept, IsWritten, IsUnwritten, IsFront}
 use Rattle.f2c_main.specs.Messages.{Gained}
@@ -16,11 +17,12 @@ use Rattle.f2c_main.specs.Messages.{Gained}
 abbrev pub set_of : Place → Contents → List (List ℕ)
 set_of from contents = bytes_of from contents ∷ []
 
--- the place is there, its file is accepted, and this text is the translation
+-- the place is there, its file is accepted, and this text is the translation and is faithful to it
 pub record IsTranslated (from : Place) (text : List ℕ) (contents : Contents) : Type 0 where
   pub there : ¬ Lacks from contents
   pub accepted : IsAccepted (set_of from contents)
   pub translation : IsTranslation (set_of from contents) text
+  pub faithful : IsFaithful (set_of from contents) (text ∷ [])
 
 -- the place is there, and this is the first refusal of its file
 pub record IsRefused (from : Place) (refusal : Refusal) (contents : Contents) : Type 0 where

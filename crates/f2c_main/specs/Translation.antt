@@ -1,5 +1,5 @@
--- Which C text is the translation of a set of FORTRAN files: the printed C tree of the tree that the one file spells. That this
--- text is faithful is said in `Faithful`, and not yet proved.
+-- Which C text is the translation of a set of FORTRAN files: the printed C tree of the tree that the one file spells. What this
+-- text means is said in `Faithful`.
 use Rattle.std.specs.Prelude.{◌≡◌, ℕ, List, [], ◌∷◌}
 use Rattle.f_tree.specs.declared.units.File.{File}
 use Rattle.f_tree.specs.FirstRefusal.{IsSpelled}

@@ -2,6 +2,7 @@
 #![tactic(auto)]
 
 mod command;
+pub mod faithful;
 mod message;
 mod outcome;
 mod program;

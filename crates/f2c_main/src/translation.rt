@@ -5,6 +5,7 @@ ghost use Rattle.first_translator.specs.Translated.{translated};
 ghost use Rattle.c_text.specs.Printed.{printed};
 ghost use Rattle.f2c_main.specs.TextOfFile.{IsTextOf, IsRefusedFor};
 
+use crate::faithful::translations_are_faithful;
 use c_text::print_c;
 use f_tree::{Fail, File};
 use first_reader::read_file;
@@ -19,7 +20,7 @@ fn text_of_tree(alloc: Global, file: &File) -> Result<Vec<u8>, AllocError>
     print_c(alloc, &tree)
 }
 
-/// The C text of the set that is this one file, or its first refusal.
+/// The C text of the set that is this one file, which is faithful to it, or its first refusal.
 pub(crate) fn translation(alloc: Global, bytes: &[u8]) -> Result<Vec<u8>, Fail>
     ensures done { IfOk result (λ text. IsTextOf bytes.now text.items) }
     ensures refused { IfErr result (IsRefusedFor bytes.now) }
@@ -28,7 +29,10 @@ pub(crate) fn translation(alloc: Global, bytes: &[u8]) -> Result<Vec<u8>, Fail>
         Err(fail) => Err(fail),
         Ok(file) => match text_of_tree(alloc, &file) {
             Err(_) => Err(Fail::NoMemory),
-            Ok(text) => Ok(text),
+            Ok(text) => {
+                translations_are_faithful();
+                Ok(text)
+            }
         },
     }
 }

@@ -99,7 +99,7 @@ no_ties_of : (c : Facts) (names : Naming) (groups : List EquivalenceGroup) → g
 unfolding ties_of
 no_ties_of c names groups none = subst (λ gs. ties_of c names gs ≡ []) (sym none) refl
 
-simple_apart : (options : Options) (file : ℕ) (trees : List Stmt) → AreSimple trees → IsApart (unit_read options (main_program file trees))
+pub simple_apart : (options : Options) (file : ℕ) (trees : List Stmt) → AreSimple trees → IsApart (unit_read options (main_program file trees))
 unfolding unit_read with_ties program_of main_program
 simple_apart options file trees simple = record {
   no_blocks = no_blocks_from _ (from_all common_in trees) (none_in common_in no_commons trees simple);
