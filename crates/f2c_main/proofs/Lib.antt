@@ -1,5 +1,6 @@
 pub mod FirstRow
 pub mod PathCSteps
+pub mod PathClosed
 pub mod PathCode
 pub mod PathContents
 pub mod PathDeclared

@@ -142,7 +142,7 @@ unit_name options file ss simple u among =
     name_placed p u.name (distinct_stored options (main_program file ss)) is (stored_variable (p.attribute u.name) (unit_plain options file ss simple u.name) is.class_is)
     (place_of_name u.name p.stored (stored_in_unit options (main_program file ss) u.name is.class_is))
 
-unit_main : (options : Options) (file : ℕ) (ss : List Stmt) → (unit_read options (main_program file ss)).kind ≡ MainProgram
+pub unit_main : (options : Options) (file : ℕ) (ss : List Stmt) → (unit_read options (main_program file ss)).kind ≡ MainProgram
 unfolding unit_read with_ties program_of main_program unit_kind
 unit_main options file ss = refl
 

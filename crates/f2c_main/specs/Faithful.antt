@@ -52,3 +52,7 @@ IsFaithful files texts = (options : Options) → Faithful options files texts
 abbrev pub EachTranslationIsFaithful : Type 0
 EachTranslationIsFaithful =
     (bytes text : List ℕ) → IsAccepted (bytes ∷ []) → IsTranslation (bytes ∷ []) text → IsFaithful (bytes ∷ []) (text ∷ [])
+
+-- a file that spells its tree is closed, so what is asked of runs holds of it
+abbrev pub EachFileIsClosed : Type 0
+EachFileIsClosed = (options : Options) (bytes : List ℕ) (trees : List File) → IsSpelled (bytes ∷ []) trees → Closed (units_in options trees)
