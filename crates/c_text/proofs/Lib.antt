@@ -2,4 +2,3 @@ pub mod ArmLemmas
 pub mod Equations
 pub mod LocalLemmas
 pub mod StatementEquations
-pub mod PrintedRows

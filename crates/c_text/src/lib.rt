@@ -11,7 +11,6 @@ mod level;
 mod local;
 mod out;
 mod phrase;
-pub mod rows;
 mod statement;
 #[cfg(test)]
 mod tests;

@@ -2,7 +2,7 @@
 ghost use Rattle.std.specs.Prelude.{◌≡◌, ◌++◌, ◌*◌, ◌∷◌, [], OnOk, replicate, decimal};
 ghost use Rattle.std.specs.Fmt.{signed_decimal};
 ghost use Rattle.c_text.specs.Printed.{indent};
-ghost use Rattle.c_text.specs.Strings.{quoted, escaped};
+ghost use Rattle.c_text.specs.Strings.{quoted, escaped, octal};
 ghost use Rattle.c_text.specs.Types.{printed_value};
 
 use itoa::Buffer;
@@ -46,22 +46,31 @@ pub(crate) fn print_value(value: i32, out: &mut Vec<u8>) -> Result<(), AllocErro
     print_number(value, out)
 }
 
-/// Appends one byte of a string: itself where it may stand there, else by a backslash.
-fn print_escaped(byte: u8, out: &mut Vec<u8>) -> Result<(), AllocError>
-    ensures { OnOk result (out.new.items ≡ out.old.items ++ escaped byte) }
+/// Appends a byte of a string by its octal digits.
+fn print_octal(byte: u8, out: &mut Vec<u8>) -> Result<(), AllocError>
+    ensures { OnOk result (out.new.items ≡ out.old.items ++ (92 ∷ octal byte)) }
 {
+    out.push(b'\\')?;
+    out.push(48 + byte / 64)?;
+    out.push(48 + byte / 8 % 8)?;
+    out.push(48 + byte % 8)?;
+    Ok(())
+}
+
+/// Appends one byte of a string: itself where it may stand there, else by a backslash.
+fn print_escaped(before: u8, byte: u8, out: &mut Vec<u8>) -> Result<(), AllocError>
+    ensures { OnOk result (out.new.items ≡ out.old.items ++ escaped before byte) }
+{
+    if before == b'?' && byte == b'?' {
+        return print_octal(byte, out);
+    }
     match byte {
         b'"' | b'\\' => {
             out.push(b'\\')?;
             out.push(byte)?
         }
         32..=126 => out.push(byte)?,
-        _ => {
-            out.push(b'\\')?;
-            out.push(48 + byte / 64)?;
-            out.push(48 + byte / 8 % 8)?;
-            out.push(48 + byte % 8)?
-        }
+        _ => print_octal(byte, out)?,
     }
     Ok(())
 }
@@ -71,8 +80,10 @@ pub(crate) fn print_string(bytes: &[u8], out: &mut Vec<u8>) -> Result<(), AllocE
     ensures { OnOk result (out.new.items ≡ out.old.items ++ quoted bytes.now) }
 {
     out.push(b'"')?;
+    let mut before = 0u8;
     for byte in bytes {
-        print_escaped(*byte, out)?;
+        print_escaped(before, *byte, out)?;
+        before = *byte;
     }
     out.push(b'"')?;
     Ok(())

@@ -1,6 +1,6 @@
 -- Which declaration some tokens spell (C89, 3.5 and 3.7.2): one case for each production, with the symbols of the
 -- production in their order.
-use Rattle.std.specs.Prelude.{◌≡◌, ℕ, suc, ◌≤◌, ℤ, pos, negsuc, true, false, not, filter, List, [], ◌∷◌, length, codes, bytes_eq, Option, Some, None}
+use Rattle.std.specs.Prelude.{◌≡◌, ℕ, suc, ◌≤◌, ℤ, pos, negsuc, true, false, not, filter, List, [], ◌∷◌, ◌++◌, length, codes, bytes_eq, Option, Some, None}
 use Rattle.c_tree.specs.declared.types.NumberType.{NumberType}
 use Rattle.c_tree.specs.declared.types.ResultType.{ResultType}
 use Rattle.c_tree.specs.declared.types.ListType.{ListType}
@@ -16,7 +16,8 @@ use Rattle.c_tree.specs.declared.file.CObject.{CObject}
 use Rattle.c_tree.specs.declared.file.CObject.TheVariants as object
 use Rattle.c_tree.specs.Tokens.{Token, Digits, Quoted}
 use Rattle.c_tree.specs.CWords.{is_among, is_name, Next, AWord, ASign, Stand, Separated, result_word, number_word, list_word, parameter_tokens, argument_tokens}
-use Rattle.c_tree.specs.CExpressionText.{Scope, IsDeclared}
+use Rattle.c_tree.specs.Access.{fields_of}
+use Rattle.c_tree.specs.CExpressionText.{Scope}
 
 -- a value (C89, 3.5.7): a number with or without a sign, or the least integer
 pub data ReadsValue : ℤ → List Token → List Token → Type 0 where
@@ -68,11 +69,12 @@ pub data ReadsTypes : List ArgumentType → List Token → List Token → Type 0
   no_type : {p q r : List Token} → AWord (codes "void") p q → ASign (codes ")") q r → ReadsTypes [] p r
   some_types : {types : List ArgumentType} {p q : List Token} → Separated ReadsType (codes ")") types p q → ReadsTypes types p q
 
--- a field of a list block: a value, a string or the name of what is declared before
+-- a field of a list block: a value, a string, or an address constant: the name of an array that lasts or of a function
+-- (C89, 3.4)
 pub data ReadsField (scope : Scope) : CField → List Token → List Token → Type 0 where
   a_value : {value : ℤ} {p q : List Token} → ReadsValue value p q → ReadsField scope (field.Number value) p q
   a_string : (bytes : List ℕ) {p q : List Token} → Next (Quoted bytes) p q → ReadsField scope (field.Str bytes) p q
-  a_start : (name : List ℕ) {p q : List Token} → IsDeclared scope name → AWord name p q → ReadsField scope (field.Name name) p q
+  a_start : (name : List ℕ) {p q : List Token} → is_among name (scope.arrays ++ scope.functions) ≡ true → AWord name p q → ReadsField scope (field.Name name) p q
 
 -- the fields, up to the closing brace
 abbrev pub ReadsFields : Scope → List CField → List Token → List Token → Type 0
@@ -93,6 +95,7 @@ pub data ReadsStatic (scope : Scope) : CLocal → List ℕ → List Token → Li
       → AWord (codes "char") p q → AWord name q r → ASign (codes "[") r s → ASign (codes "]") s t → ASign (codes "=") t u → Next (Quoted bytes) u v → ASign (codes ";") v w
       → ReadsStatic scope (local.StaticChars name None (Some bytes)) name p w
   a_list : (of : ListType) (name : List ℕ) {fields : List CField} {p q r s t u v : List Token}
+      → length fields ≤ length (fields_of of)
       → AWord (list_word of) p q → AWord name q r → ASign (codes "=") r s → ASign (codes "{") s t → ReadsFields scope fields t u → ASign (codes ";") u v
       → ReadsStatic scope (local.StaticList of name fields) name p v
 
@@ -120,19 +123,33 @@ pub record IsNew (name : List ℕ) (here : List (List ℕ)) : Type 0 where
 abbrev pub without : List ℕ → List (List ℕ) → List (List ℕ)
 without name names = filter (λ other. not (bytes_eq name other)) names
 
+-- the scope in which a name stands for nothing
+abbrev pub hiding : List ℕ → Scope → Scope
+hiding name scope = record {
+  objects = without name scope.objects;
+  arrays = without name scope.arrays;
+  functions = without name scope.functions;
+  pointers = without name scope.pointers;
+}
+
 -- the scope with an object or a function, which hides what has the name outside
 abbrev pub with_object : List ℕ → Scope → Scope
-with_object name scope = record { objects = name ∷ scope.objects; functions = without name scope.functions; pointers = without name scope.pointers }
+with_object name scope = let outer = hiding name scope in record outer { objects = name ∷ outer.objects }
+
+abbrev pub with_array : List ℕ → Scope → Scope
+with_array name scope = let outer = hiding name scope in record outer { objects = name ∷ outer.objects; arrays = name ∷ outer.arrays }
 
 abbrev pub with_function : List ℕ → Scope → Scope
-with_function name scope = record { objects = without name scope.objects; functions = name ∷ scope.functions; pointers = without name scope.pointers }
+with_function name scope = let outer = hiding name scope in record outer { functions = name ∷ outer.functions }
 
 abbrev pub with_pointer : List ℕ → Scope → Scope
-with_pointer name scope = record { objects = name ∷ scope.objects; functions = without name scope.functions; pointers = name ∷ scope.pointers }
+with_pointer name scope = let outer = hiding name scope in record outer { objects = name ∷ outer.objects; pointers = name ∷ outer.pointers }
 
 -- the scope with the name that a declaration declares
 abbrev pub with_declared : CLocal → List ℕ → Scope → Scope
 with_declared (local.Extern of function types) name scope = with_function name scope
+with_declared (local.StaticNumbers of array n image) name scope = with_array name scope
+with_declared (local.StaticChars array n text) name scope = with_array name scope
 with_declared other name scope = with_object name scope
 
 -- the scope with a parameter

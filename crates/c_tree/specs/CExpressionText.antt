@@ -12,9 +12,11 @@ use Rattle.c_tree.specs.declared.expression.CCall.{CCall}
 use Rattle.c_tree.specs.Tokens.{Token, Digits, Quoted}
 use Rattle.c_tree.specs.CWords.{is_among, is_name, Next, AWord, ASign, Stand, Separated, prefix_sign, infix_sign, infix_level, cast_tokens, extreme_word}
 
--- the names that are declared where a form stands: objects, functions, and parameters that point to functions
+-- the names that are declared where a form stands: objects, and the arrays among them that last for the whole run;
+-- functions; and parameters that point to functions
 pub record Scope : Type 0 where
   pub objects : List (List ℕ)
+  pub arrays : List (List ℕ)
   pub functions : List (List ℕ)
   pub pointers : List (List ℕ)
 

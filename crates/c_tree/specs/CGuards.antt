@@ -8,6 +8,7 @@ use Rattle.c_tree.specs.declared.file.CObject.{CObject}
 use Rattle.c_tree.specs.declared.file.CObject.TheVariants as object
 use Rattle.c_tree.specs.declared.file.CFunction.{CFunction}
 use Rattle.c_tree.specs.declared.file.CFile.{CFile}
+use Rattle.c_tree.specs.Access.{fields_of}
 use Rattle.c_tree.specs.CLabels.{labels_meet}
 
 -- an image, if there is one, is no longer than its array
@@ -25,12 +26,13 @@ abbrev pub object_fits : CObject → Bool
 object_fits (object.Integers name n image) = image_fits n image && has_value image
 object_fits (object.Chars name n image) = image_fits n image
 
--- a `char` array without a number has a string, and a list block at least one field
+-- a `char` array without a number has a string, and a list block at least one field and no more than its list
 abbrev pub local_fits : CLocal → Bool
 local_fits (local.StaticNumbers of name n image) = image_fits n image && has_value image
 local_fits (local.StaticChars name (Some n) image) = image_fits n image
 local_fits (local.StaticChars name None None) = false
 local_fits (local.StaticList of name []) = false
+local_fits (local.StaticList of name (first ∷ later)) = nat_le (length (first ∷ later)) (length (fields_of of))
 local_fits other = true
 
 abbrev pub function_fits : CFunction → Bool

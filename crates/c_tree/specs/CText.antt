@@ -14,7 +14,7 @@ use Rattle.c_tree.specs.CWords.{Next, AWord, ASign, result_word}
 use Rattle.c_tree.specs.CLabels.{labels_meet}
 use Rattle.c_tree.specs.CExpressionText.{Scope}
 use Rattle.c_tree.specs.CStatementText.{ReadsStmts}
-use Rattle.c_tree.specs.CDeclarationText.{ReadsValue, ReadsObject, ReadsLocals, ReadsParams, IsNew, with_object, with_function}
+use Rattle.c_tree.specs.CDeclarationText.{ReadsValue, ReadsObject, ReadsLocals, ReadsParams, IsNew, with_object, with_array, with_function}
 
 -- a function, whose own name is declared from its parameters on; each label that is named stands once
 pub data ReadsFunction (scope : Scope) : CFunction → List Token → List Token → Type 0 where
@@ -46,12 +46,12 @@ pub data ReadsParts : Scope → List (List ℕ) → List CObject → List CConst
       → ReadsParts scope here [] (first ∷ later) functions p
   one_object : (scope : Scope) (here : List (List ℕ)) {first : CObject} {name : List ℕ} {later : List CObject} {constants : List CConstant}
       {functions : List CFunction} {p q : List Token}
-      → ReadsObject first name p q → IsNew name here → ReadsParts (with_object name scope) (name ∷ here) later constants functions q
+      → ReadsObject first name p q → IsNew name here → ReadsParts (with_array name scope) (name ∷ here) later constants functions q
       → ReadsParts scope here (first ∷ later) constants functions p
 
 -- no name is declared
 abbrev pub no_names : Scope
-no_names = record { objects = []; functions = []; pointers = [] }
+no_names = record { objects = []; arrays = []; functions = []; pointers = [] }
 
 -- a file: the include line, and what stands behind it
 pub record ReadsFile (file : CFile) (tokens : List Token) : Type 0 where

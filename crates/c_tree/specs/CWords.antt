@@ -23,19 +23,21 @@ use Rattle.c_tree.specs.declared.expression.Extreme.{Extreme}
 use Rattle.c_tree.specs.declared.expression.Extreme.TheVariants as extreme
 use Rattle.c_tree.specs.Tokens.{Token, Word, Sign, begins_with, is_letter, is_word_byte}
 
--- the words of the grammar, which are no names
+-- the words of the grammar and of C89 (3.1.1), which are no names
 abbrev pub words : List (List ℕ)
 words =
     codes "integer" ∷ codes "logical" ∷ codes "char" ∷ codes "unsigned" ∷ codes "int" ∷ codes "VOID" ∷ codes "void" ∷ codes "static"
     ∷ codes "extern" ∷ codes "ftnlen" ∷ codes "ftnint" ∷ codes "address" ∷ codes "S_fp" ∷ codes "I_fp" ∷ codes "L_fp" ∷ codes "U_fp"
     ∷ codes "cilist" ∷ codes "icilist" ∷ codes "olist" ∷ codes "cllist" ∷ codes "alist" ∷ codes "goto" ∷ codes "return" ∷ codes "if"
     ∷ codes "else" ∷ codes "switch" ∷ codes "case" ∷ codes "for" ∷ codes "do" ∷ codes "while" ∷ codes "sizeof" ∷ codes "max"
-    ∷ codes "min" ∷ codes "abs" ∷ codes "TRUE_" ∷ codes "FALSE_" ∷ []
+    ∷ codes "min" ∷ codes "abs" ∷ codes "TRUE_" ∷ codes "FALSE_" ∷ codes "auto" ∷ codes "break" ∷ codes "const" ∷ codes "continue"
+    ∷ codes "default" ∷ codes "double" ∷ codes "enum" ∷ codes "float" ∷ codes "long" ∷ codes "register" ∷ codes "short" ∷ codes "signed"
+    ∷ codes "struct" ∷ codes "typedef" ∷ codes "union" ∷ codes "volatile" ∷ []
 
 abbrev pub is_among : List ℕ → List (List ℕ) → Bool
 is_among name names = list_any (bytes_eq name) names
 
--- a name: a letter or an underscore with letters, digits and underscores behind it, and no word of the grammar
+-- a name: a letter or an underscore with letters, digits and underscores behind it, and no such word
 abbrev pub is_name : List ℕ → Bool
 is_name text = begins_with is_letter text && (list_all is_word_byte text && not (is_among text words))
 

@@ -1,7 +1,8 @@
 -- What a declaration makes: an object as it stands at the start of the run or of a call, and what its name
 -- stands for (C89, 3.1.2.5, 3.5 and 3.5.7).
-use Rattle.std.specs.Prelude.{ℕ, ◌+◌, ◌*◌, ◌-◌, ℤ, pos, List, [], ◌∷◌, ◌++◌, map, length, replicate, Option, Some, None, if◌then◌else◌}
+use Rattle.std.specs.Prelude.{ℕ, ◌+◌, ◌*◌, ◌-◌, ℤ, pos, List, [], ◌∷◌, ◌++◌, map, filter, length, replicate, Option, Some, None, bytes_eq, if◌then◌else◌}
 use Rattle.std.specs.Ordering.{int_eq}
+use Rattle.std.specs.List.{list_any}
 use Rattle.c_tree.specs.declared.outcome.CValue.{CValue}
 use Rattle.c_tree.specs.declared.outcome.CValue.TheVariants.{Number, Pointer, Null, Function}
 use Rattle.c_tree.specs.declared.types.ParameterType.{ParameterType}
@@ -21,8 +22,8 @@ use Rattle.c_tree.specs.Drafts.{Scope}
 abbrev pub unset : ℕ → Object
 unset count = Bytes (replicate count None)
 
-abbrev pub unset_values : ℕ → Object
-unset_values count = Values (replicate count None)
+abbrev pub unset_values : Access → ℕ → Object
+unset_values type count = Values (record { type = type; values = replicate count None })
 
 -- bytes with zero bytes behind them, in all so many
 abbrev pub filled : ℕ → List ℕ → Object
@@ -66,12 +67,6 @@ made name stands object = record {
   object = λ scope first. object;
 }
 
--- the parameter's object before a call: four bytes, or one value
-abbrev pub parameter_object : ParameterType → Object
-parameter_object parameter.Length = unset 4
-parameter_object parameter.Int = unset 4
-parameter_object pointer = unset_values 1
-
 abbrev pub parameter_access : ParameterType → Access
 parameter_access parameter.Integers = ToPointer ToNumber
 parameter_access parameter.Logicals = ToPointer ToNumber
@@ -79,6 +74,12 @@ parameter_access parameter.Chars = ToPointer ToChar
 parameter_access parameter.Length = ToNumber
 parameter_access parameter.Int = ToNumber
 parameter_access (parameter.Function type) = ToFunction
+
+-- the parameter's object before a call: four bytes, or one value
+abbrev pub parameter_object : ParameterType → Object
+parameter_object parameter.Length = unset 4
+parameter_object parameter.Int = unset 4
+parameter_object pointer = unset_values (parameter_access pointer) 1
 
 abbrev pub variable : Access → ℕ → Term
 variable access object = Variable object access
@@ -127,7 +128,7 @@ declared_list type name fields = record {
   name = name;
   stands = variable (ToList type);
   strings = field_strings fields;
-  object = λ scope first. Values (field_values scope first (fields_of type) fields);
+  object = λ scope first. Values (record { type = ToList type; values = field_values scope first (fields_of type) fields });
 }
 
 -- the length of a `char` array: the one that is written, or that of its string with a zero byte
@@ -157,7 +158,7 @@ declared_automatics (local.Numbers type name count ∷ later) =
 declared_automatics (local.Chars name size ∷ later) =
     made name (array ToChar) (unset size) ∷ declared_automatics later
 declared_automatics (local.Addresses name count ∷ later) =
-    made name (array (ToPointer ToChar)) (unset_values count) ∷ declared_automatics later
+    made name (array (ToPointer ToChar)) (unset_values (ToPointer ToChar) count) ∷ declared_automatics later
 declared_automatics (other ∷ later) = declared_automatics later
 
 -- the functions that are declared by `extern`
@@ -172,8 +173,10 @@ field_names (given.Name name ∷ later) = name ∷ field_names later
 field_names (given.Str bytes ∷ later) = field_names later
 field_names (given.Number number ∷ later) = field_names later
 
--- the names that the fields of lists start with
-abbrev pub names_in_lists : List CLocal → List (List ℕ)
-names_in_lists [] = []
-names_in_lists (local.StaticList type name fields ∷ later) = field_names fields ++ names_in_lists later
-names_in_lists (other ∷ later) = names_in_lists later
+-- the functions that the fields of lists name, each declared by `extern` before its list
+abbrev pub functions_in_lists : List (List ℕ) → List CLocal → List (List ℕ)
+functions_in_lists known [] = []
+functions_in_lists known (local.Extern result name types ∷ later) = functions_in_lists (name ∷ known) later
+functions_in_lists known (local.StaticList type name fields ∷ later) =
+    filter (λ field. list_any (bytes_eq field) known) (field_names fields) ++ functions_in_lists known later
+functions_in_lists known (other ∷ later) = functions_in_lists known later

@@ -1,8 +1,8 @@
 -- The format that a pointer gives: the bytes from there on begin with it (ANSI X3.9-1978, 13.1). A format has at most
 -- 2,048 bytes.
 use Rattle.std.specs.Prelude.{ℕ, ◌+◌, nat_le, List, [], ◌∷◌, drop, Option, Some, None, Ok, slice_get, if◌then◌else◌}
-use Rattle.edit_rules.specs.Formats.{Format}
-use Rattle.edit_rules.specs.FormatTexts.{State, Going, Done, starting, next_state}
+use Rattle.edit_meaning.specs.Formats.{Format}
+use Rattle.edit_meaning.specs.FormatTexts.{State, Going, Done, starting, next_state}
 use Rattle.c_tree.specs.declared.outcome.CValue.{CValue}
 use Rattle.c_tree.specs.declared.outcome.CValue.TheVariants.{Pointer, Null}
 use Rattle.c_tree.specs.declared.outcome.CFault.TheVariants.{Unset, Outside, Kind}
@@ -39,7 +39,7 @@ format_read EndsEarly = failing Outside
 abbrev pub format_in : Option Object → ℕ → Or (Option Format)
 format_in None offset = failing Outside
 format_in (Some (Bytes bytes)) offset = format_read (format_from 0 (drop offset bytes) starting)
-format_in (Some (Values values)) offset = failing Kind
+format_in (Some (Values held)) offset = failing Kind
 
 -- the format that a pointer gives
 unfoldable pub format_at : List Object → CValue → Or (Option Format)

@@ -25,15 +25,7 @@ pub mod LibraryUnits
 pub mod Library
 pub mod Steps
 pub mod Meaning
-pub mod RowTexts
-pub mod Rows
-pub mod Rulings
 pub mod Opened
-pub mod LibraryRows
-pub mod FormattedRows
-pub mod CPrograms
-pub mod FaultPrograms
-pub mod LinkPrograms
 pub mod CText
 pub mod Tokens
 pub mod CWords
@@ -42,4 +34,3 @@ pub mod CLabels
 pub mod CStatementText
 pub mod CDeclarationText
 pub mod CGuards
-pub mod TextRows

@@ -1,10 +1,11 @@
 -- Powers, SIGN and DIM (ANSI X3.9-1978, 6.1.2.1, 6.6 and 15.10), in exact numbers; a result outside 32 bits is a
--- fault.
-use Rattle.std.specs.Prelude.{suc, ℤ, pos, negsuc, ◌-ℤ◌, neg_ℤ, unsigned_abs, int_lt, int_div, Ok, if◌then◌else◌}
+-- fault. And the bit functions of MIL-STD-1753.
+use Rattle.std.specs.Prelude.{suc, ℤ, pos, negsuc, ◌-ℤ◌, neg_ℤ, unsigned_abs, int_lt, int_div, Bool, Option, Some, None, Ok, if◌then◌else◌}
 use Rattle.std.specs.Int.{int_pow}
 use Rattle.std.specs.Ordering.{int_eq}
+use Rattle.run_state.specs.Bits.{inclusive_or, logical_product, exclusive_or, shifted, bit_at, has_bit, with_bit, without_bit}
 use Rattle.c_tree.specs.declared.outcome.CValue.{CValue}
-use Rattle.c_tree.specs.declared.outcome.CFault.TheVariants.{ZeroDivide}
+use Rattle.c_tree.specs.declared.outcome.CFault.TheVariants.{ZeroDivide, Library}
 use Rattle.c_tree.specs.Faults.{Or, after, failing}
 use Rattle.c_tree.specs.Objects.{as_number}
 use Rattle.c_tree.specs.Values.{checked}
@@ -36,3 +37,39 @@ on_integers result world first second =
     after (number_through world.objects second) λ right.
     after (result left right) λ number.
     Ok (Gives number world)
+
+-- a function of one number that its argument points to
+unfoldable pub on_integer : (ℤ → ℤ) → World → CValue → Or Reply
+on_integer result world pointer = after (number_through world.objects pointer) λ number. Ok (Gives (result number) world)
+
+-- IOR, IAND and IEOR
+abbrev pub either_bit : ℤ → ℤ → Or ℤ
+either_bit left right = Ok (inclusive_or left right)
+
+abbrev pub both_bits : ℤ → ℤ → Or ℤ
+both_bits left right = Ok (logical_product left right)
+
+abbrev pub one_bit : ℤ → ℤ → Or ℤ
+one_bit left right = Ok (exclusive_or left right)
+
+-- a shift or a position outside its bounds is a fault
+abbrev pub or_fault : Option ℤ → Or ℤ
+or_fault None = failing Library
+or_fault (Some number) = Ok number
+
+abbrev pub truth_or_fault : Option Bool → Or ℤ
+truth_or_fault None = failing Library
+truth_or_fault (Some truth) = Ok (if truth then pos 1 else pos 0)
+
+-- ISHFT, BTEST, IBSET and IBCLR
+abbrev pub shifted_bits : ℤ → ℤ → Or ℤ
+shifted_bits number count = or_fault (shifted number count)
+
+abbrev pub bit_tested : ℤ → ℤ → Or ℤ
+bit_tested number place = truth_or_fault (has_bit number place)
+
+abbrev pub bit_set : ℤ → ℤ → Or ℤ
+bit_set number place = or_fault (with_bit number (bit_at place))
+
+abbrev pub bit_cleared : ℤ → ℤ → Or ℤ
+bit_cleared number place = or_fault (without_bit number (bit_at place))

@@ -2,9 +2,9 @@
 use Rattle.std.specs.Prelude.{ℕ, nat_eq, ℤ, pos, Bool, true, false, ◌||◌, List, [], ◌∷◌, ◌++◌, Result, Ok, Err, codes, if◌then◌else◌}
 use Rattle.std.specs.Fmt.{signed_decimal}
 use Rattle.std.specs.Ordering.{int_eq}
-use Rattle.f2c_outside.specs.Units.{Units, Closing, open_unit, close_unit}
-use Rattle.f2c_outside.specs.declared.unit_table.UnitRefusal.{UnitRefusal}
-use Rattle.f2c_outside.specs.declared.unit_table.UnitRefusal.TheVariants.{NotConnected}
+use Rattle.run_state.specs.Units.{Units, Closing, open_unit, close_unit}
+use Rattle.run_state.specs.declared.refusals.UnitRefusal.{UnitRefusal}
+use Rattle.run_state.specs.declared.refusals.UnitRefusal.TheVariants.{NotConnected}
 use Rattle.c_tree.specs.declared.outcome.CValue.{CValue}
 use Rattle.c_tree.specs.declared.outcome.CValue.TheVariants.{Null}
 use Rattle.c_tree.specs.declared.types.ListType.TheVariants as list_type

@@ -2,10 +2,11 @@
 -- they must keep (C89, 3.1.2.2, 3.5.4 and 3.7.2). The external objects come first, one for each name and of the
 -- greatest size that a file gives it; then, file by file, the constants and what each function has: its objects
 -- that last, its strings, its parameters and its automatic objects.
-use Rattle.std.specs.Prelude.{ℕ, ◌+◌, ◌*◌, nat_lt, max, pos, Bool, true, false, not, ◌&&◌, ◌||◌, List, [], ◌∷◌, ◌++◌, map, length, position, Option, Some, None, is_some, is_none, option_map, bytes_eq, codes, if◌then◌else◌}
+use Rattle.std.specs.Prelude.{ℕ, ◌+◌, ◌*◌, nat_lt, max, pos, Bool, true, false, not, ◌&&◌, ◌||◌, List, [], ◌∷◌, ◌++◌, map, filter, length, position, Option, Some, None, is_some, is_none, option_map, bytes_eq, codes, if◌then◌else◌}
 use Rattle.c_tree.specs.declared.types.ResultType.{ResultType}
 use Rattle.c_tree.specs.declared.types.ParameterType.{ParameterType}
 use Rattle.c_tree.specs.declared.declaration.CParam.{CParam}
+use Rattle.c_tree.specs.declared.declaration.CLocal.{CLocal}
 use Rattle.c_tree.specs.declared.file.CFile.{CFile}
 use Rattle.c_tree.specs.declared.file.CFunction.{CFunction}
 use Rattle.c_tree.specs.declared.file.CConstant.{CConstant}
@@ -17,7 +18,7 @@ use Rattle.c_tree.specs.Terms.{Term, Constant, Array, Routine, Unknown}
 use Rattle.c_tree.specs.Flat.{Flat}
 use Rattle.c_tree.specs.Drafts.{Scope}
 use Rattle.c_tree.specs.FlatForm.{whole_body, flat_form}
-use Rattle.c_tree.specs.Declarations.{Declared, made, variable, filled, string_object, number_bytes, declared_parameters, declared_statics, declared_automatics, declared_externs, bytes_or_none, names_in_lists}
+use Rattle.c_tree.specs.Declarations.{Declared, made, variable, filled, string_object, number_bytes, declared_parameters, declared_statics, declared_automatics, declared_externs, bytes_or_none, functions_in_lists}
 use Rattle.c_tree.specs.Builtins.{builtin_names}
 
 -- a function of the program, linked
@@ -152,6 +153,21 @@ objects_of scope first [] = []
 objects_of scope first (declared ∷ later) =
     declared.object scope first ∷ objects_of scope (first + length declared.strings) later
 
+-- the names in scope behind declarations of a function: its objects that last have the numbers from `base` on, and
+-- those of its frame from `frame` on
+abbrev pub local_scope : Routines → ℕ → ℕ → List CParam → Scope → List CLocal → Scope
+local_scope numbers base frame params outer locals =
+    known_objects base (declared_statics locals)
+    (known_objects frame (declared_parameters params ++ declared_automatics locals)
+    (known_functions numbers (declared_externs locals) outer))
+
+-- the objects that last, each by the names that are declared before it (C89, 3.1.2.1)
+abbrev pub lasting : (List CLocal → Scope) → ℕ → List CLocal → List CLocal → List Object
+lasting scope first before [] = []
+lasting scope first before (one ∷ later) =
+    let made = declared_statics (one ∷ []) in
+    objects_of (scope before) first made ++ lasting scope (first + length (strings_of made)) (before ++ one ∷ []) later
+
 abbrev pub parameter_types : List CParam → List ParameterType
 parameter_types [] = []
 parameter_types (param ∷ later) = param.of ∷ parameter_types later
@@ -165,17 +181,13 @@ pub record LinkedFunction : Type 0 where
 abbrev pub linked_function : Routines → ℕ → Scope → ℕ → CFunction → LinkedFunction
 linked_function numbers own outer base function =
     let statics = declared_statics function.locals in
-    let parameters = declared_parameters function.params in
-    let automatics = declared_automatics function.locals in
     let statements = whole_body function.body in
     let strings = strings_of statics ++ statements.items.strings in
     let first = base + length statics in
     let frame = first + length strings in
-    let scope =
-    known_objects base statics
-    (known_objects frame (parameters ++ automatics)
-    (known_functions numbers (declared_externs function.locals) outer)) in
-    let fresh = objects_of scope 0 (parameters ++ automatics) in
+    let inner = local_scope numbers base frame function.params outer in
+    let scope = inner function.locals in
+    let fresh = objects_of scope 0 (declared_parameters function.params ++ declared_automatics function.locals) in
     record {
       function = record {
         name = function.name;
@@ -186,7 +198,7 @@ linked_function numbers own outer base function =
         code = flat_form statements scope (first + length (strings_of statics));
         own = own;
       };
-      objects = objects_of scope first statics ++ map string_object strings ++ fresh;
+      objects = lasting inner first [] function.locals ++ map string_object strings ++ fresh;
     }
 
 abbrev pub no_functions : Program
@@ -269,20 +281,19 @@ abbrev pub all_imaged : List CFile → List (List ℕ)
 all_imaged [] = []
 all_imaged (file ∷ later) = imaged_names file.objects ++ all_imaged later
 
--- the names that a function's expressions, calls and list fields mention
+-- the functions declared by `extern` that a function's expressions, calls and list fields mention
 abbrev pub mentioned : CFunction → List (List ℕ)
-mentioned function = (whole_body function.body).items.names ++ names_in_lists function.locals
+mentioned function =
+    filter (λ name. any_of (bytes_eq name) (declared_externs function.locals)) (whole_body function.body).items.names
+    ++ functions_in_lists [] function.locals
 
--- a function that is declared by `extern` and mentioned, and is nowhere defined
+-- one of them that is nowhere defined
 abbrev pub misses : Routines → CFunction → Bool
-misses numbers function =
-    any_of
-    (λ name. any_of (bytes_eq name) (declared_externs function.locals) && is_none (numbers name))
-    (mentioned function)
+misses numbers function = any_of (λ name. is_none (numbers name)) (mentioned function)
 
 abbrev pub bytes_of_object : Object → ℕ
 bytes_of_object (Bytes bytes) = length bytes
-bytes_of_object (Values values) = 0
+bytes_of_object (Values held) = 0
 
 abbrev pub bytes_of_objects : List Object → ℕ
 bytes_of_objects [] = 0

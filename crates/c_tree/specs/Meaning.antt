@@ -2,7 +2,7 @@
 -- step factor of its functions.
 use Rattle.std.specs.Prelude.{ℕ, ◌+◌, nat_lt, nat_le, ◌-◌, max, Bool, false, not, ◌&&◌, List, [], ◌∷◌, length, drop, position, Option, Some, None, bytes_eq, codes, slice_get, unwrap_or, option_map, if◌then◌else◌}
 use Rattle.simulation.specs.Machine.{State, Runs, Over, Broken, Program, run, begun}
-use Rattle.f2c_outside.specs.Units.{Units}
+use Rattle.run_state.specs.Units.{Units}
 use Rattle.c_tree.specs.declared.outcome.CFault.{CFault}
 use Rattle.c_tree.specs.declared.types.ResultType.TheVariants as result
 use Rattle.c_tree.specs.declared.expression.CCall.{CCall}

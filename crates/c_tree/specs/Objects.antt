@@ -10,15 +10,20 @@ use Rattle.c_tree.specs.declared.outcome.CFault.TheVariants.{Unset, Outside, Kin
 use Rattle.c_tree.specs.Faults.{Or, after, failing}
 use Rattle.c_tree.specs.Access.{Access, ToNumber, ToChar, ToByte, ToList, ToField, ToPointer, ToFunction, ToNothing, NumberField, TextField}
 
--- `None` stands for a byte or a value that was not set
+-- values, by the type of each, or of the list whose fields they are; `None` stands for a value that was not set
+pub record Held : Type 0 where
+  pub type : Access
+  pub values : List (Option CValue)
+
+-- `None` stands for a byte that was not set
 pub data Object : Type 0 where
   Bytes : List (Option ℕ) → Object
-  Values : List (Option CValue) → Object
+  Values : Held → Object
 
 -- how many bytes or values an object has
 abbrev pub extent : Object → ℕ
 extent (Bytes bytes) = length bytes
-extent (Values values) = length values
+extent (Values held) = length held.values
 
 -- a value with the type of accesses through it
 pub record Typed : Type 0 where
@@ -90,18 +95,19 @@ read_held access None = failing Outside
 read_held access (Some None) = failing Unset
 read_held access (Some (Some value)) = read_value access value
 
--- an access to what an object of values holds; one of another type is a fault, whatever stands there
-abbrev pub is_held : Access → Bool
-is_held (ToField kind) = true
-is_held (ToPointer through) = true
-is_held ToFunction = true
-is_held access = false
+-- whether an access is by the type of what an object of values holds
+abbrev pub holds : Access → Access → Bool
+holds (ToList list_type) (ToField kind) = true
+holds (ToPointer ToChar) (ToPointer ToChar) = true
+holds (ToPointer ToNumber) (ToPointer ToNumber) = true
+holds ToFunction ToFunction = true
+holds type access = false
 
 abbrev pub read_object : Access → ℕ → Option Object → Or Typed
 read_object access offset None = failing Outside
 read_object access offset (Some (Bytes bytes)) = read_bytes access offset bytes
-read_object access offset (Some (Values values)) =
-    if is_held access then read_held access (slice_get values offset) else failing Kind
+read_object access offset (Some (Values held)) =
+    if holds held.type access then read_held access (slice_get held.values offset) else failing Kind
 
 -- what an access reads through a value
 abbrev pub read_through : List Object → CValue → Access → Or Typed
@@ -158,25 +164,21 @@ converted ToFunction value = after (as_function (null_for_zero value)) λ held. 
 converted access value = failing Kind
 
 -- an object of values with one of them stored
-abbrev pub with_value : ℕ → CValue → List (Option CValue) → Or Object
-with_value offset value values =
-    if nat_le (offset + 1) (length values) then Ok (Values (slice_set values offset (Some value))) else failing Outside
+abbrev pub with_value : ℕ → CValue → Held → Or Object
+with_value offset value held =
+    if nat_le (offset + 1) (length held.values) then Ok (Values (record held { values = slice_set held.values offset (Some value) }))
+    else failing Outside
 
 abbrev pub put_bytes : Access → ℕ → CValue → List (Option ℕ) → Or Object
 put_bytes ToNumber offset (Number number) bytes = with_number offset number bytes
 put_bytes ToByte offset (Number number) bytes = with_byte offset number bytes
 put_bytes access offset value bytes = failing Kind
 
-abbrev pub put_value : Access → ℕ → CValue → List (Option CValue) → Or Object
-put_value (ToField kind) offset value values = with_value offset value values
-put_value (ToPointer through) offset value values = with_value offset value values
-put_value ToFunction offset value values = with_value offset value values
-put_value access offset value values = failing Kind
-
 abbrev pub put_object : Access → ℕ → CValue → Option Object → Or Object
 put_object access offset value None = failing Outside
 put_object access offset value (Some (Bytes bytes)) = put_bytes access offset value bytes
-put_object access offset value (Some (Values values)) = put_value access offset value values
+put_object access offset value (Some (Values held)) =
+    if holds held.type access then with_value offset value held else failing Kind
 
 -- the objects once an access has stored a value through another one
 abbrev pub store_through : List Object → CValue → Access → CValue → Or (List Object)

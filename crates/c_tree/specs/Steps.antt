@@ -205,17 +205,20 @@ all_fit (type ∷ types) (value ∷ values) = fits type value && all_fit types v
 all_fit types values = false
 
 -- a parameter's object with the value of its argument
-abbrev pub bound : CValue → Object
-bound (Number number) = Bytes (map Some (bytes_of_number number))
-bound other = Values (Some other ∷ [])
+abbrev pub bound : CValue → Object → Object
+bound (Number number) object = Bytes (map Some (bytes_of_number number))
+bound value (Values held) = Values (record held { values = Some value ∷ [] })
+bound value (Bytes bytes) = Bytes bytes
+
+-- the objects of a frame, whose parameters come first, with the values of the arguments
+abbrev pub all_bound : List CValue → List Object → List Object
+all_bound (value ∷ values) (object ∷ later) = bound value object ∷ all_bound values later
+all_bound values objects = objects
 
 -- the objects with a function's frame made anew (C89, 3.1.2.4 and 3.7.1)
 abbrev pub with_frame : linking.Function → List CValue → List Object → List Object
 with_frame function values objects =
-    take function.frame objects
-    ++ map bound values
-    ++ drop (length values) function.fresh
-    ++ drop (function.frame + length function.fresh) objects
+    take function.frame objects ++ all_bound values function.fresh ++ drop (function.frame + length function.fresh) objects
 
 abbrev pub first_view : View
 first_view = record { position = 0; wants = WantsNothing; answer = None }

@@ -67,13 +67,13 @@ to_comment_end (first ∷ later) =
       | false ↦ longer_if first (to_comment_end later)
     ]
 
--- the comment at the head of a text; one without an end is none
+-- whether a comment begins at the head of a text
+abbrev pub begins_comment : List ℕ → Bool
+begins_comment text = bytes_eq (take 2 text) (codes "/*")
+
+-- that comment; one without an end is none
 abbrev pub comment_at : List ℕ → Option Cut
-comment_at text =
-    elim (bytes_eq (take 2 text) (codes "/*")) [
-      | true ↦ longer_if 47 (longer_if 42 (to_comment_end (drop 2 text)))
-      | false ↦ None
-    ]
+comment_at text = longer_if 47 (longer_if 42 (to_comment_end (drop 2 text)))
 
 -- no zero stands needlessly before the digits
 abbrev pub is_short : List ℕ → Bool
@@ -184,9 +184,9 @@ abbrev pub include_head : List ℕ → Option (List ℕ) → Head
 include_head later None = Lexeme Bad later
 include_head later (Some rest) = Lexeme Including rest
 
-abbrev pub comment_or_sign : List ℕ → Option Cut → Head
-comment_or_sign text None = sign_head text
-comment_or_sign text (Some cut) = Gap cut.front cut.rest
+abbrev pub comment_head : List ℕ → Option Cut → Head
+comment_head later None = Lexeme Bad later
+comment_head later (Some cut) = Gap cut.front cut.rest
 
 -- what stands at the head of a text, given whether only blanks stand before it on its line
 abbrev pub head_of : Bool → List ℕ → Head
@@ -200,7 +200,10 @@ head_of alone (first ∷ later) =
           | true ↦ string_head later (string_from Plain later)
           | false ↦ elim (alone && nat_eq first 35) [
             | true ↦ include_head later (include_at (first ∷ later))
-            | false ↦ comment_or_sign (first ∷ later) (comment_at (first ∷ later))
+            | false ↦ elim (begins_comment (first ∷ later)) [
+              | true ↦ comment_head later (comment_at (first ∷ later))
+              | false ↦ sign_head (first ∷ later)
+            ]
           ]
         ]
       ]

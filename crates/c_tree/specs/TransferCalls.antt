@@ -1,11 +1,12 @@
 -- The calls of a transfer in progress: `do_fio` and `do_lio` with items that stand one behind the other, and the ends. Each
 -- stands in a transfer of its own kind (ANSI X3.9-1978, 12.8 and 13.6).
-use Rattle.std.specs.Prelude.{ℕ, zero, suc, Ok}
-use Rattle.edit_rules.specs.Formats.{Format}
+use Rattle.std.specs.Prelude.{ℕ, zero, suc, Bool, true, false, ◌&&◌, Ok, if◌then◌else◌}
+use Rattle.edit_meaning.specs.Formats.{Format}
 use Rattle.c_tree.specs.declared.outcome.CValue.{CValue}
 use Rattle.c_tree.specs.declared.outcome.CFault.TheVariants.{Library}
 use Rattle.c_tree.specs.Faults.{Or, after, failing}
 use Rattle.c_tree.specs.World.{Direction, Output, Input, Layout, Formatted, Listed, Medium, Unit, Internal, Transfer, World, Reply}
+use Rattle.c_tree.specs.Builtins.{Style, ByFormat, ByList, Site, OnUnit, InMemory, TransferKind}
 use Rattle.c_tree.specs.LibraryArguments.{number_through, count_from, length_from, shifted}
 use Rattle.c_tree.specs.Transfers.{in_transfer, Passage, GoesOn, Answers, passed}
 use Rattle.c_tree.specs.TransferOutput.{ItemKind, item_kind, item_length, listed_put, formatted_put, output_ended}
@@ -66,31 +67,33 @@ listed_items world kind_pointer count_pointer first size_value =
     after (item_length kind given) λ size.
     listed_by transfer.layout kind size count first transfer world
 
--- the kinds of transfers, each with an end of its own
-pub data TransferKind : Type 0 where
-  kind_wsfe : TransferKind
-  kind_rsfe : TransferKind
-  kind_wsle : TransferKind
-  kind_rsle : TransferKind
-  kind_wsfi : TransferKind
-  kind_rsfi : TransferKind
-  kind_wsli : TransferKind
-  kind_rsli : TransferKind
+-- whether a transfer is of a kind
+abbrev pub is_direction : Direction → Direction → Bool
+is_direction Output Output = true
+is_direction Input Input = true
+is_direction one other = false
 
--- an end of this kind, by what the transfer is
-abbrev pub end_by : TransferKind → Direction → Layout → Medium → Transfer → World → Or Reply
-end_by kind_wsfe Output (Formatted format) (Unit unit) transfer world = output_ended transfer world
-end_by kind_wsle Output Listed (Unit unit) transfer world = output_ended transfer world
-end_by kind_wsfi Output (Formatted format) (Internal file) transfer world = output_ended transfer world
-end_by kind_wsli Output Listed (Internal file) transfer world = output_ended transfer world
-end_by kind_rsfe Input (Formatted format) (Unit unit) transfer world = formatted_input_ended transfer world
-end_by kind_rsle Input Listed (Unit unit) transfer world = listed_input_ended world
-end_by kind_rsfi Input (Formatted format) (Internal file) transfer world = formatted_input_ended transfer world
-end_by kind_rsli Input Listed (Internal file) transfer world = listed_input_ended world
-end_by kind direction layout medium transfer world = failing Library
+abbrev pub is_style : Style → Layout → Bool
+is_style ByFormat (Formatted format) = true
+is_style ByList Listed = true
+is_style style layout = false
+
+abbrev pub is_on : Site → Medium → Bool
+is_on OnUnit (Unit unit) = true
+is_on InMemory (Internal file) = true
+is_on site medium = false
+
+abbrev pub is_kind : TransferKind → Transfer → Bool
+is_kind kind transfer =
+    is_direction kind.direction transfer.direction && is_style kind.style transfer.layout && is_on kind.site transfer.medium
+
+abbrev pub ended : Direction → Layout → Transfer → World → Or Reply
+ended Output layout transfer world = output_ended transfer world
+ended Input (Formatted format) transfer world = formatted_input_ended transfer world
+ended Input Listed transfer world = listed_input_ended world
 
 -- `e_wsfe` and the others
 unfoldable pub ends : TransferKind → World → Or Reply
 ends kind world =
     after (in_transfer world) λ transfer.
-    end_by kind transfer.direction transfer.layout transfer.medium transfer world
+    if is_kind kind transfer then ended transfer.direction transfer.layout transfer world else failing Library

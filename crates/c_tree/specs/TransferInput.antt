@@ -1,12 +1,12 @@
 -- Items of input and its end (ANSI X3.9-1978, 12.8.2, 12.9.5.1 and 13): each is read before the next one. Items that were
 -- read before an error keep what they were given.
-use Rattle.std.specs.Prelude.{ℕ, zero, suc, ◌+◌, ◌-◌, nat_eq, pos, Bool, true, false, List, [], ◌∷◌, length, take, Option, Some, None, Ok, if◌then◌else◌}
-use Rattle.edit_rules.specs.Formats.{Descriptor, IntIn, LogicalIn, TextIn, Format, closing}
-use Rattle.edit_rules.specs.Halts.{Halt, Number, EndOfRecords, OtherType}
-use Rattle.edit_rules.specs.ListInput as input
-use Rattle.edit_rules.specs.ListItems as items
-use Rattle.edit_rules.specs.TakenRecords as taken
-use Rattle.edit_rules.specs.Transfers.{Progress, closed_by, with_next}
+use Rattle.std.specs.Prelude.{ℕ, zero, suc, ◌+◌, ◌-◌, nat_eq, pos, Bool, true, false, List, [], ◌∷◌, ◌++◌, length, take, slice_get, unwrap_or, Option, Some, None, Ok, if◌then◌else◌}
+use Rattle.edit_meaning.specs.Formats.{Descriptor, IntIn, LogicalIn, TextIn, Format, closing}
+use Rattle.edit_meaning.specs.Halts.{Halt, Number, EndOfRecords, OtherType}
+use Rattle.edit_meaning.specs.ListInput as input
+use Rattle.edit_meaning.specs.ListItems as items
+use Rattle.edit_meaning.specs.TakenRecords as taken
+use Rattle.edit_meaning.specs.Transfers.{Progress, closed_by, with_next}
 use Rattle.c_tree.specs.declared.outcome.CValue.{CValue}
 use Rattle.c_tree.specs.declared.outcome.CValue.TheVariants as value
 use Rattle.c_tree.specs.Faults.{Or, after}
@@ -34,6 +34,15 @@ world_behind count objects transfer world =
 abbrev pub behind : ℕ → Transfer → Transfer
 behind count transfer = record transfer { medium = medium_behind count transfer.medium }
 
+-- an item was given a value
+abbrev pub given : items.Value → Transfer → Transfer
+given value transfer = record transfer { received = transfer.received ++ value ∷ [] }
+
+-- the record that is being read behind so many of those that come next
+abbrev pub line_behind : ℕ → List (List ℕ) → List ℕ → List ℕ
+line_behind zero lines line = line
+line_behind (suc count) lines line = unwrap_or (slice_get lines count) line
+
 abbrev pub kind_of : ItemKind → input.Kind
 kind_of IntegerItem = input.IntItem
 kind_of LogicalItem = input.LogicalItem
@@ -55,9 +64,10 @@ records_needed (suc more) known place later kind =
 -- an item at which the input stops takes the characters that its text has in earlier records, in front. A slash leaves
 -- it and the later ones
 abbrev pub listed_stop : CValue → ℕ → Transfer → World → Upcoming → ℕ → items.Outcome → Or Passage
-listed_stop pointer size transfer world next needed items.Filled = Ok (GoesOn transfer world)
+listed_stop pointer size transfer world next needed items.Filled = Ok (GoesOn (given items.Kept transfer) world)
 listed_stop pointer size transfer world next needed items.Slashed =
-    Ok (GoesOn (record (behind needed transfer) { slashed = true }) (world_behind needed world.objects transfer world))
+    Ok (GoesOn (record (given items.Kept (behind needed transfer)) { slashed = true; line = line_behind needed next.lines transfer.line })
+    (world_behind needed world.objects transfer world))
 listed_stop pointer size transfer world next needed (items.Failed number text) =
     after (text_stored world.objects pointer (take size text)) λ objects.
     Ok (Answers (ended_by (pos number) transfer (world_behind needed objects transfer world)))
@@ -70,13 +80,14 @@ abbrev pub listed_taken : input.Kind → CValue → ℕ → Transfer → World �
 listed_taken kind pointer size transfer world next (items.Takes value place later) =
     let read = length next.lines - length later in
     after (value_taken world.objects pointer size value) λ objects.
-    Ok (GoesOn (record (behind read transfer) { place = place }) (world_behind read objects transfer world))
+    Ok (GoesOn (record (given value (behind read transfer)) { place = place; line = line_behind read next.lines transfer.line })
+    (world_behind read objects transfer world))
 listed_taken kind pointer size transfer world next (items.Stops outcome) =
     listed_stop pointer size transfer world next (records_needed (length next.lines) 0 transfer.place next.lines kind) outcome
 
 -- an item of list-directed input; behind a slash it keeps its value
 abbrev pub unless_slashed : Bool → input.Kind → ℕ → CValue → Transfer → World → Upcoming → Or Passage
-unless_slashed true kind size pointer transfer world next = Ok (GoesOn transfer world)
+unless_slashed true kind size pointer transfer world next = Ok (GoesOn (given items.Kept transfer) world)
 unless_slashed false kind size pointer transfer world next =
     listed_taken kind pointer size transfer world next (items.item_over transfer.place next.lines kind)
 
@@ -119,7 +130,8 @@ formatted_taken pointer size transfer world next course (Some halt) =
 formatted_taken pointer size transfer world next course None =
     let read = length next.lines - length course.state.later in
     after (all_taken pointer size course.state.values world.objects) λ objects.
-    Ok (GoesOn (record (behind read transfer) { course = course }) (world_behind read objects transfer world))
+    Ok (GoesOn (record (behind read transfer) { course = course; received = transfer.received ++ course.state.values })
+    (world_behind read objects transfer world))
 
 abbrev pub edited_item : Format → ℕ → CValue → Transfer → World → Upcoming → taken.Want → Or Passage
 edited_item format size pointer transfer world next want =

@@ -2,13 +2,13 @@
 -- complete are written. A record that is in the making at an error is not written.
 use Rattle.std.specs.Prelude.{ℕ, zero, suc, ◌+◌, ◌*◌, nat_eq, nat_le, nat_lt, ℤ, pos, negsuc, Bool, true, false, not, List, [], ◌∷◌, ◌++◌, length, drop, Option, Some, None, Result, Ok, Err, if◌then◌else◌}
 use Rattle.std.specs.Ordering.{int_eq}
-use Rattle.edit_rules.specs.Listed as list
-use Rattle.edit_rules.specs.Formats.{Descriptor, IntIn, LogicalIn, TextIn, Format, Edit, Item, Act, Stop, pass, reverted, edits_for}
-use Rattle.edit_rules.specs.Halts.{Halt, Number, EndOfRecords, OtherType}
-use Rattle.edit_rules.specs.EditedRecords.{Sheet, Output, unit_sheet, internal_sheet, made_on}
-use Rattle.edit_rules.specs.Transfers.{for_next}
-use Rattle.f2c_outside.specs.Units.{Units, write_unit}
-use Rattle.f2c_outside.specs.declared.unit_table.UnitRefusal.{UnitRefusal}
+use Rattle.edit_meaning.specs.Listed as list
+use Rattle.edit_meaning.specs.Formats.{Descriptor, IntIn, LogicalIn, TextIn, Format, Edit, Item, Act, Stop, pass, reverted, edits_for}
+use Rattle.edit_meaning.specs.Halts.{Halt, Number, EndOfRecords, OtherType}
+use Rattle.edit_meaning.specs.EditedRecords.{Sheet, Output, unit_sheet, internal_sheet, made_on, made_ahead}
+use Rattle.edit_meaning.specs.Transfers.{for_next}
+use Rattle.run_state.specs.Units.{Units, write_unit}
+use Rattle.run_state.specs.declared.refusals.UnitRefusal.{UnitRefusal}
 use Rattle.c_tree.specs.declared.outcome.CValue.{CValue}
 use Rattle.c_tree.specs.declared.outcome.CValue.TheVariants.{Pointer}
 use Rattle.c_tree.specs.declared.outcome.CFault.TheVariants.{Library}
@@ -148,18 +148,23 @@ halt_number EndOfRecords = negsuc 0
 halt_number OtherType = pos 4
 
 -- once the complete records are written the output goes on, or its format halts it
-abbrev pub put_further : Transfer → Option Halt → Putting → Passage
-put_further transfer halted (StopsAt number world) = Answers (ended_by number transfer world)
-put_further transfer (Some halt) (PutTo medium world) = Answers (ended_by (halt_number halt) transfer world)
-put_further transfer None (PutTo medium world) =
-    GoesOn (record transfer { medium = medium; written = length (made transfer false).records }) world
+abbrev pub put_unless : Option Halt → Transfer → ℕ → Medium → World → Passage
+put_unless (Some halt) transfer written medium world = Answers (ended_by (halt_number halt) transfer world)
+put_unless None transfer written medium world = GoesOn (record transfer { medium = medium; written = written }) world
+
+abbrev pub put_further : Transfer → Made → Putting → Passage
+put_further transfer made (StopsAt number world) = Answers (ended_by number transfer world)
+put_further transfer made (PutTo medium world) = put_unless made.halted transfer (length made.records) medium world
+
+-- the complete records that are not yet written
+abbrev pub records_put : Made → Transfer → World → Or Passage
+records_put made transfer world =
+    after (lines_put transfer.medium (drop transfer.written made.records) world) λ putting. Ok (put_further transfer made putting)
 
 -- an output with further values
 abbrev pub put_values : List list.ListedValue → Transfer → World → Or Passage
 put_values values transfer world =
-    let longer = record transfer { values = transfer.values ++ values } in
-    after (lines_put longer.medium (new_records longer false) world) λ putting.
-    Ok (put_further longer (made longer false).halted putting)
+    let longer = record transfer { values = transfer.values ++ values } in records_put (made longer false) longer world
 
 -- items of list-directed output
 abbrev pub listed_put : ItemKind → ℕ → ℕ → CValue → Transfer → World → Or Reply
@@ -168,11 +173,25 @@ listed_put kind size count first transfer world =
     after (put_values values transfer world) λ passage.
     Ok (passed passage)
 
--- an item of formatted output
-abbrev pub formatted_put : Format → ℕ → CValue → Transfer → World → Or Passage
-formatted_put format size pointer transfer world =
+-- the rest, unless the output is over
+abbrev pub led_on : Passage → (Transfer → World → Or Passage) → Or Passage
+led_on (Answers reply) next = Ok (Answers reply)
+led_on (GoesOn transfer world) next = next transfer world
+
+-- what a format gives before the descriptor of the item that comes next
+abbrev pub made_before : Format → Transfer → Made
+made_before format transfer = made_by (made_ahead (sheet_of transfer.medium) format transfer.values)
+
+abbrev pub value_put : Format → ℕ → CValue → Transfer → World → Or Passage
+value_put format size pointer transfer world =
     after (item_under (next_descriptor format (edits_for format (length transfer.values)).left) world.objects pointer size) λ value.
     put_values (value ∷ []) transfer world
+
+-- an item of formatted output is fetched when its descriptor is come to, since it may stand in a record of the internal file that
+-- is complete by then, by the item before it or by its own reversion or slash
+abbrev pub formatted_put : Format → ℕ → CValue → Transfer → World → Or Passage
+formatted_put format size pointer transfer world =
+    after (records_put (made_before format transfer) transfer world) λ passage. led_on passage (value_put format size pointer)
 
 -- at its end
 abbrev pub put_last : Transfer → Option Halt → Putting → Reply

@@ -2,10 +2,10 @@
 -- (ANSI X3.9-1978, 12.8 and 12.9).
 use Rattle.std.specs.Prelude.{ℕ, zero, suc, ◌+◌, ◌-◌, ◌*◌, nat_le, ℤ, pos, negsuc, Bool, false, List, [], ◌∷◌, length, drop, Option, Some, None, Ok, Err, codes, if◌then◌else◌}
 use Rattle.std.specs.Ordering.{int_eq}
-use Rattle.f2c_outside.specs.Units.{Units, UnitState, is_connected, read_unit, reads_zero_blanks}
-use Rattle.f2c_outside.specs.declared.unit_table.UnitRefusal.{UnitRefusal}
-use Rattle.f2c_outside.specs.declared.unit_table.UnitRefusal.TheVariants.{NotConnected, NotOffered, Taken, PastEnd, Failed}
-use Rattle.edit_rules.specs.Formats.{Format}
+use Rattle.run_state.specs.Units.{Units, UnitState, is_connected, read_unit, reads_zero_blanks}
+use Rattle.run_state.specs.declared.refusals.UnitRefusal.{UnitRefusal}
+use Rattle.run_state.specs.declared.refusals.UnitRefusal.TheVariants.{NotConnected, NotOffered, Taken, PastEnd, Failed}
+use Rattle.edit_meaning.specs.Formats.{Format}
 use Rattle.c_tree.specs.declared.outcome.CValue.{CValue}
 use Rattle.c_tree.specs.declared.outcome.CValue.TheVariants.{Pointer, Null}
 use Rattle.c_tree.specs.declared.outcome.CFault.TheVariants.{Outside, Kind, Library}
@@ -98,6 +98,8 @@ new_transfer direction layout control = record {
   on_end = control.on_end;
   values = [];
   written = 0;
+  received = [];
+  line = [];
   place = no_place;
   slashed = false;
   course = no_course;

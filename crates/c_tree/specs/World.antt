@@ -1,12 +1,13 @@
--- What all functions of a run share: the objects, the external units and the transfer in progress; and how a
--- run ends that meets no fault.
+-- What all functions of a run share: the objects, the external units and the transfer in progress.
 use Rattle.std.specs.Prelude.{ℕ, ℤ, Bool, false, List, [], Option, None}
-use Rattle.edit_rules.specs.Formats.{Format, Empty}
-use Rattle.edit_rules.specs.Listed.{ListedValue}
-use Rattle.edit_rules.specs.ListInput.{Place, Between}
-use Rattle.edit_rules.specs.TakenRecords as taken
-use Rattle.edit_rules.specs.Transfers.{Progress, begun}
-use Rattle.f2c_outside.specs.Units.{Units}
+use Rattle.edit_meaning.specs.Formats.{Format, Empty}
+use Rattle.edit_meaning.specs.Listed.{ListedValue}
+use Rattle.edit_meaning.specs.ListInput.{Place, Between}
+use Rattle.edit_meaning.specs.ListItems.{Value}
+use Rattle.edit_meaning.specs.TakenRecords as taken
+use Rattle.edit_meaning.specs.Transfers.{Progress, begun}
+pub use Rattle.run_state.specs.Endings.{Ending, Plain, Stop, Io, Range, Report}
+use Rattle.run_state.specs.Units.{Units}
 use Rattle.c_tree.specs.Objects.{Object}
 
 pub data Direction : Type 0 where
@@ -32,9 +33,9 @@ pub data Medium : Type 0 where
   Internal : InternalFile → Medium
 
 -- a transfer in progress: whether an error, and whether an end, is answered to the caller, where it is not 0; of an
--- output the values so far, and how many of its records are written; of list-directed input the place in the
--- record that is being read, and whether a slash was met, which leaves the later items; and of formatted input the
--- edits that are left and the place in the record
+-- output the values so far, and how many of its records are written; of an input the values that its items were given so
+-- far; of list-directed input the record that is being read, the place in it, and whether a slash was met, which leaves
+-- the later items; and of formatted input the edits that are left and the place in the record
 pub record Transfer : Type 0 where
   pub direction : Direction
   pub layout : Layout
@@ -43,6 +44,8 @@ pub record Transfer : Type 0 where
   pub on_end : ℤ
   pub values : List ListedValue
   pub written : ℕ
+  pub received : List Value
+  pub line : List ℕ
   pub place : Place
   pub slashed : Bool
   pub course : Progress taken.Input
@@ -59,13 +62,6 @@ pub record World : Type 0 where
   pub objects : List Object
   pub units : Units
   pub transfer : Option Transfer
-
--- how a run ends: at the end of the main program or by STOP without a text, by STOP with a text, or by the number
--- of an input or output statement that does not ask for it
-pub data Ending : Type 0 where
-  Plain : Ending
-  Stop : List ℕ → Ending
-  Io : ℤ → Ending
 
 -- what a call of the library gives: a number, no value, or the end of the run
 pub data Reply : Type 0 where

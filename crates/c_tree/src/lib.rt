@@ -6,20 +6,9 @@
 //! plain lists and values.
 #![tactic(auto)]
 
-pub mod c_programs;
 pub mod declaration;
 pub mod expression;
-pub mod fault_rows;
 pub mod file;
-pub mod format_rows;
-pub mod laws;
-pub mod library_rows;
-pub mod link_rows;
 pub mod outcome;
-pub mod rows;
-pub mod rulings;
 pub mod statement;
-pub mod text_laws;
-pub mod texts;
 pub mod types;
-pub mod unit_rows;

@@ -73,6 +73,19 @@ pub struct Span {
     pub len: usize,
 }
 
+/// A place outside its declared bounds.
+#[derive(Clone, Copy, Debug, PartialEq, Eq)]
+pub struct Report {
+    /// The name of the variable.
+    pub variable: Span,
+    /// The subscript, or the place of a substring, that is out of bounds.
+    pub number: i32,
+    /// The name of the unit.
+    pub unit: Span,
+    /// The card of the statement.
+    pub card: i32,
+}
+
 /// How a run ends that meets no fault.
 #[derive(Clone, Copy, Debug, PartialEq, Eq)]
 pub enum Stopped {
@@ -82,6 +95,8 @@ pub enum Stopped {
     Stop(Span),
     /// By this number of an input or output statement that does not ask for it.
     Io(i32),
+    /// At a place outside its declared bounds.
+    Range(Report),
 }
 
 #[cfg(test)]

@@ -1,7 +1,7 @@
 -- The edits that items take, with one more item.
 use Rattle.std.proofs.Common.{◌≡◌, ℕ, zero, suc, ◌≤◌, Bool, true, false, List, [], ◌∷◌, refl, sym, ap, ◌∙◌, append_assoc, arith}
-use Rattle.edit_rules.specs.Formats.{Format, Edit, Item, Act, Stop, Served, NextRecord, served, led_by, has_item, pass, reverted, followed, before_more, go_on, if_it_serves, edits_for}
-use Rattle.edit_rules.specs.Transfers.{turned, behind, and_one, one_more}
+use Rattle.edit_meaning.specs.Formats.{Format, Edit, Item, Act, Stop, Served, NextRecord, served, led_by, has_item, pass, reverted, followed, before_more, go_on, if_it_serves, edits_for}
+use Rattle.edit_meaning.specs.Transfers.{turned, behind, and_one, one_more}
 
 -- one more item than a pass serves
 more_by : ℕ → Served → Served

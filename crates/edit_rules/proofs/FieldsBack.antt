@@ -9,9 +9,9 @@ use Rattle.std.proofs.lemmas.Bool.Decides.{nat_tests}
 use Rattle.std.proofs.lemmas.Fmt.{digits_decimal, decimal_is_IsNumeral}
 use Rattle.std.proofs.lemmas.List.{length-replicate, drop_at, take_all, length-take-le}
 use Rattle.std.proofs.lemmas.Str.Parse.{IsNumeralModel, numerals_by_value, tells_all_ascii_digits}
-use Rattle.edit_rules.specs.EditedFields.{right_in, sign_of, with_zeros, int_text, int_field, logical_field, text_field}
-use Rattle.edit_rules.specs.ReadBack.{has_32_bits}
-use Rattle.edit_rules.specs.TakenFields.{behind_blanks, behind_point, with_blanks_as, signed_int, int_of, int_behind_blanks, truth_of, int_in, logical_in, text_in}
+use Rattle.edit_meaning.specs.EditedFields.{right_in, sign_of, with_zeros, int_text, int_field, logical_field, text_field}
+use Rattle.edit_meaning.specs.ReadBack.{has_32_bits}
+use Rattle.edit_meaning.specs.TakenFields.{behind_blanks, behind_point, with_blanks_as, signed_int, int_of, int_behind_blanks, truth_of, int_in, logical_in, text_in}
 
 own : IsNumeralModel (λ ds. all_ascii_digits ds ≡ true) (digits_value 10)
 own = numerals_by_value _ tells_all_ascii_digits

@@ -2,11 +2,11 @@
 use Rattle.std.proofs.Common.{◌≡◌, ℕ, ◌+◌, ◌-◌, ◌≤◌, nat_le, Bool, true, false, if◌then◌else◌, Option, None, Some, List, [], ◌∷◌, ◌++◌, length, replicate, refl, sym, ap, subst, arith, length-append, IsTrue}
 use Rattle.std.proofs.lemmas.Bool.{and_parts, and_from, le-leb}
 use Rattle.std.proofs.lemmas.List.{length-replicate}
-use Rattle.edit_rules.specs.EditedRecords.{Sheet, Output, has_record, with_control, with_field, field_of, written_at, output_start}
-use Rattle.edit_rules.specs.Formats.{Control, Literal, ToColumn, LeftBy, RightBy, NextRecord, PlusSigns, ZeroBlanks, Format, Edit, Item, Act, Stop, Served, edits_for}
-use Rattle.edit_rules.specs.Halts.{Number, EndOfRecords}
-use Rattle.edit_rules.specs.Listed.{ListedValue}
-use Rattle.edit_rules.specs.ReadBack.{is_wide_enough, has_place_on_input, goes_right, plus_behind, fields_follow, fields_hold, follow_one_another, stand_whole}
+use Rattle.edit_meaning.specs.EditedRecords.{Sheet, Output, has_record, with_control, with_field, field_of, written_at, output_start}
+use Rattle.edit_meaning.specs.Formats.{Control, Literal, ToColumn, LeftBy, RightBy, NextRecord, PlusSigns, ZeroBlanks, Format, Edit, Item, Act, Stop, Served, edits_for}
+use Rattle.edit_meaning.specs.Halts.{Number, EndOfRecords}
+use Rattle.edit_meaning.specs.Listed.{ListedValue}
+use Rattle.edit_meaning.specs.ReadBack.{is_wide_enough, has_place_on_input, goes_right, plus_behind, fields_follow, fields_hold, follow_one_another, stand_whole}
 use Rattle.edit_rules.proofs.RecordsBack.{written_behind}
 
 has_place : (c : Control) → goes_right c ≡ true → has_place_on_input c ≡ true

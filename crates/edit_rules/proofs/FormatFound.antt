@@ -2,9 +2,9 @@
 use Rattle.std.proofs.Common.{◌≡◌, ℕ, zero, suc, ◌+◌, ◌-◌, ◌*◌, ◌<◌, ◌≤◌, ◌==◌, nat_le, nat_lt, Bool, true, false, ◌||◌, None, Some, IsTrue, List, [], ◌∷◌, ◌++◌, length, refl, sym, ap, subst, ◌∙◌, arith}
 use Rattle.std.proofs.lemmas.Bool.Decides.{nat_tests}
 use Rattle.std.specs.Char.{is_ascii_digit, to_ascii_uppercase}
-use Rattle.edit_rules.specs.Formats.{Descriptor, IntIn, LogicalIn, TextIn, Control, Literal, ToColumn, LeftBy, RightBy, NextRecord, PlusSigns, ZeroBlanks, Format, Empty, Takes, Does, Colon, Group}
-use Rattle.edit_rules.specs.FormatGrammar.{seen, is_from, Digits, no_more, one_more, Number, digits, Repeat, once, times, Describes, int_of_width, int_of_least, logical_of_width, text_whole, text_of_width, Quoted, ends, doubled, other, Controls, in_apostrophes, hollerith, skip, to_column, left_by, right_by, plus_as_ever, plus_suppressed, plus_produced, blanks_null, blanks_zero, Scales, unsigned, signed, Joint, Opened, Wanted, Free, Behind, may_close, takes_comma, takes_item, SpellsList, right_parenthesis, comma, descriptor, control, group, slash, slashes, colon, scale, SpellsFormat, left_parenthesis}
-use Rattle.edit_rules.specs.FormatTexts.{Sign, upper_sign, Kind, Count, Signed, IntWidth, Least, LogicalWidth, TextWidth, Column, Left, Right, most, Place, Start, At, Before, Inside, BehindA, BehindB, BehindS, BehindT, Outside, InText, BehindQuote, Verbatim, Made, fresh, Move, Refused, To, Opens, Closes, same, counts, keeps, takes, does, has_text, only_if, behind, opens, in_number, between, ended, counted, scaled, wide, behind_a, behind_b, behind_s, behind_t, in_text_of, in_text, behind_number, behind_quote, outside_text, outside, Going, Frame, closed, state_by, starting, Nothing, Front, from_state, found}
+use Rattle.edit_meaning.specs.Formats.{Descriptor, IntIn, LogicalIn, TextIn, Control, Literal, ToColumn, LeftBy, RightBy, NextRecord, PlusSigns, ZeroBlanks, Format, Empty, Takes, Does, Colon, Group}
+use Rattle.edit_meaning.specs.FormatGrammar.{seen, is_from, Digits, no_more, one_more, Number, digits, Repeat, once, times, Describes, int_of_width, int_of_least, logical_of_width, text_whole, text_of_width, Quoted, ends, doubled, other, Controls, in_apostrophes, hollerith, skip, to_column, left_by, right_by, plus_as_ever, plus_suppressed, plus_produced, blanks_null, blanks_zero, Scales, unsigned, signed, Joint, Opened, Wanted, Free, Behind, may_close, takes_comma, takes_item, SpellsList, right_parenthesis, comma, descriptor, control, group, slash, slashes, colon, scale, SpellsFormat, left_parenthesis}
+use Rattle.edit_meaning.specs.FormatTexts.{Sign, upper_sign, Kind, Count, Signed, IntWidth, Least, LogicalWidth, TextWidth, Column, Left, Right, most, Place, Start, At, Before, Inside, BehindA, BehindB, BehindS, BehindT, Outside, InText, BehindQuote, Verbatim, Made, fresh, Move, Refused, To, Opens, Closes, same, counts, keeps, takes, does, has_text, only_if, behind, opens, in_number, between, ended, counted, scaled, wide, behind_a, behind_b, behind_s, behind_t, in_text_of, in_text, behind_number, behind_quote, outside_text, outside, Going, Frame, closed, state_by, starting, Nothing, Front, from_state, found}
 use Rattle.edit_rules.proofs.FormatSteps.{at_next, at_none, CodeOf, left_paren, right_paren, a_comma, a_slash, a_period, a_colon, a_quote, plus_minus, a_digit, letter_a, letter_b, letter_h, letter_i, letter_l, letter_n, letter_p, letter_r, letter_s, letter_t, letter_x, letter_z, code_of, Next, none, some, next_of, behind_change}
 use Rattle.edit_rules.proofs.FormatSpelled.{le_of, quote_by, texts, filled, found_done}
 

@@ -1,9 +1,9 @@
 -- The grammar of formats and its reader.
 use Rattle.std.proofs.Common.{◌≡◌, ℕ, ◌+◌, ◌-◌, Option, None, Some, List, [], ◌∷◌, ◌++◌, length, take, drop, refl, sym, ap, subst, ◌∙◌, arith, length-append, length-drop}
 use Rattle.std.proofs.lemmas.List.{take_at, take-append-drop}
-use Rattle.edit_rules.specs.Formats.{Format}
-use Rattle.edit_rules.specs.FormatGrammar.{SpellsFormat, IsFormat}
-use Rattle.edit_rules.specs.FormatTexts.{State, Going, Done, starting, next_state, Found, Nothing, Front, from_state, found, tree_of, size_of, format_of, format_end}
+use Rattle.edit_meaning.specs.Formats.{Format}
+use Rattle.edit_meaning.specs.FormatGrammar.{SpellsFormat, IsFormat}
+use Rattle.edit_meaning.specs.FormatTexts.{State, Going, Done, starting, next_state, Found, Nothing, Front, from_state, found, tree_of, size_of, format_of, format_end}
 use Rattle.edit_rules.specs.FormatChecks.{IsFront, FormatsAreUnique, FormatsAreFronts, FormatOfIsSpelled, FormatEndIsSpelled}
 use Rattle.edit_rules.proofs.FormatSpelled.{format_run, found_done}
 use Rattle.edit_rules.proofs.FormatFound.{format_found}

@@ -1,9 +1,9 @@
 -- Moves without what they make, and how far a text has come in a format.
 use Rattle.std.proofs.Common.{◌≡◌, ℕ, zero, suc, ◌+◌, ◌-◌, ◌<◌, ◌≤◌, true, false, Option, None, Some, List, [], ◌∷◌, ◌++◌, length, get_or, take, refl, sym, ap, ◌∙◌, arith, add-one}
 use Rattle.std.proofs.lemmas.List.{take_more}
-use Rattle.edit_rules.specs.Formats.{Format, Empty, IntIn, TextIn, PlusSigns}
-use Rattle.edit_rules.specs.FormatGrammar.{Behind, is_from}
-use Rattle.edit_rules.specs.FormatTexts.{Made, Mode, Outside, At, Move, Refused, To, Opens, Closes, behind, takes, does, ended, behind_a, behind_s, wide, moved, State, Going, Done, Frame, closed, state_by, next_state, starting}
+use Rattle.edit_meaning.specs.Formats.{Format, Empty, IntIn, TextIn, PlusSigns}
+use Rattle.edit_meaning.specs.FormatGrammar.{Behind, is_from}
+use Rattle.edit_meaning.specs.FormatTexts.{Made, Mode, Outside, At, Move, Refused, To, Opens, Closes, behind, takes, does, ended, behind_a, behind_s, wide, moved, State, Going, Done, Frame, closed, state_by, next_state, starting}
 use Rattle.edit_rules.specs.FormatPlaces.{sign_in, Shape, Refuses, Leads, Opening, Closing, shape, Progress, Stuck, Stands, Ended, closing_at, progress_by}
 use Rattle.edit_rules.specs.FormatChecks.{IsFront, IsRefusedAt}
 use Rattle.edit_rules.specs.declared.format_signs.Sign.{Sign}

@@ -2,11 +2,11 @@
 use Rattle.std.proofs.Common.{◌≡◌, ◌==◌, ◌⊎◌, inl, inr, Bool, true, false, ◌||◌, if◌then◌else◌, Some, None, IsTrue, max, List, [], ◌∷◌, ◌++◌, ℕ, suc, ◌+◌, ◌-◌, ◌*◌, ◌≤◌, ◌<◌, length, take, drop, refl, sym, ap, ◌∙◌, subst, arith}
 use Rattle.std.specs.Char.{is_ascii_digit, to_ascii_uppercase}
 use Rattle.std.proofs.lemmas.Grind.{common_steps}
-use Rattle.edit_rules.specs.Formats.{Descriptor, IntIn, LogicalIn, TextIn, Control, Literal, ToColumn, LeftBy, RightBy, NextRecord, PlusSigns, Format, Empty, Group, Edit, Item, Act, Stop, copies, pass, last_group}
-use Rattle.edit_rules.specs.FormatGrammar.{seen, is_from, Digits, no_more, one_more, Number, digits, Repeat, once, times, Describes, int_of_width, int_of_least, logical_of_width, text_whole, text_of_width, NoQuote, Quoted, ends, doubled, other, Controls, in_apostrophes, hollerith, skip, to_column, left_by, right_by, plus_as_ever, plus_suppressed, plus_produced, blanks_null, blanks_zero, Scales, unsigned, signed, Joint, Wanted, Free, Behind, SpellsList, right_parenthesis, comma, descriptor, control, group, slash, slashes, colon, scale}
+use Rattle.edit_meaning.specs.Formats.{Descriptor, IntIn, LogicalIn, TextIn, Control, Literal, ToColumn, LeftBy, RightBy, NextRecord, PlusSigns, Format, Empty, Group, Edit, Item, Act, Stop, copies, pass, last_group}
+use Rattle.edit_meaning.specs.FormatGrammar.{seen, is_from, Digits, no_more, one_more, Number, digits, Repeat, once, times, Describes, int_of_width, int_of_least, logical_of_width, text_whole, text_of_width, NoQuote, Quoted, ends, doubled, other, Controls, in_apostrophes, hollerith, skip, to_column, left_by, right_by, plus_as_ever, plus_suppressed, plus_produced, blanks_null, blanks_zero, Scales, unsigned, signed, Joint, Wanted, Free, Behind, SpellsList, right_parenthesis, comma, descriptor, control, group, slash, slashes, colon, scale}
 use Rattle.edit_rules.specs.FormatParts as parts
 use Rattle.edit_rules.specs.FormatParts.{Counted, Sign, Parted, number_from, number_of, next_sign, sign_of, with_digit, giving, int_part, int_by, int_point, int_least, logical_part, text_part, plus_part, plus_by, blanks_part, tab_part, tab_by, moving, quoted_part, verbatim_part, letter_part, part_by, part_behind, part_of}
-use Rattle.edit_rules.specs.ListItems.{characters, behind_text}
+use Rattle.edit_meaning.specs.ListItems.{characters, behind_text}
 use Rattle.edit_rules.proofs.PartSteps.{unlike, bool_is}
 
 -- a digit has no case

@@ -1,7 +1,7 @@
 -- A list of items is gone through, groups and all, up to its right parenthesis.
 use Rattle.std.proofs.Common.{◌≡◌, max, List, [], ◌∷◌, ◌++◌, ℕ, zero, suc, ◌+◌, ◌-◌, ◌≤◌, ◌<◌, length, length-drop, drop, refl, sym, ap, ◌∙◌, subst, arith}
-use Rattle.edit_rules.specs.Formats.{Format, Edit, Stop, copies, pass}
-use Rattle.edit_rules.specs.FormatGrammar.{Joint, Wanted, Behind, SpellsList}
+use Rattle.edit_meaning.specs.Formats.{Format, Edit, Stop, copies, pass}
+use Rattle.edit_meaning.specs.FormatGrammar.{Joint, Wanted, Behind, SpellsList}
 use Rattle.edit_rules.specs.FormatParts as parts
 use Rattle.edit_rules.specs.FormatParts.{Parted, part_of}
 use Rattle.edit_rules.specs.FormatScans.{weight_of, heaviest, Under, last, within, Scanning, Scanned, weight_in}

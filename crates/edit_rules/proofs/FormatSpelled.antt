@@ -3,9 +3,9 @@ use Rattle.std.proofs.Common.{◌≡◌, ℕ, zero, suc, ◌+◌, ◌-◌, ◌*�
 use Rattle.std.proofs.lemmas.Bool.{and_parts}
 use Rattle.std.proofs.lemmas.Bool.Decides.{nat_tests}
 use Rattle.std.specs.Char.{to_ascii_uppercase}
-use Rattle.edit_rules.specs.Formats.{Descriptor, IntIn, LogicalIn, TextIn, Control, Literal, ToColumn, LeftBy, RightBy, NextRecord, PlusSigns, Format, Takes, Does, Colon, Group}
-use Rattle.edit_rules.specs.FormatGrammar.{seen, is_from, Digits, no_more, one_more, Number, digits, Repeat, once, times, Describes, int_of_width, int_of_least, logical_of_width, text_whole, text_of_width, NoQuote, Quoted, ends, doubled, other, Controls, in_apostrophes, hollerith, skip, to_column, left_by, right_by, plus_as_ever, plus_suppressed, plus_produced, blanks_null, blanks_zero, Scales, unsigned, signed, Joint, Wanted, Free, Behind, may_close, takes_comma, takes_item, SpellsList, right_parenthesis, comma, descriptor, control, group, slash, slashes, colon, scale, SpellsFormat, left_parenthesis}
-use Rattle.edit_rules.specs.FormatTexts.{Sign, LeftParen, RightParen, Comma, Slash, Period, Colons, Quote, PlusMinus, Digit, LetterA, LetterB, LetterH, LetterI, LetterL, LetterN, LetterP, LetterR, LetterS, LetterT, LetterX, LetterZ, upper_sign, Kind, Count, Signed, IntWidth, Least, LogicalWidth, TextWidth, Column, Left, Right, most, Place, Start, At, Before, Inside, BehindA, BehindB, BehindS, BehindT, Outside, InText, BehindQuote, Verbatim, Made, fresh, Move, To, Opens, Closes, same, counts, keeps, takes, does, has_text, only_if, behind, in_number, between, ended, wide, behind_a, behind_s, in_text_of, in_text, behind_number, behind_quote, outside, Going, Done, Frame, closed, state_by, starting, Front, from_state, found}
+use Rattle.edit_meaning.specs.Formats.{Descriptor, IntIn, LogicalIn, TextIn, Control, Literal, ToColumn, LeftBy, RightBy, NextRecord, PlusSigns, Format, Takes, Does, Colon, Group}
+use Rattle.edit_meaning.specs.FormatGrammar.{seen, is_from, Digits, no_more, one_more, Number, digits, Repeat, once, times, Describes, int_of_width, int_of_least, logical_of_width, text_whole, text_of_width, NoQuote, Quoted, ends, doubled, other, Controls, in_apostrophes, hollerith, skip, to_column, left_by, right_by, plus_as_ever, plus_suppressed, plus_produced, blanks_null, blanks_zero, Scales, unsigned, signed, Joint, Wanted, Free, Behind, may_close, takes_comma, takes_item, SpellsList, right_parenthesis, comma, descriptor, control, group, slash, slashes, colon, scale, SpellsFormat, left_parenthesis}
+use Rattle.edit_meaning.specs.FormatTexts.{Sign, LeftParen, RightParen, Comma, Slash, Period, Colons, Quote, PlusMinus, Digit, LetterA, LetterB, LetterH, LetterI, LetterL, LetterN, LetterP, LetterR, LetterS, LetterT, LetterX, LetterZ, upper_sign, Kind, Count, Signed, IntWidth, Least, LogicalWidth, TextWidth, Column, Left, Right, most, Place, Start, At, Before, Inside, BehindA, BehindB, BehindS, BehindT, Outside, InText, BehindQuote, Verbatim, Made, fresh, Move, To, Opens, Closes, same, counts, keeps, takes, does, has_text, only_if, behind, in_number, between, ended, wide, behind_a, behind_s, in_text_of, in_text, behind_number, behind_quote, outside, Going, Done, Frame, closed, state_by, starting, Front, from_state, found}
 use Rattle.edit_rules.proofs.FormatSteps.{at_next, step_to, digit_sign, behind_change}
 
 grows : {begun number : ℕ} {before after : List ℕ} → Digits begun number before after → begun ≤ number

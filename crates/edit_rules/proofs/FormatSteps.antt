@@ -2,8 +2,8 @@
 use Rattle.std.proofs.Common.{◌≡◌, ℕ, suc, ◌-◌, ◌<◌, ◌==◌, Bool, true, false, ◌||◌, if◌then◌else◌, Some, IsTrue, List, [], ◌∷◌, length, refl, ap, ◌∙◌, arith}
 use Rattle.std.proofs.lemmas.Bool.Decides.{nat_tests}
 use Rattle.std.specs.Char.{is_ascii_digit, to_ascii_uppercase}
-use Rattle.edit_rules.specs.FormatGrammar.{seen, Behind}
-use Rattle.edit_rules.specs.FormatTexts.{Sign, LeftParen, RightParen, Comma, Slash, Period, Colons, Quote, PlusMinus, Digit, LetterA, LetterB, LetterH, LetterI, LetterL, LetterN, LetterP, LetterR, LetterS, LetterT, LetterX, LetterZ, Unknown, letter_of, mark_of, upper_sign, Place, Outside, Made, To, same, behind, between, outside, State, Going, Frame, state_by, Nothing, from_state, found}
+use Rattle.edit_meaning.specs.FormatGrammar.{seen, Behind}
+use Rattle.edit_meaning.specs.FormatTexts.{Sign, LeftParen, RightParen, Comma, Slash, Period, Colons, Quote, PlusMinus, Digit, LetterA, LetterB, LetterH, LetterI, LetterL, LetterN, LetterP, LetterR, LetterS, LetterT, LetterX, LetterZ, Unknown, letter_of, mark_of, upper_sign, Place, Outside, Made, To, same, behind, between, outside, State, Going, Frame, state_by, Nothing, from_state, found}
 
 next_by : (blank : Bool) (u : ℕ) (bs : List ℕ) (place : Place) (made : Made) (outer : List Frame) (c : ℕ) (middle : List ℕ)
     → (seen bs ≡ c ∷ middle → found bs (Going (Outside place) made outer)

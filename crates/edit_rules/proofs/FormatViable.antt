@@ -2,9 +2,9 @@
 use Rattle.std.proofs.Common.{◌≡◌, ℕ, zero, suc, ◌+◌, ◌*◌, ◌<◌, ◌≤◌, ◌==◌, nat_le, nat_lt, Bool, true, false, ◌&&◌, if◌then◌else◌, Option, None, Some, IsTrue, List, [], ◌∷◌, ◌++◌, length, take, drop, refl, sym, ap, subst, ◌∙◌, arith}
 use Rattle.std.specs.Prelude.{⊤}
 use Rattle.std.specs.List.{list_all}
-use Rattle.edit_rules.specs.Formats.{Format, Empty, Group, NextRecord, PlusSigns, ZeroBlanks, IntIn, LogicalIn, TextIn, ToColumn, LeftBy, RightBy}
-use Rattle.edit_rules.specs.FormatGrammar.{is_from, Joint, Opened, Wanted, Free, Behind, may_close, takes_comma, takes_item, IsFormat}
-use Rattle.edit_rules.specs.FormatTexts.{Sign, LeftParen, RightParen, Comma, Slash, Period, Colons, Quote, PlusMinus, Digit, LetterA, LetterB, LetterH, LetterI, LetterL, LetterN, LetterP, LetterR, LetterS, LetterT, LetterX, LetterZ, Unknown, sign_of, Kind, Count, Signed, IntWidth, Least, LogicalWidth, TextWidth, Column, Left, Right, most, Place, Start, At, Before, Inside, BehindA, BehindB, BehindS, BehindT, Mode, Outside, InText, BehindQuote, Verbatim, Made, Move, Refused, To, Opens, Closes, same, keeps, takes, does, has_text, only_if, behind, opens, in_number, item, between, ended, counted, scaled, wide, behind_a, behind_b, behind_s, behind_t, at_start, first_digit, next_digit, in_text_of, in_text, behind_number, behind_quote, verbatim, outside_text, outside, moved, State, Going, Done, Frame, closed, state_by, next_state, starting, Nothing, Front, from_state, found}
+use Rattle.edit_meaning.specs.Formats.{Format, Empty, Group, NextRecord, PlusSigns, ZeroBlanks, IntIn, LogicalIn, TextIn, ToColumn, LeftBy, RightBy}
+use Rattle.edit_meaning.specs.FormatGrammar.{is_from, Joint, Opened, Wanted, Free, Behind, may_close, takes_comma, takes_item, IsFormat}
+use Rattle.edit_meaning.specs.FormatTexts.{Sign, LeftParen, RightParen, Comma, Slash, Period, Colons, Quote, PlusMinus, Digit, LetterA, LetterB, LetterH, LetterI, LetterL, LetterN, LetterP, LetterR, LetterS, LetterT, LetterX, LetterZ, Unknown, sign_of, Kind, Count, Signed, IntWidth, Least, LogicalWidth, TextWidth, Column, Left, Right, most, Place, Start, At, Before, Inside, BehindA, BehindB, BehindS, BehindT, Mode, Outside, InText, BehindQuote, Verbatim, Made, Move, Refused, To, Opens, Closes, same, keeps, takes, does, has_text, only_if, behind, opens, in_number, item, between, ended, counted, scaled, wide, behind_a, behind_b, behind_s, behind_t, at_start, first_digit, next_digit, in_text_of, in_text, behind_number, behind_quote, verbatim, outside_text, outside, moved, State, Going, Done, Frame, closed, state_by, next_state, starting, Nothing, Front, from_state, found}
 use Rattle.edit_rules.specs.FormatChecks.{IsCompletable, IsFront, IsRefusedAt}
 use Rattle.edit_rules.proofs.FormatSpelled.{format_run, le_of, within_most}
 use Rattle.edit_rules.proofs.FormatFound.{format_found}

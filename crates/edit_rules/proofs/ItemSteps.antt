@@ -2,8 +2,8 @@
 use Rattle.std.proofs.Common.{◌≡◌, ℕ, ℤ, zero, suc, ◌+◌, ◌-◌, ◌==◌, nat_lt, Bool, true, false, not, if◌then◌else◌, Option, None, Some, Result, Ok, Err, List, [], ◌∷◌, ◌++◌, take, drop, refl, sym, ap, ◌∙◌, subst, one-add, append_assoc, append-nil}
 use Rattle.std.specs.Bool.{⊤}
 use Rattle.std.proofs.lemmas.Bool.{eqb-true}
-use Rattle.edit_rules.specs.ListInput.{is_separator, Kind, IntItem, LogicalItem, TextItem, Place, Between, Repeated, Nulls, Inside, Given, Number, Truth, Piece, Null, Slash, NeedRecord, Wrong, Sought, AtEnd, AtNull, AtSlash, AtValue, sought, Ending, Open, Well, Badly, ending, run_length, word_length, behind_constant, piece_before, piece_by, piece, text_constant, int_word, logical_word, given_number, given_truth, constant_as, nulls, repeated_as, counted_as, count_before, digit_count, given_behind, inside, given}
-use Rattle.edit_rules.specs.ListItems.{Value, IntValue, LogicalValue, TextValue, Kept, Outcome, Filled, Slashed, Failed, EndOfRecords, Items, Item, Takes, Stops, characters, behind_text, begun_with, begun_with_value, begun_with_outcome, text_item, text_over, item_by, renewed, item_over, place_behind, records_behind, before, items_from, begun_items, InNextRecord, Follows}
+use Rattle.edit_meaning.specs.ListInput.{is_separator, Kind, IntItem, LogicalItem, TextItem, Place, Between, Repeated, Nulls, Inside, Given, Number, Truth, Piece, Null, Slash, NeedRecord, Wrong, Sought, AtEnd, AtNull, AtSlash, AtValue, sought, Ending, Open, Well, Badly, ending, run_length, word_length, behind_constant, piece_before, piece_by, piece, text_constant, int_word, logical_word, given_number, given_truth, constant_as, nulls, repeated_as, counted_as, count_before, digit_count, given_behind, inside, given}
+use Rattle.edit_meaning.specs.ListItems.{Value, IntValue, LogicalValue, TextValue, Kept, Outcome, Filled, Slashed, Failed, EndOfRecords, Items, Item, Takes, Stops, characters, behind_text, begun_with, begun_with_value, begun_with_outcome, text_item, text_over, item_by, renewed, item_over, place_behind, records_behind, before, items_from, begun_items, InNextRecord, Follows}
 
 -- a piece of a text that goes on leads to a place inside it
 abbrev GoesInside : Given → Type 0

@@ -1,6 +1,3 @@
-pub mod ListedRows
-pub mod FormatRows
-pub mod FormatTextRows
 pub mod FormatSteps
 pub mod FormatSpelled
 pub mod FormatFound
@@ -8,7 +5,6 @@ pub mod FormatLaws
 pub mod FormatMoves
 pub mod FormatViable
 pub mod ItemSteps
-pub mod ListRows
 pub mod ListReadBack
 pub mod ListedLaws
 pub mod ListedSteps

@@ -5,17 +5,17 @@ use Rattle.std.specs.Str.Parse.{digits_value}
 use Rattle.std.proofs.lemmas.Bool.{and_parts, and_from, lt-ltb, le-leb, cases_lt}
 use Rattle.std.proofs.lemmas.Bool.Decides.{nat_tests}
 use Rattle.std.proofs.lemmas.Fmt.{length-decimal-le, decimal_by_steps, decimal_is_IsNumeral}
-use Rattle.edit_rules.specs.ListItems.{Value, IntValue, LogicalValue, TextValue, Items, Filled, items_from, items, led_by, Follows}
+use Rattle.edit_meaning.specs.ListItems.{Value, IntValue, LogicalValue, TextValue, Items, Filled, items_from, items, led_by, Follows}
 use Rattle.edit_rules.proofs.ItemSteps.{given-follows}
-use Rattle.edit_rules.specs.TakenFields.{signed_int}
+use Rattle.edit_meaning.specs.TakenFields.{signed_int}
 use Rattle.std.specs.Fmt.{decimal}
 use Rattle.std.specs.Char.{is_ascii_digit}
 use Rattle.std.specs.Str.{all_ascii_digits}
 use Rattle.std.specs.List.{list_all}
-use Rattle.edit_rules.specs.Listed.{ListedValue, Int, Logical, Text, shown, Listing, begun, followed_by, listing_from, listing, listed}
+use Rattle.edit_meaning.specs.Listed.{ListedValue, Int, Logical, Text, shown, Listing, begun, followed_by, listing_from, listing, listed}
 use Rattle.edit_rules.specs.Writer.{only, behind}
 use Rattle.edit_rules.proofs.ListedSteps.{in_place, in_next_record, followed_by-after}
-use Rattle.edit_rules.specs.ListInput.{Kind, IntItem, LogicalItem, TextItem, Place, Between, Given, Number, Truth, Piece, is_separator, Sought, sought, counted_as, AtValue, digit_count, count_before, begins_with, word_length, int_word, logical_word, constant_as, given_behind, given, given_number, given_truth, count_of}
+use Rattle.edit_meaning.specs.ListInput.{Kind, IntItem, LogicalItem, TextItem, Place, Between, Given, Number, Truth, Piece, is_separator, Sought, sought, counted_as, AtValue, digit_count, count_before, begins_with, word_length, int_word, logical_word, constant_as, given_behind, given, given_number, given_truth, count_of}
 
 -- characters that end a word: none, or a blank first
 EndsWord : List ℕ → Type 0

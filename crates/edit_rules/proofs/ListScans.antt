@@ -8,8 +8,8 @@ use Rattle.std.specs.Str.Parse.{digits_value}
 use Rattle.edit_rules.specs.ListPlaces.{int_word_of_blanks}
 use Rattle.edit_rules.proofs.TakeSteps.{size_from}
 use Rattle.std.proofs.lemmas.Bool.Decides.{nat_tests}
-use Rattle.edit_rules.specs.TakenFields.{with_blanks_as, int_of, next_size}
-use Rattle.edit_rules.specs.ListInput.{word_length, digit_count, int_word, count_of}
+use Rattle.edit_meaning.specs.TakenFields.{with_blanks_as, int_of, next_size}
+use Rattle.edit_meaning.specs.ListInput.{word_length, digit_count, int_word, count_of}
 
 as_they_are_by : (b : Bool) (c : ℕ) (cs : List ℕ) → not b ≡ true → with_blanks_as false cs ≡ cs
     → (if b then with_blanks_as false cs else c ∷ with_blanks_as false cs) ≡ c ∷ cs

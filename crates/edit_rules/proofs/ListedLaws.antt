@@ -1,6 +1,6 @@
 -- Laws of list-directed output that callers of the writer use.
 use Rattle.std.proofs.Common.{◌≡◌, ℕ, true, false, List, [], ◌∷◌, ◌++◌, take, drop, refl, sym, ap, ◌∙◌}
-use Rattle.edit_rules.specs.Listed.{ListedValue, shown, Listing, begun, followed_by, listing_from, listing, listed, in_making}
+use Rattle.edit_meaning.specs.Listed.{ListedValue, shown, Listing, begun, followed_by, listing_from, listing, listed, in_making}
 use Rattle.edit_rules.specs.Writer.{used_by, done_by, making_of, Stands}
 use Rattle.edit_rules.specs.declared.list_writer.ListWriter.{ListWriter}
 

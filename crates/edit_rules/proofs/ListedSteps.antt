@@ -3,7 +3,7 @@ use Rattle.std.proofs.Common.{◌≡◌, ℕ, zero, suc, ◌+◌, ◌-◌, ◌/�
 use Rattle.std.proofs.Common.{◌⊎◌, inl, inr, Bool, false, true, if◌then◌else◌, nat_le}
 use Rattle.std.proofs.lemmas.Bool.{cases_lt}
 use Rattle.std.proofs.lemmas.Bool.Decides.{nat_tests}
-use Rattle.edit_rules.specs.Listed.{ListedValue, shown, Listing, begun, next_record, extended, in_pieces, followed_by, pieces, cut_in}
+use Rattle.edit_meaning.specs.Listed.{ListedValue, shown, Listing, begun, next_record, extended, in_pieces, followed_by, pieces, cut_in}
 use Rattle.edit_rules.specs.Writer.{only, behind, making_of, done_by, used_by, Puts, Fills, Stands, GoesOn}
 use Rattle.edit_rules.specs.declared.list_writer.ListWriter.{ListWriter}
 use Rattle.edit_rules.specs.declared.list_writer.ListPut.{ListPut}

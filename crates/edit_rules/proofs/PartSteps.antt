@@ -1,8 +1,8 @@
 -- Numbers and characters of formats at places.
 use Rattle.std.proofs.Common.{◌≡◌, ◌==◌, ◌⊎◌, inl, inr, Bool, true, false, None, min, [], ◌∷◌, length-drop, ℕ, suc, ◌+◌, ◌-◌, ◌≤◌, List, length, take, drop, refl, sym, ap, ◌∙◌, arith}
-use Rattle.edit_rules.specs.Formats.{IntIn, Literal, ToColumn, LeftBy, RightBy, PlusSigns, Item, Act}
+use Rattle.edit_meaning.specs.Formats.{IntIn, Literal, ToColumn, LeftBy, RightBy, PlusSigns, Item, Act}
 use Rattle.edit_rules.specs.FormatParts.{Counted, Sign, number_from, number_of, next_sign, sign_of, giving, int_least, int_point, plus_by, tab_by, moving, quoted_part, verbatim_part, written_size}
-use Rattle.edit_rules.specs.ListItems.{characters, behind_text}
+use Rattle.edit_meaning.specs.ListItems.{characters, behind_text}
 use Rattle.std.proofs.lemmas.Grind.{common_steps}
 
 pub dropped : (text : List ℕ) (at n : ℕ) → drop n (drop at text) ≡ drop (at + n) text

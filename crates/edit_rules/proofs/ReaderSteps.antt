@@ -3,7 +3,7 @@ use Rattle.std.proofs.Common.{◌≡◌, ℕ, ◌+◌, ◌-◌, ◌<◌, ◌≤�
 use Rattle.std.proofs.lemmas.List.{get_or-drop, take_more}
 use Rattle.std.proofs.lemmas.List.Sums.{prefix_len-le-length}
 use Rattle.std.proofs.lemmas.Bool.{eq-eqb, ne_eqb}
-use Rattle.edit_rules.specs.ListInput.{Kind, Place, Inside, Given, Piece, run_length, word_length, behind_constant, piece_before, piece, text_constant, repeated_as, constant_as, counted_as, value_as, count_before, digit_count, begins_with, given_number, given_truth, int_word, logical_word}
+use Rattle.edit_meaning.specs.ListInput.{Kind, Place, Inside, Given, Piece, run_length, word_length, behind_constant, piece_before, piece, text_constant, repeated_as, constant_as, counted_as, value_as, count_before, digit_count, begins_with, given_number, given_truth, int_word, logical_word}
 use Rattle.edit_rules.specs.ListPlaces.{int_word_of_blanks}
 use Rattle.edit_rules.proofs.ListScans.{int_words, word_characters}
 use Rattle.edit_rules.specs.declared.list_reader.ItemKind.{ItemKind}

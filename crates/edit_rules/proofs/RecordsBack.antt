@@ -3,18 +3,18 @@ use Rattle.std.proofs.Common.{◌≡◌, ℕ, zero, suc, ◌+◌, ◌-◌, ◌<�
 use Rattle.std.proofs.lemmas.Bool.{and_parts, le-leb, leb-true, ltb-true}
 use Rattle.std.proofs.lemmas.List.{length-replicate, length-map, take_at, drop_at, take_all}
 use Rattle.std.proofs.Math.ListN.{drop_of_length-le}
-use Rattle.edit_rules.specs.EditedFields.{int_text, int_field, logical_field, text_field}
-use Rattle.edit_rules.specs.EditedRecords as out
-use Rattle.edit_rules.specs.EditedRecords.{Sheet, Output, has_record, output, output_start, output_closed, with_text, written_at, field_of, ended, made_on}
-use Rattle.edit_rules.specs.Formats.{Descriptor, IntIn, LogicalIn, TextIn, Control, Literal, ToColumn, LeftBy, RightBy, NextRecord, PlusSigns, ZeroBlanks, Format, Edit, Item, Act, Stop, Served, edits_for, closing}
-use Rattle.edit_rules.specs.Halts.{Halt, Number, EndOfRecords}
-use Rattle.edit_rules.specs.Listed.{ListedValue, Int, Logical, Text}
-use Rattle.edit_rules.specs.ListItems.{Value, IntValue, LogicalValue, TextValue}
-use Rattle.edit_rules.specs.ReadBack.{IsKept, AreKept, is_wide_enough, has_place_on_input, have_place_on_input, fields_hold, stand_whole, want_of, read_as}
-use Rattle.edit_rules.specs.TakenFields.{int_in, logical_in, text_in}
-use Rattle.edit_rules.specs.TakenRecords as taking
-use Rattle.edit_rules.specs.TakenRecords.{Want, WantInt, WantLogical, WantText, Input, input, input_start, columns_of, with_value, with_int, with_logical, halted_by, taken}
-use Rattle.edit_rules.specs.Transfers.{edited, unserved_by, served_over, closed_by}
+use Rattle.edit_meaning.specs.EditedFields.{int_text, int_field, logical_field, text_field}
+use Rattle.edit_meaning.specs.EditedRecords as out
+use Rattle.edit_meaning.specs.EditedRecords.{Sheet, Output, has_record, output, output_start, output_closed, with_text, written_at, field_of, ended, made_on}
+use Rattle.edit_meaning.specs.Formats.{Descriptor, IntIn, LogicalIn, TextIn, Control, Literal, ToColumn, LeftBy, RightBy, NextRecord, PlusSigns, ZeroBlanks, Format, Edit, Item, Act, Stop, Served, edits_for, closing}
+use Rattle.edit_meaning.specs.Halts.{Halt, Number, EndOfRecords}
+use Rattle.edit_meaning.specs.Listed.{ListedValue, Int, Logical, Text}
+use Rattle.edit_meaning.specs.ListItems.{Value, IntValue, LogicalValue, TextValue}
+use Rattle.edit_meaning.specs.ReadBack.{IsKept, AreKept, is_wide_enough, has_place_on_input, have_place_on_input, fields_hold, stand_whole, want_of, read_as}
+use Rattle.edit_meaning.specs.TakenFields.{int_in, logical_in, text_in}
+use Rattle.edit_meaning.specs.TakenRecords as taking
+use Rattle.edit_meaning.specs.TakenRecords.{Want, WantInt, WantLogical, WantText, Input, input, input_start, columns_of, with_value, with_int, with_logical, halted_by, taken}
+use Rattle.edit_meaning.specs.Transfers.{edited, unserved_by, served_over, closed_by}
 use Rattle.edit_rules.proofs.FieldsBack.{int_back, int_width, logical_back, logical_width, text_back, text_width}
 
 -- an input stands in a record, behind which blanks may stand, before records where they are kept

@@ -8,7 +8,7 @@ use Rattle.std.proofs.lemmas.Bool.{and_parts, cases_lt, lt-leb, le-ltb}
 use Rattle.std.proofs.lemmas.List.Sums.{prefix_len-le-length}
 use Rattle.std.proofs.lemmas.Bool.Decides.{nat_tests}
 use Rattle.std.proofs.lemmas.Grind.{common_steps}
-use Rattle.edit_rules.specs.TakenFields.{behind_blanks, with_blanks_as, is_number, signed_int, next_size}
+use Rattle.edit_meaning.specs.TakenFields.{behind_blanks, with_blanks_as, is_number, signed_int, next_size}
 
 pub whole_rest : (text : List ℕ) (done : ℕ) → take (length text - done) (drop done text) ≡ drop done text
 whole_rest text done = grind (arith, common_steps)

@@ -1,8 +1,8 @@
 -- A formatted transfer whose items come one at a time is the transfer of the whole list.
 use Rattle.std.proofs.Common.{◌≡◌, ℕ, zero, suc, ◌+◌, ◌≤◌, Bool, true, false, Option, Some, None, List, [], ◌∷◌, ◌++◌, length, refl, sym, ap, ◌∙◌, subst, append_assoc, length-append, append-nil, arith}
-use Rattle.edit_rules.specs.Formats.{Format, Edit, Item, Act, Stop, Served, NextRecord, served, has_item, pass, reverted, before_more, edits_for, closing}
-use Rattle.edit_rules.specs.Halts.{Halt, Number}
-use Rattle.edit_rules.specs.Transfers.{Direction, edited, unserved_by, served_over, transferred, closed_by, Progress, begun, turned, for_next, with_next, with_each, and_one}
+use Rattle.edit_meaning.specs.Formats.{Format, Edit, Item, Act, Stop, Served, NextRecord, served, has_item, pass, reverted, before_more, edits_for, closing}
+use Rattle.edit_meaning.specs.Halts.{Halt, Number}
+use Rattle.edit_meaning.specs.Transfers.{Direction, edited, unserved_by, served_over, transferred, closed_by, Progress, begun, turned, for_next, with_next, with_each, and_one}
 use Rattle.edit_rules.proofs.EditLaws.{edits_one_more, edits_none}
 
 -- how many items edits take

@@ -1,9 +1,9 @@
 -- Where a walk gives no edit.
 use Rattle.std.proofs.Common.{◌≡◌, ◌↔◌, ℕ, Option, None, Some, List, [], ◌∷◌, refl, sym, ap, ◌∙◌}
-use Rattle.edit_rules.specs.Formats as formats
-use Rattle.edit_rules.specs.Formats.{Item, Act, Stop, Served, closing}
+use Rattle.edit_meaning.specs.Formats as formats
+use Rattle.edit_meaning.specs.Formats.{Item, Act, Stop, Served, closing}
 use Rattle.edit_rules.specs.PartPlaces.{edit_in}
-use Rattle.edit_rules.specs.Transfers.{for_next}
+use Rattle.edit_meaning.specs.Transfers.{for_next}
 use Rattle.edit_rules.specs.Walks.{GivenItem, GivenNone}
 use Rattle.edit_rules.specs.declared.edits.Edit.{Edit}
 use Rattle.edit_rules.specs.declared.edits.Edit.TheVariants as edit

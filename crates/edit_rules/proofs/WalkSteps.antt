@@ -2,16 +2,16 @@
 use Rattle.std.proofs.Common.{◌≡◌, ◌==◌, Bool, true, false, nat_le, if◌then◌else◌, Option, None, Some, unwrap_or, List, [], ◌∷◌, ◌++◌, ℕ, zero, suc, ◌+◌, ◌-◌, ◌≤◌, ◌<◌, max, length, length-drop, drop, refl, sym, ap, ◌∙◌, subst, append_assoc, append-nil, ◌⊎◌, inl, inr, arith}
 use Rattle.std.proofs.Math.ListN.{drop_of_length-le}
 use Rattle.std.proofs.lemmas.Bool.{cases_lt}
-use Rattle.edit_rules.specs.Formats as formats
-use Rattle.edit_rules.specs.Formats.{Format, Empty, Item, Act, Stop, Served, served, led_by, has_item, before_more, copies, pass, last_group, closing}
-use Rattle.edit_rules.specs.FormatGrammar.{seen, Joint, Opened as OpenedJoint, Wanted, Behind, SpellsList, SpellsFormat, left_parenthesis}
+use Rattle.edit_meaning.specs.Formats as formats
+use Rattle.edit_meaning.specs.Formats.{Format, Empty, Item, Act, Stop, Served, served, led_by, has_item, before_more, copies, pass, last_group, closing}
+use Rattle.edit_meaning.specs.FormatGrammar.{seen, Joint, Opened as OpenedJoint, Wanted, Behind, SpellsList, SpellsFormat, left_parenthesis}
 use Rattle.edit_rules.specs.FormatParts as parts
 use Rattle.edit_rules.specs.FormatParts.{Parted, giving, number_of, sign_of, letter_part, part_of}
 use Rattle.edit_rules.specs.FormatScans.{weight_of, weight_in, heaviest, Scanned}
 use Rattle.edit_rules.specs.PartPlaces.{edit_in, giving_if, part_in, parted_in}
 use Rattle.edit_rules.specs.declared.format_parts.Part as code_part
 use Rattle.edit_rules.specs.declared.format_parts.Parted as code_parted
-use Rattle.edit_rules.specs.Transfers.{for_next, turned}
+use Rattle.edit_meaning.specs.Transfers.{for_next, turned}
 use Rattle.edit_rules.specs.Walks.{group_of, Below, outermost, within, Here, fresh, begun, Stands, reach_by, reach, GivenItem, GivenNone, Given, SameFor, GoesOn, StandsIn}
 use Rattle.edit_rules.specs.declared.edits.Edit as code
 use Rattle.edit_rules.specs.declared.edits.Edit.TheVariants as edit

@@ -1,7 +1,7 @@
 -- What a put owes, from what it did to the line and the writer.
 use Rattle.std.proofs.Common.{◌≡◌, ℕ, ◌+◌, ◌-◌, ◌<◌, ◌≤◌, List, [], ◌∷◌, ◌++◌, length, take, drop, sym, ap, ◌∙◌, arith, length-drop, length-take-le, drop-drop}
 use Rattle.std.proofs.lemmas.Grind.{common_steps}
-use Rattle.edit_rules.specs.Listed.{begun, followed_by}
+use Rattle.edit_meaning.specs.Listed.{begun, followed_by}
 use Rattle.edit_rules.specs.Writer.{only, behind, Places, Fills}
 use Rattle.edit_rules.specs.declared.list_writer.ListWriter.{ListWriter}
 use Rattle.edit_rules.proofs.ListedSteps.{in_place, in_next_record, by_a_piece}

@@ -1,6 +1,6 @@
 -- An answer of a reader of list-directed input and the reader behind it, against what is given at its place.
 use Rattle.std.specs.Prelude.{◌≡◌, ℕ, List}
-use Rattle.edit_rules.specs.ListInput.{Given}
+use Rattle.edit_meaning.specs.ListInput.{Given}
 use Rattle.edit_rules.specs.Reader.{given_as, StandsIn, IsWithin, KeepsPlace}
 use Rattle.edit_rules.specs.declared.list_reader.ListReader.{ListReader}
 use Rattle.edit_rules.specs.declared.list_reader.Next.{Next}

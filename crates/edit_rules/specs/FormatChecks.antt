@@ -1,9 +1,9 @@
 -- Fronts of texts that are formats, or that can become formats. ANSI X3.9-1978, section 13.1.
 use Rattle.std.specs.Prelude.{◌≡◌, ℕ, suc, ◌<◌, ◌≤◌, nat_lt, Some, IsTrue, ◌↔◌, List, ◌++◌, length, take}
 use Rattle.std.specs.List.{list_all}
-use Rattle.edit_rules.specs.Formats.{Format}
-use Rattle.edit_rules.specs.FormatGrammar.{SpellsFormat, IsFormat}
-use Rattle.edit_rules.specs.FormatTexts.{format_of, format_end}
+use Rattle.edit_meaning.specs.Formats.{Format}
+use Rattle.edit_meaning.specs.FormatGrammar.{SpellsFormat, IsFormat}
+use Rattle.edit_meaning.specs.FormatTexts.{format_of, format_end}
 
 -- so many bytes of the text are a format
 pub record IsFront (text : List ℕ) (size : ℕ) : Type 0 where

@@ -2,8 +2,8 @@
 -- The text is one that spells a format; of another text nothing is said here.
 use Rattle.std.specs.Prelude.{ℕ, suc, ◌+◌, ◌-◌, ◌*◌, ◌==◌, min, max, Bool, true, false, if◌then◌else◌, Option, None, Some, List, [], ◌∷◌, take, drop}
 use Rattle.std.specs.Char.{is_ascii_digit, to_ascii_uppercase}
-use Rattle.edit_rules.specs.Formats.{IntIn, LogicalIn, TextIn, Control, Literal, ToColumn, LeftBy, RightBy, NextRecord, PlusSigns, ZeroBlanks, Edit, Item, Act, Stop}
-use Rattle.edit_rules.specs.ListItems.{characters, behind_text}
+use Rattle.edit_meaning.specs.Formats.{IntIn, LogicalIn, TextIn, Control, Literal, ToColumn, LeftBy, RightBy, NextRecord, PlusSigns, ZeroBlanks, Edit, Item, Act, Stop}
+use Rattle.edit_meaning.specs.ListItems.{characters, behind_text}
 
 -- a part of a list: an edit with its repeat; a group that opens, with its repeat; a list that ends; or what only joins others, as a
 -- comma, a scale factor, or the sign of one

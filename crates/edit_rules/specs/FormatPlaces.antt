@@ -1,7 +1,7 @@
 -- The places of the code that checks formats, as those of the reader of formats.
 use Rattle.std.specs.Prelude.{ℕ, zero, suc, Bool, true, false}
-use Rattle.edit_rules.specs.FormatGrammar as grammar
-use Rattle.edit_rules.specs.FormatTexts as texts
+use Rattle.edit_meaning.specs.FormatGrammar as grammar
+use Rattle.edit_meaning.specs.FormatTexts as texts
 use Rattle.edit_rules.specs.declared.format_signs.Sign.{Sign}
 use Rattle.edit_rules.specs.declared.format_signs.Sign.TheVariants as sign
 use Rattle.edit_rules.specs.declared.format_places.Joint.{Joint}

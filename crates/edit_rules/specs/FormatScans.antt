@@ -2,8 +2,8 @@
 use Rattle.std.specs.Prelude.{◌≡◌, ℕ, suc, max, List, [], ◌∷◌}
 use Rattle.edit_rules.specs.declared.edits.Edit as code
 use Rattle.edit_rules.specs.declared.edits.Edit.TheVariants as edit
-use Rattle.edit_rules.specs.Formats.{Format, Edit, Item, Act, Stop, pass}
-use Rattle.edit_rules.specs.FormatGrammar.{Joint, Behind, SpellsList}
+use Rattle.edit_meaning.specs.Formats.{Format, Edit, Item, Act, Stop, pass}
+use Rattle.edit_meaning.specs.FormatGrammar.{Joint, Behind, SpellsList}
 
 -- an edit that takes an item weighs 3, another that does something 2, a colon 1
 abbrev pub weight_of : Edit → ℕ

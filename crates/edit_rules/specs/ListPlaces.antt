@@ -1,7 +1,7 @@
 -- What a reader of list-directed input answers and where it stands, as plain data over its record.
 use Rattle.std.specs.Prelude.{ℕ, ℤ, ◌≤◌, ◌==◌, true, false, if◌then◌else◌, Result, Err, List, [], ◌∷◌, drop, ⊤}
-use Rattle.edit_rules.specs.ListInput as input
-use Rattle.edit_rules.specs.TakenFields.{with_blanks_as, int_of}
+use Rattle.edit_meaning.specs.ListInput as input
+use Rattle.edit_meaning.specs.TakenFields.{with_blanks_as, int_of}
 use Rattle.edit_rules.specs.declared.list_scan.Sought.{Sought}
 use Rattle.edit_rules.specs.declared.list_scan.Sought.TheVariants as at
 use Rattle.edit_rules.specs.declared.list_scan.TextEnd.{TextEnd}

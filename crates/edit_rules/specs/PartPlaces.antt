@@ -1,9 +1,9 @@
 -- Parts of formats by their places in the text.
 use Rattle.std.specs.Prelude.{ℕ, ◌-◌, Bool, true, false, Option, None, Some, List, take, drop}
-use Rattle.edit_rules.specs.Formats.{IntIn, LogicalIn, TextIn, Literal, ToColumn, LeftBy, RightBy, NextRecord, PlusSigns, ZeroBlanks, Item, Act, Stop}
-use Rattle.edit_rules.specs.Formats as formats
+use Rattle.edit_meaning.specs.Formats.{IntIn, LogicalIn, TextIn, Literal, ToColumn, LeftBy, RightBy, NextRecord, PlusSigns, ZeroBlanks, Item, Act, Stop}
+use Rattle.edit_meaning.specs.Formats as formats
 use Rattle.edit_rules.specs.FormatParts as parts
-use Rattle.edit_rules.specs.ListItems.{characters}
+use Rattle.edit_meaning.specs.ListItems.{characters}
 use Rattle.edit_rules.specs.declared.edits.Edit.{Edit}
 use Rattle.edit_rules.specs.declared.edits.Edit.TheVariants as edit
 use Rattle.edit_rules.specs.declared.format_parts.Part.{Part}

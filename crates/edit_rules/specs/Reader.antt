@@ -1,6 +1,6 @@
 -- A reader of list-directed input: where it stands in its line, and what its answers mean.
 use Rattle.std.specs.Prelude.{◌≡◌, ℕ, ◌-◌, ◌<◌, ◌≤◌, true, false, List, [], length, take, drop, ⊤}
-use Rattle.edit_rules.specs.ListInput.{Kind, IntItem, LogicalItem, TextItem, Place, Between, Repeated, Nulls, Inside, Given, Number, Truth, Piece, Null, Slash, NeedRecord, Wrong}
+use Rattle.edit_meaning.specs.ListInput.{Kind, IntItem, LogicalItem, TextItem, Place, Between, Repeated, Nulls, Inside, Given, Number, Truth, Piece, Null, Slash, NeedRecord, Wrong}
 use Rattle.edit_rules.specs.declared.list_reader.ItemKind.{ItemKind}
 use Rattle.edit_rules.specs.declared.list_reader.ItemKind.TheVariants as kind
 use Rattle.edit_rules.specs.declared.list_reader.ListItem.{ListItem}

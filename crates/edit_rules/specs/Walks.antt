@@ -1,13 +1,13 @@
 -- A walk that stands in the text of a format: the edits that are still to come in its pass, and those of a pass gone on with.
 -- ANSI X3.9-1978, section 13.3.
 use Rattle.std.specs.Prelude.{◌≡◌, ℕ, suc, ◌+◌, ◌-◌, ◌≤◌, nat_le, Bool, true, false, if◌then◌else◌, Option, None, Some, unwrap_or, List, [], ◌∷◌, ◌++◌, length, drop, get_or}
-use Rattle.edit_rules.specs.Formats as formats
-use Rattle.edit_rules.specs.Formats.{Format, Item, Act, Stop, Served, led_by, copies, pass, last_group, closing}
-use Rattle.edit_rules.specs.FormatGrammar.{Joint, Wanted, Behind, SpellsList}
+use Rattle.edit_meaning.specs.Formats as formats
+use Rattle.edit_meaning.specs.Formats.{Format, Item, Act, Stop, Served, led_by, copies, pass, last_group, closing}
+use Rattle.edit_meaning.specs.FormatGrammar.{Joint, Wanted, Behind, SpellsList}
 use Rattle.edit_rules.specs.FormatParts.{giving, part_of}
 use Rattle.edit_rules.specs.FormatScans.{weight_of, heaviest}
 use Rattle.edit_rules.specs.PartPlaces.{edit_in}
-use Rattle.edit_rules.specs.Transfers.{for_next}
+use Rattle.edit_meaning.specs.Transfers.{for_next}
 use Rattle.edit_rules.specs.declared.edits.Edit.{Edit}
 use Rattle.edit_rules.specs.declared.edits.Edit.TheVariants as edit
 use Rattle.edit_rules.specs.declared.format_walk.Group.{Group}

@@ -1,7 +1,7 @@
 -- A writer of list-directed output, with the line whose front is the record in the making: what one put does, and what a writer
 -- owes to the values that were put.
 use Rattle.std.specs.Prelude.{◌≡◌, ℕ, ◌+◌, ◌<◌, ◌≤◌, List, [], ◌∷◌, ◌++◌, length, take, drop}
-use Rattle.edit_rules.specs.Listed.{ListedValue, Int, Logical, Text, shown, Listing, begun, followed_by, listing}
+use Rattle.edit_meaning.specs.Listed.{ListedValue, Int, Logical, Text, shown, Listing, begun, followed_by, listing}
 use Rattle.edit_rules.specs.declared.list_writer.ListWriter.{ListWriter}
 use Rattle.edit_rules.specs.declared.list_writer.ListValue.{ListValue}
 use Rattle.edit_rules.specs.declared.list_writer.ListValue.TheVariants as given

@@ -1,6 +1,6 @@
 //! Values into fields: the edit descriptors I, L and A on output (ANSI X3.9-1978, sections 13.5.9 to 13.5.11).
 ghost use Rattle.std.specs.Prelude.{◌≡◌, ◌<◌, ◌++◌, length};
-ghost use Rattle.edit_rules.specs.EditedFields.{right_in, sign_of, with_zeros, int_field, logical_field, text_field};
+ghost use Rattle.edit_meaning.specs.EditedFields.{right_in, sign_of, with_zeros, int_field, logical_field, text_field};
 
 use crate::columns::{fill, place};
 use itoa::Buffer;
@@ -8,7 +8,7 @@ use itoa::Buffer;
 /// Writes an integer right in the field, with at least `least` digits, one where nothing is said. A plus sign is written under `plus`.
 ///
 /// `into` is the field, of `width` columns. Asterisks fill a field that is too narrow; a zero with no digits leaves it blank.
-#[tactic(auto, unfolding(crate::specs::EditedFields::int_field))]
+#[tactic(auto, unfolding(edit_meaning::specs::EditedFields::int_field))]
 pub fn edit_int(value: i32, width: usize, least: Option<usize>, plus: bool, into: &mut [u8])
     requires { length into.old ≡ width }
     ensures { into.new ≡ int_field value width least plus }
@@ -24,7 +24,7 @@ pub fn edit_int(value: i32, width: usize, least: Option<usize>, plus: bool, into
 }
 
 /// Writes T or F at the right end of the field, behind blanks.
-#[tactic(auto, unfolding(crate::specs::EditedFields::logical_field))]
+#[tactic(auto, unfolding(edit_meaning::specs::EditedFields::logical_field))]
 pub fn edit_logical(value: bool, into: &mut [u8])
     requires { 0 < length into.old }
     ensures { into.new ≡ logical_field value (length into.old) }
@@ -35,7 +35,7 @@ pub fn edit_logical(value: bool, into: &mut [u8])
 }
 
 /// Writes a text right in the field: blanks before a shorter one, the leftmost characters of a longer one.
-#[tactic(auto, unfolding(crate::specs::EditedFields::text_field))]
+#[tactic(auto, unfolding(edit_meaning::specs::EditedFields::text_field))]
 pub fn edit_text(value: &[u8], into: &mut [u8])
     ensures { into.new ≡ text_field value.now (length into.old) }
 {

@@ -1,6 +1,6 @@
 //! Whether a text begins with a format (ANSI X3.9-1978, sections 13.1, 13.2 and 13.5).
 ghost use Rattle.std.specs.Prelude.{◌≡◌, ◌+◌, ◌<◌, ◌≤◌, MatchResult};
-ghost use Rattle.edit_rules.specs.FormatTexts.{moved};
+ghost use Rattle.edit_meaning.specs.FormatTexts.{moved};
 ghost use Rattle.edit_rules.specs.FormatPlaces.{mode_in, shape, closing_at, progress_by};
 ghost use Rattle.edit_rules.specs.FormatChecks.{IsFront, IsRefusedAt, FormatsAreUnique, FormatsAreFronts, FormatOfIsSpelled, FormatEndIsSpelled};
 ghost use Rattle.edit_rules.specs.FormatStandings.{progress_in};

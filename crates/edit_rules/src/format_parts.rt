@@ -1,6 +1,6 @@
 //! The text of a format, part by part (ANSI X3.9-1978, sections 13.1 and 13.5).
 ghost use Rattle.std.specs.Prelude.{◌≡◌, ℕ, ◌≤◌, ◌<◌, max, length, drop, false, List, ◌∷◌};
-ghost use Rattle.edit_rules.specs.FormatGrammar.{seen};
+ghost use Rattle.edit_meaning.specs.FormatGrammar.{seen};
 ghost use Rattle.edit_rules.specs.FormatParts.{with_digit as number_with, number_of, number_from, sign_of, next_sign, int_part, logical_part, text_part, width_if as width_by, plus_part, blanks_part, tab_part, quoted_part, verbatim_part, letter_part, part_by, part_of, written_size};
 ghost use Rattle.edit_rules.specs.declared.format_parts.Part.TheVariants as part;
 ghost use Rattle.edit_rules.specs.PartPlaces.{number_in, sign_in, parted_in, part_in};

@@ -1,7 +1,7 @@
 //! Places in formats, and where a character leads from each (ANSI X3.9-1978, sections 13.1, 13.2 and 13.5).
 ghost use Rattle.std.specs.Prelude.{◌≡◌, ℕ, ◌==◌, IsTrue};
-ghost use Rattle.edit_rules.specs.FormatGrammar.{Wanted, Behind, may_close, takes_comma, takes_item, is_from};
-ghost use Rattle.edit_rules.specs.FormatTexts.{Outside, At, Before, Least, To, Closes, Made, most, item, opens, same, only_if, in_number, between, ended, in_text_of, counted, scaled, wide, behind_number, behind_a, behind_b, behind_s, behind_t, at_start, first_digit, next_digit, outside, outside_text, in_text, behind_quote, verbatim, moved};
+ghost use Rattle.edit_meaning.specs.FormatGrammar.{Wanted, Behind, may_close, takes_comma, takes_item, is_from};
+ghost use Rattle.edit_meaning.specs.FormatTexts.{Outside, At, Before, Least, To, Closes, Made, most, item, opens, same, only_if, in_number, between, ended, in_text_of, counted, scaled, wide, behind_number, behind_a, behind_b, behind_s, behind_t, at_start, first_digit, next_digit, outside, outside_text, in_text, behind_quote, verbatim, moved};
 ghost use Rattle.edit_rules.specs.FormatPlaces.{sign_in, joint_in, kind_in, place_in, mode_in, is_repeated, has_length, Leads, shape, shape_in};
 
 use crate::format_signs::{Sign, read_sign};

@@ -1,7 +1,7 @@
 //! How much the lists of items of a format do, groups and all (ANSI X3.9-1978, section 13.1).
 ghost use Rattle.std.specs.Prelude.{◌≡◌, ℕ, ◌≤◌, ◌<◌, ◌+◌, true, false, List, length, drop};
-ghost use Rattle.edit_rules.specs.Formats.{Format, pass};
-ghost use Rattle.edit_rules.specs.FormatGrammar.{Joint, SpellsList};
+ghost use Rattle.edit_meaning.specs.Formats.{Format, pass};
+ghost use Rattle.edit_meaning.specs.FormatGrammar.{Joint, SpellsList};
 ghost use Rattle.edit_rules.specs.FormatParts.{part_of};
 ghost use Rattle.edit_rules.specs.FormatScans.{weight_in, heaviest, Scanned, Scanning};
 ghost use Rattle.edit_rules.specs.PartPlaces.{part_in};

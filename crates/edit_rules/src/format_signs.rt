@@ -1,6 +1,6 @@
 //! The characters of formats outside texts (ANSI X3.9-1978, section 13.1).
 ghost use Rattle.std.specs.Prelude.{◌≡◌, ◌-◌};
-ghost use Rattle.edit_rules.specs.FormatTexts.{letter_of, mark_of, upper_sign, sign_of};
+ghost use Rattle.edit_meaning.specs.FormatTexts.{letter_of, mark_of, upper_sign, sign_of};
 ghost use Rattle.edit_rules.specs.FormatPlaces.{sign_in};
 
 /// A character of a format outside texts that is no blank, a letter in either case.

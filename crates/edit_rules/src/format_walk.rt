@@ -1,9 +1,9 @@
 //! The walk through a format: the edits that items take, one by one (ANSI X3.9-1978, section 13.3).
 ghost use Rattle.std.specs.Prelude.{◌≡◌, ℕ, ◌+◌, ◌-◌, ◌==◌, ◌≤◌, ◌<◌, if◌then◌else◌, true, false, List, length, drop};
-ghost use Rattle.edit_rules.specs.Formats as formats;
+ghost use Rattle.edit_meaning.specs.Formats as formats;
 ghost use Rattle.edit_rules.specs.FormatParts as parts;
 ghost use Rattle.edit_rules.specs.FormatParts.{part_of};
-ghost use Rattle.edit_rules.specs.FormatGrammar.{SpellsFormat};
+ghost use Rattle.edit_meaning.specs.FormatGrammar.{SpellsFormat};
 ghost use Rattle.edit_rules.specs.PartPlaces.{part_in};
 ghost use Rattle.edit_rules.specs.Walks.{Stands, StandsIn, Given, Steps, group_of, reach};
 

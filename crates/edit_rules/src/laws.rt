@@ -1,11 +1,10 @@
 //! Laws of the edit rules: what the definitions owe to each other. A function here does nothing, and its contract is the law.
-ghost use Rattle.std.specs.Prelude.{◌≡◌, ℕ, suc, Bool, false, true, List, map};
-ghost use Rattle.edit_rules.specs.ComparedRows.{rows, written, compared};
-ghost use Rattle.edit_rules.specs.Formats.{Format, edits_for, closing};
-ghost use Rattle.edit_rules.specs.Transfers.{begun, one_more, with_each, closed_by};
-ghost use Rattle.edit_rules.specs.EditedRecords.{Sheet, output, output_start, output_closed, made_on};
-ghost use Rattle.edit_rules.specs.TakenRecords.{Want, input, input_start, taken};
-ghost use Rattle.edit_rules.specs.Listed.{ListedValue};
+ghost use Rattle.std.specs.Prelude.{◌≡◌, ℕ, suc, Bool, false, true, List};
+ghost use Rattle.edit_meaning.specs.Formats.{Format, edits_for, closing};
+ghost use Rattle.edit_meaning.specs.Transfers.{begun, one_more, with_each, closed_by};
+ghost use Rattle.edit_meaning.specs.EditedRecords.{Sheet, output, output_start, output_closed, made_on};
+ghost use Rattle.edit_meaning.specs.TakenRecords.{Want, input, input_start, taken};
+ghost use Rattle.edit_meaning.specs.Listed.{ListedValue};
 
 /// The edits that items take, with one more item: where those before were all served it is served from what they left of the pass,
 /// and from the format gone on with where that has no descriptor (ANSI X3.9-1978, section 13.3).
@@ -27,9 +26,4 @@ pub fn input_item_by_item()
     ensures { (format : Format) → (records : List (List ℕ)) → (wants : List Want) → (zeros : Bool)
         → let progress = with_each input format wants (begun format (input_start records zeros)) in
         closed_by input (closing progress.left) progress.state ≡ taken format records wants zeros }
-{}
-
-/// Formatted output is, byte for byte, what gfortran's runtime writes under the same formats.
-pub fn compared_with_another_processor()
-    ensures { map written rows ≡ map compared rows }
 {}

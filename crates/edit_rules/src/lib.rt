@@ -3,7 +3,6 @@
 #![tactic(auto)]
 
 mod columns;
-pub mod computed_rows;
 pub mod edit;
 pub mod edits;
 pub mod format_check;

@@ -1,7 +1,7 @@
 //! List-directed input (ANSI X3.9-1978, section 13.6.1): the values of records, item by item.
 ghost use Rattle.std.specs.Prelude.{◌≡◌, ℕ, ◌+◌, ◌<◌, ◌≤◌, List, [], ◌∷◌, false, true, length, take, drop};
-ghost use Rattle.edit_rules.specs.ListInput.{Kind, Between, Wrong, sought, word_length, run_length, behind_constant, given_number, given_truth, piece_before, piece, text_constant, constant_as, nulls, repeated_as, value_as, given_behind, inside, given};
-ghost use Rattle.edit_rules.specs.ListItems.{items_from, Follows};
+ghost use Rattle.edit_meaning.specs.ListInput.{Kind, Between, Wrong, sought, word_length, run_length, behind_constant, given_number, given_truth, piece_before, piece, text_constant, constant_as, nulls, repeated_as, value_as, given_behind, inside, given};
+ghost use Rattle.edit_meaning.specs.ListItems.{items_from, Follows};
 ghost use Rattle.edit_rules.specs.Reader.{given_as, place_in, kind_of, StandsIn, IsWithin, KeepsPlace};
 ghost use Rattle.edit_rules.specs.Answers.{Answers};
 ghost use Rattle.edit_rules.specs.TakeErrors.{error_number, numbered};
@@ -96,7 +96,7 @@ impl ListReader {
 }
 
 impl ListReader {
-    #[tactic(auto, unfolding(crate::specs::ListInput::given))]
+    #[tactic(auto, unfolding(edit_meaning::specs::ListInput::given))]
     fn after(&self, line: &[u8], kind: ItemKind) -> Next
         requires { StandsIn self.now line.now }
         ensures { Answers self.now line.now (given (place_in line.now self.now) (kind_of kind)) result }

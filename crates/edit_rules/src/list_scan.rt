@@ -4,7 +4,7 @@ ghost use Rattle.std.specs.List.{position_or_len, list_all};
 ghost use Rattle.std.specs.Char.{is_ascii_digit};
 ghost use Rattle.std.specs.Str.{all_ascii_digits};
 ghost use Rattle.std.specs.Str.Parse.{digits_value};
-ghost use Rattle.edit_rules.specs.ListInput.{is_separator, sought, digit_count, begins_with, count_of, count_before, word_length, truth_letter, logical_word, ending, run_length};
+ghost use Rattle.edit_meaning.specs.ListInput.{is_separator, sought, digit_count, begins_with, count_of, count_before, word_length, truth_letter, logical_word, ending, run_length};
 ghost use Rattle.edit_rules.specs.ListPlaces.{sought_at, SoughtWithin, ending_of, int_word_of_blanks};
 ghost use Rattle.edit_rules.specs.TakeErrors.{numbered};
 

@@ -41,7 +41,7 @@ pub struct ListWriter {
 }
 
 impl ListWriter {
-    ghost use Rattle.edit_rules.specs.Listed.{ListedValue};
+    ghost use Rattle.edit_meaning.specs.Listed.{ListedValue};
     ghost use Rattle.edit_rules.specs.Writer.{used_by, done_by, value_of, text_of, Puts, Stands, GoesOn};
 
     /// Stands at the start of an output: the record in the making holds its first blank.
@@ -76,11 +76,11 @@ impl ListWriter {
 }
 
 impl ListWriter {
-    ghost use Rattle.edit_rules.specs.Listed.{shown, Int};
+    ghost use Rattle.edit_meaning.specs.Listed.{shown, Int};
     ghost use Rattle.edit_rules.specs.Writer.{done_by, text_of, Puts};
 
     // Puts the text of an item.
-    #[tactic(auto, unfolding(crate::specs::Listed::shown))]
+    #[tactic(auto, unfolding(edit_meaning::specs::Listed::shown))]
     fn put_item(&mut self, item: ListValue<'_>, line: &mut [u8]) -> ListPut
         requires columns { length line.old ≡ 80 }
         requires blank { take 1 line.old ≡ 32 ∷ [] }
@@ -96,7 +96,7 @@ impl ListWriter {
         }
     }
 
-    #[tactic(auto, unfolding(crate::specs::Listed::shown))]
+    #[tactic(auto, unfolding(edit_meaning::specs::Listed::shown))]
     // Puts one blank and the number's shortest text.
     fn put_int(&mut self, number: i32, line: &mut [u8]) -> ListPut
         requires columns { length line.old ≡ 80 }

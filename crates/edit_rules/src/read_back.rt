@@ -1,12 +1,12 @@
 //! Laws of both directions of a formatted transfer: what was written is read back. A function here does nothing, and its contract is the law.
 ghost use Rattle.std.specs.Prelude.{◌≡◌, ℕ, ℤ, ◌+◌, ◌-◌, ◌≤◌, ◌<◌, ◌++◌, Bool, true, None, Option, Ok, List, map, length, drop, take, replicate, IsTrue};
-ghost use Rattle.edit_rules.specs.EditedFields.{int_text, int_field, logical_field, text_field};
-ghost use Rattle.edit_rules.specs.EditedRecords.{Sheet, unit_sheet, made, made_on};
-ghost use Rattle.edit_rules.specs.Formats.{Format};
-ghost use Rattle.edit_rules.specs.Listed.{ListedValue};
-ghost use Rattle.edit_rules.specs.ReadBack.{has_32_bits, stand_whole, follow_one_another, AreKept, want_of, read_as};
-ghost use Rattle.edit_rules.specs.TakenFields.{int_in, logical_in, text_in};
-ghost use Rattle.edit_rules.specs.TakenRecords.{taken};
+ghost use Rattle.edit_meaning.specs.EditedFields.{int_text, int_field, logical_field, text_field};
+ghost use Rattle.edit_meaning.specs.EditedRecords.{Sheet, unit_sheet, made, made_on};
+ghost use Rattle.edit_meaning.specs.Formats.{Format};
+ghost use Rattle.edit_meaning.specs.Listed.{ListedValue};
+ghost use Rattle.edit_meaning.specs.ReadBack.{has_32_bits, stand_whole, follow_one_another, AreKept, want_of, read_as};
+ghost use Rattle.edit_meaning.specs.TakenFields.{int_in, logical_in, text_in};
+ghost use Rattle.edit_meaning.specs.TakenRecords.{taken};
 
 /// A field that is wide enough for its value is read back: an integer's sign and digits, whatever blanks mean; a logical's letter; a text.
 /// A wider field of a text pads it on the left, and a narrower one keeps its leftmost characters, behind which input pads with blanks.

@@ -3,7 +3,7 @@ ghost use Rattle.std.specs.Prelude.{◌≡◌, ◌-◌, ◌^◌, ◌==◌, ◌||
 ghost use Rattle.std.specs.List.{list_any, list_all, position_or_len};
 ghost use Rattle.std.specs.Char.{is_ascii_digit};
 ghost use Rattle.std.specs.Str.Parse.{digits_value};
-ghost use Rattle.edit_rules.specs.TakenFields.{behind_blanks, with_blanks_as, is_number, signed_int, int_of, int_in, logical_in, truth_of, text_in, next_size};
+ghost use Rattle.edit_meaning.specs.TakenFields.{behind_blanks, with_blanks_as, is_number, signed_int, int_of, int_in, logical_in, truth_of, text_in, next_size};
 ghost use Rattle.edit_rules.specs.TakeErrors.{error_number, numbered};
 
 use crate::columns::{fill, place};
@@ -32,7 +32,7 @@ impl TakeError {
     }
 }
 
-#[tactic(auto, unfolding(crate::specs::TakenFields::int_in))]
+#[tactic(auto, unfolding(edit_meaning::specs::TakenFields::int_in))]
 /// The integer in a field: blanks, an optional sign, digits. Inner and trailing blanks are zeros under `zero_blanks`, and else nothing.
 pub fn take_int(field: &[u8], zero_blanks: bool) -> Result<i32, TakeError>
     ensures { numbered result ≡ int_in field.now zero_blanks }
@@ -46,7 +46,7 @@ pub fn take_int(field: &[u8], zero_blanks: bool) -> Result<i32, TakeError>
     }
 }
 
-#[tactic(auto, unfolding(crate::specs::TakenFields::logical_in))]
+#[tactic(auto, unfolding(edit_meaning::specs::TakenFields::logical_in))]
 /// The logical in a field: blanks, an optional point, T or F, and then anything.
 pub fn take_logical(field: &[u8]) -> Result<bool, TakeError>
     ensures { numbered result ≡ logical_in field.now }
@@ -58,7 +58,7 @@ pub fn take_logical(field: &[u8]) -> Result<bool, TakeError>
     }
 }
 
-#[tactic(auto, unfolding(crate::specs::TakenFields::text_in))]
+#[tactic(auto, unfolding(edit_meaning::specs::TakenFields::text_in))]
 /// The text in a field: the rightmost bytes of a field that is longer than `into`, blanks behind a shorter one.
 pub fn take_text(field: &[u8], into: &mut [u8])
     ensures { into.new ≡ text_in field.now (length into.old) }

@@ -1,9 +1,9 @@
 //! Laws of the walk through a format: exactly where its answers come that are no edit. A function here does nothing, and its contract is
 //! the law.
 ghost use Rattle.std.specs.Prelude.{◌≡◌, ◌↔◌, ℕ, false, true, List, []};
-ghost use Rattle.edit_rules.specs.Formats as formats;
-ghost use Rattle.edit_rules.specs.Formats.{closing};
-ghost use Rattle.edit_rules.specs.Transfers.{for_next};
+ghost use Rattle.edit_meaning.specs.Formats as formats;
+ghost use Rattle.edit_meaning.specs.Formats.{closing};
+ghost use Rattle.edit_meaning.specs.Transfers.{for_next};
 ghost use Rattle.edit_rules.specs.Walks.{Given};
 ghost use Rattle.edit_rules.specs.declared.edits.Edit.{Edit};
 ghost use Rattle.edit_rules.specs.declared.edits.Edit.TheVariants as edit;

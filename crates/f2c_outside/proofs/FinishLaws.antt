@@ -16,8 +16,8 @@ use Rattle.f2c_outside.specs.Finishing.{WasFinished, FailedToFinish, FinishedUpT
 use Rattle.f2c_outside.specs.Shown.{shown, units_in, next_in}
 use Rattle.f2c_outside.specs.declared.unit_table.Row as declared
 use Rattle.f2c_outside.specs.declared.unit_table.Row.TheVariants as row
-use Rattle.f2c_outside.specs.declared.unit_table.UnitRefusal.{UnitRefusal}
-use Rattle.f2c_outside.specs.declared.unit_table.UnitRefusal.TheVariants.{NotConnected, NotOffered, Taken, PastEnd, Failed}
+use Rattle.run_state.specs.declared.refusals.UnitRefusal.{UnitRefusal}
+use Rattle.run_state.specs.declared.refusals.UnitRefusal.TheVariants.{NotConnected, NotOffered, Taken, PastEnd, Failed}
 use Rattle.f2c_outside.proofs.TableLaws.{none-parts, none-front, none-back, some-inside, units_in-append}
 
 -- facts of signed numbers
@@ -347,7 +347,8 @@ was-finished d d' n did =
       told = did.finished.told;
       position = did.finished.position;
       finished = did.finished.finished;
-      faults = stands d.faults d'.faults did.cause.later (λ rose. ok-failed (did.cause.rose rose));
+      faults = stands d.faults d'.faults did.called.cause.later (λ rose. ok-failed (did.called.cause.rose rose));
+      calls = did.called.counted;
     }
   where
     ok-failed : {x : ℕ} → (let r : Result ℕ UnitRefusal = Ok x in r) ≡ Err Failed → ⊥
@@ -364,8 +365,9 @@ failed-to-finish d d' Failed did =
       told = did.finished.told;
       position = did.finished.position;
       finished = did.finished.unfinished;
-      later = did.cause.later;
-      rose = did.cause.failed refl;
+      later = did.called.cause.later;
+      rose = did.called.cause.failed refl;
+      calls = did.called.counted;
     }
 failed-to-finish d d' NotConnected did = absurd did.refused
 failed-to-finish d d' NotOffered did = absurd did.refused

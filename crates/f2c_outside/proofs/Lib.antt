@@ -1,8 +1,10 @@
 pub mod ShelfLaws
 mod TextLemmas
+mod StreamLaws
 mod MemoryLaws
 mod TapeLaws
-mod TableLaws
+pub mod TableLaws
 mod FinishLaws
+mod StillTells
 pub mod MeaningLaws
 mod PlacedMeaning

@@ -6,16 +6,18 @@ use Rattle.std.proofs.lemmas.Bool.Decides.{Decides-int_eq}
 use mathlib.Core.Path.{fun_ext}
 use Rattle.f2c_outside.specs.Device.{DeviceState, written_at}
 use Rattle.f2c_outside.specs.Table.{Row, Offers, Connects, Closed, AtUnit, OnUnit, ReadFrom, WrittenTo, BackOn, RewoundOn, EndedOn, IsFailed, at_unit, is_connected}
-use Rattle.f2c_outside.specs.Units.{UnitState, Offered, Units, with_unit, with_record, unless_ended, one_back, read_at, write_at, back_at, rewind_at, end_at, read_unit, write_unit, back_unit, rewind_unit, end_unit, Reading, behind}
+use Rattle.run_state.specs.Units.{UnitState, Offered, Units, with_unit, with_record, unless_ended, one_back, read_at, write_at, back_at, rewind_at, end_at, read_unit, write_unit, back_unit, rewind_unit, end_unit, Reading, behind}
 use Rattle.f2c_outside.specs.Meaning.{records_of, unit_of, connected_in, drawer_in, units_of, Tells, Means, MeansReading, ReadsAs}
-use Rattle.f2c_outside.specs.declared.unit_table.UnitRefusal.{UnitRefusal}
-use Rattle.f2c_outside.specs.declared.unit_table.UnitRefusal.TheVariants.{NotConnected, NotOffered, Taken, PastEnd, Failed}
+use Rattle.run_state.specs.declared.refusals.UnitRefusal.{UnitRefusal}
+use Rattle.run_state.specs.declared.refusals.UnitRefusal.TheVariants.{NotConnected, NotOffered, Taken, PastEnd, Failed}
 use Rattle.f2c_outside.specs.declared.devices.Got.{Got}
 use Rattle.f2c_outside.specs.declared.devices.Got.TheVariants.{Line, End, Long}
 use Rattle.f2c_outside.specs.declared.devices.Got.TheVariants as got
 use Rattle.std.proofs.lemmas.Option.{slice_get_past}
 use Rattle.std.specs.Prelude.{IfOk}
 use Rattle.f2c_outside.proofs.TableLaws.{none-front}
+use Rattle.f2c_outside.specs.Table.{answered}
+use Rattle.f2c_outside.proofs.StillTells.{still-tells, read-alike, back-alike}
 
 pub chosen-true : {X : Type 0} (b : Bool) (x y : X) → b ≡ true → (if b then x else y) ≡ x
 chosen-true true x y is = refl
@@ -234,6 +236,9 @@ pub write-means :
 unfolding write_unit
 write-means {T = T} unit bytes b a result on tells =
     record {
+      tells =
+          still-tells unit b a result (λ d m d' m'. WrittenTo d m d' m' bytes result) on
+          (λ d d' m m' did. did.wrote.tells) tells;
       done = by-result result on;
       missing = λ is. ap (λ (s : Option UnitState). write_at unit bytes s (units_of b)) (connected-none b unit (on.refused.0 is));
       past =
@@ -275,6 +280,9 @@ pub end-means :
 unfolding end_unit
 end-means {T = T} unit b a result on tells =
     record {
+      tells =
+          still-tells unit b a result (λ d m d' m'. EndedOn d m d' m' result) on
+          (λ d d' m m' did. did.ended.tells) tells;
       done = by-result result on;
       missing = λ is. ap (λ (s : Option UnitState). end_at unit s (units_of b)) (connected-none b unit (on.refused.0 is));
       past =
@@ -325,6 +333,9 @@ pub rewind-means :
 unfolding rewind_unit
 rewind-means {T = T} unit b a result on tells =
     record {
+      tells =
+          still-tells unit b a result (λ d m d' m'. RewoundOn d m d' m' result) on
+          (λ d d' m m' did. did.rewound.tells) tells;
       done = by-result result on;
       missing = λ is. ap (λ (s : Option UnitState). rewind_at unit s (units_of b)) (connected-none b unit (on.refused.0 is));
       past =
@@ -360,6 +371,9 @@ pub back-means :
 unfolding back_unit
 back-means {T = T} unit b a result on tells =
     record {
+      tells =
+          still-tells unit b a result (λ d m d' m'. BackOn d m d' m' result) on
+          (λ d d' m m' did. back-alike result d d' m m' did) tells;
       done = by-result result on;
       missing = λ is. ap (λ (s : Option UnitState). back_at unit s (units_of b)) (connected-none b unit (on.refused.0 is));
       past =
@@ -455,6 +469,9 @@ pub read-means :
 unfolding read_unit
 read-means unit b a old new result on tells =
     record {
+      tells =
+          still-tells unit b a result (λ d m d' m'. ReadFrom d m d' m' old new result) on
+          (λ d d' m m' did. read-alike (answered result) d d' old new did.read) tells;
       done = by-result result on;
       missing = λ is. ap (λ (s : Option UnitState). read_at unit s (units_of b)) (connected-none b unit (on.refused.0 is));
     }

@@ -14,11 +14,12 @@ use Rattle.f2c_outside.specs.Shown.{shown}
 use Rattle.f2c_outside.specs.Device.{DeviceState}
 use Rattle.f2c_outside.specs.Table.{Row, Offers, Connects, Closed, at_unit, is_connected, is_offered, reads_zeros, OpenedUnit, IsClosed, ClosedUnit}
 use Rattle.f2c_outside.specs.Finishing.{WasFinished, FinishedUpTo, OnDevice, EachRow}
-use Rattle.f2c_outside.specs.Units.{UnitState, Offered, Units, Closing, Picked, with_unit, zero_blanks_of, preconnect, put_in_drawer, pick, put_before, connect_file, open_at, open_unit, close_at, close_unit}
-use Rattle.f2c_outside.specs.declared.unit_table.UnitRefusal.{UnitRefusal}
-use Rattle.f2c_outside.specs.declared.unit_table.UnitRefusal.TheVariants.{NotConnected, NotOffered, Taken}
+use Rattle.run_state.specs.Units.{UnitState, Offered, Units, Closing, Picked, with_unit, zero_blanks_of, preconnect, put_in_drawer, pick, put_before, connect_file, open_at, open_unit, close_at, close_unit}
+use Rattle.run_state.specs.declared.refusals.UnitRefusal.{UnitRefusal}
+use Rattle.run_state.specs.declared.refusals.UnitRefusal.TheVariants.{NotConnected, NotOffered, Taken}
 use Rattle.f2c_outside.specs.declared.unit_table.Closed as declared
 use Rattle.f2c_outside.proofs.TableLaws.{none-front, none-back, none-parts}
+use Rattle.f2c_outside.proofs.StillTells.{closing-tells, opening-tells}
 use Rattle.f2c_outside.proofs.MeaningLaws.{chosen-true, chosen-false, or-false-left, or-false-right, unit-there, connected-none, told-there}
 use Rattle.f2c_outside.specs.Meaning.{records_of, unit_of, connected_in, drawer_in, units_of, Tells, MeansOpening, MeansClosing}
 
@@ -303,10 +304,11 @@ opened-means front back unit name z device free first =
 pub open-means :
     {T : Type 0} (unit : ℤ) (name : List ℕ) (z : Bool) (b a : List Row) (result : Result T UnitRefusal)
     → OpenedUnit unit name z b a result
-    → MeansOpening result (open_unit unit name z (units_of b)) a
+    → MeansOpening result (open_unit unit name z (units_of b)) b a
 unfolding open_unit
 open-means {T = T} unit name z b a (Ok x) did =
     record {
+      tells = opening-tells unit name z b a (Ok x) did;
       done =
           let free : is_connected unit (did.opened.front ++ Offers name did.opened.device ∷ did.opened.back) ≡ false =
           sym (ap (is_connected unit) did.opened.was) ∙ (did.done.0 refl).0
@@ -316,7 +318,11 @@ open-means {T = T} unit name z b a (Ok x) did =
       refused = tt;
     }
 open-means {T = T} unit name z b a (Err refused) did =
-    record { done = tt; refused = by-tests (is_connected unit b) (is_offered name b) refl refl }
+    record {
+      tells = opening-tells unit name z b a (Err refused) did;
+      done = tt;
+      refused = by-tests (is_connected unit b) (is_offered name b) refl refl;
+    }
   where
     the : UnitRefusal → Result T UnitRefusal
     the why = Err why
@@ -352,11 +358,13 @@ pub close-means :
 unfolding close_unit
 close-means unit b a (Err refused) did tells =
     record {
+      tells = closing-tells unit b a (Err refused) did tells;
       done = tt;
       missing = λ is. ap (λ (state : Option UnitState). close_at unit state (units_of b)) (connected-none b unit (did.refused.0 is));
     }
 close-means unit b a (Ok closed) did tells =
     record {
+      tells = closing-tells unit b a (Ok closed) did tells;
       done =
           let c : IsClosed unit b a closed.records = did.closed
           in let free : is_connected unit (c.front ++ c.back) ≡ false =

@@ -11,8 +11,8 @@ use Rattle.std.specs.declared.dyn_box.DynBox.{DynBox}
 use Rattle.f2c_outside.specs.Device.{DeviceState}
 use Rattle.f2c_outside.specs.Table.{Offers, Connects, Closed, IsFirstAt, IsFirst, OnRow, AtUnit, OnUnit, IsFailed, IsPastOrFailed, IsMissingOrFailed, OpenedUnit, ClosedUnit, ClosesRow, OnClosedRow, reads_zeros, at_unit, offers_name, is_connected, is_offered, units_at}
 use Rattle.f2c_outside.specs.Table as table
-use Rattle.f2c_outside.specs.declared.unit_table.UnitRefusal.{UnitRefusal}
-use Rattle.f2c_outside.specs.declared.unit_table.UnitRefusal.TheVariants.{NotConnected, NotOffered, Taken, PastEnd, Failed}
+use Rattle.run_state.specs.declared.refusals.UnitRefusal.{UnitRefusal}
+use Rattle.run_state.specs.declared.refusals.UnitRefusal.TheVariants.{NotConnected, NotOffered, Taken, PastEnd, Failed}
 use Rattle.std.specs.Prelude.{Result, Ok, Err, IfErr, IsErrOf, if◌then◌else◌}
 use Rattle.std.proofs.lemmas.Slice.Eq.{bytes_eq-Decides}
 use Rattle.f2c_outside.specs.declared.unit_table.Closed as declared

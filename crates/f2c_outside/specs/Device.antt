@@ -1,7 +1,7 @@
 -- What a device holds, and what each of its calls does to it.
 -- A device is what an external unit is connected to: a sequence of records and a position among them
 -- (ANSI X3.9-1978, 12.1 and 12.2). Where it tells its records, those before a call decide those after it.
-use Rattle.std.specs.Prelude.{◌≡◌, ℕ, ◌+◌, ◌-◌, ◌<◌, ◌≤◌, List, [], ◌∷◌, ◌++◌, length, take, drop, Option, option_map, is_some, Result, Bool, true, false, IfSome, IfOk, OnOk, OnErr, IsSomeAnd, slice_get}
+use Rattle.std.specs.Prelude.{◌≡◌, ℕ, ◌+◌, ◌-◌, ◌^◌, ◌<◌, ◌≤◌, min, List, [], ◌∷◌, ◌++◌, length, take, drop, Option, option_map, is_some, Result, Bool, true, false, IfSome, IfOk, OnOk, OnErr, IsSomeAnd, slice_get}
 use Rattle.f2c_outside.specs.Shelf.{Rose}
 use Rattle.f2c_outside.specs.declared.devices.Got.{Got}
 use Rattle.f2c_outside.specs.declared.devices.Got.TheVariants.{Line, End, Long, Failed}
@@ -11,11 +11,13 @@ abbrev pub Records : Type 0
 Records = List (List ℕ)
 
 -- the records where the device tells them, how many of them stand before its position, whether `finish` has
--- succeeded since a record was last written or cut off, and how many of its calls have failed
+-- succeeded since a record was last written or cut off, how many calls there have been, and how many of them
+-- have failed
 pub record DeviceState : Type 0 where
   pub told : Option Records
   pub position : ℕ
   pub finished : Bool
+  pub calls : ℕ
   pub faults : ℕ
 
 -- the position is among the records or behind the last
@@ -31,6 +33,18 @@ pub record HasDeviceCause (before after : ℕ) (fails : Type 0) : Type 0 where
   pub later : before ≤ after
   pub failed : fails → Rose before after
   pub rose : before < after → fails
+
+-- a count with one more, which stays at the end of its type
+abbrev pub one_more : ℕ → ℕ
+one_more count = min (count + 1) (2 ^ 64 - 1)
+
+-- what each call of a device says: it is counted, it fails exactly where the count of faults rose, and the
+-- position is among the records before it and after it
+pub record WasCalled (b a : DeviceState) (fails : Type 0) : Type 0 where
+  pub counted : a.calls ≡ one_more b.calls
+  pub cause : HasDeviceCause b.faults a.faults fails
+  pub was_placed : IsPlaced b
+  pub placed : IsPlaced a
 
 -- the record at the position of a device
 abbrev pub AtPosition : DeviceState → (List ℕ → Type 0) → Type 0

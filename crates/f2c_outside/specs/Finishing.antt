@@ -5,19 +5,23 @@ use Rattle.std.specs.List.{list_any}
 use Rattle.std.specs.Ordering.{int_eq}
 use Rattle.std.specs.Int.Signed.{lt_z}
 use Rattle.f2c_outside.specs.Shelf.{Rose}
-use Rattle.f2c_outside.specs.Device.{DeviceState}
+use Rattle.f2c_outside.specs.Device.{DeviceState, one_more}
 use Rattle.f2c_outside.specs.Table.{Row, Offers, Connects, Closed, is_connected}
 use Rattle.f2c_outside.specs.declared.unit_table.UnitFault.{UnitFault}
 
--- `finish` succeeded on a device: its records are where they are to stay, and nothing else changed
+-- `finish` succeeded on a device: it was called once, its records are where they are to stay, and nothing else
+-- changed
 pub record WasFinished (b a : DeviceState) : Type 0 where
+  pub calls : a.calls ≡ one_more b.calls
   pub told : a.told ≡ b.told
   pub position : a.position ≡ b.position
   pub finished : a.finished ≡ true
   pub faults : a.faults ≡ b.faults
 
--- `finish` failed on a device: its count of faults rose, and its records and its position are as before
+-- `finish` failed on a device: it was called once, its count of faults rose, and its records and its position
+-- are as before
 pub record FailedToFinish (b a : DeviceState) : Type 0 where
+  pub calls : a.calls ≡ one_more b.calls
   pub told : a.told ≡ b.told
   pub position : a.position ≡ b.position
   pub finished : a.finished ≡ false

@@ -1,7 +1,6 @@
 pub mod Texts
 pub mod Shelf
 pub mod Device
-pub mod Units
 pub mod Table
 pub mod Finishing
 pub mod Shown
@@ -12,5 +11,6 @@ pub mod Memory
 pub mod Entries
 pub mod Host
 pub mod HostState
+pub mod LineEnds
 pub mod Tape
 pub mod Meaning

@@ -4,12 +4,12 @@ use Rattle.std.specs.Prelude.{◌≡◌, ℕ, ◌<◌, ℤ, Bool, List, [], ◌�
 use Rattle.std.specs.Ordering.{int_eq}
 use Rattle.f2c_outside.specs.Device.{DeviceState}
 use Rattle.f2c_outside.specs.Table.{Row, Offers, Connects, Closed}
-use Rattle.f2c_outside.specs.Units.{UnitState, Offered, Units, Reading, Closing}
+use Rattle.run_state.specs.Units.{UnitState, Offered, Units, Reading, Closing}
 use Rattle.f2c_outside.specs.declared.devices.Got.{Got}
 use Rattle.f2c_outside.specs.declared.devices.Got.TheVariants.{Line, End, Long, Failed}
 use Rattle.f2c_outside.specs.declared.unit_table.Closed as declared
-use Rattle.f2c_outside.specs.declared.unit_table.UnitRefusal.{UnitRefusal}
-use Rattle.f2c_outside.specs.declared.unit_table.UnitRefusal.TheVariants as refusal
+use Rattle.run_state.specs.declared.refusals.UnitRefusal.{UnitRefusal}
+use Rattle.run_state.specs.declared.refusals.UnitRefusal.TheVariants as refusal
 
 -- the records that a device tells
 abbrev pub records_of : DeviceState → List (List ℕ)
@@ -52,8 +52,10 @@ Tells (Offers name device ∷ rest) = IsSome device.told × Tells rest
 Tells (Connects unit device end_mark zero_blanks ∷ rest) = IsSome device.told × Tells rest
 Tells (Closed ∷ rest) = Tells rest
 
--- a call that changes the units means the same as the statement, unless the device failed
+-- a call that changes the units means the same as the statement, unless the device failed; every device still
+-- tells its records
 pub record Means {T : Type 0} (result : Result T UnitRefusal) (meaning : Result Units UnitRefusal) (after : List Row) : Type 0 where
+  pub tells : Tells after
   pub done : OnOk result (meaning ≡ Ok (units_of after))
   pub missing : IsErrOf result refusal.NotConnected → meaning ≡ Err refusal.NotConnected
   pub past : IsErrOf result refusal.PastEnd → meaning ≡ Err refusal.PastEnd
@@ -73,15 +75,18 @@ ReadsAs Failed reading after old new = Unit {0}
 
 -- `read_from` means the same as reading a record, unless the device failed
 pub record MeansReading (result : Result Got UnitRefusal) (reading : Result Reading UnitRefusal) (after : List Row) (old new : List ℕ) : Type 0 where
+  pub tells : Tells after
   pub done : IfOk result (λ got. ReadsAs got reading (units_of after) old new)
   pub missing : IsErrOf result refusal.NotConnected → reading ≡ Err refusal.NotConnected
 
 -- `open_unit` means the same as opening, also where it is refused
-pub record MeansOpening {T : Type 0} (result : Result T UnitRefusal) (opening : Result Units UnitRefusal) (after : List Row) : Type 0 where
+pub record MeansOpening {T : Type 0} (result : Result T UnitRefusal) (opening : Result Units UnitRefusal) (before after : List Row) : Type 0 where
+  pub tells : Tells before → Tells after
   pub done : OnOk result (opening ≡ Ok (units_of after))
   pub refused : IfErr result (λ refused. opening ≡ Err refused)
 
 -- `close_unit` means the same as closing, unless the device failed
 pub record MeansClosing (result : Result declared.Closed UnitRefusal) (closing : Result Closing UnitRefusal) (after : List Row) : Type 0 where
+  pub tells : Tells after
   pub done : IfOk result (λ closed. closing ≡ Ok (record { count = closed.records; after = units_of after }))
   pub missing : IsErrOf result refusal.NotConnected → closing ≡ Err refusal.NotConnected

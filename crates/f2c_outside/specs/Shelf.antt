@@ -110,10 +110,11 @@ added Output bytes contents = record contents { output = contents.output ++ byte
 added Fault bytes contents = record contents { fault = contents.fault ++ bytes }
 added Input bytes contents = contents
 
--- the count never falls, and a call answers `Failed` only where it rose
+-- the count never falls; a call answers `Failed` only where it rose, and a call that does its work leaves it
 pub record HasCause {T : Type 0} (before after : ℕ) (result : Result T ShelfFault) : Type 0 where
   pub later : before ≤ after
   pub failed : IsErrOf result Failed → Rose before after
+  pub quiet : OnOk result (after ≡ before)
 
 -- `start_read` of a place: `Missing` comes for a file alone, and exactly where the call does not fail and
 -- the files lack the name

@@ -3,12 +3,12 @@
 use Rattle.std.specs.Prelude.{◌≡◌, ℕ, ℤ, ◌↔◌, Bool, true, false, List, [], ◌∷◌, ◌++◌, length, Option, Some, None, Result, Ok, Err, IfSome, IfOk, IfErr, OnOk, OnErr, IsOk, IsErrOf, if◌then◌else◌, bytes_eq}
 use Rattle.std.specs.List.{list_any}
 use Rattle.std.specs.Ordering.{int_eq}
-use Rattle.f2c_outside.specs.Device.{DeviceState, HasDeviceCause, DidRead, Wrote, WentBack, Rewound, EndedFile, Finished}
+use Rattle.f2c_outside.specs.Device.{DeviceState, WasCalled, DidRead, Wrote, WentBack, Rewound, EndedFile, Finished}
 use Rattle.f2c_outside.specs.declared.devices.Got.{Got}
 use Rattle.f2c_outside.specs.declared.devices.Got.TheVariants as got
 use Rattle.f2c_outside.specs.declared.unit_table.Closed as declared
-use Rattle.f2c_outside.specs.declared.unit_table.UnitRefusal.{UnitRefusal}
-use Rattle.f2c_outside.specs.declared.unit_table.UnitRefusal.TheVariants as refusal
+use Rattle.run_state.specs.declared.refusals.UnitRefusal.{UnitRefusal}
+use Rattle.run_state.specs.declared.refusals.UnitRefusal.TheVariants as refusal
 
 -- a row is offered under a name, connected to a unit, or closed; a closed row has no device
 pub data Row : Type 0 where
@@ -89,7 +89,7 @@ mark_after got.Failed mark = mark
 
 -- `read_from`
 pub record ReadFrom (d : DeviceState) (m : Bool) (d' : DeviceState) (m' : Bool) (old new : List ℕ) (result : Result Got UnitRefusal) : Type 0 where
-  pub cause : HasDeviceCause d.faults d'.faults (IsErrOf result refusal.Failed)
+  pub called : WasCalled d d' (IsErrOf result refusal.Failed)
   pub read : DidRead (answered result) d d' old new
   pub never : ¬ (result ≡ Ok got.Failed)
   pub mark : m' ≡ mark_after (answered result) m
@@ -97,7 +97,7 @@ pub record ReadFrom (d : DeviceState) (m : Bool) (d' : DeviceState) (m' : Bool) 
 
 -- `write_to`: nothing is written behind the endfile record
 pub record WrittenTo {T : Type 0} (d : DeviceState) (m : Bool) (d' : DeviceState) (m' : Bool) (bytes : List ℕ) (result : Result T UnitRefusal) : Type 0 where
-  pub cause : HasDeviceCause d.faults d'.faults (IsErrOf result refusal.Failed)
+  pub called : m ≡ false → WasCalled d d' (IsErrOf result refusal.Failed)
   pub wrote : Wrote bytes d d' result
   pub past : IsErrOf result refusal.PastEnd ↔ (m ≡ true)
   pub unchanged : IsErrOf result refusal.PastEnd → d' ≡ d
@@ -106,7 +106,7 @@ pub record WrittenTo {T : Type 0} (d : DeviceState) (m : Bool) (d' : DeviceState
 
 -- `back_unit`: a standing end mark is cleared and nothing else happens; else the device goes back
 pub record BackOn {T : Type 0} (d : DeviceState) (m : Bool) (d' : DeviceState) (m' : Bool) (result : Result T UnitRefusal) : Type 0 where
-  pub cause : HasDeviceCause d.faults d'.faults (IsErrOf result refusal.Failed)
+  pub called : m ≡ false → WasCalled d d' (IsErrOf result refusal.Failed)
   pub marked : m ≡ true → (d' ≡ d) × IsOk result
   pub unmarked : m ≡ false → WentBack d d' result
   pub mark : m' ≡ false
@@ -114,7 +114,7 @@ pub record BackOn {T : Type 0} (d : DeviceState) (m : Bool) (d' : DeviceState) (
 
 -- `rewind_unit`
 pub record RewoundOn {T : Type 0} (d : DeviceState) (m : Bool) (d' : DeviceState) (m' : Bool) (result : Result T UnitRefusal) : Type 0 where
-  pub cause : HasDeviceCause d.faults d'.faults (IsErrOf result refusal.Failed)
+  pub called : WasCalled d d' (IsErrOf result refusal.Failed)
   pub rewound : Rewound d d' result
   pub cleared : OnOk result (m' ≡ false)
   pub kept : OnErr result (m' ≡ m)
@@ -122,7 +122,7 @@ pub record RewoundOn {T : Type 0} (d : DeviceState) (m : Bool) (d' : DeviceState
 
 -- `end_unit`: the endfile record is written, and the unit stands behind it
 pub record EndedOn {T : Type 0} (d : DeviceState) (m : Bool) (d' : DeviceState) (m' : Bool) (result : Result T UnitRefusal) : Type 0 where
-  pub cause : HasDeviceCause d.faults d'.faults (IsErrOf result refusal.Failed)
+  pub called : m ≡ false → WasCalled d d' (IsErrOf result refusal.Failed)
   pub ended : EndedFile d d' result
   pub past : IsErrOf result refusal.PastEnd ↔ (m ≡ true)
   pub unchanged : IsErrOf result refusal.PastEnd → d' ≡ d
@@ -189,7 +189,7 @@ counted (Err refused) = Err refused
 
 -- `finish` of the device of a unit
 pub record FinishedOn (d : DeviceState) (m : Bool) (d' : DeviceState) (m' : Bool) (result : Result ℕ UnitRefusal) : Type 0 where
-  pub cause : HasDeviceCause d.faults d'.faults (IsErrOf result refusal.Failed)
+  pub called : WasCalled d d' (IsErrOf result refusal.Failed)
   pub finished : Finished d d' result
   pub mark : m' ≡ m
   pub refused : IfErr result IsFailed

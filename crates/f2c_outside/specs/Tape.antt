@@ -22,6 +22,7 @@ tape_state tape =
       told = Some tape.records;
       position = tape.position;
       finished = tape.finished;
+      calls = tape.plan.calls;
       faults = tape.plan.planned + tape.starved;
     }
 
@@ -43,17 +44,22 @@ Gives (Long n) bytes old new = (n ≡ length bytes) × (length old < n) × (new 
 Gives End bytes old new = ⊥
 Gives Failed bytes old new = ⊥
 
--- a call that takes no memory: it fails exactly where its number is among those that are to fail
+-- a call that takes no memory: it fails exactly where its number is among those that are to fail, and where
+-- it fails the records and the position are as before
 pub record TapeCounted (b a : Tape) (fails : Type 0) : Type 0 where
   pub plan : a.plan ≡ after_call b.plan
   pub starved : a.starved ≡ b.starved
   pub failed : fails ↔ IsTrue (next_fails b.plan)
+  pub records : fails → a.records ≡ b.records
+  pub position : fails → a.position ≡ b.position
 
 -- a call that may want memory: it fails where its number is among those that are to fail, and where memory
--- was refused, and nowhere else
+-- was refused, and nowhere else; where it fails the records and the position are as before
 pub record TapeGrowth (b a : Tape) (fails : Type 0) : Type 0 where
   pub plan : a.plan ≡ after_call b.plan
   pub later : b.starved ≤ a.starved
   pub planned : IsTrue (next_fails b.plan) → fails
   pub starved : b.starved < a.starved → fails
   pub only : fails → ¬ IsTrue (next_fails b.plan) → Rose b.starved a.starved
+  pub records : fails → a.records ≡ b.records
+  pub position : fails → a.position ≡ b.position

@@ -1,7 +1,9 @@
 //! Devices over the real streams. No clause tells what these hold: they are the trusted edge.
 
-ghost use Rattle.std.specs.Prelude.{◌≡◌, ◌≤◌, false};
+ghost use Rattle.std.specs.Prelude.{◌≡◌, ◌≤◌, ◌++◌, ◌∷◌, [], IsTrue, false};
+ghost use Rattle.std.specs.Io.KnownBytes.{Appends};
 ghost use Rattle.f2c_outside.specs.Shelf.{Rose};
+ghost use Rattle.f2c_outside.specs.Device.{one_more};
 ghost use Rattle.f2c_outside.specs.HostState.{untold_device};
 
 use crate::devices::{Device, DeviceFault, Got};
@@ -19,57 +21,63 @@ pub struct HostOutput<W: Write + Drop> {
     writer: W,
     records: u64,
     finished: bool,
-    faults: u64,
+    tally: Tally,
 }
 
 impl<W: Write + Drop> HostOutput<W> {
     /// A device over a stream, as standard output. No record has been written, and no call has failed.
     pub fn new(writer: W) -> HostOutput<W>
-        ensures { untold_device result.records result.finished result.faults ≡ untold_device 0 false 0 }
+        ensures { untold_device result.records result.finished result.tally.calls result.tally.faults ≡ untold_device 0 false 0 0 }
     {
         HostOutput {
             writer,
             records: 0,
             finished: false,
-            faults: 0,
+            tally: Tally::new(),
         }
     }
 }
 
 impl<W: Write + Drop> Device for HostOutput<W> {
-    ghost device_state = { λ d. untold_device d.records d.finished d.faults };
+    ghost device_state = { λ d. untold_device d.records d.finished d.tally.calls d.tally.faults };
 
     fn read_record(&mut self, _into: &mut [u8]) -> Got {
-        let _fault = fail(&mut self.faults);
+        self.tally.call();
+        let _fault = self.tally.fail();
         Got::Failed
     }
 
     fn write_record(&mut self, bytes: &[u8]) -> Result<(), DeviceFault> {
+        self.tally.call();
         if self.records < u64::MAX && put_line(&mut self.writer, bytes) {
             self.records += 1;
             self.finished = false;
             return Ok(());
         }
-        Err(fail(&mut self.faults))
+        Err(self.tally.fail())
     }
 
     fn back(&mut self) -> Result<(), DeviceFault> {
-        Err(fail(&mut self.faults))
+        self.tally.call();
+        Err(self.tally.fail())
     }
 
     fn rewind(&mut self) -> Result<(), DeviceFault> {
-        Err(fail(&mut self.faults))
+        self.tally.call();
+        Err(self.tally.fail())
     }
 
     fn end_file(&mut self) -> Result<(), DeviceFault> {
+        self.tally.call();
         self.finished = false;
         Ok(())
     }
 
     fn finish(&mut self) -> Result<u64, DeviceFault> {
+        self.tally.call();
         if self.writer.flush().is_err() {
             self.finished = false;
-            return Err(fail(&mut self.faults));
+            return Err(self.tally.fail());
         }
         self.finished = true;
         Ok(self.records)
@@ -86,28 +94,29 @@ pub struct HostInput<F: Read + Drop> {
     line: Vec<u8>,
     records: u64,
     finished: bool,
-    faults: u64,
+    tally: Tally,
 }
 
 impl<F: Read + Drop> HostInput<F> {
     /// A device over a stream, as standard input. No record has been read, and no call has failed.
     pub fn new(alloc: Global, reader: F) -> HostInput<F>
-        ensures { untold_device result.records result.finished result.faults ≡ untold_device 0 false 0 }
+        ensures { untold_device result.records result.finished result.tally.calls result.tally.faults ≡ untold_device 0 false 0 0 }
     {
         HostInput {
             reader,
             line: Vec::new(alloc),
             records: 0,
             finished: false,
-            faults: 0,
+            tally: Tally::new(),
         }
     }
 }
 
 impl<F: Read + Drop> Device for HostInput<F> {
-    ghost device_state = { λ d. untold_device d.records d.finished d.faults };
+    ghost device_state = { λ d. untold_device d.records d.finished d.tally.calls d.tally.faults };
 
     fn read_record(&mut self, into: &mut [u8]) -> Got {
+        self.tally.call();
         if self.records < u64::MAX {
             match read_line(&mut self.reader, &mut self.line) {
                 Ok(true) => {
@@ -118,59 +127,89 @@ impl<F: Read + Drop> Device for HostInput<F> {
                 Err(_) => {}
             }
         }
-        let _fault = fail(&mut self.faults);
+        let _fault = self.tally.fail();
         Got::Failed
     }
 
     fn write_record(&mut self, _bytes: &[u8]) -> Result<(), DeviceFault> {
-        Err(fail(&mut self.faults))
+        self.tally.call();
+        Err(self.tally.fail())
     }
 
     fn back(&mut self) -> Result<(), DeviceFault> {
-        Err(fail(&mut self.faults))
+        self.tally.call();
+        Err(self.tally.fail())
     }
 
     fn rewind(&mut self) -> Result<(), DeviceFault> {
-        Err(fail(&mut self.faults))
+        self.tally.call();
+        Err(self.tally.fail())
     }
 
     fn end_file(&mut self) -> Result<(), DeviceFault> {
-        Err(fail(&mut self.faults))
+        self.tally.call();
+        Err(self.tally.fail())
     }
 
     fn finish(&mut self) -> Result<u64, DeviceFault> {
+        self.tally.call();
         self.finished = true;
         Ok(self.records)
     }
 }
 
-/// Counts a fault. A count at the end of its type stays there.
-pub(crate) fn fail(faults: &mut u64) -> DeviceFault
-    ensures later { faults.old ≤ faults.new }
-    ensures rose { Rose faults.old faults.new }
-{
-    *faults = faults.saturating_add(1);
-    DeviceFault::Failed
+/// How many calls of a device there have been, and how many of them have failed. A count at the end of
+/// its type stays there.
+#[derive(Drop)]
+pub(crate) struct Tally {
+    calls: u64,
+    faults: u64,
+}
+
+impl Tally {
+    /// No call has been made.
+    pub(crate) fn new() -> Tally
+        ensures calls { result.calls ≡ 0 }
+        ensures faults { result.faults ≡ 0 }
+    {
+        Tally {
+            calls: 0,
+            faults: 0,
+        }
+    }
+
+    /// Counts a call.
+    pub(crate) fn call(&mut self)
+        ensures counted { self.new.calls ≡ one_more self.old.calls }
+        ensures faults { self.new.faults ≡ self.old.faults }
+    {
+        self.calls = self.calls.saturating_add(1);
+    }
+
+    /// Counts a fault.
+    pub(crate) fn fail(&mut self) -> DeviceFault
+        ensures calls { self.new.calls ≡ self.old.calls }
+        ensures later { self.old.faults ≤ self.new.faults }
+        ensures rose { Rose self.old.faults self.new.faults }
+    {
+        self.faults = self.faults.saturating_add(1);
+        DeviceFault::Failed
+    }
 }
 
 /// Writes a text and an LF, and says whether all of it went out.
-pub(crate) fn put_line<W: Write>(writer: &mut W, bytes: &[u8]) -> bool {
+#[tactic(auto, using(crate::proofs::StreamLaws::appended_twice))]
+pub(crate) fn put_line<W: Write>(writer: &mut W, bytes: &[u8]) -> bool
+    ensures { IsTrue result → Appends (W.contents writer.old) (W.contents writer.new) (bytes.now ++ 10 ∷ []) }
+{
     put_all(writer, bytes) && put_all(writer, b"\n")
 }
 
 /// Writes bytes, and says whether all of them went out.
-pub(crate) fn put_all<W: Write>(writer: &mut W, bytes: &[u8]) -> bool {
-    let mut rest = bytes;
-    for _ in 0..MOST_TURNS {
-        if rest.is_empty() {
-            return true;
-        }
-        match writer.write(rest) {
-            Ok(count) if count > 0 => rest = &rest[count..],
-            _ => return false,
-        }
-    }
-    rest.is_empty()
+pub(crate) fn put_all<W: Write>(writer: &mut W, bytes: &[u8]) -> bool
+    ensures { IsTrue result → Appends (W.contents writer.old) (W.contents writer.new) bytes.now }
+{
+    writer.write_all(bytes).is_ok()
 }
 
 /// Reads a line without its LF, and says whether there was one. A last line may lack its LF.

@@ -2,9 +2,11 @@
 
 ghost use Rattle.std.specs.Prelude.{◌≡◌, false};
 ghost use Rattle.f2c_outside.specs.HostState.{untold_device};
+ghost use Rattle.f2c_outside.specs.LineEnds.{is_end, behind_line, IsLastEnd};
+ghost use Rattle.f2c_outside.specs.Table.{IsFirst};
 
 use crate::devices::{Device, DeviceFault, Got};
-use crate::host_devices::{MOST_TURNS, fail, put_all, put_line};
+use crate::host_devices::{MOST_TURNS, Tally, put_all, put_line};
 use crate::memory_device::give;
 use crate::texts::Name;
 use std::alloc::Global;
@@ -30,13 +32,13 @@ pub struct HostFile<R: Files + Drop> {
     lacks_end: bool,
     records: u64,
     finished: bool,
-    faults: u64,
+    tally: Tally,
 }
 
 impl<R: Files + Drop> HostFile<R> {
     /// A device over the file of this name, before its first record. No call has failed.
     pub fn new(alloc: Global, rt: R, name: Name) -> HostFile<R>
-        ensures { untold_device result.records result.finished result.faults ≡ untold_device 0 false 0 }
+        ensures { untold_device result.records result.finished result.tally.calls result.tally.faults ≡ untold_device 0 false 0 0 }
     {
         HostFile {
             rt,
@@ -47,16 +49,17 @@ impl<R: Files + Drop> HostFile<R> {
             lacks_end: false,
             records: 0,
             finished: false,
-            faults: 0,
+            tally: Tally::new(),
         }
     }
 }
 
 impl<R: Files + Drop> Device for HostFile<R> {
-    ghost device_state = { λ d. untold_device d.records d.finished d.faults };
+    ghost device_state = { λ d. untold_device d.records d.finished d.tally.calls d.tally.faults };
 
     fn read_record(&mut self, into: &mut [u8]) -> Got {
-        let _open = is_open(&self.rt, &self.name, &mut self.file);
+        self.tally.call();
+        let _open = open_if_needed(&self.rt, &self.name, &mut self.file);
         match next_line(&mut self.file, self.offset, &mut self.line) {
             Ok(Some(ended)) if self.records < u64::MAX => {
                 self.records += 1;
@@ -66,15 +69,16 @@ impl<R: Files + Drop> Device for HostFile<R> {
             }
             Ok(None) => Got::End,
             _ => {
-                let _fault = fail(&mut self.faults);
+                let _fault = self.tally.fail();
                 Got::Failed
             }
         }
     }
 
     fn write_record(&mut self, bytes: &[u8]) -> Result<(), DeviceFault> {
+        self.tally.call();
         let start = after_line(self.offset, 0, self.lacks_end);
-        let _open = is_open(&self.rt, &self.name, &mut self.file);
+        let _open = open_if_needed(&self.rt, &self.name, &mut self.file);
         if self.records < u64::MAX
             && write_line(&mut self.file, self.offset, self.lacks_end, bytes)
         {
@@ -84,12 +88,13 @@ impl<R: Files + Drop> Device for HostFile<R> {
             self.finished = false;
             return Ok(());
         }
-        Err(fail(&mut self.faults))
+        Err(self.tally.fail())
     }
 
     fn back(&mut self) -> Result<(), DeviceFault> {
-        if !is_open(&self.rt, &self.name, &mut self.file) {
-            return Err(fail(&mut self.faults));
+        self.tally.call();
+        if !open_if_needed(&self.rt, &self.name, &mut self.file) {
+            return Err(self.tally.fail());
         }
         if self.records == 0 {
             return Ok(());
@@ -101,13 +106,14 @@ impl<R: Files + Drop> Device for HostFile<R> {
                 self.records -= 1;
                 Ok(())
             }
-            Err(_) => Err(fail(&mut self.faults)),
+            Err(_) => Err(self.tally.fail()),
         }
     }
 
     fn rewind(&mut self) -> Result<(), DeviceFault> {
-        if !is_open(&self.rt, &self.name, &mut self.file) {
-            return Err(fail(&mut self.faults));
+        self.tally.call();
+        if !open_if_needed(&self.rt, &self.name, &mut self.file) {
+            return Err(self.tally.fail());
         }
         self.offset = 0;
         self.lacks_end = false;
@@ -116,15 +122,19 @@ impl<R: Files + Drop> Device for HostFile<R> {
     }
 
     fn end_file(&mut self) -> Result<(), DeviceFault> {
-        if is_open(&self.rt, &self.name, &mut self.file) && cut(&mut self.file, self.offset) {
+        self.tally.call();
+        if open_if_needed(&self.rt, &self.name, &mut self.file)
+            && cut(&mut self.file, self.offset)
+        {
             self.finished = false;
             return Ok(());
         }
-        Err(fail(&mut self.faults))
+        Err(self.tally.fail())
     }
 
     fn finish(&mut self) -> Result<u64, DeviceFault> {
-        let _open = is_open(&self.rt, &self.name, &mut self.file);
+        self.tally.call();
+        let _open = open_if_needed(&self.rt, &self.name, &mut self.file);
         match lines_from(&mut self.file, self.offset) {
             Ok(more) if more <= u64::MAX - self.records => {
                 self.finished = true;
@@ -132,21 +142,23 @@ impl<R: Files + Drop> Device for HostFile<R> {
             }
             _ => {
                 self.finished = false;
-                Err(fail(&mut self.faults))
+                Err(self.tally.fail())
             }
         }
     }
 }
 
 /// The byte behind a line.
-fn after_line(offset: u64, length: usize, ended: bool) -> u64 {
+fn after_line(offset: u64, length: usize, ended: bool) -> u64
+    ensures { result ≡ behind_line offset length ended }
+{
     offset
         .saturating_add(length as u64)
         .saturating_add(u64::from(ended))
 }
 
 /// Opens the file where it is not open, to be read alone where it cannot be written, and says whether it is open.
-fn is_open<R: Files>(rt: &R, name: &Name, file: &mut Option<R::File>) -> bool {
+fn open_if_needed<R: Files>(rt: &R, name: &Name, file: &mut Option<R::File>) -> bool {
     if file.is_some() {
         return true;
     }
@@ -200,9 +212,21 @@ fn next_line<F: Read + Seek>(
     Err(DeviceFault::Failed)
 }
 
+/// Where the first LF stands.
+fn first_end(bytes: &[u8]) -> Option<usize>
+    ensures { IsFirst is_end bytes.now result }
+{
+    for (number, byte) in bytes.iter().enumerate() {
+        if *byte == b'\n' {
+            return Some(number);
+        }
+    }
+    None
+}
+
 /// Puts the bytes before the first LF behind a line, and says whether there is an LF.
 fn add_line(bytes: &[u8], line: &mut Vec<u8>) -> Result<bool, DeviceFault> {
-    let end = bytes.iter().position(|byte| *byte == b'\n');
+    let end = first_end(bytes);
     let part = match end {
         Some(end) => bytes.get(..end).unwrap_or(bytes),
         None => bytes,
@@ -259,7 +283,9 @@ fn line_start<F: Read + Seek>(file: &mut Option<F>, offset: u64) -> Result<u64, 
 }
 
 /// Where the last LF stands.
-fn last_end(bytes: &[u8]) -> Option<usize> {
+fn last_end(bytes: &[u8]) -> Option<usize>
+    ensures { IsLastEnd bytes.now result }
+{
     let mut found = None;
     for (number, byte) in bytes.iter().enumerate() {
         if *byte == b'\n' {

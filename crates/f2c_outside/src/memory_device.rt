@@ -1,7 +1,7 @@
 //! A device in memory, for tests.
 
 ghost use Rattle.std.specs.Prelude.{◌≡◌, ◌+◌, ◌≤◌, ◌∷◌, ◌++◌, [], length, map, IfOk, OnOk, OnErr, IsErr};
-ghost use Rattle.f2c_outside.specs.Device.{HasDeviceCause, DidRead, Wrote, WentBack, Rewound, EndedFile, Finished, written_at};
+ghost use Rattle.f2c_outside.specs.Device.{WasCalled, DidRead, Wrote, WentBack, Rewound, EndedFile, Finished, written_at};
 ghost use Rattle.f2c_outside.specs.Plan.{also_failing};
 ghost use Rattle.f2c_outside.specs.Tape.{tape_state, empty_tape, Gives, TapeCounted, TapeGrowth};
 
@@ -77,8 +77,9 @@ impl Device for MemoryDevice {
     ghost device_state = { tape_state };
 
     fn read_record(&mut self, into: &mut [u8]) -> Got
-        ensures cause { HasDeviceCause (tape_state self.old).faults (tape_state self.new).faults (result ≡ Got.Failed) }
+        ensures called { WasCalled (tape_state self.old) (tape_state self.new) (result ≡ Got.Failed) }
         ensures read { DidRead result (tape_state self.old) (tape_state self.new) into.old into.new }
+        ensures slice { result ≡ Got.Failed → into.new ≡ into.old }
         ensures counted { TapeCounted self.old self.new (result ≡ Got.Failed) }
     {
         if self.plan.next_fails() {
@@ -93,7 +94,7 @@ impl Device for MemoryDevice {
     }
 
     fn write_record(&mut self, bytes: &[u8]) -> Result<(), DeviceFault>
-        ensures cause { HasDeviceCause (tape_state self.old).faults (tape_state self.new).faults (IsErr result) }
+        ensures called { WasCalled (tape_state self.old) (tape_state self.new) (IsErr result) }
         ensures wrote { Wrote bytes.now (tape_state self.old) (tape_state self.new) result }
         ensures counted { TapeGrowth self.old self.new (IsErr result) }
     {
@@ -114,7 +115,7 @@ impl Device for MemoryDevice {
     }
 
     fn back(&mut self) -> Result<(), DeviceFault>
-        ensures cause { HasDeviceCause (tape_state self.old).faults (tape_state self.new).faults (IsErr result) }
+        ensures called { WasCalled (tape_state self.old) (tape_state self.new) (IsErr result) }
         ensures went_back { WentBack (tape_state self.old) (tape_state self.new) result }
         ensures counted { TapeCounted self.old self.new (IsErr result) }
     {
@@ -126,7 +127,7 @@ impl Device for MemoryDevice {
     }
 
     fn rewind(&mut self) -> Result<(), DeviceFault>
-        ensures cause { HasDeviceCause (tape_state self.old).faults (tape_state self.new).faults (IsErr result) }
+        ensures called { WasCalled (tape_state self.old) (tape_state self.new) (IsErr result) }
         ensures rewound { Rewound (tape_state self.old) (tape_state self.new) result }
         ensures counted { TapeCounted self.old self.new (IsErr result) }
     {
@@ -138,7 +139,7 @@ impl Device for MemoryDevice {
     }
 
     fn end_file(&mut self) -> Result<(), DeviceFault>
-        ensures cause { HasDeviceCause (tape_state self.old).faults (tape_state self.new).faults (IsErr result) }
+        ensures called { WasCalled (tape_state self.old) (tape_state self.new) (IsErr result) }
         ensures ended { EndedFile (tape_state self.old) (tape_state self.new) result }
         ensures counted { TapeCounted self.old self.new (IsErr result) }
     {
@@ -151,7 +152,7 @@ impl Device for MemoryDevice {
     }
 
     fn finish(&mut self) -> Result<u64, DeviceFault>
-        ensures cause { HasDeviceCause (tape_state self.old).faults (tape_state self.new).faults (IsErr result) }
+        ensures called { WasCalled (tape_state self.old) (tape_state self.new) (IsErr result) }
         ensures finished { Finished (tape_state self.old) (tape_state self.new) result }
         ensures counted { TapeCounted self.old self.new (IsErr result) }
     {
@@ -181,11 +182,15 @@ fn write_at(records: &mut Vec<Vec<u8>>, position: usize, bytes: &[u8]) -> Result
     requires { position ≤ length records.old.items }
     ensures ok { OnOk result (map (λ r. r.items) records.new.items ≡ written_at position bytes.now (map (λ r. r.items) records.old.items)) }
     ensures room { OnOk result (length records.new.items ≡ position + 1) }
-    ensures err { OnErr result (position ≤ length records.new.items) }
+    ensures err { OnErr result (records.new.items ≡ records.old.items) }
 {
     let alloc = *records.allocator();
     let record = Vec::from_slice(alloc, bytes)?;
-    records.truncate(position);
-    records.push(record)?;
+    if position == records.len() {
+        records.push(record)?;
+    } else {
+        records[position] = record;
+        records.truncate(position + 1);
+    }
     Ok(())
 }

@@ -48,7 +48,7 @@ pub enum ShelfFault {
 /// The files by name and the three streams, of which one place at a time is read or written.
 ///
 /// Its state says what it holds, where it tells that, which place is active, and how many calls have
-/// failed. That count never falls, and `Failed` comes only where it rose in the call.
+/// failed. That count never falls, and `Failed` comes exactly where it rose in the call.
 pub trait Shelf {
     ghost state: { Self → ShelfState };
 

@@ -12,12 +12,15 @@ use crate::memory_device::MemoryDevice;
 use crate::memory_shelf::MemoryShelf;
 use crate::shelves::{Place, Shelf, ShelfFault};
 use crate::texts::{Name, Words};
-use crate::unit_table::{Closed, NotPlaced, UnitFault, UnitRefusal, UnitTable};
+use crate::unit_table::{Closed, NotPlaced, UnitFault, UnitTable};
+use run_state::UnitRefusal;
 use std::alloc::Global;
-use std::fs;
+use std::cell::Cell;
+use std::io::{ErrorKind, Read, Write};
 use std::process::Abort;
 use std::rc::Rc;
 use std::test::Fail;
+use std::{fs, io};
 
 #[test]
 fn words_and_names_are_made(rt: HostRuntime) -> Result<(), Fail> {
@@ -117,97 +120,149 @@ fn each_failing_device_call_is_told(rt: HostRuntime) -> Result<(), Fail> {
     Ok(())
 }
 
-/// A device in memory that holds a token, so that the token tells whether the device was dropped.
+/// What became of the devices of a test: how many were dropped, and how many of these with another call
+/// than a `finish` that succeeded as their last.
 #[derive(Drop)]
-struct Counted {
-    device: MemoryDevice,
-    token: Rc<u8>,
+struct Drops {
+    all: Cell<u32>,
+    unfinished: Cell<u32>,
 }
 
-impl Device for Counted {
+/// A device in memory that tells, where it is dropped, whether its last call finished it.
+struct Watched {
+    device: MemoryDevice,
+    is_finished: bool,
+    drops: Rc<Drops>,
+}
+
+impl Drop for Watched {
+    fn drop(self) {
+        let Watched {
+            device: _,
+            is_finished,
+            drops,
+        } = self;
+        drops.all.set(drops.all.get().saturating_add(1));
+        if !is_finished {
+            drops
+                .unfinished
+                .set(drops.unfinished.get().saturating_add(1));
+        }
+    }
+}
+
+impl Device for Watched {
     ghost device_state = { λ d. tape_state d.device };
 
     fn read_record(&mut self, into: &mut [u8]) -> Got {
+        self.is_finished = false;
         self.device.read_record(into)
     }
 
     fn write_record(&mut self, bytes: &[u8]) -> Result<(), DeviceFault> {
+        self.is_finished = false;
         self.device.write_record(bytes)
     }
 
     fn back(&mut self) -> Result<(), DeviceFault> {
+        self.is_finished = false;
         self.device.back()
     }
 
     fn rewind(&mut self) -> Result<(), DeviceFault> {
+        self.is_finished = false;
         self.device.rewind()
     }
 
     fn end_file(&mut self) -> Result<(), DeviceFault> {
+        self.is_finished = false;
         self.device.end_file()
     }
 
     fn finish(&mut self) -> Result<u64, DeviceFault> {
-        self.device.finish()
+        let finished = self.device.finish();
+        self.is_finished = finished.is_ok();
+        finished
     }
 }
 
-/// A device with the token, the call of which with this number fails.
-fn token_device(alloc: Global, token: &Rc<u8>, fails: u64) -> Result<Box<Counted>, Fail> {
+/// No device has been dropped.
+fn no_drops(alloc: Global) -> Result<Rc<Drops>, Fail> {
+    Ok(Rc::new(
+        alloc,
+        Drops {
+            all: Cell::new(0),
+            unfinished: Cell::new(0),
+        },
+    )?)
+}
+
+/// A watched device, the call of which with this number fails.
+fn watched_device(alloc: Global, drops: &Rc<Drops>, fails: u64) -> Result<Box<Watched>, Fail> {
     let mut device = MemoryDevice::new(alloc)?;
     device.fail_at(fails)?;
-    let token = Rc::clone(token)?;
-    Ok(Box::new(alloc, Counted { device, token })?)
+    let drops = Rc::clone(drops)?;
+    Ok(Box::new(
+        alloc,
+        Watched {
+            device,
+            is_finished: false,
+            drops,
+        },
+    )?)
 }
 
 #[test]
-fn a_unit_is_connected_and_closed_once(rt: HostRuntime) -> Result<(), Fail> {
-    let token = Rc::new(rt.alloc(), 0u8)?;
+fn a_closed_device_is_dropped_once_finished(rt: HostRuntime) -> Result<(), Fail> {
+    let drops = no_drops(rt.alloc())?;
     let mut table = UnitTable::new(rt.alloc())?;
     assert!(rt;
         table
-            .connect(3, token_device(rt.alloc(), &token, 0)?)
+            .connect(3, watched_device(rt.alloc(), &drops, 0)?)
             .is_ok()
     );
-    let refused = table.connect(3, token_device(rt.alloc(), &token, 0)?);
-    assert!(rt; matches!(&refused, Err(NotPlaced::Taken(_))));
-    assert_eq!(rt; Rc::strong_count(&token), 3);
+    let refused = table.connect(3, watched_device(rt.alloc(), &drops, 0)?);
+    assert!(rt; matches!(&refused, Err(NotPlaced::Taken(_))) && drops.all.get() == 0);
+    drop(refused);
+    assert_eq!(rt; (drops.all.get(), drops.unfinished.get()), (1, 1));
     assert!(rt; table.write_to(3, b"A") == Ok(()) && table.write_to(3, b"B") == Ok(()));
     assert!(rt; table.close_unit(3) == Ok(Closed { records: 2 }));
-    assert_eq!(rt; Rc::strong_count(&token), 2);
+    assert_eq!(rt; (drops.all.get(), drops.unfinished.get()), (2, 1));
     assert!(rt; table.close_unit(3) == Err(UnitRefusal::NotConnected));
+    drop(table);
+    assert_eq!(rt; (drops.all.get(), drops.unfinished.get()), (2, 1));
     Ok(())
 }
 
 #[test]
 fn a_failing_finish_keeps_the_device(rt: HostRuntime) -> Result<(), Fail> {
-    let token = Rc::new(rt.alloc(), 0u8)?;
+    let drops = no_drops(rt.alloc())?;
     let mut table = UnitTable::new(rt.alloc())?;
     let name = Name::new(rt.alloc(), b"D")?;
     assert!(rt;
         table
-            .offer(name, token_device(rt.alloc(), &token, 1)?)
+            .offer(name, watched_device(rt.alloc(), &drops, 1)?)
             .is_ok()
     );
     assert!(rt;
         table
-            .connect(7, token_device(rt.alloc(), &token, 0)?)
+            .connect(7, watched_device(rt.alloc(), &drops, 0)?)
             .is_ok()
     );
     assert!(rt;
         table
-            .connect(-3, token_device(rt.alloc(), &token, 1)?)
+            .connect(-3, watched_device(rt.alloc(), &drops, 1)?)
             .is_ok()
     );
     assert!(rt; table.finish_all() == Err(UnitFault { unit: -3 }));
     assert!(rt; table.finish_all() == Ok(()));
     assert!(rt; table.open_unit(4, b"D", true) == Ok(()) && table.zero_blanks(4));
     assert!(rt; table.close_unit(4) == Err(UnitRefusal::Failed));
-    assert!(rt; table.is_connected(4) && Rc::strong_count(&token) == 4);
+    assert!(rt; table.is_connected(4) && drops.all.get() == 0);
     assert!(rt; table.close_unit(4) == Ok(Closed { records: 0 }));
-    assert_eq!(rt; Rc::strong_count(&token), 3);
+    assert_eq!(rt; (drops.all.get(), drops.unfinished.get()), (1, 0));
     drop(table);
-    assert_eq!(rt; Rc::strong_count(&token), 1);
+    assert_eq!(rt; (drops.all.get(), drops.unfinished.get()), (3, 0));
     Ok(())
 }
 
@@ -321,5 +376,79 @@ fn a_stream_takes_and_gives_records(rt: HostRuntime) -> Result<(), Fail> {
     );
     assert!(rt; !does(&mut input, &Rewind));
     fs::remove_file(&rt, path)?;
+    Ok(())
+}
+
+/// A writer that takes so many bytes, at most three at once, and then fails.
+#[derive(Drop)]
+struct ShortWriter {
+    room: usize,
+}
+
+impl Write for ShortWriter {
+    fn write(&mut self, buf: &[u8]) -> io::Result<usize> {
+        if self.room == 0 && !buf.is_empty() {
+            return Err(io::Error::from(ErrorKind::Other));
+        }
+        let count = buf.len().min(3).min(self.room);
+        self.room = self.room.saturating_sub(count);
+        Ok(count)
+    }
+
+    fn flush(&mut self) -> io::Result<()> {
+        Ok(())
+    }
+}
+
+#[test]
+fn a_record_goes_out_whole_or_fails(rt: HostRuntime) -> Result<(), Fail> {
+    for room in 0..8usize {
+        let mut output = HostOutput::new(ShortWriter { room });
+        assert_eq!(rt;
+            output.write_record(b"SIX BY").is_ok(),
+            room == 7,
+            "room {room}"
+        );
+    }
+    Ok(())
+}
+
+/// A reader that gives one byte at a time, and fails before the one at this place.
+#[derive(Drop)]
+struct FailingReader {
+    at: usize,
+    failing: usize,
+}
+
+impl Read for FailingReader {
+    fn read(&mut self, buf: &mut [u8]) -> io::Result<usize> {
+        if self.at == self.failing {
+            return Err(io::Error::from(ErrorKind::Other));
+        }
+        match (b"A\nBC".get(self.at), buf.first_mut()) {
+            (Some(byte), Some(place)) => {
+                *place = *byte;
+                self.at = self.at.saturating_add(1);
+                Ok(1)
+            }
+            _ => Ok(0),
+        }
+    }
+}
+
+#[test]
+fn a_read_error_is_no_end(rt: HostRuntime) -> Result<(), Fail> {
+    for failing in 0..6usize {
+        let mut input = HostInput::new(rt.alloc(), FailingReader { at: 0, failing });
+        let mut into = [0u8; 4];
+        let first = input.read_record(&mut into);
+        assert_eq!(rt; first == Got::Line(1), failing > 1, "first, {failing}");
+        assert_eq!(rt; first == Got::Failed, failing < 2, "first, {failing}");
+        if failing > 1 {
+            let second = input.read_record(&mut into);
+            assert_eq!(rt; second == Got::Line(2), failing > 4, "second, {failing}");
+            assert_eq!(rt; second == Got::Failed, failing < 5, "second, {failing}");
+        }
+    }
     Ok(())
 }

@@ -1,15 +1,17 @@
 //! The table of the external units (ANSI X3.9-1978, section 12).
 
-ghost use Rattle.std.specs.Prelude.{◌≡◌, ◌<◌, ◌++◌, ◌∷◌, [], true, false, length, map, IsTrue, IsSome, Some, IfOk, IfErr, OnOk, OnErr};
+ghost use Rattle.std.specs.Prelude.{◌≡◌, ◌<◌, ◌++◌, ◌∷◌, [], true, false, length, map, IsTrue, IsSome, Some, Err, IfOk, IfErr, OnOk, OnErr};
 ghost use Rattle.f2c_outside.specs.Shown.{shown, holds_unit, holds_name, units_in, distinct_units, next_in};
 ghost use Rattle.f2c_outside.specs.Finishing.{FinishedAll, IsNext, is_above, is_below};
-ghost use Rattle.f2c_outside.specs.Placing.{ComesBack, device_in, zeros_in, BecomesConnected};
-ghost use Rattle.f2c_outside.specs.Units as units;
+ghost use Rattle.f2c_outside.specs.Placing.{ComesBack, device_in, zeros_in, BecomesConnected, HandsOn};
+ghost use Rattle.f2c_outside.specs.Table as table_row;
+ghost use Rattle.run_state.specs.Units as units;
 ghost use Rattle.f2c_outside.specs.Meaning.{Tells, Means, MeansReading, MeansOpening, MeansClosing, units_of, records_of};
 ghost use Rattle.f2c_outside.specs.Table.{Offers, Connects, FinishedOn, OnClosedRow, OpenedUnit, ClosedUnit, reads_zeros, ReadFrom, WrittenTo, BackOn, RewoundOn, EndedOn, OnRow, OnUnit, IsFirst, is_connected};
 
 use crate::devices::{Device, Got};
 use crate::texts::{Name, NoMemory};
+use run_state::UnitRefusal;
 use std::alloc::Global;
 use std::mem;
 use thiserror::Error;
@@ -350,13 +352,45 @@ fn finish_row(row: &mut Row) -> Result<u64, UnitRefusal>
     }
 }
 
-/// Finishes the device of a row, and closes the row where that succeeds.
+/// A device that was taken out of its row, and how many records it has.
+#[derive(Drop)]
+struct Taken {
+    device: Box<dyn Device>,
+    records: u64,
+}
+
+/// Finishes the device of a row and, where that succeeds, takes it out of the row, which is closed.
+fn take_row(row: &mut Row) -> Result<Taken, UnitRefusal>
+    ensures closed { OnOk result (shown (λ b. device_state b) row.new ≡ table_row.Closed) }
+    ensures handed_on { IfOk result (λ taken. HandsOn (shown (λ b. device_state b) row.old) (device_state taken.device) taken.records) }
+    ensures kept { IfErr result (λ refused. OnRow (shown (λ b. device_state b) row.old) (shown (λ b. device_state b) row.new)
+        (λ d m d' m'. FinishedOn d m d' m' (Err refused))) }
+{
+    match mem::replace(row, Row::Closed) {
+        Row::Connected(mut connection) => match connection.finish() {
+            Ok(records) => Ok(Taken {
+                device: device_of(Row::Connected(connection)),
+                records,
+            }),
+            Err(refused) => {
+                *row = Row::Connected(connection);
+                Err(refused)
+            }
+        },
+        other => {
+            *row = other;
+            Err(UnitRefusal::NotConnected)
+        }
+    }
+}
+
+/// Finishes the device of a row and, where that succeeds, closes the row and drops the device.
 fn close_row(row: &mut Row) -> Result<Closed, UnitRefusal>
     ensures { OnClosedRow (shown (λ b. device_state b) row.old) (shown (λ b. device_state b) row.new) result }
 {
-    match finish_row(row) {
-        Ok(records) => {
-            *row = Row::Closed;
+    match take_row(row) {
+        Ok(Taken { device, records }) => {
+            drop(device);
             Ok(Closed { records })
         }
         Err(refused) => Err(refused),
@@ -471,7 +505,7 @@ impl UnitTable {
     ) -> Result<(), UnitRefusal>
         ensures did { OpenedUnit unit name.now zero_blanks (rows_of (λ b. device_state b) self.old) (rows_of (λ b. device_state b) self.new) result }
         ensures means { MeansOpening result (units.open_unit unit name.now zero_blanks (units_of (rows_of (λ b. device_state b) self.old)))
-            (rows_of (λ b. device_state b) self.new) }
+            (rows_of (λ b. device_state b) self.old) (rows_of (λ b. device_state b) self.new) }
     {
         if self.is_connected(unit) {
             return Err(UnitRefusal::Taken);
@@ -621,19 +655,4 @@ pub enum NotPlaced {
     NoMemory(Box<dyn Device>),
     /// The unit is connected.
     Taken(Box<dyn Device>),
-}
-
-/// Why a statement on a unit was refused.
-#[derive(Clone, Copy, Debug, PartialEq, Eq)]
-pub enum UnitRefusal {
-    /// The unit is not connected.
-    NotConnected,
-    /// No device of the drawer has the name.
-    NotOffered,
-    /// The unit is connected.
-    Taken,
-    /// The endfile record has been read or written.
-    PastEnd,
-    /// The device of the unit failed.
-    Failed,
 }

@@ -1,6 +1,6 @@
 -- Calls: what is passed, what the dummy arguments of the entry called are, and what comes back.
 -- ANSI X3.9-1978, section 15 (15.6 subroutines, 15.5 functions, 15.7 ENTRY, 15.8 RETURN, 15.9 arguments).
-use Rattle.std.specs.Prelude.{ℕ, suc, ◌+ℤ◌, ◌-ℤ◌, nat_le, nat_eq, ℤ, pos, int_le, int_lt, Bool, true, false, ◌&&◌, List, [], ◌∷◌, ◌++◌, length, take, map, find, bytes_eq, Option, Some, None, slice_get, if◌then◌else◌}
+use Rattle.std.specs.Prelude.{ℕ, suc, ◌+ℤ◌, ◌-ℤ◌, nat_le, nat_eq, ℤ, pos, int_le, int_lt, Bool, true, false, ◌&&◌, ◌||◌, List, [], ◌∷◌, ◌++◌, length, take, map, find, bytes_eq, Option, Some, None, slice_get, if◌then◌else◌}
 use Rattle.f_tree.specs.declared.names.Basic.{Basic}
 use Rattle.f_tree.specs.declared.names.Basic.TheVariants.{Integer, Logical, Character, Untyped}
 use Rattle.f_tree.specs.declared.names.Class.TheVariants as class
@@ -113,16 +113,30 @@ serves _ a want = false
 pub record Bindings : Type 0 where
   pub names : List Bytes
   pub values : List Datum
+  -- the lengths of the actual arguments
+  pub lengths : List ℕ
   pub labels : List ℕ
 
 unfoldable pub value_for : Bytes → List Bytes → List Datum → Option Datum
 value_for x (y ∷ ys) (d ∷ ds) = if bytes_eq x y then Some d else value_for x ys ds
 value_for x _ _ = None
 
--- a dummy variable or array of a type and a length; none is (*), the length of the actual argument
+unfoldable pub length_for : Bytes → List Bytes → List ℕ → Option ℕ
+length_for x (y ∷ ys) (n ∷ ns) = if bytes_eq x y then Some n else length_for x ys ns
+length_for x _ _ = None
+
+unfoldable pub length_of : Datum → ℕ
+length_of (IsSpot p) = p.width
+length_of _ = 0
+
+unfoldable pub is_array_dummy : Attribute → Bool
+is_array_dummy a = elim a.dimensions [ [] ↦ false | d ∷ ds ↦ true ]
+
+-- a dummy variable or array of a type and a length; none is (*), the length of the actual argument. A dummy variable is no longer than it;
+-- of an array the whole must fit, which its extent guards (15.9.3.1)
 unfoldable pub bound_as : Attribute → Option ℕ → Spot → Checked Datum
 bound_as a None p = Gives (IsSpot p)
-bound_as a (Some n) p = if nat_le n p.width then Gives (IsSpot (record p { width = n })) else Fails Disagreement
+bound_as a (Some n) p = if is_array_dummy a || nat_le n p.width then Gives (IsSpot (record p { width = n })) else Fails Disagreement
 
 unfoldable pub agreed : Attribute → Datum → Checked Datum
 agreed a (IsSpot p) = elim a.class [
@@ -133,10 +147,10 @@ agreed a (IsProc name) = elim a.class [ class.DummyProcedure ↦ Gives (IsProc n
 agreed a _ = Fails Disagreement
 
 unfoldable pub bind_all : ProgramUnit → List Formal → List Datum → Checked Bindings
-bind_all u [] [] = Gives (record { names = []; values = []; labels = [] })
+bind_all u [] [] = Gives (record { names = []; values = []; lengths = []; labels = [] })
 bind_all u (Named x ∷ formals) (d ∷ ds) =
     given_that (agreed (u.attribute x) d) (λ b. given_that (bind_all u formals ds) (λ bs.
-    Gives (record bs { names = x ∷ bs.names; values = b ∷ bs.values })))
+    Gives (record bs { names = x ∷ bs.names; values = b ∷ bs.values; lengths = length_of d ∷ bs.lengths })))
 bind_all u (Alternate ∷ formals) (IsLabel l ∷ ds) = given_that (bind_all u formals ds) (λ bs. Gives (record bs { labels = l ∷ bs.labels }))
 bind_all u _ _ = Fails Disagreement
 
@@ -185,6 +199,7 @@ unfoldable pub frame_of : EntryPoint → Bindings → Option Spot → ℕ → Fr
 frame_of e bs result base = record {
   called = e;
   bound = λ x. value_for x bs.names bs.values;
+  lengths = λ x. length_for x bs.names bs.lengths;
   alternates = bs.labels;
   dimensions = λ x. None;
   result = result;
@@ -250,5 +265,5 @@ unfoldable pub resume : Facts → View → Datum → World → Entry fortran_sor
 resume c v d w = resumed_by c v v.now d w
 
 unfoldable pub association_opened : Unit {0}
-unfolding sequence_of basic_of made passing_one passing_more passing result_place ready_for passed_procedure procedure_named called_as call entry_of same_basic same_width serves value_for bound_as agreed bind_all integer_of sized dimension_by dimensions_by all_dimensions_by bounds_for result_of with_result frame_of begun_with begun_bound begun_at start cut_to alternate_of result_given result_from answer returned resumed_by resume
+unfolding sequence_of basic_of made passing_one passing_more passing result_place ready_for passed_procedure procedure_named called_as call entry_of same_basic same_width serves value_for length_for length_of is_array_dummy bound_as agreed bind_all integer_of sized dimension_by dimensions_by all_dimensions_by bounds_for result_of with_result frame_of begun_with begun_bound begun_at start cut_to alternate_of result_given result_from answer returned resumed_by resume
 association_opened = tt

@@ -273,7 +273,7 @@ unfoldable pub no_facts : Facts
 no_facts = record { program = no_program; home = λ x. None }
 
 unfoldable pub no_frame : Frame
-no_frame = record { called = no_entry; bound = λ x. None; alternates = []; dimensions = λ x. None; result = None; base = 0 }
+no_frame = record { called = no_entry; bound = λ x. None; lengths = λ x. None; alternates = []; dimensions = λ x. None; result = None; base = 0 }
 
 unfoldable pub value_if_valued : Red Datum Term → Option Datum
 value_if_valued (Valued d) = Some d

@@ -11,9 +11,9 @@ use Rattle.f_tree.specs.declared.units.Unit.{Unit as WrittenUnit}
 use Rattle.f_tree.specs.declared.units.File.{File}
 use Rattle.f_tree.specs.declared.units.FileSet.{FileSet}
 use Rattle.f_tree.specs.Values.{Bytes, Datum, IsInt, IsLog, IsText, IsSpot, IsProc, IsLabel, Nothing, NoMeaning}
-use Rattle.f_tree.specs.Terms.{Prefix, Negate, Complement, Operator, Add, Subtract, Multiply, Divide, IsLess, IsLessOrEqual, IsEqual, IsNotEqual, IsGreater, IsGreaterOrEqual, Both, Either, Same, Different, Function, Power, Truncation, Magnitude, Remainder, SignTransfer, PositiveDifference, Largest, Smallest, CharacterCode, CharacterOfCode, TextLength, IndexOf, LexicallyGreaterOrEqual, LexicallyGreater, LexicallyLessOrEqual, LexicallyLess, Front, Fitted, Wanted, AsSubroutine, AsFunction, Term, Val, Fetch, At, All, Element, Alone, Part, Joined, Before as Prefixed, Between, Intrinsically, Refer, Bind, Bound, Terms, NoMore, More}
-use Rattle.f_tree.specs.Facts.{Dimension, Attribute, UnitKind, FunctionUnit, EntryPoint, Direction, Output, Layout, Listed, Labelled, Computed, Unformatted, Word, UnitWord, StatusWord, Controls, Job, Item, Repeated, Turn, Work, Done, Before, Head, ToSet, ToSetText, ToSetLabel, ToGo, ToPick, ToGoAssigned, ToGoBySign, ToGuard, ToEnterArm, ToLoop, ToCall, ToReturn, ToStop, ToBegin, ToAuxiliary, ToEnd, Form, Passes, On, Mark, Plain, Opens, Arm, Closes, Line, ProgramUnit, Facts, Home}
-use Rattle.f_tree.specs.Places.{place_of_label}
+use Rattle.f_tree.specs.Terms.{Prefix, Negate, Complement, Operator, Add, Subtract, Multiply, Divide, IsLess, IsLessOrEqual, IsEqual, IsNotEqual, IsGreater, IsGreaterOrEqual, Both, Either, Same, Different, Function, Power, Truncation, Magnitude, Remainder, SignTransfer, PositiveDifference, Largest, Smallest, CharacterCode, CharacterOfCode, TextLength, IndexOf, LexicallyGreaterOrEqual, LexicallyGreater, LexicallyLessOrEqual, LexicallyLess, Front, Fitted, InclusiveOr, LogicalProduct, ExclusiveOr, BitComplement, BitShift, BitTest, BitSet, BitClear, Wanted, AsSubroutine, AsFunction, Term, Val, Fetch, At, All, Element, Alone, Part, Joined, Before as Prefixed, Between, Intrinsically, Refer, Bind, Bound, Terms, NoMore, More}
+use Rattle.f_tree.specs.Facts.{Dimension, Attribute, UnitKind, FunctionUnit, EntryPoint, Direction, Output, Layout, Listed, Labelled, Computed, Unformatted, Word, UnitWord, StatusWord, Controls, Job, Item, Repeated, Turn, Work, Done, Before, Head, ToSet, ToSetText, ToSetLabel, ToGo, ToPick, ToGoAssigned, ToGoBySign, ToGuard, ToEnterArm, ToLoop, ToTestLoop, ToCall, ToReturn, ToStop, ToBegin, ToAuxiliary, ToEnd, Form, Passes, On, Mark, Plain, Opens, Arm, Closes, Line, ProgramUnit, Facts, Home}
+use Rattle.f_tree.specs.Places.{place_of_label, terminal_of}
 use Rattle.f_tree.specs.Transfers.{labelled_text}
 use Rattle.f_tree.specs.Valuing.{elements_of}
 use Rattle.f_tree.specs.Association.{same_basic}
@@ -23,7 +23,7 @@ use Rattle.f_tree.specs.Setting.{Setting, IsIn}
 use Rattle.f_tree.specs.Meaning.{units_of, facts_at}
 use Rattle.f_tree.specs.Runs.{no_options, setting_apart, MeetsApart}
 use Rattle.f_tree.specs.WellTyped.{Sort, ValueOf, PlaceOf, AProcedure, ALabel, Absent, integers_of, rank_of, is_variable, is_procedure_name, has_size, is_callee}
-use Rattle.f_tree.specs.WellFormed.{unit_sort, names_format, is_given, loop_sorts, has_arm, is_dummy, AreWellFormed}
+use Rattle.f_tree.specs.WellFormed.{unit_sort, takes_step, names_format, is_given, loop_sorts, has_arm, is_dummy, AreWellFormed}
 
 -- CHOICES
 unfoldable pub if_some : {A B : Type 0} → Option A → (A → Option B) → Option B
@@ -134,7 +134,7 @@ applied_basic Largest sorts = extreme_basic sorts
 applied_basic Smallest sorts = extreme_basic sorts
 applied_basic CharacterCode sorts = provided (same_sorts (ValueOf Character ∷ []) sorts) Integer
 applied_basic CharacterOfCode sorts = provided (same_sorts (ValueOf Integer ∷ []) sorts) Character
-applied_basic TextLength sorts = provided (same_sorts (ValueOf Character ∷ []) sorts || same_sorts (PlaceOf Character ∷ []) sorts) Integer
+applied_basic TextLength sorts = provided (is_not_empty sorts && are_pieces sorts) Integer
 applied_basic IndexOf sorts = provided (same_sorts (ValueOf Character ∷ ValueOf Character ∷ []) sorts) Integer
 applied_basic LexicallyGreaterOrEqual sorts = provided (same_sorts (ValueOf Character ∷ ValueOf Character ∷ []) sorts) Logical
 applied_basic LexicallyGreater sorts = provided (same_sorts (ValueOf Character ∷ ValueOf Character ∷ []) sorts) Logical
@@ -142,6 +142,14 @@ applied_basic LexicallyLessOrEqual sorts = provided (same_sorts (ValueOf Charact
 applied_basic LexicallyLess sorts = provided (same_sorts (ValueOf Character ∷ ValueOf Character ∷ []) sorts) Logical
 applied_basic (Front n) sorts = provided (same_sorts (ValueOf Character ∷ []) sorts) Character
 applied_basic (Fitted n) sorts = provided (same_sorts (ValueOf Character ∷ []) sorts) Character
+applied_basic InclusiveOr sorts = provided (same_sorts (ValueOf Integer ∷ ValueOf Integer ∷ []) sorts) Integer
+applied_basic LogicalProduct sorts = provided (same_sorts (ValueOf Integer ∷ ValueOf Integer ∷ []) sorts) Integer
+applied_basic ExclusiveOr sorts = provided (same_sorts (ValueOf Integer ∷ ValueOf Integer ∷ []) sorts) Integer
+applied_basic BitComplement sorts = provided (same_sorts (ValueOf Integer ∷ []) sorts) Integer
+applied_basic BitShift sorts = provided (same_sorts (ValueOf Integer ∷ ValueOf Integer ∷ []) sorts) Integer
+applied_basic BitTest sorts = provided (same_sorts (ValueOf Integer ∷ ValueOf Integer ∷ []) sorts) Logical
+applied_basic BitSet sorts = provided (same_sorts (ValueOf Integer ∷ ValueOf Integer ∷ []) sorts) Integer
+applied_basic BitClear sorts = provided (same_sorts (ValueOf Integer ∷ ValueOf Integer ∷ []) sorts) Integer
 
 -- TERMS, over so many sequences of storage
 unfoldable pub datum_sort : ℕ → Datum → Option Sort
@@ -170,7 +178,7 @@ unfoldable mutual
   sort_of c count env (Element x ts) =
       provided (is_variable (c.program.attribute x).class && are_sorts (integers_of (rank_of c x)) (sorts_of c count env ts)) (PlaceOf (c.program.attribute x).basic)
   sort_of c count env (Alone t) = if_some (placed_basic (sort_of c count env t)) (λ basic. Some (PlaceOf basic))
-  sort_of c count env (Part t from to) =
+  sort_of c count env (Part x t from to) =
       provided (is_sort (PlaceOf Character) (sort_of c count env t) && (is_sort (ValueOf Integer) (sort_of c count env from) && is_some_such (sort_of c count env to) is_last))
       (PlaceOf Character)
   sort_of c count env (Joined ts) = if_some (sorts_of c count env ts) (λ sorts. provided (are_pieces sorts) (ValueOf Character))
@@ -191,8 +199,8 @@ unfoldable mutual
 unfoldable pub has_statement : ProgramUnit → ℕ → Bool
 has_statement u label = is_some (place_of_label u label)
 
-unfoldable pub has_terminal : ProgramUnit → ℕ → Bool
-has_terminal u label = is_some_such (place_of_label u label) (λ at. nat_lt (suc at) (length u.lines))
+unfoldable pub has_terminal : ProgramUnit → ℕ → Option ℕ → Bool
+has_terminal u first label = is_some_such (terminal_of u first label) (λ at. nat_lt (suc at) (length u.lines))
 
 unfoldable pub each_stands : ProgramUnit → List ℕ → Bool
 each_stands u [] = true
@@ -272,7 +280,9 @@ unfoldable mutual
       each_stands c.program (below ∷ even ∷ above ∷ []) && same_sorts (ValueOf Integer ∷ []) sorts
   takes c count at (ToGuard form) sorts = is_formed c count at form && same_sorts (ValueOf Logical ∷ []) sorts
   takes c count at ToEnterArm sorts = is_arm (slice_get c.program.lines at) && same_sorts (ValueOf Logical ∷ []) sorts
-  takes c count at (ToLoop label) sorts = has_terminal c.program label && same_sorts loop_sorts sorts
+  takes c count at (ToLoop label) sorts = has_terminal c.program at label && same_sorts loop_sorts sorts
+  takes c count at (ToTestLoop label) sorts =
+      (is_some_such (slice_get c.program.lines at) (λ line. takes_step line.form) && has_terminal c.program at label) && same_sorts (ValueOf Logical ∷ []) sorts
   takes c count at (ToCall x) sorts = is_callee (c.program.attribute x).class && are_passed c.program sorts
   takes c count at ToReturn sorts = same_sorts [] sorts || same_sorts (ValueOf Integer ∷ []) sorts
   takes c count at (ToStop text) sorts = same_sorts [] sorts
@@ -445,5 +455,5 @@ pub record IsIllFormed (set : FileSet) (n : ℕ) : Type 0 where
   pub not_formed : AreWellFormed (setting_apart (units_of no_options set)) (units_of no_options set) → ⊥
 
 unfoldable pub checks_opened : Unit {0}
-unfolding same_basic is_variable is_procedure_name has_size is_callee unit_sort names_format is_given has_arm is_dummy if_some provided is_some_such is_valued same_sort same_sorts is_sort are_sorts placed_basic valued_basic is_piece are_pieces is_last prefixed_basic over_integers over_logicals over_ordered operated_basic extreme_basic applied_basic datum_sort name_sort referred_sort sort_of sorts_of has_statement has_terminal each_stands may_stand word_takes words_take has_layout is_listed is_job_formed is_work_formed is_passed are_passed is_set are_pieces_and_place is_arm controls_stand takes is_formed are_formed ends_unit is_end is_plain is_last_line depth_behind is_nest has_home is_stored_well is_integer_variable is_integer is_negation is_power is_arithmetic are_two is_of_variables are_of_variables is_upper are_dimensions is_function is_scalar has_what_it_wants is_name_formed are_names_formed are_entries_within is_unit_formed are_units_formed written_in is_set_formed are_sets_formed
+unfolding takes_step same_basic is_variable is_procedure_name has_size is_callee unit_sort names_format is_given has_arm is_dummy if_some provided is_some_such is_valued same_sort same_sorts is_sort are_sorts placed_basic valued_basic is_piece are_pieces is_last prefixed_basic over_integers over_logicals over_ordered operated_basic extreme_basic applied_basic datum_sort name_sort referred_sort sort_of sorts_of has_statement has_terminal each_stands may_stand word_takes words_take has_layout is_listed is_job_formed is_work_formed is_passed are_passed is_set are_pieces_and_place is_arm controls_stand takes is_formed are_formed ends_unit is_end is_plain is_last_line depth_behind is_nest has_home is_stored_well is_integer_variable is_integer is_negation is_power is_arithmetic are_two is_of_variables are_of_variables is_upper are_dimensions is_function is_scalar has_what_it_wants is_name_formed are_names_formed are_entries_within is_unit_formed are_units_formed written_in is_set_formed are_sets_formed
 checks_opened = tt

@@ -121,8 +121,10 @@ mutual
     ToGuard : Form → Head
     -- the condition of a block; the next arm follows where it does not hold
     ToEnterArm : Head
-    -- the variable, the first value, the limit and the step; the label of the terminal statement
-    ToLoop : ℕ → Head
+    -- the variable, the first value, the limit and the step; the label of the terminal statement, which is an END DO where none is written
+    ToLoop : Option ℕ → Head
+    -- the condition of a DO WHILE; the label of its terminal statement, if one is written
+    ToTestLoop : Option ℕ → Head
     ToCall : Bytes → Head
     -- the number of the alternate return, if it is written
     ToReturn : Head
@@ -155,9 +157,20 @@ pub data Mark : Type 0 where
   -- END IF
   Closes : Mark
 
+-- how a statement stands in the nest of the loops that END DO ends (MIL-STD-1753)
+pub data LoopMark : Type 0 where
+  NoLoop : LoopMark
+  -- a DO or a DO WHILE without a label
+  OpensLoop : LoopMark
+  -- an END DO that is no terminal statement of a DO with a label
+  ClosesLoop : LoopMark
+
 pub record Line : Type 0 where
   pub label : Option ℕ
   pub mark : Mark
+  pub loop : LoopMark
+  -- the card on which the statement begins
+  pub card : ℕ
   pub form : Form
 
 -- the text of a FORMAT statement, by its label (13.1.1)
@@ -237,6 +250,8 @@ pub record Facts : Type 0 where
 pub record Frame : Type 0 where
   pub called : EntryPoint
   pub bound : Bytes → Option Datum
+  -- the length of the actual argument of a dummy of type CHARACTER, of an array that of an element
+  pub lengths : Bytes → Option ℕ
   -- where its alternate returns go, in their order
   pub alternates : List ℕ
   pub dimensions : Bytes → Option (List Bounds)

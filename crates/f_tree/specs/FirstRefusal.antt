@@ -23,18 +23,19 @@ most_bytes = 16777216
 unfoldable pub most_cards : ℕ
 most_cards = 65536
 
--- A statement spells a tree: its text is of the kind and spells what the tree says, with the label and the card.
-pub record SpellsStatement (first : Bool) (kind : StatementKind) (source : Statement) (tree : Stmt) : Type 0 where
+-- A statement of the file with a number spells a tree: its text is of the kind and spells what the tree says, with the file, the label and the card.
+pub record SpellsStatement (file : ℕ) (first : Bool) (kind : StatementKind) (source : Statement) (tree : Stmt) : Type 0 where
   pub of_kind : kind_of first (is_some source.label) source.text ≡ Some kind
   pub spells : Spells (is_some source.label) kind source.text tree.body
+  pub in_file : tree.file ≡ file
   pub label : tree.label ≡ source.label
   pub card : tree.card ≡ source.card
 
 -- Statements spell those of a program unit: END is the last of them, and no other. Section 3.5.
-pub data SpellsUnit : Bool → List Statement → List Stmt → Type 0 where
-  ends : (first : Bool) (source : Statement) (tree : Stmt) → SpellsStatement first End source tree → SpellsUnit first (source ∷ []) (tree ∷ [])
+pub data SpellsUnit (file : ℕ) : Bool → List Statement → List Stmt → Type 0 where
+  ends : (first : Bool) (source : Statement) (tree : Stmt) → SpellsStatement file first End source tree → SpellsUnit file first (source ∷ []) (tree ∷ [])
   goes_on : (first : Bool) (kind : StatementKind) (source : Statement) (tree : Stmt) (sources : List Statement) (trees : List Stmt)
-      → kind ≢ End → SpellsStatement first kind source tree → SpellsUnit false sources trees → SpellsUnit first (source ∷ sources) (tree ∷ trees)
+      → kind ≢ End → SpellsStatement file first kind source tree → SpellsUnit file false sources trees → SpellsUnit file first (source ∷ sources) (tree ∷ trees)
 
 -- The card of the first of some statements.
 unfoldable pub card_of_first : List Stmt → ℕ
@@ -49,7 +50,7 @@ main_program file trees =
 -- The bytes of the file with the number spell the tree: one main program.
 pub record SpellsFile (file : ℕ) (bytes : List ℕ) (tree : File) : Type 0 where
   pub trees : List Stmt
-  pub spelled : SpellsUnit true (statements_of_file bytes) trees
+  pub spelled : SpellsUnit file true (statements_of_file bytes) trees
   pub units : tree.units ≡ main_program file trees ∷ []
 
 pub data SpellsFrom : ℕ → List (List ℕ) → List File → Type 0 where
@@ -67,15 +68,15 @@ is_clean bytes = list_all (λ b. not (b == 9) && not (b == 13)) bytes
 
 -- A line is a card of the form that is built: blank columns 1 to 6 and one statement in columns 7 to 72, END on the last card and on no
 -- other. Cards are counted from 0 here.
-pub record HasForm (place : ℕ) (last : Bool) (line : List ℕ) (kind : StatementKind) (tree : Stmt) : Type 0 where
+pub record HasForm (file place : ℕ) (last : Bool) (line : List ℕ) (kind : StatementKind) (tree : Stmt) : Type 0 where
   pub clean : is_clean (take 72 line) ≡ true
   pub blank : take 6 (columns line) ≡ replicate 6 32
-  pub spells : SpellsStatement (place == 0) kind (statement (suc place) (replicate 5 32) (drop 6 (columns line)) []) tree
+  pub spells : SpellsStatement file (place == 0) kind (statement (suc place) (replicate 5 32) (drop 6 (columns line)) []) tree
   pub ends : (last ≡ true) → kind ≡ End
   pub goes_on : (last ≡ false) → kind ≢ End
 
 abbrev pub IsOfForm : ℕ → Bool → List ℕ → Type 0
-IsOfForm place last line = (kind : StatementKind) × (tree : Stmt) × HasForm place last line kind tree
+IsOfForm place last line = (kind : StatementKind) × (tree : Stmt) × HasForm tree.file place last line kind tree
 
 -- The number of the card that has the byte at a place, counted from 0.
 unfoldable pub card_of_byte : List ℕ → ℕ → ℕ

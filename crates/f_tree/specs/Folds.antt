@@ -59,6 +59,7 @@ module _ {A : Type 0} (layer : body.Body-F A → A) where
   fold_body (whole.Common groups) = layer (body.Common groups)
   fold_body (whole.Equivalence groups) = layer (body.Equivalence groups)
   fold_body (whole.Implicit groups) = layer (body.Implicit groups)
+  fold_body whole.ImplicitNone = layer body.ImplicitNone
   fold_body (whole.Parameter items) = layer (body.Parameter items)
   fold_body (whole.External xs) = layer (body.External xs)
   fold_body (whole.Intrinsic xs) = layer (body.Intrinsic xs)
@@ -78,12 +79,15 @@ module _ {A : Type 0} (layer : body.Body-F A → A) where
   fold_body whole.Else = layer body.Else
   fold_body whole.EndIf = layer body.EndIf
   fold_body (whole.Do label control) = layer (body.Do label control)
+  fold_body (whole.DoWhile label e) = layer (body.DoWhile label e)
+  fold_body whole.EndDo = layer body.EndDo
   fold_body whole.Continue = layer body.Continue
   fold_body (whole.Call x es) = layer (body.Call x es)
   fold_body (whole.Return e) = layer (body.Return e)
   fold_body (whole.Stop text) = layer (body.Stop text)
   fold_body (whole.Transfer way controls items) = layer (body.Transfer way controls items)
   fold_body (whole.Auxiliary which controls) = layer (body.Auxiliary which controls)
+  fold_body (whole.Include name) = layer (body.Include name)
   fold_body whole.End = layer body.End
 
 -- a statement with the statement of a logical IF in it
@@ -94,6 +98,7 @@ layer_of (whole.Dimension items) = body.Dimension items
 layer_of (whole.Common groups) = body.Common groups
 layer_of (whole.Equivalence groups) = body.Equivalence groups
 layer_of (whole.Implicit groups) = body.Implicit groups
+layer_of whole.ImplicitNone = body.ImplicitNone
 layer_of (whole.Parameter items) = body.Parameter items
 layer_of (whole.External xs) = body.External xs
 layer_of (whole.Intrinsic xs) = body.Intrinsic xs
@@ -113,12 +118,15 @@ layer_of (whole.ElseIf e) = body.ElseIf e
 layer_of whole.Else = body.Else
 layer_of whole.EndIf = body.EndIf
 layer_of (whole.Do label control) = body.Do label control
+layer_of (whole.DoWhile label e) = body.DoWhile label e
+layer_of whole.EndDo = body.EndDo
 layer_of whole.Continue = body.Continue
 layer_of (whole.Call x es) = body.Call x es
 layer_of (whole.Return e) = body.Return e
 layer_of (whole.Stop text) = body.Stop text
 layer_of (whole.Transfer way controls items) = body.Transfer way controls items
 layer_of (whole.Auxiliary which controls) = body.Auxiliary which controls
+layer_of (whole.Include name) = body.Include name
 layer_of whole.End = body.End
 
 -- the last two open what a written tree keeps hidden

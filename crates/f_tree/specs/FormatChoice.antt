@@ -1,34 +1,34 @@
--- Whether a text is a format, by which a transfer goes. ANSI X3.9-1978, section 13.1.
-use Rattle.std.specs.Prelude.{ℕ, nat_le, Bool, true, false, [], ◌∷◌, Option, Some, None, if◌then◌else◌}
-use Rattle.edit_rules.specs.Formats.{Format}
-use Rattle.edit_rules.specs.FormatTexts.{State, next_state, starting, format_of, format_end}
-use Rattle.f_tree.specs.Values.{Bytes}
+-- Whether characters are a format, by which a transfer goes. ANSI X3.9-1978, section 13.1: what stands behind its closing
+-- parenthesis does not count, and may be undefined.
+use Rattle.std.specs.Prelude.{ℕ, suc, nat_le, List, [], ◌∷◌, Option, Some, None, if◌then◌else◌}
+use Rattle.edit_meaning.specs.Formats.{Format}
+use Rattle.edit_meaning.specs.FormatTexts.{State, Going, Done, next_state, starting}
 
+-- what characters begin with
 pub data Found : Type 0 where
   IsFormat : Format → Found
-  -- no format, or one of more than 2,048 characters
+  -- no format, as a character stands where no format goes on, or one of more than 2,048 characters
   NoFormat : Found
-  -- a text that ends before a format does that begins so
+  -- a character of it that is undefined
+  NotDefined : Found
+  -- they end before a format does that begins so
   TooShort : Found
 
--- does a format go on with each character of a text
-unfoldable pub goes_on : Option State → Bytes → Bool
-goes_on None cs = false
-goes_on (Some state) [] = true
-goes_on (Some state) (c ∷ cs) = goes_on (next_state state c) cs
+unfoldable pub led_on : Option State → (State → Found) → Found
+led_on None later = NoFormat
+led_on (Some state) later = later state
 
-unfoldable pub is_short_enough : Option ℕ → Bool
-is_short_enough None = false
-is_short_enough (Some size) = nat_le size 2048
+-- the format that goes on with these characters, behind so many others; of one that is undefined there is none
+unfoldable pub format_from : ℕ → List (Option ℕ) → State → Found
+format_from size cs (Done format) = if nat_le size 2048 then IsFormat format else NoFormat
+format_from size [] (Going mode made outer) = TooShort
+format_from size (None ∷ cs) (Going mode made outer) = NotDefined
+format_from size (Some c ∷ cs) (Going mode made outer) = led_on (next_state (Going mode made outer) c) (λ state. format_from (suc size) cs state)
 
-unfoldable pub found_by : Option Format → Bytes → Found
-found_by (Some format) text = if is_short_enough (format_end text) then IsFormat format else NoFormat
-found_by None text = if goes_on (Some starting) text then TooShort else NoFormat
-
--- the format at the front of a text
-unfoldable pub format_found : Bytes → Found
-format_found text = found_by (format_of text) text
+-- the format at the front of characters, which are come to one after the other
+unfoldable pub format_found : List (Option ℕ) → Found
+format_found cs = format_from 0 cs starting
 
 unfoldable pub format_choice_opened : Unit {0}
-unfolding goes_on is_short_enough found_by format_found format_of format_end
+unfolding led_on format_from format_found
 format_choice_opened = tt

@@ -1,41 +1,42 @@
 -- What a run of well-formed units holds to at each of its steps, and what each of its parts comes to: a step, the
 -- beginning of a procedure and an answer to a call. Of none of them is there no meaning.
 -- ANSI X3.9-1978, sections 11.10 (active loops), 12.9 (transfers) and 15 (procedures).
-use Rattle.std.specs.Prelude.{◌≡◌, ℕ, suc, ◌<◌, ◌≤◌, ℤ, List, [], ◌∷◌, length, Option, Some, None, IsTrue}
+use Rattle.std.specs.Prelude.{◌≡◌, ℕ, suc, ◌<◌, ◌≤◌, ℤ, List, [], ◌∷◌, length, Option, Some, None, slice_get, IsTrue}
 use Rattle.simulation.specs.Machine.{Goes, Ends, Calls, Answers, Breaks, Entry, Enters, Refused, Frame as Active, Has, Runs, Over, Broken}
-use Rattle.edit_rules.specs.ListInput.{Place, Inside}
-use Rattle.f2c_outside.specs.Units.{Units}
+use Rattle.edit_meaning.specs.ListInput.{Place, Inside}
+use Rattle.run_state.specs.Units.{Units}
+use Rattle.run_state.specs.Endings as ending
 use Rattle.f_tree.specs.declared.names.Basic.{Basic}
 use Rattle.f_tree.specs.declared.names.Basic.TheVariants.{Integer, Logical, Character}
 use Rattle.f_tree.specs.declared.names.Options.{Options}
 use Rattle.f_tree.specs.declared.units.File.{File}
 use Rattle.f_tree.specs.Values.{Spot, Datum, IsSpot, IsLabel, Nothing, Act, NoMeaning}
 use Rattle.f_tree.specs.Terms.{Wanted, AsSubroutine, AsFunction, NoMore}
-use Rattle.f_tree.specs.Facts.{UnitKind, MainProgram, SubroutineUnit, FunctionUnit, Direction, Head, ToEnd, Form, On, ProgramUnit, Facts, Frame}
-use Rattle.f_tree.specs.World.{Medium, External, Internal, Transfer, World, View, Counted, Round, Now, Doing, Turning, Waits, Returning, Called, Passed, Ending, fortran_sorts, Happening}
+use Rattle.f_tree.specs.Facts.{UnitKind, MainProgram, SubroutineUnit, FunctionUnit, Direction, Head, ToEnd, Form, On, Line, ProgramUnit, Facts, Frame}
+use Rattle.f_tree.specs.World.{Medium, External, Internal, Transfer, World, View, Counted, While, RoundKind, Round, Now, Doing, Turning, Waits, Returning, Called, Passed, Ending, fortran_sorts, Happening}
 use Rattle.f_tree.specs.Association.{start, resume}
 use Rattle.f_tree.specs.Step.{step, deed}
 use Rattle.f_tree.specs.FirstRefusal.{IsSpelled}
 use Rattle.f_tree.specs.Setting.{Setting, IsSetting, IsIn}
 use Rattle.f_tree.specs.Meaning.{RunState, units_of, ftn, act_of, answers_to}
 use Rattle.f_tree.specs.WellTyped.{Sort, ValueOf, PlaceOf, IsOf, AreOf, is_named, IsAnswer, IsValued, Sound}
-use Rattle.f_tree.specs.WellFormed.{HasStatement, MayStand, Takes, IsFormed, IsWellFormed, AreWellFormed}
+use Rattle.f_tree.specs.WellFormed.{HasStatement, takes_step, MayStand, Takes, IsFormed, IsWellFormed, AreWellFormed}
 
 -- a statement with a place behind it, and END
 pub data HasRoom (u : ProgramUnit) (at : ℕ) : Form → Type 0 where
   at_end : HasRoom u at (On ToEnd NoMore)
   before_end : (form : Form) → suc at < length u.lines → HasRoom u at form
 
--- active loops: their statements, and their variables
+-- what an active loop goes on by: a variable, or the test at its statement
+pub data GoesBy (u : ProgramUnit) (count : ℕ) (first : ℕ) : RoundKind → Type 0 where
+  by_count : (variable : Spot) (left : ℕ) (by given : ℤ) → IsOf count (PlaceOf Integer) (IsSpot variable) → GoesBy u count first (Counted variable left by given)
+  by_test : (line : Line) → slice_get u.lines first ≡ Some line → IsTrue (takes_step line.form) → GoesBy u count first While
+
+-- active loops: their statements, and what they go on by
 pub record IsRound (u : ProgramUnit) (count : ℕ) (round : Round) : Type 0 where
   pub first_room : suc round.first < length u.lines
   pub last_room : suc round.last < length u.lines
-  pub variable : Spot
-  pub left : ℕ
-  pub by : ℤ
-  pub given : ℤ
-  pub kind_is : round.kind ≡ Counted variable left by given
-  pub placed : IsOf count (PlaceOf Integer) (IsSpot variable)
+  pub goes_by : GoesBy u count round.first round.kind
 
 pub data AreRounds (u : ProgramUnit) (count : ℕ) : List Round → Type 0 where
   no_rounds : AreRounds u count []
@@ -59,7 +60,8 @@ pub record IsHolding (c : Facts) (least : ℕ) (want : Wanted) (count : ℕ) (v 
 -- what it does next
 pub data IsNext (c : Facts) (count : ℕ) (v : View) : Option Direction → Now → Type 0 where
   doing : (stage : Option Direction) (form : Form) → IsFormed c count v.at stage form → HasRoom c.program v.at form → IsNext c count v stage (Doing form)
-  turning : (round : Round) (rounds : List Round) → v.loops ≡ round ∷ rounds → IsNext c count v None Turning
+  turning : (first last : ℕ) (variable : Spot) (left : ℕ) (by given : ℤ) (rounds : List Round) →
+      v.loops ≡ record { first = first; last = last; kind = Counted variable left by given } ∷ rounds → IsNext c count v None Turning
 
 pub record IsActive (c : Facts) (least : ℕ) (want : Wanted) (count : ℕ) (stage : Option Direction) (v : View) : Type 0 where
   pub holding : IsHolding c least want count v
@@ -122,12 +124,18 @@ pub data IsReply (labels : ℕ → Type 0) : Wanted → Datum → Type 0 where
   a_label : (label : ℕ) → labels label → IsReply labels AsSubroutine (IsLabel label)
   a_value : (basic : Basic) (width : ℕ) (d : Datum) → IsOf 0 (ValueOf basic) d → IsReply labels (AsFunction basic width) d
 
+-- how a run ends: at END or STOP, or by the number of an input or output statement. A place outside its declared bounds ends none: it is an act
+pub data IsEnding : Ending → Type 0 where
+  plainly : IsEnding ending.Plain
+  by_text : (text : List ℕ) → IsEnding (ending.Stop text)
+  by_number : (number : ℤ) → IsEnding (ending.Io number)
+
 -- WHAT A STEP COMES TO: the procedure goes on, the run ends, a procedure is called, it answers, or an act that is named stands in its way
 pub data Happens (c : Facts) (least : ℕ) (want : Wanted) (stage : Option Direction) (v : View) (w : World) : Happening → Type 0 where
   it_goes : (later : Option Direction) (v' : View) (w' : World) → v'.frame ≡ v.frame → length w'.store ≡ length w.store →
       IsActive c least want (length w.store) later v' → IsStaged c.program (length w.store) later w'.transfer →
       of_others later w'.transfer ≡ of_others stage w.transfer → Happens c least want stage v w (Goes v' w')
-  it_ends : (e : Ending) (v' : View) (w' : World) → Happens c least want stage v w (Ends e v' w')
+  it_ends : (e : Ending) (v' : View) (w' : World) → IsEnding e → Happens c least want stage v w (Ends e v' w')
   it_calls : (v' : View) (w' : World) (name : Called) (passed : Passed) → v'.frame ≡ v.frame → length w.store ≤ length w'.store → w'.transfer ≡ w.transfer →
       IsHolding c least want (length w.store) v' → IsWaiting c (length w.store) passed.actuals v' stage passed.want v'.now → IsPassed (length w'.store) passed →
       Happens c least want stage v w (Calls v' w' name passed)
@@ -187,12 +195,17 @@ pub data StateHolds (text : ℕ → Facts) (least : ℕ) : RunState → Type 0 w
       IsReady (text k) least want stage v w → IsNext (text k) (length w.store) v stage v.now →
       ((label : ℕ) → IsIn label v.frame.alternates → IsIn (IsLabel label) actuals) →
       AreWaiting text least want actuals v.frame.base (of_others stage w.transfer) below → StateHolds text least (Runs k v below w)
-  it_is_over : (e : Ending) (frames : List (Active fortran_sorts)) (w : World) → StateHolds text least (Over e frames w)
+  it_is_over : (e : Ending) (frames : List (Active fortran_sorts)) (w : World) → IsEnding e → StateHolds text least (Over e frames w)
   it_is_broken : (act : Act) (ks : List ℕ) → IsTrue (is_named act) → StateHolds text least (Broken act ks)
 
 -- no run of well-formed units comes to a form without meaning
 abbrev pub EachRunIsMeant : Type 0
 EachRunIsMeant = (g : Setting) (S : List ProgramUnit) (units : Units) (n : ℕ) → AreWellFormed g S → act_of (ftn g S units n) ≡ Some NoMeaning → ⊥
+
+-- and each run that is over has ended at END or STOP, or by a number
+abbrev pub EachEndingIsMeant : Type 0
+EachEndingIsMeant = (g : Setting) (S : List ProgramUnit) (units : Units) (n : ℕ) (e : Ending) (frames : List (Active fortran_sorts)) (w : World) → AreWellFormed g S →
+    ftn g S units n ≡ Over e frames w → IsEnding e
 
 -- no run of a set that spells trees comes to a form without meaning, whatever the setting of the trees
 abbrev pub EachSpelledRunIsMeant : Type 0

@@ -1,6 +1,7 @@
 -- The statements of a program unit as the meaning takes them, and the unit itself.
 -- ANSI X3.9-1978, sections 3.5, 10, 11, 12 and 15.
-use Rattle.std.specs.Prelude.{ℕ, suc, ℤ, pos, Bool, true, false, List, [], ◌∷◌, ◌++◌, map, bytes_eq, Option, Some, None, if◌then◌else◌, nat_abs, replicate, unwrap_or}
+use Rattle.std.specs.List.{list_any}
+use Rattle.std.specs.Prelude.{ℕ, suc, nat_eq, ℤ, pos, Bool, true, false, List, [], ◌∷◌, ◌++◌, map, bytes_eq, Option, Some, None, if◌then◌else◌, nat_abs, replicate, unwrap_or}
 use Rattle.f_tree.specs.declared.names.Basic.{Basic}
 use Rattle.f_tree.specs.declared.names.Basic.TheVariants.{Character}
 use Rattle.f_tree.specs.declared.names.Class.TheVariants as class
@@ -33,11 +34,11 @@ use Rattle.f_tree.specs.declared.statements.DataGroup.{DataGroup}
 use Rattle.f_tree.specs.declared.statements.DataValue.{DataValue}
 use Rattle.f_tree.specs.Values.{Bytes, Datum, IsInt, IsSpot, Nothing}
 use Rattle.f_tree.specs.Terms.{Term, Val, At, Terms, NoMore, More, terms, refers, Bound, All, Alone}
-use Rattle.f_tree.specs.Facts.{Attribute, Formal, Named, Alternate, MainProgram, SubroutineUnit, FunctionUnit, BlockDataUnit, UnitKind, EntryPoint, Direction, Input, Output, Layout, Listed, Labelled, Computed, Unformatted, Word, UnitWord, FormatWord, StatusWord, FileWord, FileStatusWord, AccessWord, FormWord, BlankWord, Controls, AuxiliaryKind, OpenUnit, CloseUnit, BackspaceUnit, EndFileUnit, RewindUnit, Job, Item, Repeated, Work, Done, Before, ToSet, ToSetText, ToSetLabel, ToGo, ToPick, ToGoAssigned, ToGoBySign, ToGuard, ToEnterArm, ToLoop, ToCall, ToReturn, ToStop, ToBegin, ToAuxiliary, ToEnd, Form, Passes, On, Mark, Plain, Opens, Arm, Closes, Line, LabelledFormat, Member, Block, Tied, Tie, ProgramUnit, Facts, Image, DataPlace, DataPlaces, WholeName, OnePlace, EachOf, NoPlaces, AndPlaces}
+use Rattle.f_tree.specs.Facts.{Attribute, Formal, Named, Alternate, MainProgram, SubroutineUnit, FunctionUnit, BlockDataUnit, UnitKind, EntryPoint, Direction, Input, Output, Layout, Listed, Labelled, Computed, Unformatted, Word, UnitWord, FormatWord, StatusWord, FileWord, FileStatusWord, AccessWord, FormWord, BlankWord, Controls, AuxiliaryKind, OpenUnit, CloseUnit, BackspaceUnit, EndFileUnit, RewindUnit, Job, Item, Repeated, Work, Done, Before, ToSet, ToSetText, ToSetLabel, ToGo, ToPick, ToGoAssigned, ToGoBySign, ToGuard, ToEnterArm, ToLoop, ToTestLoop, ToCall, ToReturn, ToStop, ToBegin, ToAuxiliary, ToEnd, Form, Passes, On, Mark, Plain, Opens, Arm, Closes, LoopMark, NoLoop, OpensLoop, ClosesLoop, Line, LabelledFormat, Member, Block, Tied, Tie, ProgramUnit, Facts, Image, DataPlace, DataPlaces, WholeName, OnePlace, EachOf, NoPlaces, AndPlaces}
 use Rattle.f_tree.specs.Valuing.{Red, Valued, reduce, elements_of, extent_of}
-use Rattle.f_tree.specs.Reading.{Read, read}
+use Rattle.f_tree.specs.Reading.{Read, read, name_or_none}
 use Rattle.f_tree.specs.Uses.{heading_of, Use, Manner, Declared, uses_of_statements}
-use Rattle.f_tree.specs.Attributes.{from_all, is_used_as, arrays_of, Described, all_described, attribute_in, no_frame, no_facts, value_if_valued}
+use Rattle.f_tree.specs.Attributes.{from_all, option_list, is_used_as, arrays_of, Described, all_described, attribute_in, no_frame, no_facts, value_if_valued}
 
 abbrev pub Naming : Type 0
 Naming = Bytes → Attribute
@@ -60,7 +61,7 @@ step_of names (Some e) = value_of names e
 unfoldable pub control_of : Naming → LoopControl → Terms
 control_of names c = More (At c.variable) (More (value_of names c.first) (More (value_of names c.limit) (More (step_of names c.step) NoMore)))
 
--- items of a list: a whole array is all its elements; what is read is a place, and what else is written is a value
+-- items of a list: a whole array is all its elements; what is read is a place, and what is written by a list is a value
 unfoldable pub is_array : Attribute → Bool
 is_array a = elim a.dimensions [ [] ↦ false | d ∷ ds ↦ true ]
 
@@ -68,24 +69,34 @@ unfoldable pub array_or : Term → Naming → Option Bytes → Term
 array_or t names None = t
 array_or t names (Some x) = if is_array (names x) then All x else t
 
-unfoldable pub item_of : Direction → Naming → Expr → Term
-item_of Input names e = array_or (Alone (place_of names e)) names (read names e).named
-item_of Output names e = array_or (value_of names e) names (read names e).named
+-- what is fetched later: a variable, an element, an array or a substring; and the value of any other expression
+unfoldable pub if_placed : Read → Option Bytes → Term
+if_placed r None = r.value
+if_placed r (Some x) = Alone r.actual
+
+unfoldable pub settled : Naming → Read → Term
+settled names r = array_or (if_placed r r.base) names r.named
+
+-- under a format what is written is fetched when its descriptor is come to
+unfoldable pub item_of : Direction → Layout → Naming → Expr → Term
+item_of Input layout names e = array_or (Alone (place_of names e)) names (read names e).named
+item_of Output Listed names e = array_or (value_of names e) names (read names e).named
+item_of Output layout names e = settled names (read names e)
 
 unfoldable pub work_of : List Job → Work
 work_of [] = Done
 work_of (job ∷ jobs) = Before job (work_of jobs)
 
-unfoldable pub layer_job : Direction → Naming → item.ListItem-F Job → Job
-layer_job way names (item.Item e) = Item (item_of way names e)
-layer_job way names (item.Loop jobs control) = Repeated (work_of jobs) (control_of names control)
+unfoldable pub layer_job : Direction → Layout → Naming → item.ListItem-F Job → Job
+layer_job way layout names (item.Item e) = Item (item_of way layout names e)
+layer_job way layout names (item.Loop jobs control) = Repeated (work_of jobs) (control_of names control)
 
-unfoldable pub job_of : Direction → Naming → ListItem → Job
-job_of way names i = fold_item (layer_job way names) i
+unfoldable pub job_of : Direction → Layout → Naming → ListItem → Job
+job_of way layout names i = fold_item (layer_job way layout names) i
 
-unfoldable pub jobs_of : Direction → Naming → List ListItem → Work
-jobs_of way names [] = Done
-jobs_of way names (i ∷ is) = Before (job_of way names i) (jobs_of way names is)
+unfoldable pub jobs_of : Direction → Layout → Naming → List ListItem → Work
+jobs_of way layout names [] = Done
+jobs_of way layout names (i ∷ is) = Before (job_of way layout names i) (jobs_of way layout names is)
 
 unfoldable pub is_character : Basic → Bool
 is_character Character = true
@@ -114,27 +125,19 @@ nothing_written = record { words = []; operands = []; on_error = None; on_end = 
 unfoldable pub with_operand : Word → Term → Written → Written
 with_operand w t more = record more { words = w ∷ more.words; operands = t ∷ more.operands }
 
--- a text whose characters are fetched later: a variable, an element, an array or a substring; and the value of any other expression
-unfoldable pub if_placed : Read → Option Bytes → Term
-if_placed r None = r.value
-if_placed r (Some x) = Alone r.actual
-
-unfoldable pub settled_text : Naming → Read → Term
-settled_text names r = array_or (if_placed r r.base) names r.named
-
 -- a word whose operand is valued, or, for a variable, an element, an array or a substring that is written as it stands, settled
 unfoldable pub control_written : Direction → Naming → ControlWord → ControlValue → Written → Written
 control_written way names word.Unit value.Star more = with_operand UnitWord (Val (IsInt (standard_unit way))) more
 control_written way names word.Unit (value.Label l) more = more
 control_written way names word.Unit (value.Value e) more =
-    with_operand UnitWord (if is_text names (read names e).base then settled_text names (read names e) else value_of names e) more
+    with_operand UnitWord (if is_text names (read names e).base then settled names (read names e) else value_of names e) more
 control_written way names word.Format value.Star more = record more { layout = Some Listed }
 control_written way names word.Format (value.Label l) more = record more { layout = Some (Labelled l) }
-control_written way names word.Format (value.Value e) more = record (with_operand FormatWord (settled_text names (read names e)) more) { layout = Some Computed }
+control_written way names word.Format (value.Value e) more = record (with_operand FormatWord (settled names (read names e)) more) { layout = Some Computed }
 control_written way names word.Status (value.Value e) more = with_operand StatusWord (place_of names e) more
 control_written way names word.OnError (value.Label l) more = record more { on_error = Some l }
 control_written way names word.OnEnd (value.Label l) more = record more { on_end = Some l }
-control_written way names word.File (value.Value e) more = with_operand FileWord (settled_text names (read names e)) more
+control_written way names word.File (value.Value e) more = with_operand FileWord (settled names (read names e)) more
 control_written way names word.FileStatus (value.Value e) more = with_operand FileStatusWord (value_of names e) more
 control_written way names word.Access (value.Value e) more = with_operand AccessWord (value_of names e) more
 control_written way names word.Form (value.Value e) more = with_operand FormWord (value_of names e) more
@@ -159,7 +162,7 @@ way_of way.Write = Output
 
 unfoldable pub transfer_form : Direction → Naming → List ListItem → Written → Form
 transfer_form way names items w =
-    On (ToBegin way (layout_written w.layout) (controls_of w) (jobs_of way names items)) (terms w.operands)
+    On (ToBegin way (layout_written w.layout) (controls_of w) (jobs_of way (layout_written w.layout) names items)) (terms w.operands)
 
 unfoldable pub auxiliary_of : auxiliary.AuxiliaryKind → AuxiliaryKind
 auxiliary_of act.OpenUnit = OpenUnit
@@ -207,6 +210,7 @@ layer_form names (body.IfOne e form) = On (ToGuard form) (More (value_of names e
 layer_form names (body.IfThen e) = On ToEnterArm (More (value_of names e) NoMore)
 layer_form names (body.ElseIf e) = On ToEnterArm (More (value_of names e) NoMore)
 layer_form names (body.Do label control) = On (ToLoop label) (control_of names control)
+layer_form names (body.DoWhile label e) = On (ToTestLoop label) (More (value_of names e) NoMore)
 layer_form names (body.Call x es) = On (ToCall x) (terms (arguments_of names es))
 layer_form names (body.Return e) = return_form names e
 layer_form names (body.Stop text) = On (ToStop text) NoMore
@@ -221,8 +225,29 @@ form_of names b = fold_body (layer_form names) b
 unfoldable pub mark_of : Body → Mark
 mark_of b = elim (layer_of b) [ body.IfThen e ↦ Opens | body.ElseIf e ↦ Arm | body.Else ↦ Arm | body.EndIf ↦ Closes | _ ↦ Plain ]
 
-unfoldable pub line_of : Naming → Stmt → Line
-line_of names s = record { label = s.label; mark = mark_of s.body; form = form_of names s.body }
+-- the labels of the terminal statements of DO statements
+unfoldable pub loop_label_in : Body → List ℕ
+loop_label_in b = elim (layer_of b) [ body.Do label control ↦ option_list label | body.DoWhile label e ↦ option_list label | _ ↦ [] ]
+
+unfoldable pub opens_loop : Option ℕ → LoopMark
+opens_loop None = OpensLoop
+opens_loop (Some label) = NoLoop
+
+unfoldable pub is_loop_label : List ℕ → Option ℕ → Bool
+is_loop_label labels None = false
+is_loop_label labels (Some label) = list_any (nat_eq label) labels
+
+unfoldable pub loop_mark_of : List ℕ → Option ℕ → Body → LoopMark
+loop_mark_of labels label b = elim (layer_of b) [
+  | body.Do terminal control ↦ opens_loop terminal
+  | body.DoWhile terminal e ↦ opens_loop terminal
+  | body.EndDo ↦ if is_loop_label labels label then NoLoop else ClosesLoop
+  | _ ↦ NoLoop
+]
+
+-- a statement, given the labels of terminal statements in its unit
+unfoldable pub line_of : Naming → List ℕ → Stmt → Line
+line_of names labels s = record { label = s.label; mark = mark_of s.body; loop = loop_mark_of labels s.label s.body; card = s.card; form = form_of names s.body }
 
 -- entries (15.7): the unit's own name, and each ENTRY, which begins at the statement behind it
 unfoldable pub formals_of : List DummyArgument → List Formal
@@ -236,10 +261,6 @@ entry_in i b = elim (layer_of b) [ body.Entry x dummies ↦ record { name = x; f
 unfoldable pub entries_from : ℕ → List Stmt → List EntryPoint
 entries_from i [] = []
 entries_from i (s ∷ ss) = entry_in i s.body ++ entries_from (suc i) ss
-
-unfoldable pub name_or_none : Option Bytes → Bytes
-name_or_none None = []
-name_or_none (Some x) = x
 
 unfoldable pub format_in : Option ℕ → Body → List LabelledFormat
 format_in None b = []
@@ -386,7 +407,7 @@ unfoldable pub program_of : Options → WrittenUnit → List Described → Progr
 program_of options u ds = record {
   kind = unit_kind u;
   entries = record { name = name_or_none u.name; formals = formals_of u.dummies; start = 0 } ∷ entries_from 0 u.statements;
-  lines = map (line_of (attribute_in ds)) u.statements;
+  lines = map (line_of (attribute_in ds) (from_all loop_label_in u.statements)) u.statements;
   attribute = attribute_in ds;
   formats = formats_of u.statements;
   blocks = blocks_from (attribute_in ds) [] (from_all common_in u.statements);
@@ -409,5 +430,5 @@ unfoldable pub unit_read : Options → WrittenUnit → ProgramUnit
 unit_read options u = with_ties u (program_of options u (all_described u))
 
 unfoldable pub lines_opened : Unit {0}
-unfolding value_of place_of arguments_of step_of control_of is_array array_or item_of work_of layer_job job_of jobs_of is_character is_text standard_unit nothing_written with_operand if_placed settled_text control_written controls_written controls_of layout_written way_of transfer_form auxiliary_of auxiliary_form is_statement_function value_assignment text_assignment assignment assign_form return_form layer_form form_of mark_of line_of formals_of entry_in entries_from name_or_none format_in formats_of size_by size_of is_stored stored_among is_procedure procedures_among is_reference referenced_among references_of member_of same_block into_block blocks_from common_in tied_at tied_of tieds_of ties_among equivalence_in ties_of bound_within all_places place_by layer_place places_read count_of repeats_of values_read data_in image_of unit_kind program_of apart with_ties unit_read
+unfolding value_of place_of arguments_of step_of control_of is_array array_or if_placed settled item_of work_of layer_job job_of jobs_of is_character is_text standard_unit nothing_written with_operand control_written controls_written controls_of layout_written way_of transfer_form auxiliary_of auxiliary_form is_statement_function value_assignment text_assignment assignment assign_form return_form layer_form form_of mark_of loop_label_in opens_loop is_loop_label loop_mark_of line_of formals_of entry_in entries_from format_in formats_of size_by size_of is_stored stored_among is_procedure procedures_among is_reference referenced_among references_of member_of same_block into_block blocks_from common_in tied_at tied_of tieds_of ties_among equivalence_in ties_of bound_within all_places place_by layer_place places_read count_of repeats_of values_read data_in image_of unit_kind program_of apart with_ties unit_read
 lines_opened = tt

@@ -5,7 +5,7 @@ use Rattle.f_tree.specs.declared.names.Options.{Options}
 use Rattle.f_tree.specs.declared.units.FileSet.{FileSet}
 use Rattle.f_tree.specs.declared.units.File.{File}
 use Rattle.simulation.specs.Machine.{Program, State, Runs, Over, Broken, run, begun, machine_opened}
-use Rattle.f2c_outside.specs.Units.{Units, UnitState}
+use Rattle.run_state.specs.Units.{Units, UnitState}
 use Rattle.f_tree.specs.Values.{Bytes, Act, values_opened, Checked, Gives, Fails}
 use Rattle.f_tree.specs.Terms.{AsSubroutine, terms_opened}
 use Rattle.f_tree.specs.Store.{Store, store_opened}

@@ -1,10 +1,10 @@
 -- Where control goes: the place of a label, the arms of a block, what is passed without a step, and
 -- the loops that a branch leaves. ANSI X3.9-1978, sections 11.1 to 11.11.
 -- All of it is read off the flat list of a unit's statements, counted from 0.
-use Rattle.std.specs.Prelude.{ℕ, zero, suc, nat_eq, nat_lt, nat_le, Bool, false, ◌&&◌, List, [], ◌∷◌, drop, filter, Option, Some, None, if◌then◌else◌}
+use Rattle.std.specs.Prelude.{ℕ, zero, suc, nat_eq, nat_lt, nat_le, Bool, false, ◌&&◌, List, [], ◌∷◌, drop, filter, Option, Some, None, slice_get, if◌then◌else◌}
 use Rattle.f_tree.specs.Values.{NoMeaning, Checked, Gives, Fails}
-use Rattle.f_tree.specs.Facts.{Passes, On, Plain, Opens, Arm, Closes, Line, ProgramUnit, Frame}
-use Rattle.f_tree.specs.World.{Round, View, Now, Doing, Turning}
+use Rattle.f_tree.specs.Facts.{Passes, On, Plain, Opens, Arm, Closes, NoLoop, OpensLoop, ClosesLoop, Line, ProgramUnit, Frame}
+use Rattle.f_tree.specs.World.{Round, Counted, While, View, Now, Doing, Turning}
 
 unfoldable pub has_label : Option ℕ → ℕ → Bool
 has_label None l = false
@@ -17,6 +17,20 @@ label_from i (line ∷ lines) l = if has_label line.label l then Some i else lab
 -- the statement with a label
 unfoldable pub place_of_label : ProgramUnit → ℕ → Option ℕ
 place_of_label u l = label_from 0 u.lines l
+
+-- from a place in the range of a DO without a label, with so many inner ones open: its END DO
+unfoldable pub loop_end_from : ℕ → ℕ → List Line → Option ℕ
+loop_end_from i depth [] = None
+loop_end_from i depth (line ∷ lines) = elim line.loop [
+  | NoLoop ↦ loop_end_from (suc i) depth lines
+  | OpensLoop ↦ loop_end_from (suc i) (suc depth) lines
+  | ClosesLoop ↦ elim depth [ zero ↦ Some i | suc d ↦ loop_end_from (suc i) d lines ]
+]
+
+-- the terminal statement of the DO at a place: the statement with the label that it names, or its END DO
+unfoldable pub terminal_of : ProgramUnit → ℕ → Option ℕ → Option ℕ
+terminal_of u at (Some label) = place_of_label u label
+terminal_of u at None = loop_end_from (suc at) 0 (drop (suc at) u.lines)
 
 -- from a place in a block, with so many inner blocks open: the next ELSE IF, ELSE or END IF of the block itself
 unfoldable pub arm_from : ℕ → ℕ → List Line → Option ℕ
@@ -64,18 +78,37 @@ unfoldable pub innermost_last : List Round → Option ℕ
 innermost_last [] = None
 innermost_last (round ∷ rounds) = Some round.last
 
-unfoldable pub landed : Frame → List Round → Checked Landing → Checked View
-landed f rounds (Gives l) = Gives (record { frame = f; at = l.at; now = l.now; loops = rounds })
-landed f rounds (Fails act) = Fails act
+-- a DO WHILE is tested again at its statement
+unfoldable pub tested_at : Frame → List Round → ℕ → Option Line → Checked View
+tested_at f rounds i None = Fails NoMeaning
+tested_at f rounds i (Some line) = elim line.form [
+  | Passes ↦ Fails NoMeaning
+  | On head operands ↦ Gives (record { frame = f; at = i; now = Doing (On head operands); loops = rounds })
+]
+
+-- behind the terminal statement of the innermost loop comes its increment, or the test of its DO WHILE
+unfoldable pub at_range_end : ProgramUnit → Frame → List Round → ℕ → Checked View
+at_range_end u f [] i = Fails NoMeaning
+at_range_end u f (round ∷ rounds) i = elim round.kind [
+  | While ↦ tested_at f rounds round.first (slice_get u.lines round.first)
+  | Counted p left by given ↦ Gives (record { frame = f; at = i; now = Turning; loops = round ∷ rounds })
+]
+
+unfoldable pub landed : ProgramUnit → Frame → List Round → Checked Landing → Checked View
+landed u f rounds (Fails act) = Fails act
+landed u f rounds (Gives l) = elim l.now [
+  | Turning ↦ at_range_end u f rounds l.at
+  | _ ↦ Gives (record { frame = f; at = l.at; now = l.now; loops = rounds })
+]
 
 -- a procedure that has come to a place
 unfoldable pub arrived : ProgramUnit → Frame → List Round → ℕ → Checked View
-arrived u f rounds i = landed f rounds (settle i None (innermost_last rounds) (drop i u.lines))
+arrived u f rounds i = landed u f rounds (settle i None (innermost_last rounds) (drop i u.lines))
 
--- a procedure that is done with the statement at a place: behind the terminal statement of a loop comes its increment
+-- a procedure that is done with the statement at a place
 unfoldable pub passed : ProgramUnit → Frame → List Round → ℕ → Checked View
 passed u f rounds i =
-    if is_place (innermost_last rounds) i then Gives (record { frame = f; at = i; now = Turning; loops = rounds })
+    if is_place (innermost_last rounds) i then at_range_end u f rounds i
     else arrived u f rounds (suc i)
 
 -- is a place in the range of a loop
@@ -91,5 +124,5 @@ unfoldable pub gone_to : ProgramUnit → Frame → List Round → ℕ → Checke
 gone_to u f rounds label = branched u f rounds (place_of_label u label)
 
 unfoldable pub places_opened : Unit {0}
-unfolding has_label label_from place_of_label arm_from arm_after is_place settle innermost_last landed arrived passed is_in_range branched gone_to
+unfolding has_label label_from place_of_label loop_end_from terminal_of arm_from arm_after is_place settle innermost_last tested_at at_range_end landed arrived passed is_in_range branched gone_to
 places_opened = tt

@@ -8,7 +8,7 @@ use Rattle.f_tree.specs.declared.expressions.Expr.{Expr}
 use Rattle.f_tree.specs.declared.expressions.Expr.TheOpen as expr
 use Rattle.f_tree.specs.Folds.{fold_expr}
 use Rattle.f_tree.specs.Values.{Bytes, Datum, IsInt, IsLog, IsText, IsLabel, Nothing}
-use Rattle.f_tree.specs.Terms.{Negate, Complement, Add, Subtract, Multiply, Divide, IsLess, IsLessOrEqual, IsEqual, IsNotEqual, IsGreater, IsGreaterOrEqual, Both, Either, Same, Different, Function, Power, Truncation, Magnitude, Remainder, SignTransfer, PositiveDifference, Largest, Smallest, CharacterCode, CharacterOfCode, TextLength, IndexOf, LexicallyGreaterOrEqual, LexicallyGreater, LexicallyLessOrEqual, LexicallyLess, AsFunction, Term, Val, Fetch, At, Element, Part, Joined, Before, Between, Intrinsically, Refer, Bind, Bound, NoMore, More, terms}
+use Rattle.f_tree.specs.Terms.{Negate, Complement, Add, Subtract, Multiply, Divide, IsLess, IsLessOrEqual, IsEqual, IsNotEqual, IsGreater, IsGreaterOrEqual, Both, Either, Same, Different, Function, Power, Truncation, Magnitude, Remainder, SignTransfer, PositiveDifference, Largest, Smallest, CharacterCode, CharacterOfCode, TextLength, IndexOf, LexicallyGreaterOrEqual, LexicallyGreater, LexicallyLessOrEqual, LexicallyLess, InclusiveOr, LogicalProduct, ExclusiveOr, BitComplement, BitShift, BitTest, BitSet, BitClear, AsFunction, Term, Val, Fetch, At, Element, Part, Joined, Before, Between, Intrinsically, Refer, Bind, Bound, NoMore, More, terms}
 use Rattle.f_tree.specs.Facts.{Attribute}
 
 -- An expression by what it is worth, by what it is as an actual argument (a place, a procedure or a label where
@@ -55,7 +55,15 @@ intrinsics =
     record { name = codes "lge"; function = LexicallyGreaterOrEqual } ∷
     record { name = codes "lgt"; function = LexicallyGreater } ∷
     record { name = codes "lle"; function = LexicallyLessOrEqual } ∷
-    record { name = codes "llt"; function = LexicallyLess } ∷ []
+    record { name = codes "llt"; function = LexicallyLess } ∷
+    record { name = codes "ior"; function = InclusiveOr } ∷
+    record { name = codes "iand"; function = LogicalProduct } ∷
+    record { name = codes "not"; function = BitComplement } ∷
+    record { name = codes "ieor"; function = ExclusiveOr } ∷
+    record { name = codes "ishft"; function = BitShift } ∷
+    record { name = codes "btest"; function = BitTest } ∷
+    record { name = codes "ibset"; function = BitSet } ∷
+    record { name = codes "ibclr"; function = BitClear } ∷ []
 
 unfoldable pub function_in : List Intrinsic → Bytes → Option Function
 function_in [] x = None
@@ -75,10 +83,14 @@ name_read x a = elim a.class [
   | _ ↦ record (placed (At x)) { named = Some x; base = Some x }
 ]
 
--- LEN asks a place, and not its value
-unfoldable pub operand_of : Function → Read → Term
-operand_of TextLength r = r.actual
-operand_of _ r = r.value
+-- LEN asks the pieces of its one argument, and reads nothing (15.10); another number of arguments gives it none
+unfoldable pub pieces_asked : List Read → List Term
+pieces_asked (r ∷ []) = r.pieces
+pieces_asked _ = []
+
+unfoldable pub operands_of : Function → List Read → List Term
+operands_of TextLength rs = pieces_asked rs
+operands_of _ rs = map (λ r. r.value) rs
 
 unfoldable pub width_or_zero : Option ℕ → ℕ
 width_or_zero None = 0
@@ -89,7 +101,7 @@ function_read x a rs = valued_only (Refer (record { name = x; want = AsFunction 
 
 unfoldable pub intrinsic_read : Bytes → Attribute → List Read → Option Function → Read
 intrinsic_read x a rs None = function_read x a rs
-intrinsic_read x a rs (Some f) = valued_only (Intrinsically f (terms (map (operand_of f) rs)))
+intrinsic_read x a rs (Some f) = valued_only (Intrinsically f (terms (operands_of f rs)))
 
 unfoldable pub expanded_read : Bytes → Attribute → List Read → Option Term → Read
 expanded_read x a rs None = function_read x a rs
@@ -109,6 +121,10 @@ applied_read x a rs = elim a.class [
 unfoldable pub end_read : Option Read → Datum → Term
 end_read None d = Val d
 end_read (Some r) d = r.value
+
+unfoldable pub name_or_none : Option Bytes → Bytes
+name_or_none None = []
+name_or_none (Some x) = x
 
 unfoldable pub joined_read : List Term → Read
 joined_read ts = record { value = Joined (terms ts); actual = Joined (terms ts); pieces = ts; named = None; base = None }
@@ -138,7 +154,7 @@ layer_read names (expr.Logical b) = valued_only (Val (IsLog b))
 layer_read names (expr.Text cs) = valued_only (Val (IsText cs))
 layer_read names (expr.Name x) = name_read x (names x)
 layer_read names (expr.Apply x rs) = applied_read x (names x) rs
-layer_read names (expr.Part r from to) = record (placed (Part r.actual (end_read from (IsInt (pos 1))) (end_read to Nothing))) { base = r.base }
+layer_read names (expr.Part r from to) = record (placed (Part (name_or_none r.base) r.actual (end_read from (IsInt (pos 1))) (end_read to Nothing))) { base = r.base }
 layer_read names (expr.Minus r) = valued_only (Before Negate r.value)
 layer_read names (expr.Plus r) = valued_only r.value
 layer_read names (expr.Not r) = valued_only (Before Complement r.value)
@@ -152,5 +168,5 @@ unfoldable pub read : (Bytes → Attribute) → Expr → Read
 read names e = fold_expr (layer_read names) e
 
 unfoldable pub reading_opened : Unit {0}
-unfolding valued_only placed intrinsics function_in function_named name_read operand_of width_or_zero function_read intrinsic_read expanded_read applied_read end_read joined_read binary_read layer_read read
+unfolding valued_only placed intrinsics function_in function_named name_read pieces_asked operands_of width_or_zero function_read intrinsic_read expanded_read applied_read end_read name_or_none joined_read binary_read layer_read read
 reading_opened = tt

@@ -1,8 +1,8 @@
 -- Where the records of a transfer go, and where they come from: a unit, or an internal file, of which each
 -- element is a record. ANSI X3.9-1978, sections 12.2 (files), 12.2.5 (internal files) and 12.9.5 (transfer).
 use Rattle.std.specs.Prelude.{ℕ, zero, suc, ◌+◌, ◌-◌, ◌*◌, ◌/◌, nat_lt, nat_le, ℤ, List, [], ◌∷◌, length, drop, Option, Some, None, Result, Ok, Err, if◌then◌else◌}
-use Rattle.f2c_outside.specs.Units.{Units, UnitState, read_unit, write_unit}
-use Rattle.f2c_outside.specs.declared.unit_table.UnitRefusal.{UnitRefusal}
+use Rattle.run_state.specs.Units.{Units, UnitState, read_unit, write_unit}
+use Rattle.run_state.specs.declared.refusals.UnitRefusal.{UnitRefusal}
 use Rattle.f_tree.specs.Values.{Bytes, Spot, Datum, IsText, IsSpot, Act, NoMeaning, Checked, Gives, Fails}
 use Rattle.f_tree.specs.Store.{Store, fetch, define}
 use Rattle.f_tree.specs.World.{Medium, External, Internal, Transfer, World}

@@ -2,7 +2,7 @@
 -- digits, a blank and the words.
 use Rattle.std.specs.Prelude.{ℕ, List, codes}
 use Rattle.f_tree.specs.declared.refusals.Kind.{Kind}
-use Rattle.f_tree.specs.declared.refusals.Kind.TheVariants.{CharacterOutsideSet, BadLabelField, TooManyContinuations, ContinuationWithoutStatement, TextPastColumn72, NoEnd, FileTooLong, UnknownStatement, SyntaxError, IntegerTooLarge, NameTooLong, BadCharacterConstant, TypeNotSupported, StatementOrSpecifierNotSupported, NestingTooDeep, NameHasTypeReal, NameNotDeclared, ConflictingAttributes, BoundNotConstant, ArrayOfNoElement, StatementOutOfOrder, BadParameterValue, LabelMissingOrTwice, BranchIntoBlock, BadDoNest, BadIfNest, OperandTypes, NumberOfSubscripts, NotAssignable, BadData, EquivalenceContradiction, CommonJoinedOrExtended, CharacterAndNumericMixed, CommonInitialised, UseOfAssumedLength, BadStatementFunction, BadEntry, CharacterFunctionAsArgument, TwoShapesOfCall, BadFormat, EditDescriptorNotSupported, CommonLengthsDiffer, GlobalNameTwice, TwoMainPrograms, StorageTooLarge, CommonInitialisedTwice, NotBuiltYet}
+use Rattle.f_tree.specs.declared.refusals.Kind.TheVariants.{CharacterOutsideSet, BadLabelField, TooManyContinuations, ContinuationWithoutStatement, TextPastColumn72, NoEnd, FileTooLong, UnknownStatement, SyntaxError, IntegerTooLarge, NameTooLong, BadCharacterConstant, TypeNotSupported, StatementOrSpecifierNotSupported, NestingTooDeep, NameHasTypeReal, NameNotDeclared, ConflictingAttributes, BoundNotConstant, ArrayOfNoElement, StatementOutOfOrder, BadParameterValue, LabelMissingOrTwice, BranchIntoBlock, BadDoNest, BadIfNest, OperandTypes, NumberOfSubscripts, NotAssignable, BadData, EquivalenceContradiction, CommonJoinedOrExtended, CommonInitialised, UseOfAssumedLength, BadStatementFunction, BadEntry, CharacterFunctionAsArgument, TwoShapesOfCall, BadFormat, EditDescriptorNotSupported, NumericPlaceNotOnAWord, EndOrIncludeInAnIncludedFile, CommonLengthsDiffer, GlobalNameTwice, TwoMainPrograms, StorageTooLarge, CommonInitialisedTwice, NotBuiltYet}
 
 -- The number of a row.
 abbrev pub number_of : Kind → ℕ
@@ -38,7 +38,6 @@ number_of NotAssignable = 33
 number_of BadData = 34
 number_of EquivalenceContradiction = 35
 number_of CommonJoinedOrExtended = 36
-number_of CharacterAndNumericMixed = 37
 number_of CommonInitialised = 38
 number_of UseOfAssumedLength = 39
 number_of BadStatementFunction = 40
@@ -47,6 +46,8 @@ number_of CharacterFunctionAsArgument = 42
 number_of TwoShapesOfCall = 43
 number_of BadFormat = 44
 number_of EditDescriptorNotSupported = 45
+number_of NumericPlaceNotOnAWord = 46
+number_of EndOrIncludeInAnIncludedFile = 47
 number_of CommonLengthsDiffer = 50
 number_of GlobalNameTwice = 51
 number_of TwoMainPrograms = 52
@@ -88,7 +89,6 @@ text_of NotAssignable = codes "not assignable"
 text_of BadData = codes "bad DATA"
 text_of EquivalenceContradiction = codes "EQUIVALENCE contradiction"
 text_of CommonJoinedOrExtended = codes "common joined or extended"
-text_of CharacterAndNumericMixed = codes "character and numeric mixed"
 text_of CommonInitialised = codes "common initialised"
 text_of UseOfAssumedLength = codes "use of (*)"
 text_of BadStatementFunction = codes "bad statement function"
@@ -97,6 +97,8 @@ text_of CharacterFunctionAsArgument = codes "character function as argument"
 text_of TwoShapesOfCall = codes "two shapes of call"
 text_of BadFormat = codes "bad format"
 text_of EditDescriptorNotSupported = codes "edit descriptor not supported"
+text_of NumericPlaceNotOnAWord = codes "numeric place not on a word"
+text_of EndOrIncludeInAnIncludedFile = codes "END or INCLUDE in an included file"
 text_of CommonLengthsDiffer = codes "common lengths differ"
 text_of GlobalNameTwice = codes "global name twice"
 text_of TwoMainPrograms = codes "two main programs"

@@ -5,7 +5,7 @@ use Rattle.std.specs.Ordering.{int_eq}
 use Rattle.f_tree.specs.declared.names.Options.{Options}
 use Rattle.f_tree.specs.declared.units.File.{File}
 use Rattle.f_tree.specs.declared.units.FileSet.{FileSet}
-use Rattle.f2c_outside.specs.Units.{Units, UnitState}
+use Rattle.run_state.specs.Units.{Units, UnitState}
 use Rattle.f_tree.specs.Values.{Bytes, Act}
 use Rattle.f_tree.specs.Facts.{Home, Member, ProgramUnit}
 use Rattle.f_tree.specs.Attributes.{is_not_empty}

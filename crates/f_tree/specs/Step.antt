@@ -1,19 +1,20 @@
 -- One step of one active procedure. ANSI X3.9-1978, sections 10 (assignment), 11 (control), 12.8
 -- (transfers) and 15 (procedures).
--- A step is an assignment or ASSIGN; a test of IF or ELSE IF; a GO TO; the start of a DO or implied DO with
--- its first test; an increment with its test; a CALL or a function reference; the start, an item or the end of
--- a transfer; OPEN and its kin; STOP; RETURN or END. CONTINUE, ELSE and END IF take no step.
+-- A step is an assignment or ASSIGN; a test of IF, ELSE IF or DO WHILE; a GO TO; the start of a DO or implied DO
+-- with its first test; an increment with its test; a CALL or a function reference; the start, an item or the end of
+-- a transfer; OPEN and its kin; STOP; RETURN or END. CONTINUE, ELSE, END IF and END DO take no step.
 use Rattle.std.specs.Prelude.{ℕ, zero, suc, ◌-◌, nat_eq, nat_lt, max, ℤ, pos, negsuc, ◌+ℤ◌, ◌-ℤ◌, int_lt, int_div, Bool, true, false, ◌&&◌, ◌||◌, not, List, [], ◌∷◌, Option, Some, None, slice_get, bytes_eq, if◌then◌else◌, min, take, length, ◌++◌, ◌+◌}
 use Rattle.std.specs.Ordering.{int_eq}
 use Rattle.simulation.specs.Machine.{Goes, Ends, Breaks, Lang}
 use Rattle.f_tree.specs.Values.{Bytes, Spot, Datum, IsInt, IsLog, IsSpot, Nothing, ZeroStep, LoopVariableChanged, BadAssignedLabel, ActiveProcedure, MissingProcedure, NoMeaning, Checked, Gives, Fails, given_that, checked, IsText, DefinedAndReferenced}
 use Rattle.f_tree.specs.Terms.{AsSubroutine, Terms}
 use Rattle.f_tree.specs.Store.{Store, Whole, Label, fetch, define, define_label, label_at}
-use Rattle.f_tree.specs.Facts.{Head, ToSet, ToSetLabel, ToGo, ToPick, ToGoAssigned, ToGoBySign, ToGuard, ToEnterArm, ToLoop, ToCall, ToReturn, ToStop, ToBegin, ToTransfer, ToRepeat, ToTurn, ToFinish, ToEnd, Form, Passes, On, Opens, Arm, Line, Work, Before, Turn, ProgramUnit, Facts, ToSetText, ToAuxiliary}
+use Rattle.f_tree.specs.Facts.{Head, ToSet, ToSetLabel, ToGo, ToPick, ToGoAssigned, ToGoBySign, ToGuard, ToEnterArm, ToLoop, ToTestLoop, ToCall, ToReturn, ToStop, ToBegin, ToTransfer, ToRepeat, ToTurn, ToFinish, ToEnd, Form, Passes, On, Opens, Arm, Line, Work, Done, Before, Turn, ProgramUnit, Facts, ToSetText, ToAuxiliary}
 use Rattle.f_tree.specs.Valuing.{Red, Valued, Bad, Asks, reduce_all}
-use Rattle.f_tree.specs.World.{World, View, Now, Doing, Turning, Waits, Returning, Round, RoundKind, Counted, Ending, Stop, fortran_sorts, Happening, proceeding}
+use Rattle.f_tree.specs.World.{World, View, Now, Doing, Turning, Waits, Returning, Round, RoundKind, Counted, While, Ending, Stop, Io, fortran_sorts, Happening, proceeding}
 use Rattle.f_tree.specs.World as world
-use Rattle.f_tree.specs.Places.{place_of_label, arm_after, arrived, passed, gone_to}
+use Rattle.f_tree.specs.Courses.{Course, Further, IsDone, Branches, StopsWith, NotSaid}
+use Rattle.f_tree.specs.Places.{place_of_label, terminal_of, arm_after, arrived, passed, gone_to}
 use Rattle.f_tree.specs.Association.{call, answer, alternate_of, start, resume}
 use Rattle.f_tree.specs.Records.{text_from}
 use Rattle.f_tree.specs.Transfers.{next_of, followed_by, begins, item_done, finished}
@@ -25,6 +26,14 @@ onward c v w = proceeding (passed c.program v.frame v.loops v.at) w
 
 unfoldable pub go : Facts → View → World → ℕ → Happening
 go c v w label = proceeding (gone_to c.program v.frame v.loops label) w
+
+-- what a transfer, or OPEN and its kin, comes to, with what follows of its list
+unfoldable pub coursed : Facts → View → Work → Course → Happening
+coursed c v rest (Further w) = Goes (record v { now = Doing (next_of rest) }) w
+coursed c v rest (IsDone w) = onward c v w
+coursed c v rest (Branches label w) = go c v w label
+coursed c v rest (StopsWith number w) = Ends (Io number) v w
+coursed c v rest (NotSaid act) = Breaks act
 
 unfoldable pub onward_with : Facts → View → World → Checked Store → Happening
 onward_with c v w (Gives s) = onward c v (record w { store = s })
@@ -82,12 +91,20 @@ block_is_entered first None from to = false
 block_is_entered first (Some last) from to =
     (nat_lt first to && nat_lt to last) && not (nat_lt first from && nat_lt from last)
 
+unfoldable pub behind_terminal : Option ℕ → Option ℕ
+behind_terminal None = None
+behind_terminal (Some last) = Some (suc last)
+
 unfoldable pub block_end : ProgramUnit → ℕ → Line → Option ℕ
 block_end u i line = elim line.mark [
   | Opens ↦ arm_after u i
   | Arm ↦ arm_after u i
   | _ ↦ elim line.form [
-    | On head operands ↦ elim head [ ToLoop label ↦ (elim (place_of_label u label) [ None ↦ None | Some last ↦ Some (suc last) ]) | _ ↦ None ]
+    | On head operands ↦ elim head [
+      | ToLoop label ↦ behind_terminal (terminal_of u i label)
+      | ToTestLoop label ↦ behind_terminal (terminal_of u i label)
+      | _ ↦ None
+    ]
     | Passes ↦ None
   ]
 ]
@@ -163,6 +180,13 @@ loop_begun c v w (Some last) p first limit by =
     if int_eq by (pos 0) then Breaks ZeroStep
     else loop_stored c v w last p first by (at_least_once c.program.onetrip (turns first limit by)) (define w.store p (IsInt first))
 
+-- a test of a DO WHILE (MIL-STD-1753), at its start and after each turn
+unfoldable pub loop_tested : Facts → View → World → Option ℕ → Bool → Happening
+loop_tested c v w None b = Breaks NoMeaning
+loop_tested c v w (Some last) false = proceeding (passed c.program v.frame v.loops last) w
+loop_tested c v w (Some last) true =
+    proceeding (arrived c.program v.frame (record { first = v.at; last = last; kind = While } ∷ v.loops) (suc v.at)) w
+
 -- an increment: the variable must hold what the loop gave it; the store and the value after it
 pub record Grown : Type 0 where
   pub store : Store
@@ -188,7 +212,10 @@ turned_with c v w round rounds p _ by (Gives g) = proceeding (passed c.program v
 
 unfoldable pub turned : Facts → View → World → List Round → Happening
 turned c v w [] = Breaks NoMeaning
-turned c v w (round ∷ rounds) = elim round.kind [ Counted p left by given ↦ turned_with c v w round rounds p left by (grown w.store p by given) ]
+turned c v w (round ∷ rounds) = elim round.kind [
+  | While ↦ Breaks NoMeaning
+  | Counted p left by given ↦ turned_with c v w round rounds p left by (grown w.store p by given)
+]
 
 -- an implied DO (12.8.2.3): `-onetrip` does not touch it
 unfoldable pub work_after : Work → Work → Spot → ℕ → ℤ → ℤ → Work
@@ -225,17 +252,18 @@ deed c v w (ToGoAssigned labels) (IsSpot p ∷ []) = gone_by c v w labels (label
 deed c v w (ToGoBySign below at above) (IsInt z ∷ []) = go c v w (by_sign z below at above)
 deed c v w (ToGuard form) (IsLog b ∷ []) = guarded c v w form b
 deed c v w ToEnterArm (IsLog b ∷ []) = arm_entered c v w b
-deed c v w (ToLoop label) (IsSpot p ∷ IsInt first ∷ IsInt limit ∷ IsInt by ∷ []) = loop_begun c v w (place_of_label c.program label) p first limit by
+deed c v w (ToLoop label) (IsSpot p ∷ IsInt first ∷ IsInt limit ∷ IsInt by ∷ []) = loop_begun c v w (terminal_of c.program v.at label) p first limit by
+deed c v w (ToTestLoop label) (IsLog b ∷ []) = loop_tested c v w (terminal_of c.program v.at label) b
 deed c v w (ToCall name) ds = call c v w (record { name = name; want = AsSubroutine }) ds Returning
 deed c v w ToReturn [] = answer c.program.kind v w Nothing
 deed c v w ToReturn (IsInt z ∷ []) = answer c.program.kind v w (alternate_of v.frame.alternates z)
 deed c v w (ToStop text) [] = Ends (stop_ending text) v w
-deed c v w (ToBegin direction layout controls work) ds = begins c v w direction layout controls work ds w.transfer
-deed c v w (ToTransfer rest) (d ∷ []) = item_done c v w rest d w.transfer
+deed c v w (ToBegin direction layout controls work) ds = coursed c v work (begins c.program.formats w direction layout controls ds w.transfer)
+deed c v w (ToTransfer rest) (d ∷ []) = coursed c v rest (item_done w d w.transfer)
 deed c v w (ToRepeat items rest) (IsSpot p ∷ IsInt first ∷ IsInt limit ∷ IsInt by ∷ []) = repeat_begun v w items rest p first limit by
 deed c v w (ToTurn items p left by given rest) [] = item_turned v w items rest p left by (grown w.store p by given)
-deed c v w (ToAuxiliary which controls) ds = auxiliary c v w which controls ds w.transfer
-deed c v w ToFinish [] = finished c v w w.transfer
+deed c v w (ToAuxiliary which controls) ds = coursed c v Done (auxiliary w which controls ds w.transfer)
+deed c v w ToFinish [] = coursed c v Done (finished w w.transfer)
 deed c v w ToEnd [] = answer c.program.kind v w Nothing
 deed c v w _ _ = Breaks NoMeaning
 
@@ -261,5 +289,5 @@ abbrev pub fortran : Lang Ending
 fortran = record { sorts = fortran_sorts; step = step; start = start; resume = resume; missing = MissingProcedure; busy = ActiveProcedure; plain = world.Plain }
 
 unfoldable pub step_opened : Unit {0}
-unfolding onward go onward_with overlaps piece_from piece_for pieces_for text_stored text_set picked nth_label contains is_allowed block_is_entered block_end enters_from enters_block name_of gone_by by_sign guarded at_arm next_arm arm_entered turns_of turns at_least_once looped loop_stored loop_begun grown_to grown_from grown turned_with turned work_after repeated repeat_begun item_turned stop_ending deed valued doing step
+unfolding onward go coursed onward_with overlaps piece_from piece_for pieces_for text_stored text_set picked nth_label contains is_allowed block_is_entered behind_terminal block_end enters_from enters_block name_of gone_by by_sign guarded at_arm next_arm arm_entered turns_of turns at_least_once looped loop_stored loop_begun loop_tested grown_to grown_from grown turned_with turned work_after repeated repeat_begun item_turned stop_ending deed valued doing step
 step_opened = tt

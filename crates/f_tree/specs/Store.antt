@@ -2,7 +2,8 @@
 -- ANSI X3.9-1978, sections 2.11, 2.13 (storage), 17.2 and 17.3 (how units become defined and undefined).
 -- Sequences are counted in character units. An integer, a logical or a label stands in four of them, from
 -- a multiple of four on; only `fetch`, `define` and what they are made of here look at the units.
-use Rattle.std.specs.Prelude.{ℕ, zero, suc, ◌+◌, ◌-◌, ◌/◌, nat_le, ℤ, Bool, false, List, [], ◌∷◌, ◌++◌, length, take, drop, replicate, Option, Some, None, slice_get, slice_set, if◌then◌else◌}
+use Rattle.std.specs.Ordering.{int_eq}
+use Rattle.std.specs.Prelude.{ℕ, zero, suc, ◌+◌, ◌-◌, ◌/◌, nat_le, nat_eq, ℤ, Bool, true, false, not, ◌&&◌, bytes_eq, List, [], ◌∷◌, ◌++◌, length, take, drop, replicate, Option, Some, None, slice_get, slice_set, if◌then◌else◌}
 use Rattle.f_tree.specs.declared.names.Basic.{Basic}
 use Rattle.f_tree.specs.declared.names.Basic.TheVariants.{Integer, Logical, Character}
 use Rattle.f_tree.specs.Values.{Bytes, Spot, Datum, IsInt, IsLog, IsText, NoValue, PastExtent, DefinesReadOnly, NoMeaning, Checked, Gives, Fails}
@@ -33,10 +34,29 @@ Store = List Sequence
 unfoldable pub undefined_units : ℕ → Sequence
 undefined_units size = record { cells = replicate size Undefined; read_only = false }
 
--- the value that a unit begins, of the type that is asked for
-unfoldable pub value_of_type : Basic → Option Cell → Checked Datum
-value_of_type Integer (Some (Part (Number z) zero)) = Gives (IsInt z)
-value_of_type Logical (Some (Part (Truth b) zero)) = Gives (IsLog b)
+unfoldable pub same_truth : Bool → Bool → Bool
+same_truth true b = b
+same_truth false b = not b
+
+unfoldable pub same_whole : Whole → Whole → Bool
+same_whole (Number a) (Number b) = int_eq a b
+same_whole (Truth a) (Truth b) = same_truth a b
+same_whole (Label owner a) (Label other b) = bytes_eq owner other && nat_eq a b
+same_whole _ _ = false
+
+-- the value whose four parts, and no more, these units are
+unfoldable pub whole_of : List Cell → Option Whole
+whole_of (Part w zero ∷ Part x (suc zero) ∷ Part y (suc (suc zero)) ∷ Part z (suc (suc (suc zero))) ∷ []) =
+    if same_whole w x && (same_whole w y && same_whole w z) then Some w else None
+whole_of _ = None
+
+unfoldable pub whole_at : ℕ → List Cell → Option Whole
+whole_at first cells = whole_of (take 4 (drop first cells))
+
+-- the value, of the type that is asked for
+unfoldable pub value_of_type : Basic → Option Whole → Checked Datum
+value_of_type Integer (Some (Number z)) = Gives (IsInt z)
+value_of_type Logical (Some (Truth b)) = Gives (IsLog b)
 value_of_type _ _ = Fails NoValue
 
 unfoldable pub with_first : ℕ → Checked Bytes → Checked Bytes
@@ -54,7 +74,7 @@ as_text (Fails act) = Fails act
 
 unfoldable pub fetch_as : Basic → Spot → List Cell → Checked Datum
 fetch_as Character p cells = as_text (characters (take p.width (drop p.first cells)))
-fetch_as basic p cells = value_of_type basic (slice_get cells p.first)
+fetch_as basic p cells = value_of_type basic (whole_at p.first cells)
 
 unfoldable pub fetch_from : Spot → List Cell → Checked Datum
 fetch_from p cells = fetch_as p.basic p cells
@@ -111,21 +131,25 @@ unfoldable pub stored_in : Store → ℕ → Checked (List Cell) → Checked Sto
 stored_in s n (Gives cells) = Gives (slice_set s n (record { cells = cells; read_only = false }))
 stored_in s n (Fails act) = Fails act
 
+-- is a place within what was passed, and within its sequence
+unfoldable pub has_room : Spot → List Cell → Bool
+has_room p cells = nat_le p.width p.extent && nat_le (p.first + p.width) (length cells)
+
 unfoldable pub define_in : Store → Spot → Datum → Option Sequence → Checked Store
 define_in s p d None = Fails NoMeaning
 define_in s p d (Some q) =
     if q.read_only then Fails DefinesReadOnly
-    else if nat_le p.width p.extent then stored_in s p.sequence (defined_as p.basic p d q.cells)
+    else if has_room p q.cells then stored_in s p.sequence (defined_as p.basic p d q.cells)
     else Fails PastExtent
 
 -- the label that was assigned to a place (10.3)
-unfoldable pub label_of_cell : Option Cell → Checked Whole
-label_of_cell (Some (Part (Label owner number) zero)) = Gives (Label owner number)
-label_of_cell _ = Fails NoValue
+unfoldable pub label_of_whole : Option Whole → Checked Whole
+label_of_whole (Some (Label owner number)) = Gives (Label owner number)
+label_of_whole _ = Fails NoValue
 
 unfoldable pub label_in : Spot → Option Sequence → Checked Whole
 label_in p None = Fails NoMeaning
-label_in p (Some q) = if nat_le p.width p.extent then label_of_cell (slice_get q.cells p.first) else Fails PastExtent
+label_in p (Some q) = if nat_le p.width p.extent then label_of_whole (whole_at p.first q.cells) else Fails PastExtent
 
 unfoldable pub label_at : Store → Spot → Checked Whole
 label_at s p = label_in p (slice_get s p.sequence)
@@ -138,7 +162,7 @@ unfoldable pub labelled_in : Store → Spot → Bytes → ℕ → Option Sequenc
 labelled_in s p owner number None = Fails NoMeaning
 labelled_in s p owner number (Some q) =
     if q.read_only then Fails DefinesReadOnly
-    else if nat_le p.width p.extent then stored_in s p.sequence (Gives (with_whole (Label owner number) p.first q.cells))
+    else if has_room p q.cells then stored_in s p.sequence (Gives (with_whole (Label owner number) p.first q.cells))
     else Fails PastExtent
 
 -- the store with a label at an integer variable, which then is no integer (10.3)
@@ -154,5 +178,5 @@ unfoldable pub elements : Spot → List Spot
 elements p = elements_from (p.extent / p.width) p
 
 unfoldable pub store_opened : Unit {0}
-unfolding elements_from elements undefined_units value_of_type with_first characters as_text fetch_as fetch_from fetch_in fetch with_whole no_part no_parts without_value_of with_character with_characters fitted defined_as stored_in define_in define label_of_cell label_in label_at labelled_in define_label
+unfolding elements_from elements undefined_units same_truth same_whole whole_of whole_at value_of_type with_first characters as_text fetch_as fetch_from fetch_in fetch with_whole no_part no_parts without_value_of with_character with_characters fitted defined_as stored_in has_room define_in define label_of_whole label_in label_at labelled_in define_label
 store_opened = tt

@@ -48,6 +48,15 @@ pub data Function : Type 0 where
   Front : ℕ → Function
   -- a text cut or filled to a length: the value of a statement function
   Fitted : ℕ → Function
+  -- the bit functions, over the 32 bits of a number (MIL-STD-1753)
+  InclusiveOr : Function
+  LogicalProduct : Function
+  ExclusiveOr : Function
+  BitComplement : Function
+  BitShift : Function
+  BitTest : Function
+  BitSet : Function
+  BitClear : Function
 
 -- what a reference wants of the procedure that it names
 pub data Wanted : Type 0 where
@@ -71,8 +80,8 @@ mutual
     Element : Bytes → Terms → Term
     -- a place, without the elements behind it
     Alone : Term → Term
-    -- a substring of a place: its first character and its last; a last one that is `Nothing` is the place's own
-    Part : Term → Term → Term → Term
+    -- a substring of a place of a variable: its first character and its last; a last one that is `Nothing` is the place's own
+    Part : Bytes → Term → Term → Term → Term
     -- a concatenation: the pieces are places or values
     Joined : Terms → Term
     Before : Prefix → Term → Term
@@ -107,7 +116,7 @@ unfoldable mutual
   refers (All x) = false
   refers (Element x ts) = any_refers ts
   refers (Alone t) = refers t
-  refers (Part t from to) = refers t || (refers from || refers to)
+  refers (Part x t from to) = refers t || (refers from || refers to)
   refers (Joined ts) = any_refers ts
   refers (Before op t) = refers t
   refers (Between op t u) = refers t || refers u

@@ -179,6 +179,7 @@ layer_uses_of_body arrays (body.Dimension items) = all_of uses_of_array items
 layer_uses_of_body arrays (body.Common groups) = all_of (λ g. all_of uses_of_array g.items) groups
 layer_uses_of_body arrays (body.Equivalence groups) = all_of (λ g. all_of uses_of g.places) groups
 layer_uses_of_body arrays (body.Implicit groups) = []
+layer_uses_of_body arrays body.ImplicitNone = []
 layer_uses_of_body arrays (body.Parameter items) = all_of (λ d. used d.name Declared ++ uses_of d.value) items
 layer_uses_of_body arrays (body.External xs) = all_of (λ x. used x Declared) xs
 layer_uses_of_body arrays (body.Intrinsic xs) = all_of (λ x. used x Declared) xs
@@ -198,12 +199,15 @@ layer_uses_of_body arrays (body.ElseIf e) = uses_of e
 layer_uses_of_body arrays body.Else = []
 layer_uses_of_body arrays body.EndIf = []
 layer_uses_of_body arrays (body.Do label control) = uses_of_control control
+layer_uses_of_body arrays (body.DoWhile label e) = uses_of e
+layer_uses_of_body arrays body.EndDo = []
 layer_uses_of_body arrays body.Continue = []
 layer_uses_of_body arrays (body.Call x es) = used x Called ++ all_of uses_of es
 layer_uses_of_body arrays (body.Return e) = if_any uses_of e
 layer_uses_of_body arrays (body.Stop text) = []
 layer_uses_of_body arrays (body.Transfer direction controls items) = all_of (λ c. uses_of_value c.value) controls ++ all_of uses_of_item items
 layer_uses_of_body arrays (body.Auxiliary kind controls) = all_of (λ c. uses_of_value c.value) controls
+layer_uses_of_body arrays (body.Include name) = []
 layer_uses_of_body arrays body.End = []
 
 unfoldable pub uses_of_body : List Bytes → Body → List Use

@@ -38,7 +38,7 @@ pub data Act : Type 0 where
   ZeroDivide : Act
   -- a read of a unit that has no value of the type
   NoValue : Act
-  -- a subscript or a place of a substring outside its bounds, of this name
+  -- a subscript or a place of a substring outside its declared bounds: the variable, and the number
   OutOfBounds : Bytes → ℤ → Act
   -- a dimension whose upper bound is below its lower, or that is past 2147483647
   BadDimension : Act
@@ -64,6 +64,8 @@ pub data Act : Type 0 where
   DefinedAndReferenced : Act
   -- CHAR of a number outside 0 to 255
   BadCharacterCode : Act
+  -- a shift of a bit function outside -32 to 32, or a position outside 0 to 31
+  BadBit : Act
   -- an edit descriptor for another type than the item's
   WrongDescriptor : Act
   -- a format that ends too early

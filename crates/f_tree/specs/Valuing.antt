@@ -5,8 +5,9 @@ use Rattle.std.specs.Prelude.{take, ℕ, zero, suc, ◌+◌, ◌-◌, ◌*◌, n
 use Rattle.f_tree.specs.declared.names.Basic.{Basic}
 use Rattle.std.specs.Ordering.{int_eq}
 use Rattle.f_tree.specs.declared.names.Class.TheVariants as class
-use Rattle.f_tree.specs.Values.{Bytes, Spot, Datum, IsInt, IsLog, IsText, IsSpot, IsProc, Nothing, Act, ZeroDivide, OutOfBounds, PastExtent, Disagreement, NotOfThisEntry, BadCharacterCode, NoMeaning, Checked, Gives, Fails, given_that, checked}
-use Rattle.f_tree.specs.Terms.{Prefix, Negate, Complement, Operator, Add, Subtract, Multiply, Divide, IsLess, IsLessOrEqual, IsEqual, IsNotEqual, IsGreater, IsGreaterOrEqual, Both, Either, Same, Different, Function, Power, Truncation, Magnitude, Remainder, SignTransfer, PositiveDifference, Largest, Smallest, CharacterCode, CharacterOfCode, TextLength, IndexOf, LexicallyGreaterOrEqual, LexicallyGreater, LexicallyLessOrEqual, LexicallyLess, Front, Fitted, Callee, Term, Val, Fetch, At, All, Element, Alone, Part, Joined, Before, Between, Intrinsically, Refer, Bind, Bound, Terms, NoMore, More, valued_then}
+use Rattle.f_tree.specs.Values.{Bytes, Spot, Datum, IsInt, IsLog, IsText, IsSpot, IsProc, Nothing, Act, ZeroDivide, OutOfBounds, PastExtent, Disagreement, NotOfThisEntry, BadCharacterCode, BadBit, NoMeaning, Checked, Gives, Fails, given_that, checked}
+use Rattle.f_tree.specs.Terms.{Prefix, Negate, Complement, Operator, Add, Subtract, Multiply, Divide, IsLess, IsLessOrEqual, IsEqual, IsNotEqual, IsGreater, IsGreaterOrEqual, Both, Either, Same, Different, Function, Power, Truncation, Magnitude, Remainder, SignTransfer, PositiveDifference, Largest, Smallest, CharacterCode, CharacterOfCode, TextLength, IndexOf, LexicallyGreaterOrEqual, LexicallyGreater, LexicallyLessOrEqual, LexicallyLess, Front, Fitted, InclusiveOr, LogicalProduct, ExclusiveOr, BitComplement, BitShift, BitTest, BitSet, BitClear, Callee, Term, Val, Fetch, At, All, Element, Alone, Part, Joined, Before, Between, Intrinsically, Refer, Bind, Bound, Terms, NoMore, More, valued_then}
+use Rattle.run_state.specs.Bits.{inclusive_or, logical_product, exclusive_or, complement, shifted, bit_at, has_bit, with_bit, without_bit, bits_opened}
 use Rattle.f_tree.specs.Store.{Store, fetch, fitted}
 use Rattle.f_tree.specs.Facts.{Attribute, Bounds, Facts, Frame, Home}
 
@@ -155,6 +156,25 @@ unfoldable pub first_character : Bytes → ℕ
 first_character [] = 32
 first_character (c ∷ cs) = c
 
+-- the length of a text that is joined of pieces, of which none is read (15.10)
+unfoldable pub length_of_piece : Datum → Checked ℕ
+length_of_piece (IsText cs) = Gives (length cs)
+length_of_piece (IsSpot p) = Gives p.width
+length_of_piece _ = Fails NoMeaning
+
+unfoldable pub total_length : List Datum → Checked ℕ
+total_length [] = Gives 0
+total_length (d ∷ ds) = given_that (length_of_piece d) (λ m. given_that (total_length ds) (λ n. Gives (m + n)))
+
+-- bit functions (MIL-STD-1753)
+unfoldable pub if_bits : Option ℤ → Checked Datum
+if_bits None = Fails BadBit
+if_bits (Some z) = Gives (IsInt z)
+
+unfoldable pub if_bit : Option Bool → Checked Datum
+if_bit None = Fails BadBit
+if_bit (Some b) = Gives (IsLog b)
+
 unfoldable pub applied : Function → List Datum → Checked Datum
 applied Power (IsInt a ∷ IsInt b ∷ []) = raised a b
 applied Truncation (IsInt a ∷ []) = Gives (IsInt a)
@@ -166,8 +186,7 @@ applied Largest (IsInt a ∷ ds) = extreme int_max a ds
 applied Smallest (IsInt a ∷ ds) = extreme int_min a ds
 applied CharacterCode (IsText cs ∷ []) = Gives (IsInt (pos (first_character cs)))
 applied CharacterOfCode (IsInt z ∷ []) = character_of z
-applied TextLength (IsText cs ∷ []) = Gives (IsInt (pos (length cs)))
-applied TextLength (IsSpot p ∷ []) = Gives (IsInt (pos p.width))
+applied TextLength (d ∷ ds) = given_that (total_length (d ∷ ds)) (λ n. checked (pos n))
 applied IndexOf (IsText a ∷ IsText b ∷ []) = Gives (IsInt (pos (index_from 1 a b)))
 applied LexicallyGreaterOrEqual (IsText a ∷ IsText b ∷ []) = on_texts IsGreaterOrEqual a b
 applied LexicallyGreater (IsText a ∷ IsText b ∷ []) = on_texts IsGreater a b
@@ -175,6 +194,14 @@ applied LexicallyLessOrEqual (IsText a ∷ IsText b ∷ []) = on_texts IsLessOrE
 applied LexicallyLess (IsText a ∷ IsText b ∷ []) = on_texts IsLess a b
 applied (Front n) (IsText cs ∷ []) = if nat_le n (length cs) then Gives (IsText (take n cs)) else Fails Disagreement
 applied (Fitted n) (IsText cs ∷ []) = Gives (IsText (fitted n cs))
+applied InclusiveOr (IsInt a ∷ IsInt b ∷ []) = Gives (IsInt (inclusive_or a b))
+applied LogicalProduct (IsInt a ∷ IsInt b ∷ []) = Gives (IsInt (logical_product a b))
+applied ExclusiveOr (IsInt a ∷ IsInt b ∷ []) = Gives (IsInt (exclusive_or a b))
+applied BitComplement (IsInt a ∷ []) = Gives (IsInt (complement a))
+applied BitShift (IsInt a ∷ IsInt n ∷ []) = if_bits (shifted a n)
+applied BitTest (IsInt a ∷ IsInt n ∷ []) = if_bit (has_bit a n)
+applied BitSet (IsInt a ∷ IsInt n ∷ []) = if_bits (with_bit a (bit_at n))
+applied BitClear (IsInt a ∷ IsInt n ∷ []) = if_bits (without_bit a (bit_at n))
 applied _ _ = Fails NoMeaning
 
 -- places: a whole name (5.3, 15.9.3)
@@ -273,18 +300,18 @@ alone _ = Fails NoMeaning
 
 -- substrings (5.7); behind one stands the rest of what it is a part of, which a dummy array may reach (15.9.3.3). Told is the first place where
 -- it is outside 1 to the length, else the second
-unfoldable pub cut : Spot → ℤ → ℤ → Checked Datum
-cut p from to =
-    if int_lt from (pos 1) then Fails (OutOfBounds [] from)
-    else if int_lt (pos p.width) from then Fails (OutOfBounds [] from)
-    else if int_lt to from then Fails (OutOfBounds [] to)
-    else if int_lt (pos p.width) to then Fails (OutOfBounds [] to)
+unfoldable pub cut : Bytes → Spot → ℤ → ℤ → Checked Datum
+cut x p from to =
+    if int_lt from (pos 1) then Fails (OutOfBounds x from)
+    else if int_lt (pos p.width) from then Fails (OutOfBounds x from)
+    else if int_lt to from then Fails (OutOfBounds x to)
+    else if int_lt (pos p.width) to then Fails (OutOfBounds x to)
     else Gives (IsSpot (record p { first = p.first + (nat_abs from - 1); extent = p.extent + 1 - nat_abs from; width = nat_abs to + 1 - nat_abs from }))
 
-unfoldable pub part : Datum → Datum → Datum → Checked Datum
-part (IsSpot p) (IsInt from) (IsInt to) = cut p from to
-part (IsSpot p) (IsInt from) Nothing = cut p from (pos p.width)
-part _ _ _ = Fails NoMeaning
+unfoldable pub part : Bytes → Datum → Datum → Datum → Checked Datum
+part x (IsSpot p) (IsInt from) (IsInt to) = cut x p from to
+part x (IsSpot p) (IsInt from) Nothing = cut x p from (pos p.width)
+part x _ _ _ = Fails NoMeaning
 
 -- concatenation: the pieces are fetched when all of them are settled (6.2)
 unfoldable pub as_characters : Datum → Checked Bytes
@@ -323,10 +350,10 @@ unfoldable mutual
   reduce c f s env (All x) = at_once (array_whole c f x)
   reduce c f s env (Element x ts) = then_by (reduce_all c f s env ts) (Element x) (λ ds. at_once (element c f x ds))
   reduce c f s env (Alone t) = then_by (reduce c f s env t) Alone (λ d. at_once (alone d))
-  reduce c f s env (Part t from to) =
-      then_by (reduce c f s env t) (λ r. Part r from to) (λ p.
-      then_by (reduce c f s env from) (λ r. Part (Val p) r to) (λ a.
-      then_by (reduce c f s env to) (Part (Val p) (Val a)) (λ b. at_once (part p a b))))
+  reduce c f s env (Part x t from to) =
+      then_by (reduce c f s env t) (λ r. Part x r from to) (λ p.
+      then_by (reduce c f s env from) (λ r. Part x (Val p) r to) (λ a.
+      then_by (reduce c f s env to) (Part x (Val p) (Val a)) (λ b. at_once (part x p a b))))
   reduce c f s env (Joined ts) = then_by (reduce_all c f s env ts) Joined (λ ds. at_once (joined (pieces s ds)))
   reduce c f s env (Before op t) = then_by (reduce c f s env t) (Before op) (λ d. at_once (prefixed op d))
   reduce c f s env (Between op t u) =
@@ -348,5 +375,5 @@ unfoldable mutual
       then_by (reduce_all c f s env ts) (More (Val d)) (λ ds. Valued (d ∷ ds)))
 
 unfoldable pub valuing_opened : Unit {0}
-unfolding then_by at_once prefixed divided on_integers both_or_none on_logicals is_before on_texts operated left_of right_after power_of inverse_of raised int_max int_min extreme remainder_of with_sign_of difference_over begins_with index_from character_of first_character applied elements_of extent_of stored_at if_bound if_there named_as whole is_within size_of_dimension elements_before further element_at either_bounds bounds_of element reaching all_elements array_whole alone cut part as_characters piece pieces joined fetched bound_to reduce reduce_all
+unfolding bits_opened then_by at_once prefixed divided on_integers both_or_none on_logicals is_before on_texts operated left_of right_after power_of inverse_of raised int_max int_min extreme remainder_of with_sign_of difference_over begins_with index_from character_of first_character length_of_piece total_length if_bits if_bit applied elements_of extent_of stored_at if_bound if_there named_as whole is_within size_of_dimension elements_before further element_at either_bounds bounds_of element reaching all_elements array_whole alone cut part as_characters piece pieces joined fetched bound_to reduce reduce_all
 valuing_opened = tt

@@ -9,8 +9,8 @@ use Rattle.f_tree.specs.declared.names.Class.{Class}
 use Rattle.f_tree.specs.declared.names.Class.TheVariants as class
 use Rattle.f_tree.specs.Values.{Bytes, Spot, IsInt, IsSpot, Checked, Gives, Fails}
 use Rattle.f_tree.specs.Terms.{Negate, Operator, Power, Term, Val, Fetch, At, Before as Prefixed, Between, Intrinsically, Terms, NoMore, More}
-use Rattle.f_tree.specs.Facts.{Dimension, FunctionUnit, EntryPoint, Direction, Input, Output, Layout, Listed, Labelled, Computed, Word, UnitWord, FormatWord, StatusWord, FileWord, FileStatusWord, AccessWord, FormWord, BlankWord, Controls, AuxiliaryKind, Job, Item, Repeated, Turn, Work, Done, Before, Head, ToSet, ToSetText, ToSetLabel, ToGo, ToPick, ToGoAssigned, ToGoBySign, ToGuard, ToEnterArm, ToLoop, ToCall, ToReturn, ToStop, ToBegin, ToTransfer, ToRepeat, ToTurn, ToFinish, ToAuxiliary, ToEnd, Form, Passes, On, Mark, Plain, Opens, Arm, Closes, Line, ProgramUnit, Facts, Home}
-use Rattle.f_tree.specs.Places.{place_of_label}
+use Rattle.f_tree.specs.Facts.{Dimension, FunctionUnit, EntryPoint, Direction, Input, Output, Layout, Listed, Labelled, Computed, Word, UnitWord, FormatWord, StatusWord, FileWord, FileStatusWord, AccessWord, FormWord, BlankWord, Controls, AuxiliaryKind, Job, Item, Repeated, Turn, Work, Done, Before, Head, ToSet, ToSetText, ToSetLabel, ToGo, ToPick, ToGoAssigned, ToGoBySign, ToGuard, ToEnterArm, ToLoop, ToTestLoop, ToCall, ToReturn, ToStop, ToBegin, ToTransfer, ToRepeat, ToTurn, ToFinish, ToAuxiliary, ToEnd, Form, Passes, On, Mark, Plain, Opens, Arm, Closes, Line, ProgramUnit, Facts, Home}
+use Rattle.f_tree.specs.Places.{place_of_label, terminal_of}
 use Rattle.f_tree.specs.Transfers.{is_format_word, labelled_text}
 use Rattle.f_tree.specs.Valuing.{elements_of}
 use Rattle.f_tree.specs.Attributes.{is_not_empty}
@@ -18,15 +18,20 @@ use Rattle.f_tree.specs.Setting.{Setting, IsIn}
 use Rattle.f_tree.specs.Meaning.{facts_at}
 use Rattle.f_tree.specs.WellTyped.{Sort, ValueOf, PlaceOf, AProcedure, ALabel, IsOf, IsValued, Operates, IsVariable, is_callee, IsPiece, Typed, AreTyped}
 
--- LABELS. A label that stands at a statement, and the label of a terminal statement, behind which another one stands (11.10)
+-- LABELS. A label that stands at a statement, and a DO with its terminal statement, behind which another one stands (11.10)
 pub record HasStatement (u : ProgramUnit) (label : ℕ) : Type 0 where
   pub at : ℕ
   pub there : place_of_label u label ≡ Some at
 
-pub record HasTerminal (u : ProgramUnit) (label : ℕ) : Type 0 where
+pub record HasTerminal (u : ProgramUnit) (first : ℕ) (label : Option ℕ) : Type 0 where
   pub at : ℕ
-  pub there : place_of_label u label ≡ Some at
+  pub there : terminal_of u first label ≡ Some at
   pub before_end : suc at < length u.lines
+
+-- a statement that takes a step
+unfoldable pub takes_step : Form → Bool
+takes_step Passes = false
+takes_step (On head operands) = true
 
 -- each label of a list, and a label that may be left out
 pub data EachStands (u : ProgramUnit) : List ℕ → Type 0 where
@@ -129,7 +134,9 @@ mutual
         Takes c count at None (ToGoBySign below even above) (ValueOf Integer ∷ [])
     guards : (form : Form) → IsFormed c count at None form → Takes c count at None (ToGuard form) (ValueOf Logical ∷ [])
     enters_arm : (line : Line) → slice_get c.program.lines at ≡ Some line → IsTrue (has_arm line.mark) → Takes c count at None ToEnterArm (ValueOf Logical ∷ [])
-    loops : (label : ℕ) → HasTerminal c.program label → Takes c count at None (ToLoop label) loop_sorts
+    loops : (label : Option ℕ) → HasTerminal c.program at label → Takes c count at None (ToLoop label) loop_sorts
+    tests_loop : (label : Option ℕ) (line : Line) → slice_get c.program.lines at ≡ Some line → IsTrue (takes_step line.form) → HasTerminal c.program at label →
+        Takes c count at None (ToTestLoop label) (ValueOf Logical ∷ [])
     calls : (x : Bytes) (sorts : List Sort) → IsTrue (is_callee (c.program.attribute x).class) → ArePassed c.program sorts → Takes c count at None (ToCall x) sorts
     returns : Takes c count at None ToReturn []
     returns_by : Takes c count at None ToReturn (ValueOf Integer ∷ [])

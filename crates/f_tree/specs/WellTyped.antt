@@ -7,7 +7,7 @@ use Rattle.f_tree.specs.declared.names.Basic.TheVariants.{Integer, Logical, Char
 use Rattle.f_tree.specs.declared.names.Class.{Class}
 use Rattle.f_tree.specs.declared.names.Class.TheVariants as class
 use Rattle.f_tree.specs.Values.{Bytes, Spot, Datum, IsInt, IsLog, IsText, IsSpot, IsProc, IsLabel, Nothing, Act, NoMeaning, Checked, Gives, Fails}
-use Rattle.f_tree.specs.Terms.{Prefix, Negate, Complement, Operator, Add, Subtract, Multiply, Divide, IsLess, IsLessOrEqual, IsEqual, IsNotEqual, IsGreater, IsGreaterOrEqual, Both, Either, Same, Different, Function, Power, Truncation, Magnitude, Remainder, SignTransfer, PositiveDifference, Largest, Smallest, CharacterCode, CharacterOfCode, TextLength, IndexOf, LexicallyGreaterOrEqual, LexicallyGreater, LexicallyLessOrEqual, LexicallyLess, Front, Fitted, Wanted, AsSubroutine, AsFunction, Callee, Term, Val, Fetch, At, All, Element, Alone, Part, Joined, Before, Between, Intrinsically, Refer, Bind, Bound, Terms, NoMore, More}
+use Rattle.f_tree.specs.Terms.{Prefix, Negate, Complement, Operator, Add, Subtract, Multiply, Divide, IsLess, IsLessOrEqual, IsEqual, IsNotEqual, IsGreater, IsGreaterOrEqual, Both, Either, Same, Different, Function, Power, Truncation, Magnitude, Remainder, SignTransfer, PositiveDifference, Largest, Smallest, CharacterCode, CharacterOfCode, TextLength, IndexOf, LexicallyGreaterOrEqual, LexicallyGreater, LexicallyLessOrEqual, LexicallyLess, Front, Fitted, InclusiveOr, LogicalProduct, ExclusiveOr, BitComplement, BitShift, BitTest, BitSet, BitClear, Wanted, AsSubroutine, AsFunction, Callee, Term, Val, Fetch, At, All, Element, Alone, Part, Joined, Before, Between, Intrinsically, Refer, Bind, Bound, Terms, NoMore, More}
 use Rattle.f_tree.specs.Store.{Store}
 use Rattle.f_tree.specs.Facts.{Dimension, Facts, Frame}
 use Rattle.f_tree.specs.Attributes.{bare, no_program, no_frame}
@@ -87,7 +87,16 @@ pub data Operates : Operator → Basic → Basic → Type 0 where
 abbrev pub integers_of : ℕ → List Sort
 integers_of n = replicate n (ValueOf Integer)
 
--- functions with the sorts of their arguments and the type of their value (15.10)
+-- the pieces of a concatenation: values and places of type CHARACTER
+pub data IsPiece : Sort → Type 0 where
+  piece_value : IsPiece (ValueOf Character)
+  piece_place : IsPiece (PlaceOf Character)
+
+pub data ArePieces : List Sort → Type 0 where
+  no_pieces : ArePieces []
+  more_pieces : (sort : Sort) (sorts : List Sort) → IsPiece sort → ArePieces sorts → ArePieces (sort ∷ sorts)
+
+-- functions with the sorts of their arguments and the type of their value (15.10, MIL-STD-1753)
 pub data Applies : Function → List Sort → Basic → Type 0 where
   power : Applies Power (ValueOf Integer ∷ ValueOf Integer ∷ []) Integer
   truncation : Applies Truncation (ValueOf Integer ∷ []) Integer
@@ -99,8 +108,7 @@ pub data Applies : Function → List Sort → Basic → Type 0 where
   smallest : (n : ℕ) → Applies Smallest (ValueOf Integer ∷ integers_of n) Integer
   character_code : Applies CharacterCode (ValueOf Character ∷ []) Integer
   character_of_code : Applies CharacterOfCode (ValueOf Integer ∷ []) Character
-  length_of_value : Applies TextLength (ValueOf Character ∷ []) Integer
-  length_of_place : Applies TextLength (PlaceOf Character ∷ []) Integer
+  length_of_pieces : (sort : Sort) (sorts : List Sort) → ArePieces (sort ∷ sorts) → Applies TextLength (sort ∷ sorts) Integer
   index_of : Applies IndexOf (ValueOf Character ∷ ValueOf Character ∷ []) Integer
   lexically_greater_or_equal : Applies LexicallyGreaterOrEqual (ValueOf Character ∷ ValueOf Character ∷ []) Logical
   lexically_greater : Applies LexicallyGreater (ValueOf Character ∷ ValueOf Character ∷ []) Logical
@@ -108,6 +116,14 @@ pub data Applies : Function → List Sort → Basic → Type 0 where
   lexically_less : Applies LexicallyLess (ValueOf Character ∷ ValueOf Character ∷ []) Logical
   front : (n : ℕ) → Applies (Front n) (ValueOf Character ∷ []) Character
   fitted : (n : ℕ) → Applies (Fitted n) (ValueOf Character ∷ []) Character
+  inclusive_or : Applies InclusiveOr (ValueOf Integer ∷ ValueOf Integer ∷ []) Integer
+  logical_product : Applies LogicalProduct (ValueOf Integer ∷ ValueOf Integer ∷ []) Integer
+  exclusive_or : Applies ExclusiveOr (ValueOf Integer ∷ ValueOf Integer ∷ []) Integer
+  bit_complement : Applies BitComplement (ValueOf Integer ∷ []) Integer
+  bit_shift : Applies BitShift (ValueOf Integer ∷ ValueOf Integer ∷ []) Integer
+  bit_test : Applies BitTest (ValueOf Integer ∷ ValueOf Integer ∷ []) Logical
+  bit_set : Applies BitSet (ValueOf Integer ∷ ValueOf Integer ∷ []) Integer
+  bit_clear : Applies BitClear (ValueOf Integer ∷ ValueOf Integer ∷ []) Integer
 
 -- names of variables and arrays, and of procedures (18)
 unfoldable pub is_variable : Class → Bool
@@ -157,15 +173,6 @@ Meant c count P Q (Valued a) = P a
 Meant c count P Q (Bad act) = IsTrue (is_named act)
 Meant c count P Q (Asks callee ds rest) = IsReference c count callee ds × ((d : Datum) → IsAnswer count callee.want d → Q (rest d))
 
--- the pieces of a concatenation: values and places of type CHARACTER
-pub data IsPiece : Sort → Type 0 where
-  piece_value : IsPiece (ValueOf Character)
-  piece_place : IsPiece (PlaceOf Character)
-
-pub data ArePieces : List Sort → Type 0 where
-  no_pieces : ArePieces []
-  more_pieces : (sort : Sort) (sorts : List Sort) → IsPiece sort → ArePieces sorts → ArePieces (sort ∷ sorts)
-
 -- the last place of a substring is written or not
 pub data IsLast : Sort → Type 0 where
   written_last : IsLast (ValueOf Integer)
@@ -187,8 +194,8 @@ mutual
     is_element : (env : List Sort) (x : Bytes) (ts : Terms) (basic : Basic) → IsVariable c x basic → AreTyped c count env ts (integers_of (rank_of c x)) →
         Typed c count env (Element x ts) (PlaceOf basic)
     is_alone : (env : List Sort) (t : Term) (basic : Basic) → Typed c count env t (PlaceOf basic) → Typed c count env (Alone t) (PlaceOf basic)
-    is_part : (env : List Sort) (t from to : Term) (last : Sort) → IsLast last → Typed c count env t (PlaceOf Character) →
-        Typed c count env from (ValueOf Integer) → Typed c count env to last → Typed c count env (Part t from to) (PlaceOf Character)
+    is_part : (env : List Sort) (x : Bytes) (t from to : Term) (last : Sort) → IsLast last → Typed c count env t (PlaceOf Character) →
+        Typed c count env from (ValueOf Integer) → Typed c count env to last → Typed c count env (Part x t from to) (PlaceOf Character)
     is_joined : (env : List Sort) (ts : Terms) (sorts : List Sort) → ArePieces sorts → AreTyped c count env ts sorts → Typed c count env (Joined ts) (ValueOf Character)
     is_before : (env : List Sort) (op : Prefix) (t : Term) (basic : Basic) → Precedes op basic → Typed c count env t (ValueOf basic) →
         Typed c count env (Before op t) (ValueOf basic)

@@ -2,11 +2,13 @@
 -- ANSI X3.9-1978, sections 2.13 (storage), 12 (units), 11.10 (active DO-loops).
 use Rattle.std.specs.Prelude.{ℕ, ℤ, Bool, List, Option}
 use Rattle.simulation.specs.Machine.{Sorts, Event, Goes, Breaks, Entry, Enters, Refused}
-use Rattle.edit_rules.specs.Formats.{Format}
-use Rattle.edit_rules.specs.ListInput.{Place}
-use Rattle.edit_rules.specs.Listed.{ListedValue}
-use Rattle.edit_rules.specs.TakenRecords.{Want}
-use Rattle.f2c_outside.specs.Units.{Units}
+use Rattle.edit_meaning.specs.Formats.{Format}
+use Rattle.edit_meaning.specs.ListInput.{Place}
+use Rattle.edit_meaning.specs.ListItems.{Value}
+use Rattle.edit_meaning.specs.Listed.{ListedValue}
+use Rattle.edit_meaning.specs.TakenRecords.{Want}
+pub use Rattle.run_state.specs.Endings.{Ending, Plain, Stop, Io, Range, Report}
+use Rattle.run_state.specs.Units.{Units}
 use Rattle.f_tree.specs.Values.{Bytes, Spot, Datum, Act, Checked, Gives, Fails}
 use Rattle.f_tree.specs.Terms.{Wanted}
 use Rattle.f_tree.specs.Store.{Store}
@@ -33,11 +35,13 @@ pub record Transfer : Type 0 where
   pub values : List ListedValue
   -- how many of their records are written; of an internal file that is read, how many are read
   pub written : ℕ
-  -- where a list-directed input stands in the record that it reads, and whether a slash has ended it
+  -- the records that an input has read so far, the last of which it is reading, and the values that its items were given
+  pub lines : List Bytes
+  pub taken : List Value
+  -- where a list-directed input stands in its record, and whether a slash has ended it
   pub place : Place
   pub slashed : Bool
-  -- what a formatted input has read so far, what its items so far want, and whether blanks in a number are zeros at its start
-  pub lines : List Bytes
+  -- what the items of a formatted input so far want, and whether blanks in a number are zeros at its start
   pub wants : List Want
   pub zeros : Bool
 
@@ -46,8 +50,10 @@ pub record World : Type 0 where
   pub units : Units
   pub transfer : Option Transfer
 
--- an active loop of a DO statement (11.10): the DO statement, its terminal statement, and how it goes on
+-- an active loop of a DO statement (11.10) or of a DO WHILE (MIL-STD-1753): the statement, its terminal statement, and how it goes on
 pub data RoundKind : Type 0 where
+  -- a DO WHILE, which goes on by its test
+  While : RoundKind
   -- the variable, the turns left, the step, and the value that the loop gave the variable
   Counted : Spot → ℕ → ℤ → ℤ → RoundKind
 
@@ -83,12 +89,6 @@ pub record Passed : Type 0 where
   pub want : Wanted
   pub actuals : List Datum
   pub result : Option Spot
-
--- how a run ends
-pub data Ending : Type 0 where
-  Plain : Ending
-  Stop : Bytes → Ending
-  Io : ℤ → Ending
 
 abbrev pub fortran_sorts : Sorts
 fortran_sorts = record { Code = Facts; View = View; Shared = World; Name = Called; Arg = Passed; Ans = Datum; Fault = Act }

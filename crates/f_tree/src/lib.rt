@@ -2,14 +2,10 @@
 //! file is refused, and, in `specs/`, what a set of files means.
 #![tactic(auto)]
 
-pub mod example_rows;
 pub mod expressions;
 pub mod names;
 pub mod refusals;
-pub mod rows;
-pub mod settings;
 pub mod statements;
-pub mod totality;
 pub mod units;
 
 pub use expressions::{BinaryOp, Expr, Text};
@@ -21,7 +17,7 @@ pub use statements::{
     EquivalenceGroup, ImplicitGroup, LengthSpec, LetterRange, ListItem, LoopControl, SavedItem,
     Stmt, TypeSpec, UnitKind, UpperBound,
 };
-pub use units::{File, FileSet, Unit};
+pub use units::{File, FileSet, Part, Unit};
 
 #[cfg(test)]
 mod tests;

@@ -74,8 +74,6 @@ pub enum Kind {
     EquivalenceContradiction,
     /// F36 `common joined or extended`
     CommonJoinedOrExtended,
-    /// F37 `character and numeric mixed`
-    CharacterAndNumericMixed,
     /// F38 `common initialised`
     CommonInitialised,
     /// F39 `use of (*)`
@@ -92,6 +90,10 @@ pub enum Kind {
     BadFormat,
     /// F45 `edit descriptor not supported`
     EditDescriptorNotSupported,
+    /// F46 `numeric place not on a word`
+    NumericPlaceNotOnAWord,
+    /// F47 `END or INCLUDE in an included file`
+    EndOrIncludeInAnIncludedFile,
     /// F50 `common lengths differ`
     CommonLengthsDiffer,
     /// F51 `global name twice`
@@ -144,7 +146,6 @@ impl Kind {
             Kind::BadData => 34,
             Kind::EquivalenceContradiction => 35,
             Kind::CommonJoinedOrExtended => 36,
-            Kind::CharacterAndNumericMixed => 37,
             Kind::CommonInitialised => 38,
             Kind::UseOfAssumedLength => 39,
             Kind::BadStatementFunction => 40,
@@ -153,6 +154,8 @@ impl Kind {
             Kind::TwoShapesOfCall => 43,
             Kind::BadFormat => 44,
             Kind::EditDescriptorNotSupported => 45,
+            Kind::NumericPlaceNotOnAWord => 46,
+            Kind::EndOrIncludeInAnIncludedFile => 47,
             Kind::CommonLengthsDiffer => 50,
             Kind::GlobalNameTwice => 51,
             Kind::TwoMainPrograms => 52,
@@ -199,7 +202,6 @@ impl Kind {
             Kind::BadData => b"bad DATA",
             Kind::EquivalenceContradiction => b"EQUIVALENCE contradiction",
             Kind::CommonJoinedOrExtended => b"common joined or extended",
-            Kind::CharacterAndNumericMixed => b"character and numeric mixed",
             Kind::CommonInitialised => b"common initialised",
             Kind::UseOfAssumedLength => b"use of (*)",
             Kind::BadStatementFunction => b"bad statement function",
@@ -208,6 +210,8 @@ impl Kind {
             Kind::TwoShapesOfCall => b"two shapes of call",
             Kind::BadFormat => b"bad format",
             Kind::EditDescriptorNotSupported => b"edit descriptor not supported",
+            Kind::NumericPlaceNotOnAWord => b"numeric place not on a word",
+            Kind::EndOrIncludeInAnIncludedFile => b"END or INCLUDE in an included file",
             Kind::CommonLengthsDiffer => b"common lengths differ",
             Kind::GlobalNameTwice => b"global name twice",
             Kind::TwoMainPrograms => b"two main programs",

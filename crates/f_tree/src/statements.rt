@@ -5,11 +5,12 @@ use crate::expressions::{Expr, Text};
 use crate::names::Basic;
 use plain_data::{Boxed, Items};
 
-/// A statement with its label, if it has one, and the number of its initial card in the file, from
-/// 1.
+/// A statement with its label, if it has one, the number of its file, from 0, and the number of its
+/// initial card in the file, from 1. An included statement has the file and the card that it stands on.
 #[derive(Drop)]
 pub struct Stmt {
     pub label: Option<u32>,
+    pub file: usize,
     pub card: u32,
     pub body: Body,
 }
@@ -240,6 +241,8 @@ pub enum Body {
     Equivalence(Items<EquivalenceGroup>),
     /// IMPLICIT. Section 8.5.
     Implicit(Items<ImplicitGroup>),
+    /// IMPLICIT NONE: each name has a type statement. MIL-STD-1753.
+    ImplicitNone,
     /// PARAMETER. Section 8.6.
     Parameter(Items<ConstantDefinition>),
     /// EXTERNAL. Section 8.7.
@@ -279,8 +282,13 @@ pub enum Body {
     Else,
     /// END IF. Section 11.9.
     EndIf,
-    /// DO up to the statement with the label. Section 11.10.
-    Do(u32, LoopControl),
+    /// DO up to the statement with the label (section 11.10), or, without a label, up to its END DO
+    /// (MIL-STD-1753).
+    Do(Option<u32>, LoopControl),
+    /// DO WHILE, up to the statement with the label or to its END DO. MIL-STD-1753.
+    DoWhile(Option<u32>, Expr),
+    /// END DO. MIL-STD-1753.
+    EndDo,
     /// CONTINUE. Section 11.11.
     Continue,
     /// CALL, with its arguments. Section 15.6.
@@ -293,6 +301,8 @@ pub enum Body {
     Transfer(Direction, Items<Control>, Items<ListItem>),
     /// OPEN, CLOSE, BACKSPACE, ENDFILE or REWIND. Section 12.10.
     Auxiliary(AuxiliaryKind, Items<Control>),
+    /// INCLUDE of the file with this name, before its statements take its place. MIL-STD-1753.
+    Include(Text),
     /// END. Section 11.14.
     End,
 }

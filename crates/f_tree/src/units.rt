@@ -18,6 +18,13 @@ pub struct Unit {
     pub statements: Items<Stmt>,
 }
 
+/// The statements of an included file, with the name of the file. MIL-STD-1753.
+#[derive(Drop)]
+pub struct Part {
+    pub name: Text,
+    pub statements: Items<Stmt>,
+}
+
 /// The program units of a file, in their order.
 #[derive(Drop)]
 pub struct File {

@@ -17,8 +17,8 @@ use Rattle.f_tree.specs.Spelling.{is_integer_letter, IsName, IsConstant, Primary
 use Rattle.f_tree.specs.declared.expressions.Expr.{Expr}
 use Rattle.f_tree.specs.declared.expressions.Expr as expr
 use Rattle.f_tree.specs.declared.expressions.BinaryOp.TheVariants as operator
-use Rattle.f_tree.proofs.CutLemmas.{no_such, last_cut}
-use Rattle.f_tree.proofs.SpellingLemmas.{primary_is_plain, alone_has_no_plus}
+use Rattle.fortran_laws.proofs.CutLemmas.{no_such, last_cut}
+use Rattle.fortran_laws.proofs.SpellingLemmas.{primary_is_plain, alone_has_no_plus}
 use Rattle.first_reader.specs.Readings.{IsReading, is_other, CutsLast}
 
 -- Digits before others write no greater number.

@@ -11,7 +11,7 @@ use Rattle.f_tree.specs.StatementKind.{StatementKind, Assignment, Print, End, ke
 use Rattle.f_tree.specs.Spelling.{Sum, SpellsExpr, alone, added, Spells, assignment, print, end}
 use Rattle.f_tree.specs.declared.expressions.Expr.{Expr}
 use Rattle.f_tree.specs.declared.statements.Body.{Body}
-use Rattle.f_tree.proofs.SpellingLemmas.{primary_is_plain}
+use Rattle.fortran_laws.proofs.SpellingLemmas.{primary_is_plain}
 use Rattle.first_reader.specs.Readings.{is_other, squeezed}
 use Rattle.first_reader.proofs.FormLemmas.{characters_of_plain, codes_of_plain}
 

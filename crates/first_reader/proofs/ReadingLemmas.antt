@@ -9,7 +9,7 @@ use Rattle.f_tree.specs.StatementsOfFile.{statements, statements_of_file}
 use Rattle.f_tree.specs.FirstRefusal.{most_bytes, most_cards, SpellsUnit, HasForm, IsOfForm, card_of_byte, CardFault, no_line, not_of_form, too_many_cards, too_many_bytes}
 use Rattle.f_tree.specs.declared.statements.Stmt.{Stmt}
 use Rattle.f_tree.specs.declared.statements.Body.{Body}
-use Rattle.f_tree.proofs.LineLemmas.{lines-nil, lines-end, lines-inner, line_ends-nil, line_ends-end, line_ends-inner, some_line}
+use Rattle.fortran_laws.proofs.LineLemmas.{lines-nil, lines-end, lines-inner, line_ends-nil, line_ends-end, line_ends-inner, some_line}
 use Rattle.first_reader.specs.Readings.{is_other, IsCardBody, SplitsLine, IsReadAs}
 use Rattle.first_reader.proofs.FormLemmas.{IsEnding}
 use Rattle.first_reader.proofs.FormedLemmas.{tree_of, card_formed, formed_card, Formed, nothing, another, unit_formed, first_formed}
@@ -99,7 +99,7 @@ ends_from : (front more : List ℕ) (n : ℕ) → length front ≤ n → line_en
 ends_from front more n low = omega (arith, ap line_ends (take_past front more n low), line_ends-append front (take (n - length front) more))
 
 -- What is known when a number of cards have been read and `rest` is left.
-pub record Reading (place : ℕ) (bytes rest : List ℕ) (trees : List Stmt) : Type 0 where
+pub record Reading (file place : ℕ) (bytes rest : List ℕ) (trees : List Stmt) : Type 0 where
   pub front : List ℕ
   pub whole : bytes ≡ front ++ rest
   pub ended : (0 < length rest) → line_ends front ≡ place
@@ -107,7 +107,7 @@ pub record Reading (place : ℕ) (bytes rest : List ℕ) (trees : List Stmt) : T
   pub few : place ≤ most_cards
   pub behind : drop place (lines bytes) ≡ lines rest
   pub counted : place + length (lines rest) ≡ length (lines bytes)
-  pub formed : (more : List Stmt) → Formed place (lines rest) more → Formed 0 (lines bytes) (trees ++ more)
+  pub formed : (more : List Stmt) → Formed file place (lines rest) more → Formed file 0 (lines bytes) (trees ++ more)
   pub clear : (card : ℕ) → CardFault bytes card → place < card
 
 no_fault_at_0 : (bytes : List ℕ) (card : ℕ) → CardFault bytes card → 0 < card
@@ -117,8 +117,8 @@ no_fault_at_0 bytes card (not_of_form place line is at out) = omega arith
 no_fault_at_0 bytes card (too_many_cards many is) = omega arith
 no_fault_at_0 bytes card (too_many_bytes many is) = omega arith
 
-pub reading_begins : (bytes : List ℕ) → Reading 0 bytes bytes []
-reading_begins bytes = record {
+pub reading_begins : (file : ℕ) (bytes : List ℕ) → Reading file 0 bytes bytes []
+reading_begins file bytes = record {
   front = [];
   whole = refl;
   ended = λ _. line_ends-nil;
@@ -141,7 +141,7 @@ drop_head zero (y ∷ xs) x ys h = let heads : y ≡ x = cc in let tails : xs �
 drop_head (suc n) (y ∷ xs) x ys h = drop_head n xs x ys h
 
 -- One line, which is split from what is left.
-module _ (place : ℕ) (bytes rest line after : List ℕ) (trees : List Stmt) (state : Reading place bytes rest trees) (some : 0 < length rest) (split : SplitsLine rest line after) where
+module _ (file place : ℕ) (bytes rest line after : List ℕ) (trees : List Stmt) (state : Reading file place bytes rest trees) (some : 0 < length rest) (split : SplitsLine rest line after) where
   full : List ℕ
   full = line ++ split.end
 
@@ -189,20 +189,20 @@ module _ (place : ℕ) (bytes rest line after : List ℕ) (trees : List Stmt) (s
       refuse : IsOfForm place (length (lines bytes) == suc place) full → ⊥
       refuse formed =
           let flags : (length (lines bytes) == suc place) ≡ last = last_flag ∙ sym is in
-          let h : HasForm place last full formed.0 formed.1 = subst (λ w. HasForm place w full formed.0 formed.1) flags formed.2 in
-          out formed.1.body (formed_card line split.end (ending_of rest line after split) split.inner place last formed.0 formed.1 h)
+          let h : HasForm formed.1.file place last full formed.0 formed.1 = subst (λ w. HasForm formed.1.file place w full formed.0 formed.1) flags formed.2 in
+          out formed.1.body (formed_card line split.end (ending_of rest line after split) split.inner formed.1.file place last formed.0 formed.1 h)
 
   -- no fault at a card that was read
   no_fault_here : (last : Bool) (says : Body) → last ≡ (length (lines after) == 0) → IsCardBody last line says → place < most_cards → length bytes - length after ≤ most_bytes → CardFault bytes (suc place) → ⊥
-  unfolding full card_of_byte
+  unfolding full card_of_byte tree_of
   no_fault_here last says is good few short (no_line empty one) = omega (arith, ap length empty, sizes, ap length state.whole, length-append state.front rest)
   no_fault_here last says is good few short (not_of_form other found same at out) =
       let places : other ≡ place = omega arith in
       let found_is : Some full ≡ Some found = sym at_place.0 ∙ ap (λ w. slice_get (lines bytes) w) (sym places) ∙ at in
       let lines_are : full ≡ found = cc in
       let flags : last ≡ (length (lines bytes) == suc place) = is ∙ sym last_flag in
-      let h = card_formed line split.end (ending_of rest line after split) split.inner place last says good in
-      let formed : IsOfForm place (length (lines bytes) == suc place) full = (good.says.kind, tree_of (suc place) says, subst (λ w. HasForm place w full good.says.kind (tree_of (suc place) says)) flags h) in
+      let h = card_formed line split.end (ending_of rest line after split) split.inner file place last says good in
+      let formed : IsOfForm place (length (lines bytes) == suc place) full = (good.says.kind, tree_of file (suc place) says, subst (λ w. HasForm file place w full good.says.kind (tree_of file (suc place) says)) flags h) in
       let formed' : IsOfForm other (length (lines bytes) == suc other) full = subst (λ w. IsOfForm w (length (lines bytes) == suc w) full) (sym places) formed in
       out (subst (λ w. IsOfForm other (length (lines bytes) == suc other) w) lines_are formed')
   no_fault_here last says is good few short (too_many_cards many one) = omega arith
@@ -219,11 +219,11 @@ module _ (place : ℕ) (bytes rest line after : List ℕ) (trees : List Stmt) (s
       behind_line (inr last_one) = omega (arith, ap length last_one.1, sizes)
 
   -- the state after a card
-  pub reading_goes_on : (last : Bool) (says : Body) → last ≡ (length (lines after) == 0) → IsCardBody last line says → place < most_cards → length bytes - length after ≤ most_bytes → Reading (suc place) bytes after (trees ++ tree_of (suc place) says ∷ [])
+  pub reading_goes_on : (last : Bool) (says : Body) → last ≡ (length (lines after) == 0) → IsCardBody last line says → place < most_cards → length bytes - length after ≤ most_bytes → Reading file (suc place) bytes after (trees ++ tree_of file (suc place) says ∷ [])
   unfolding full
   reading_goes_on last says is good few short =
-      let h = card_formed line split.end (ending_of rest line after split) split.inner place last says good in
-      let h' : HasForm place (length (lines after) == 0) full good.says.kind (tree_of (suc place) says) = subst (λ w. HasForm place w full good.says.kind (tree_of (suc place) says)) is h in
+      let h = card_formed line split.end (ending_of rest line after split) split.inner file place last says good in
+      let h' : HasForm file place (length (lines after) == 0) full good.says.kind (tree_of file (suc place) says) = subst (λ w. HasForm file place w full good.says.kind (tree_of file (suc place) says)) is h in
       record {
         front = state.front ++ full;
         whole = parts ∙ sym (append_assoc state.front full after);
@@ -233,8 +233,8 @@ module _ (place : ℕ) (bytes rest line after : List ℕ) (trees : List Stmt) (s
         behind = at_place.1;
         counted = omega (arith, count);
         formed = λ more later.
-            subst (λ w. Formed 0 (lines bytes) w) (sym (append_assoc trees (tree_of (suc place) says ∷ []) more))
-            (state.formed (tree_of (suc place) says ∷ more) (subst (λ w. Formed place w (tree_of (suc place) says ∷ more)) (sym here) (another place full good.says.kind (tree_of (suc place) says) (lines after) more h' later)));
+            subst (λ w. Formed file 0 (lines bytes) w) (sym (append_assoc trees (tree_of file (suc place) says ∷ []) more))
+            (state.formed (tree_of file (suc place) says ∷ more) (subst (λ w. Formed file place w (tree_of file (suc place) says ∷ more)) (sym here) (another place full good.says.kind (tree_of file (suc place) says) (lines after) more h' later)));
         clear = λ card fault. beyond card fault (cases_lt (suc place) card);
       }
     where
@@ -256,22 +256,22 @@ get_within (y ∷ xs) zero x h = omega arith
 get_within (y ∷ xs) (suc n) x h = omega (arith, get_within xs n x h)
 
 -- the end of a file
-pub reading_ends : (place : ℕ) (bytes : List ℕ) (trees : List Stmt) → 0 < length bytes → Reading place bytes [] trees → IsReadAs bytes trees
+pub reading_ends : (file place : ℕ) (bytes : List ℕ) (trees : List Stmt) → 0 < length bytes → Reading file place bytes [] trees → IsReadAs file bytes trees
 unfolding statements_of_file cards card_of_byte
-reading_ends place bytes trees some state = record { spelled = spelled; first = first_formed (lines bytes) trees (begun bytes some) all; sound = sound }
+reading_ends file place bytes trees some state = record { spelled = spelled; first = first_formed file (lines bytes) trees (begun bytes some) all; sound = sound }
   where
     empty : lines [] ≡ []
     empty = lines-nil
 
-    all : Formed 0 (lines bytes) trees
-    all = subst (λ w. Formed 0 (lines bytes) w) (append-nil trees) (state.formed [] (subst (λ w. Formed place w []) (sym empty) (nothing place)))
+    all : Formed file 0 (lines bytes) trees
+    all = subst (λ w. Formed file 0 (lines bytes) w) (append-nil trees) (state.formed [] (subst (λ w. Formed file place w []) (sym empty) (nothing place)))
 
     begun : (xs : List ℕ) → 0 < length xs → 0 < length (lines xs)
     begun [] h = absurd (omega arith)
     begun (b ∷ xs) h = some_line b xs
 
-    spelled : SpellsUnit true (statements 1 (map card_kind (lines bytes))) trees
-    spelled = unit_formed 0 (lines bytes) trees (begun bytes some) all
+    spelled : SpellsUnit file true (statements 1 (map card_kind (lines bytes))) trees
+    spelled = unit_formed file 0 (lines bytes) trees (begun bytes some) all
 
     sound : (card : ℕ) → CardFault bytes card → ⊥
     sound card (no_line none is) = omega (arith, ap length none)

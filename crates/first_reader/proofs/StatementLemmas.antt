@@ -19,7 +19,7 @@ use Rattle.f_tree.specs.declared.expressions.Expr as expr
 use Rattle.f_tree.specs.declared.statements.Body.{Body}
 use Rattle.f_tree.specs.declared.statements.Body as body
 use Rattle.f_tree.specs.declared.statements.ListItem as item
-use Rattle.f_tree.proofs.CutLemmas.{no_such, first_cut}
+use Rattle.fortran_laws.proofs.CutLemmas.{no_such, first_cut}
 use Rattle.first_reader.specs.Readings.{IsReading, is_other, CutsFirst, IsBody}
 use Rattle.first_reader.proofs.ExpressionLemmas.{plain_is_other}
 

@@ -58,10 +58,11 @@ pub record IsCardBody (last : Bool) (line : List ℕ) (body : Body) : Type 0 whe
   pub says : IsBody last (squeezed (drop 6 (take 72 line))) body
 
 -- The next card has a statement: its number, from 0, and its place in the file are within the limits.
-pub record IsNext (place : ℕ) (bytes line after : List ℕ) (tree : Stmt) : Type 0 where
+pub record IsNext (file place : ℕ) (bytes line after : List ℕ) (tree : Stmt) : Type 0 where
   pub few : place < most_cards
   pub short : length bytes - length after ≤ most_bytes
   pub says : IsCardBody (length after == 0) line tree.body
+  pub in_file : tree.file ≡ file
   pub label : tree.label ≡ None
   pub card : tree.card ≡ suc place
 
@@ -82,8 +83,8 @@ IsFailure file bytes (Refused r) =
     (r.file ≡ file) × (r.kind ≡ row.NotBuiltYet) × CardFault bytes r.card × ((card : ℕ) → CardFault bytes card → r.card ≤ card)
 
 -- The statements of a file spell the trees, and the file has no fault.
-pub record IsReadAs (bytes : List ℕ) (trees : List Stmt) : Type 0 where
-  pub spelled : SpellsUnit true (statements_of_file bytes) trees
+pub record IsReadAs (file : ℕ) (bytes : List ℕ) (trees : List Stmt) : Type 0 where
+  pub spelled : SpellsUnit file true (statements_of_file bytes) trees
   pub first : card_of_first trees ≡ 1
   pub sound : IsSound bytes
 

@@ -59,7 +59,7 @@ fn one_program(alloc: Global, file: usize, statements: Items<Stmt>) -> Result<Fi
 
 /// The statements of a file, one on each card.
 fn read_statements(alloc: Global, bytes: &[u8], file: usize) -> Result<Items<Stmt>, Fail>
-    ensures read { IfOk result (IsReadAs bytes.now) }
+    ensures read { IfOk result (IsReadAs file bytes.now) }
     ensures failed { IfErr result (IsFailure file bytes.now) }
 {
     if bytes.is_empty() {
@@ -70,7 +70,7 @@ fn read_statements(alloc: Global, bytes: &[u8], file: usize) -> Result<Items<Stm
     let mut place: u32 = 0;
     while !rest.is_empty() {
         let (line, after) = split_line(rest);
-        let Some(statement) = read_next(alloc, bytes, line, after, place)? else {
+        let Some(statement) = read_next(alloc, bytes, line, after, file, place)? else {
             return Err(not_built(file, place + 1));
         };
         statements.push(statement)?;
@@ -80,17 +80,18 @@ fn read_statements(alloc: Global, bytes: &[u8], file: usize) -> Result<Items<Stm
     Ok(statements)
 }
 
-/// The statement on the card with a number from 0, of which are given its line and what follows in
-/// the file; none where the card is past a limit or not of the form.
+/// The statement on the card with a number from 0, of which are given its line, what follows in
+/// the file and the number of the file; none where the card is past a limit or not of the form.
 fn read_next(
     alloc: Global,
     bytes: &[u8],
     line: &[u8],
     after: &[u8],
+    file: usize,
     place: u32,
 ) -> Result<Option<Stmt>, AllocError>
     requires { length after.now ≤ length bytes.now }
-    ensures { IfOk result (λ found. MatchOption found (IsStop place bytes.now line.now after.now) (IsNext place bytes.now line.now after.now)) }
+    ensures { IfOk result (λ found. MatchOption found (IsStop place bytes.now line.now after.now) (IsNext file place bytes.now line.now after.now)) }
 {
     if place >= MOST_CARDS || bytes.len() - after.len() > MOST_BYTES {
         return Ok(None);
@@ -98,6 +99,7 @@ fn read_next(
     match read_card(alloc, line, after.is_empty())? {
         Some(body) => Ok(Some(Stmt {
             label: None,
+            file,
             card: place + 1,
             body,
         })),

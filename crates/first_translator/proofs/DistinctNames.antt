@@ -5,7 +5,7 @@ use Rattle.std.proofs.lemmas.List.{append_cancel_left, reverse-append, map-appen
 use Rattle.std.proofs.lemmas.Fmt.{decimal_injective}
 use Rattle.std.specs.Cmp.Lexicographic.{other_text}
 use Rattle.f_tree.specs.CNames.{Bytes, is_name, has_underscore, is_reserved, takes_underscores, variable_name, made_name, NumberTemporary, ControlList}
-use Rattle.f_tree.proofs.CNameLaws.{variable_name-injective, variable_name-not_made}
+use Rattle.fortran_laws.proofs.CNameLaws.{variable_name-injective, variable_name-not_made}
 use Rattle.first_translator.specs.declared.builtins.Builtin.{Builtin}
 use Rattle.first_translator.specs.declared.builtins.Builtin.TheVariants as builtin
 use Rattle.c_tree.specs.declared.declaration.CLocal.{CLocal}

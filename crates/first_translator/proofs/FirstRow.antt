@@ -31,7 +31,7 @@ use Rattle.c_tree.specs.declared.file.CFile.{CFile}
 use Rattle.first_translator.specs.Translated as spec
 
 card : ℕ → Body → Stmt
-card n b = record { label = None; card = n; body = b }
+card n b = record { label = None; file = 0; card = n; body = b }
 
 pub cards : File
 cards = record {

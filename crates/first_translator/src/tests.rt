@@ -14,6 +14,7 @@ use std::test::Fail;
 fn push(statements: &mut Vec<Stmt>, body: Body) -> Result<(), AllocError> {
     statements.push(Stmt {
         label: None,
+        file: 0,
         card: 1,
         body,
     })?;

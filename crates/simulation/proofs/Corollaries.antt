@@ -26,9 +26,9 @@ module _ {E : Type 0} {A B : Lang E} {K : Kit A B} {P : Program A.sorts} {Q : Pr
   below_texts : {b : Bool} {μ : K.World} {i : ℕ} {us : List (Frame A.sorts)} {fs : List (Frame B.sorts)} → Below L b μ i us fs → without L.outer (numbers fs) ≡ map L.image (numbers us)
   unfolding numbers
   below_texts (bottom houses) = refl
-  below_texts (caller {j = j} {us = us} {fs = fs} known home waits resumes below) =
+  below_texts (caller {j = j} {us = us} {fs = fs} known home grows waits resumes below) =
       ap (λ b. unless_so b (L.image j) (without L.outer (numbers fs))) (linked.image_inner j) ∙ ap (λ ks. L.image j ∷ ks) (below_texts below)
-  below_texts (wrapped {i = i} {g = g} {n = n} {fs = fs} named hands_on below) =
+  below_texts (wrapped {i = i} {g = g} {n = n} {fs = fs} named grows hands_on below) =
       ap (λ b. unless_so b g (without L.outer (numbers fs))) (linked.wrapper_outer i n g named) ∙ below_texts below
 
   -- The active texts of the two sides are the same.
@@ -102,13 +102,13 @@ module _ {E : Type 0} {A B : Lang E} {K : Kit A B} {P : Program A.sorts} {Q : Pr
       Below L false μ i us fs → K.Given μ s r t r' → BreaksBy (answering A P i us s r) f → K.Claimed f → ⊥
   unfolding answering
   directly_unclaimed s r t r' f (bottom houses) given broken = absurd broken
-  directly_unclaimed s r t r' f (caller {μ₀ = μ₀} {j = j} {v = v} {w = w} {us = us} known home waits resumes below) given broken =
+  directly_unclaimed s r t r' f (caller {μ₀ = μ₀} {j = j} {v = v} {w = w} {us = us} known home grows waits resumes below) given broken =
       resumed_unclaimed μ₀ j us w r' t _ f (A.resume (P.text j) v r s) (resumes s r t r' given) broken
 
   answering_unclaimed : (b : Bool) {μ : K.World} {i : ℕ} {us : List (Frame A.sorts)} {fs : List (Frame B.sorts)} (s : A.sorts.Shared) (r : A.sorts.Ans) (t : B.sorts.Shared) (r' : B.sorts.Ans) (f : A.sorts.Fault) →
       Below L b μ i us fs → K.Given μ s r t r' → BreaksBy (answering A P i us s r) f → K.Claimed f → ⊥
   answering_unclaimed false s r t r' f below given broken claimed = directly_unclaimed s r t r' f below given broken claimed
-  answering_unclaimed true s r t r' f (wrapped named hands_on below) given broken claimed =
+  answering_unclaimed true s r t r' f (wrapped named grows hands_on below) given broken claimed =
       directly_unclaimed s r (hands_on s r t r' given).answered (hands_on s r t r' given).ans f below (hands_on s r t r' given).given broken claimed
 
   -- the target tells what the source claims

@@ -72,11 +72,11 @@ module _ {E : Type 0} {A B : Lang E} {K : Kit A B} {P : Program A.sorts} {Q : Pr
   quiet : {b : Bool} {μ : K.World} {i : ℕ} {us : List (Frame A.sorts)} {fs : List (Frame B.sorts)} → Below L b μ i us fs → (j k : ℕ) → L.owner k ≡ j → nat_eq j i ≡ false → active j us ≡ false → active k fs ≡ false
   unfolding active
   quiet (bottom houses) j k owned other absent = refl
-  quiet (caller {j = i'} {us = us} {fs = fs} known home waits resumes below) j k owned other absent =
+  quiet (caller {j = i'} {us = us} {fs = fs} known home grows waits resumes below) j k owned other absent =
       let parts = or_no (nat_eq j i') (active j us) absent in
       let mine : nat_eq (L.owner k) (L.owner (L.image i')) ≡ false = ap (λ x. nat_eq x (L.owner (L.image i'))) owned ∙ ap (nat_eq j) (linked.image_owner i') ∙ parts.0 in
       no_or (nat_eq k (L.image i')) (active k fs) (apart L.owner k (L.image i') mine) (quiet below j k owned parts.0 parts.1)
-  quiet (wrapped {i = i} {g = g} {n = n} {fs = fs} named hands_on below) j k owned other absent =
+  quiet (wrapped {i = i} {g = g} {n = n} {fs = fs} named grows hands_on below) j k owned other absent =
       let mine : nat_eq (L.owner k) (L.owner g) ≡ false = ap (λ x. nat_eq x (L.owner g)) owned ∙ ap (nat_eq j) (linked.wrapper_owner i n g named) ∙ other in
       no_or (nat_eq k g) (active k fs) (apart L.owner k g mine) (quiet below j k owned other absent)
 
@@ -95,14 +95,14 @@ module _ {E : Type 0} {A B : Lang E} {K : Kit A B} {P : Program A.sorts} {Q : Pr
   unfolding answering
   answered_directly f {s = s} {t = t} (bottom houses) given =
       subst (λ e. Alike L (Over A.plain [] s) (Over e [] t)) linked.same_plain (finished houses given)
-  answered_directly f {s = s} {r = r} {t = t} {r' = r'} (caller {j = j} {v = v} {w = w} known home waits resumes below) given =
+  answered_directly f {s = s} {r = r} {t = t} {r' = r'} (caller {j = j} {v = v} {w = w} known home grows waits resumes below) given =
       resumed_alike w r' t _ _ (A.resume (P.text j) v r s) (resumes s r t r' given) known home below
 
   -- an answer through a wrapper takes the step by which the wrapper hands it on
   answered_wrapped : {μ : K.World} {i : ℕ} (f : ℕ) {us : List (Frame A.sorts)} {fs : List (Frame B.sorts)} {s : A.sorts.Shared} {r : A.sorts.Ans} {t : B.sorts.Shared} {r' : B.sorts.Ans} →
       Below L true μ i us fs → K.Given μ s r t r' → Alike L (answering A P i us s r) (run B Q 1 (answering B Q f fs t r'))
   unfolding answering entering run next act
-  answered_wrapped {i = i} f {us = us} {s = s} {r = r} {t = t} {r' = r'} (wrapped {g = g} {w = w} {fs = fs} named hands_on below) given =
+  answered_wrapped {i = i} f {us = us} {s = s} {r = r} {t = t} {r' = r'} (wrapped {g = g} {w = w} {fs = fs} named grows hands_on below) given =
       let h = hands_on s r t r' given in
       let enters : next B Q (entering (B.resume (Q.text g) w r' t) (f ∷ g ∷ numbers fs) g fs) ≡ act B Q (B.step (Q.text g) h.view h.shared) g fs =
       ap (λ x. next B Q (entering x (f ∷ g ∷ numbers fs) g fs)) h.resumes in
@@ -133,7 +133,7 @@ module _ {E : Type 0} {A B : Lang E} {K : Kit A B} {P : Program A.sorts} {Q : Pr
       let apart_from : nat_eq (L.image j) g ≡ false = apart_by_test L.outer (L.image j) g (linked.image_inner j) (linked.wrapper_outer j n g named) in
       let free_inside : active (L.image j) (Has g w.waiting ∷ fs) ≡ false = no_or (nat_eq (L.image j) g) (active (L.image j) fs) apart_from (free (L.image j) (linked.image_owner j)) in
       let inside = called (L.inner j) w.arg w.passed (L.image j) (Has g w.waiting ∷ fs) w.started.view w.started.shared (linked.finds_inner j known) w.started.starts free_inside in
-      (1, omega arith, subst (λ y. Alike L (Runs j v us s) y) (sym (one ∙ inside)) (running known (entered_home w.grows home) w.started.matched (wrapped named w.hands_on below)))
+      (1, omega arith, subst (λ y. Alike L (Runs j v us s) y) (sym (one ∙ inside)) (running known (entered_home w.grows home) w.started.matched (wrapped named w.grows w.hands_on below)))
 
   -- a call of text j, whose start is x, on both sides
   pub opened_alike : {μ : K.World} {j : ℕ} {us : List (Frame A.sorts)} {fs : List (Frame B.sorts)} (n : B.sorts.Name) (a : B.sorts.Arg) (t : B.sorts.Shared)
@@ -184,7 +184,7 @@ module _ {E : Type 0} {A B : Lang E} {K : Kit A B} {P : Program A.sorts} {Q : Pr
   answers_alike true {i = i} known below given = (1, wide below known, answered_wrapped (L.image i) below given)
     where
       wide : {μ : K.World} {i : ℕ} {us : List (Frame A.sorts)} {fs : List (Frame B.sorts)} → Below L true μ i us fs → L.Known i → L.width i + 1 ≤ W
-      wide (wrapped {i = i} {g = g} {n = n} named hands_on below) known =
+      wide (wrapped {i = i} {g = g} {n = n} named grows hands_on below) known =
           let narrow : suc (L.width i) ≤ W = linked.narrow_wrapped i n g known named in omega arith
 
   -- the target follows one step of the source
@@ -214,7 +214,7 @@ module _ {E : Type 0} {A B : Lang E} {K : Kit A B} {P : Program A.sorts} {Q : Pr
       let some : 1 ≤ met.count = path_some B Q (L.image i) fs met.does in
       let home_here : Home L μ (Has i v ∷ us) = rehomed L home in
       let r = called_alike n a s met.name met.arg met.shared (P.find n) refl met.passed (grown met.grows home_here)
-      (λ j. caller {μ₀ = μ} {v = v} {w = met.view} known home_here met.waits met.resumes below)
+      (λ j. caller {μ₀ = μ} {v = v} {w = met.view} known home_here met.grows met.waits met.resumes below)
       (λ j k owned absent. quiet_frame v met.view below j k owned absent) in
       let most : r.0 ≤ 1 = r.1 in (
         met.count + r.0,

@@ -64,21 +64,46 @@ pub record Home {E : Type 0} {A B : Lang E} {K : Kit A B} {P : Program A.sorts} 
   pub idle : (j : ℕ) → L.Known j → active j frames ≡ false → (L.pairing j).Idle μ
 
 -- What stands below the frame of source text i, on both sides, where its world is μ; the Boolean
--- says whether a wrapper stands directly below.
+-- says whether a wrapper stands directly below. What a caller or a wrapper put into the world is
+-- told by the growth from its own world to that of the text it called.
 pub data Below {E : Type 0} {A B : Lang E} {K : Kit A B} {P : Program A.sorts} {Q : Program B.sorts} (L : Linking K P Q) : Bool → K.World → ℕ → List (Frame A.sorts) → List (Frame B.sorts) → Type 0 where
   bottom : {μ : K.World} {i : ℕ} → ((j : ℕ) → L.Known j → (L.pairing j).Houses μ) → Below L false μ i [] []
   caller : {μ₀ μ : K.World} {i j : ℕ} {v : A.sorts.View} {w : B.sorts.View} {us : List (Frame A.sorts)} {fs : List (Frame B.sorts)} {b : Bool} →
       L.Known j →
       Home L μ₀ (Has j v ∷ us) →
+      K.Grows j μ₀ μ →
       (L.pairing j).Waits μ₀ μ v w →
       ((s : A.sorts.Shared) (r : A.sorts.Ans) (t : B.sorts.Shared) (r' : B.sorts.Ans) → K.Given μ s r t r' → Resumed (couple L j) μ₀ (A.resume (P.text j) v r s) w r' t) →
       Below L b μ₀ j us fs →
       Below L false μ i (Has j v ∷ us) (Has (L.image j) w ∷ fs)
   wrapped : {μ₀ μ : K.World} {i g : ℕ} {n : B.sorts.Name} {w : B.sorts.View} {us : List (Frame A.sorts)} {fs : List (Frame B.sorts)} →
       L.wrapper i n ≡ Some g →
+      K.Grows i μ₀ μ →
       ((s : A.sorts.Shared) (r : A.sorts.Ans) (t : B.sorts.Shared) (r' : B.sorts.Ans) → K.Given μ s r t r' → HandedOn (couple L i) μ₀ (Q.text g) w s r t r') →
       Below L false μ₀ i us fs →
       Below L true μ i us (Has g w ∷ fs)
+
+-- a world that texts have grown, one after another
+pub data Grown {E : Type 0} {A B : Lang E} (K : Kit A B) : K.World → K.World → Type 0 where
+  unchanged : {μ : K.World} → Grown K μ μ
+  by : {μ μ' μ'' : K.World} (i : ℕ) → K.Grows i μ μ' → Grown K μ' μ'' → Grown K μ μ''
+
+-- The frames that wait, on both sides, where the present world is μ: each source text waits beside
+-- its target text in a world of its own, from which the present one has grown; wrappers stand between.
+pub data WaitingFrames {E : Type 0} {A B : Lang E} {K : Kit A B} {P : Program A.sorts} {Q : Program B.sorts} (L : Linking K P Q) (μ : K.World) : List (Frame A.sorts) → List (Frame B.sorts) → Type 0 where
+  none : WaitingFrames L μ [] []
+  text : {μ₀ μ' : K.World} {j : ℕ} {v : A.sorts.View} {w : B.sorts.View} {us : List (Frame A.sorts)} {fs : List (Frame B.sorts)} →
+      L.Known j →
+      Home L μ₀ (Has j v ∷ us) →
+      K.Grows j μ₀ μ' →
+      (L.pairing j).Waits μ₀ μ' v w →
+      Grown K μ' μ →
+      WaitingFrames L μ us fs →
+      WaitingFrames L μ (Has j v ∷ us) (Has (L.image j) w ∷ fs)
+  wrapper : {i g : ℕ} {n : B.sorts.Name} {w : B.sorts.View} {us : List (Frame A.sorts)} {fs : List (Frame B.sorts)} →
+      L.wrapper i n ≡ Some g →
+      WaitingFrames L μ us fs →
+      WaitingFrames L μ us (Has g w ∷ fs)
 
 -- Two whole states are alike; a state in which the source is broken says nothing of the target.
 pub data Alike {E : Type 0} {A B : Lang E} {K : Kit A B} {P : Program A.sorts} {Q : Program B.sorts} (L : Linking K P Q) : State E A.sorts → State E B.sorts → Type 0 where

@@ -10,10 +10,10 @@
 //! about every pair of programs that meets the trait's members.
 #![tactic(auto)]
 
-ghost use Rattle.std.specs.Prelude.{◌≡◌, ℕ, [], Some, None};
-ghost use Rattle.simulation.specs.Machine.{Lang, Program, State, begun};
+ghost use Rattle.std.specs.Prelude.{◌≡◌, ℕ, Bool, List, [], Some, None};
+ghost use Rattle.simulation.specs.Machine.{Lang, Program, Frame, State, begun};
 ghost use Rattle.simulation.specs.LocalSimulation.{Kit, Couple, Local};
-ghost use Rattle.simulation.specs.Law.{Linking, Linked, Home, Alike, Faithful, EndsAlike, BreaksLater, Reports, SameTexts};
+ghost use Rattle.simulation.specs.Law.{Linking, Linked, Home, Below, Grown, WaitingFrames, Alike, Faithful, EndsAlike, BreaksLater, Reports, SameTexts};
 ghost use Rattle.simulation.specs.Composition.{Composable, below_of, composite_couple};
 
 /// Two programs of two languages, with each text of the one simulated by a text of the other.
@@ -56,6 +56,13 @@ pub fn law<M: Simulation>()
 /// source, in their order.
 pub fn same_texts<M: Simulation>()
     ensures { (x : State M.ending M.source_language.sorts) (y : State M.ending M.target_language.sorts) → Alike M.linking x y → SameTexts M.linking x y }
+{}
+
+/// Below a running text the source's texts wait beside their target texts, each in a world from which
+/// the present one has grown; so what a waiting text stands on still stands.
+pub fn waiting_frames<M: Simulation>()
+    ensures { (b : Bool) (w v : M.kit.World) (i : ℕ) (us : List (Frame M.source_language.sorts)) (fs : List (Frame M.target_language.sorts)) →
+        Below M.linking b w i us fs → Grown M.kit w v → WaitingFrames M.linking v us fs }
 {}
 
 /// Where the source has ended after n steps, the target has ended alike from factor · n steps on.

@@ -81,6 +81,14 @@ module _ (own : ℕ) (m : Memory) (μ : World) where
   frozen_rest c not5 not6 =
       frozen_own c ∙ ap (λ q. if q then None else (if nat_eq c 6 then None else Some (m own c))) (ne_eqb' c 5 not5) ∙ ap (λ q. if q then None else Some (m own c)) (ne_eqb' c 6 not6)
 
+  -- what was frozen stays so, where the frame was nobody's
+  pub kept_called : IsFree own μ → (o c : ℕ) (w : Word) → μ.frozen o c ≡ Some w → (called_world own m μ).frozen o c ≡ Some w
+  kept_called free o c w frozen = go (nat_eq o own) refl
+    where
+      go : (q : Bool) → nat_eq o own ≡ q → (called_world own m μ).frozen o c ≡ Some w
+      go true e = absurd (let h : Some w ≡ None = sym frozen ∙ ap (λ o. μ.frozen o c) (eqb-true o own e) ∙ free.unfrozen c in cc)
+      go false e = frozen_other o c (λ same. true≢false (sym (eq-eqb o own same) ∙ e)) ∙ frozen
+
   module _ (sane : Sane μ) (free : IsFree own μ) where
     pub sane_called : Sane (called_world own m μ)
     sane_called = record {

@@ -47,7 +47,7 @@ upper_pairing u = record {
   Idle = λ μ. Unit {0};
   Matched = λ μ v s x m. Paired u v s x m;
   Halted = λ μ v s x m. s ≡ m;
-  Waits = λ μ μ' v x. Unit {0};
+  Waits = λ μ μ' v x. v.bound ≡ x.bound;
 }
 
 abbrev pub upper_couple : ℕ → Text → Couple upper_kit
@@ -79,7 +79,7 @@ leads_on u x y z s n leads goes k e path =
 abbrev Corresponds : Text → ℕ → S.SourceEvent → M.MiddleEvent → Type 0
 Corresponds u room (Goes v s) e = (1 ≤ room) × (x : M.View) × (e ≡ Goes x s) × Paired u v s x s
 Corresponds u room (Ends z v s) e = (1 ≤ room) × (x : M.View) × (e ≡ Ends z x s)
-Corresponds u room (Calls v s n b) e = (2 ≤ room) × (x : M.View) × (e ≡ Calls x s n b) × ((s' : Store) (r : ℕ) → Resumed (upper_couple 0 u) tt (S.source_language.resume u v r s') x r s')
+Corresponds u room (Calls v s n b) e = (2 ≤ room) × (x : M.View) × (e ≡ Calls x s n b) × (v.bound ≡ x.bound) × ((s' : Store) (r : ℕ) → Resumed (upper_couple 0 u) tt (S.source_language.resume u v r s') x r s')
 Corresponds u room (Answers s r) e = (1 ≤ room) × (e ≡ Answers s r)
 Corresponds u room (Breaks f) e = Unit {0}
 
@@ -104,9 +104,9 @@ met i u x y s n room most leads size (Calls v s' name b) c =
       world = tt;
       grows = tt;
       passed = (refl, refl, refl);
-      waits = tt;
+      waits = c.3;
       resumes = λ s₂ r m q given. subst (λ m. Resumed (upper_couple i u) tt (S.source_language.resume u v r s₂) c.1 q m) given.0
-          (subst (λ q. Resumed (upper_couple i u) tt (S.source_language.resume u v r s₂) c.1 q s₂) given.1 (again (S.source_language.resume u v r s₂) r s₂ (c.3 s₂ r)));
+          (subst (λ q. Resumed (upper_couple i u) tt (S.source_language.resume u v r s₂) c.1 q s₂) given.1 (again (S.source_language.resume u v r s₂) r s₂ (c.4 s₂ r)));
     }
   where
     again : (y : Entry S.source_sorts) (r : ℕ) (m : Store) → Resumed (upper_couple 0 u) tt y c.1 r m → Resumed (upper_couple i u) tt y c.1 r m
@@ -250,6 +250,7 @@ module _ (j : ℕ) (u : Text) (x y : M.View) (s : Store) (i : ℕ) (p : Place) (
     step_here z 3 at_call (omega arith)
         ∙ ap (λ t. M.then_tied t (λ c x. M.then_tied (M.tie z (s.height + 1) true (passed_of b)) (λ d y. Calls z (with_fresh x y s) (record { unit = unit; by_second = by_second }) (record { first = c; second = d })))) first
         ∙ ap (λ t. M.then_tied t (λ d y. Calls z (with_fresh v y s) (record { unit = unit; by_second = by_second }) (record { first = c; second = d }))) second,
+    sym bound,
     λ s' r. (
       record z { at = z.at + 1; answer = Some r; first_slot = None; second_slot = None },
       without_fresh s',

@@ -30,8 +30,9 @@ pub record IsFree (o : ℕ) (μ : World) : Type 0 where
   pub homeless : (c : ℕ) → c < μ.height → μ.object c ≡ o → ⊥
   pub unfrozen : (c : ℕ) → μ.frozen o c ≡ None
 
--- unit i has put things of its frames into the world
+-- unit i has put things of its frames into the world; what was frozen stays so
 pub record Grown (i : ℕ) (μ μ' : World) : Type 0 where
+  pub kept : (o c : ℕ) (w : Word) → μ.frozen o c ≡ Some w → μ'.frozen o c ≡ Some w
   pub sane : Sane μ → Sane μ'
   pub free : (o : ℕ) → (o ≡ frame_of i → ⊥) → (o ≡ wrapper_frame i → ⊥) → IsFree o μ → IsFree o μ'
 
@@ -81,13 +82,18 @@ pub record Paired (i : ℕ) (μ : World) (x : M.View) (s : Store) (w : ℕ) (m :
   pub at : x.at ≡ w
   pub frame : Frame μ x (m (frame_of i))
 
+-- the parameters of a function that waits are frozen in the world of the function that it called
+pub record Parameters (i : ℕ) (μ μ' : World) (b : Bound) : Type 0 where
+  pub first : μ'.frozen (frame_of i) 0 ≡ Some (home μ b.first)
+  pub second : μ'.frozen (frame_of i) 1 ≡ Some (home μ b.second)
+
 abbrev pub lower_pairing : ℕ → Pairing lower_kit
 lower_pairing i = record {
   Houses = Sane;
   Idle = λ μ. IsFree (frame_of i) μ × IsFree (wrapper_frame i) μ;
   Matched = Paired i;
   Halted = λ μ x s w m. Sane μ × Stands μ s m;
-  Waits = λ μ μ' x w. Unit {0};
+  Waits = λ μ μ' x w. Parameters i μ μ' x.bound;
 }
 
 -- words at other places

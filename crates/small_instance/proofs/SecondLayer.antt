@@ -21,7 +21,7 @@ use Rattle.small_instance.specs.TargetLanguage as T
 use Rattle.small_instance.specs.TargetLanguage.{Word, Unset, Number, Pointer, Memory, Passing, Code, at_address, set_word, address, target_language, pointed}
 use Rattle.small_instance.specs.Translation.{temporary_cell, slot_cell, spot_of, leaf_of, passed_spot, function_called, number_passed, item_of, frame_of, wrapper_frame, inner_code, wrapper_code}
 use Rattle.small_instance.proofs.Frames.{World, Sane, IsFree, Stands, home, PassedOn, lower_kit, Frame, Paired, lower_pairing, other_object, other_cell, word_same, word_other, stands_set, stands_beside}
-use Rattle.small_instance.proofs.CallWorld.{called_world, fresh, home_old, home_fresh, frozen_rest, sane_called, free_called, stands_called, stands_returned, ne_eqb'}
+use Rattle.small_instance.proofs.CallWorld.{called_world, fresh, home_old, home_fresh, frozen_rest, kept_called, sane_called, free_called, stands_called, stands_returned, ne_eqb'}
 
 -- the number of the wrapper under a name, which is the name of a wrapper where it is odd
 abbrev pub wrapper_under : ℕ → ℕ → Option ℕ
@@ -358,9 +358,12 @@ module _ (i : ℕ) (l : List Step) (μ : World) (x : M.View) (s : Store) (m : Me
               ∙ ap (λ v. T.then_address v (λ o' c'. Calls w m (function_called unit by_second) (record { first = home μ' c; second = Pointer o' c'; number = number_passed by_second }))) two.1) refl;
           few = omega arith;
           world = μ';
-          grows = record { sane = λ sane'. sane_called (frame_of i) m μ sane' free; free = λ o not_own not_wrapper. free_called (frame_of i) m μ o not_own };
+          grows = record { kept = kept_called (frame_of i) m μ free; sane = λ sane'. sane_called (frame_of i) m μ sane' free; free = λ o not_own not_wrapper. free_called (frame_of i) m μ o not_own };
           passed = record { image = stands_called (frame_of i) m μ s y z free image one.2 two.2; name = refl; number = refl; first_there = one.0; second_there = two.0; first = refl; second = refl };
-          waits = tt;
+          waits = record {
+            first = frozen_rest (frame_of i) m μ 0 (λ e. omega arith) (λ e. omega arith) ∙ ap Some frame.first;
+            second = frozen_rest (frame_of i) m μ 1 (λ e. omega arith) (λ e. omega arith) ∙ ap Some frame.second;
+          };
           resumes = λ s' r m' q given. (
             w + 1,
             set_word (frame_of i) 4 (Number q) m',
@@ -458,7 +461,7 @@ starts_met i l μ s unit true b m k p sane free free' passed =
           ap (λ v. T.then_address (pointed v) (λ o c. T.then_address (pointed (m' (wrapper_frame i) 1)) (λ o' c'. Calls 0 m' (2 * i) (record { first = Pointer o c; second = Pointer o' c'; number = Some 1 })))) (parameter g p Unset m 0 ∙ passed.first)
           ∙ ap (λ v. T.then_address (pointed v) (λ o' c'. Calls 0 m' (2 * i) (record { first = home μ b.first; second = Pointer o' c'; number = Some 1 }))) (parameter g p Unset m 1 ∙ passed.second);
       world = μ;
-      grows = record { sane = λ h. h; free = λ o differ differ' h. h };
+      grows = record { kept = λ o c w h. h; sane = λ h. h; free = λ o differ differ' h. h };
       started = record {
         view = 0;
         shared = T.with_frame (inner_code i l) passing (Number 1) m';

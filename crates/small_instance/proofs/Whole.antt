@@ -4,20 +4,22 @@ use Rattle.std.proofs.Common.{sym, ap, ◌∙◌, subst, arith, true≢false}
 use Rattle.std.proofs.lemmas.Bool.{eq-eqb, ltb-true, lt-ltb}
 use Rattle.std.proofs.lemmas.List.{length-map}
 use mathlib.Core.Path.{fun_ext}
-use Rattle.simulation.specs.Machine.{State, Over, numbers, run}
+use Rattle.simulation.specs.Machine.{Frame, State, Over, numbers, run}
 use Rattle.simulation.specs.LocalSimulation.{Kit, Local}
-use Rattle.simulation.specs.Law.{Linking, couple, Linked, Home, Alike, SameTexts}
+use Rattle.simulation.specs.Law.{Linking, couple, Linked, Home, Grown, WaitingFrames, Alike, SameTexts}
 use Rattle.simulation.specs.Law as law
 use Rattle.simulation.specs.Composition.{composite_kit, composite_pairing, composite_couple}
 use Rattle.simulation.proofs.Composing.{composite_simulates}
 use Rattle.simulation.proofs.LawProof as law_proof
+use Rattle.simulation.proofs.Waiting.{below_waits}
 use Rattle.simulation.proofs.Corollaries.{ends_alike, breaks_later, begins_alike, same_texts}
-use Rattle.small_instance.specs.Store.{Ending, block, Store, Called}
+use Rattle.small_instance.specs.Store.{Ending, block, Store, Bound, Called}
 use Rattle.small_instance.specs.SourceLanguage.{Text, source_sorts, source_language, source_program}
 use Rattle.small_instance.specs.TargetLanguage.{Word, Pointer, Memory, Code, target_sorts, target_language, target_program}
 use Rattle.small_instance.specs.Translation.{lowered, item_of, frame_of, wrapper_frame, function_called, inner_code, wrapper_code, translated_from, translated, longest, factor_of}
-use Rattle.small_instance.specs.Translates.{Start, store_of, word_of, memory_of, source_after, target_after, BlockImage, Same, running, over, undefined, Translates}
+use Rattle.small_instance.specs.Translates.{Start, store_of, word_of, memory_of, source_after, target_after, BlockImage, DummiesStand, Same, running, over, undefined, Translates}
 use Rattle.small_instance.proofs.FirstLayer.{upper_kit, upper_pairing, upper_couple, upper_simulates}
+use Rattle.small_instance.proofs.Frames as Frames
 use Rattle.small_instance.proofs.Frames.{World, Sane, IsFree, Stands, lower_kit, lower_pairing}
 use Rattle.small_instance.proofs.CallWorld.{ne_eqb'}
 use Rattle.small_instance.proofs.SecondLayer.{wrapper_under, lower_couple, lower_simulates}
@@ -232,13 +234,37 @@ block_stands μ s s' m same sane image k n small e =
     let tall : block ≤ μ.height = sane.tall in
     sym (ap (λ o. m o (μ.cell k)) (sane.block_object k small) ∙ ap (m 0) (sane.block_cell k small)) ∙ image.stands k n (omega arith) (ap (λ s. s.cells k) (sym same) ∙ e)
 
+-- what is frozen stays so through any growth
+stays_frozen : {μ μ' : kit.World} → Grown kit μ μ' → (o c : ℕ) (w : Word) → μ.1.frozen o c ≡ Some w → μ'.1.frozen o c ≡ Some w
+stays_frozen law.unchanged o c w frozen = frozen
+stays_frozen (law.by i grows later) o c w frozen = stays_frozen later o c w (grows.1.kept o c w frozen)
+
+-- a cell of the block is at home in the block
+block_home : (μ : World) → Sane μ → (k : ℕ) → k < block → Frames.home μ k ≡ Pointer 0 k
+block_home μ sane k small = ap (λ o. Pointer o (μ.cell k)) (sane.block_object k small) ∙ ap (Pointer 0) (sane.block_cell k small)
+
+-- the units that wait have their dummies behind their parameters
+waiting_dummies : (us : List Text) (μ : kit.World) (s : Store) (m : Memory) → Stands μ.1 s m → {ws : List (Frame source_sorts)} {fs : List (Frame target_sorts)} →
+    WaitingFrames (linking us (translated us)) μ ws fs → DummiesStand ws m
+waiting_dummies us μ s m image law.none = tt
+waiting_dummies us μ s m image (law.text {μ₀ = μ₀} {j = j} {v = v} known home grows waits grown later) =
+    let sane : Sane μ₀.1 = (home.houses j known).1 in
+    let same : v.bound ≡ waits.0.bound = waits.1 in (
+      (λ small. image.holds (frame_of j) 0 (Frames.home μ₀.1 waits.0.bound.first) (stays_frozen grown (frame_of j) 0 (Frames.home μ₀.1 waits.0.bound.first) waits.2.first)
+          ∙ ap (λ (b : Bound). Frames.home μ₀.1 b.first) (sym same) ∙ block_home μ₀.1 sane v.bound.first small),
+      (λ small. image.holds (frame_of j) 1 (Frames.home μ₀.1 waits.0.bound.second) (stays_frozen grown (frame_of j) 1 (Frames.home μ₀.1 waits.0.bound.second) waits.2.second)
+          ∙ ap (λ (b : Bound). Frames.home μ₀.1 b.second) (sym same) ∙ block_home μ₀.1 sane v.bound.second small),
+      waiting_dummies us μ s m image later,
+    )
+waiting_dummies us μ s m image (law.wrapper named later) = waiting_dummies us μ s m image later
+
 -- what two ended states say of the block
 abbrev EndedImage : State Ending source_sorts → State Ending target_sorts → Type 0
 EndedImage (Over e us s) (Over e' fs t) = BlockImage s t
 EndedImage x y = Unit {0}
 
 ended_image : (x : State Ending source_sorts) (y : State Ending target_sorts) → Same x y → EndedImage x y
-ended_image x y (running same image) = tt
+ended_image x y (running same image dummies) = tt
 ended_image x y (over same image) = image
 ended_image x y undefined = tt
 
@@ -249,6 +275,7 @@ module _ (us : List Text) (some : 0 < length us) where
   same_of x y (law.running {μ = μ} {s = s} {t = t} known home matched below) =
       running (same_texts (linking us (translated us)) (factor_of (translated us)) (all_linked us) (law.running known home matched below))
       (block_stands μ.1 s matched.1 t matched.2.store matched.3.sane matched.3.image)
+      (waiting_dummies us μ matched.1 t matched.3.image (below_waits (linking us (translated us)) below law.unchanged))
   same_of x y (law.over {μ = μ} {e = e} {v = v} {s = s} {w = w} {t = t} known home halted below) =
       over {e = e} (same_texts (linking us (translated us)) (factor_of (translated us)) (all_linked us) (law.over {e = e} {v = v} {w = w} known home halted below))
       (block_stands μ.1 s halted.1 t halted.2 halted.3.0 halted.3.1)

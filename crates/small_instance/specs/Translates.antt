@@ -1,9 +1,10 @@
 -- What the translation promises, over runs of the two languages.
-use Rattle.std.specs.Prelude.{◌≡◌, ℕ, ◌*◌, ◌%◌, ◌<◌, ◌≤◌, false, nat_eq, nat_lt, if◌then◌else◌, List, ◌∷◌, map, Option, Some, None}
-use Rattle.simulation.specs.Machine.{Frame, State, Runs, Over, Broken, numbers, run, begun}
+use Rattle.std.specs.Prelude.{◌≡◌, ℕ, ◌*◌, ◌%◌, ◌<◌, ◌≤◌, false, nat_eq, nat_lt, if◌then◌else◌, List, [], ◌∷◌, map, Option, Some, None}
+use Rattle.simulation.specs.Machine.{Frame, Has, State, Runs, Over, Broken, numbers, run, begun}
 use Rattle.simulation.specs.Law.{without}
 use Rattle.small_instance.specs.Store.{Ending, Fault, block, Store}
 use Rattle.small_instance.specs.SourceLanguage.{Text, View, source_sorts, source_language, source_program}
+use Rattle.small_instance.specs.Translation.{frame_of}
 use Rattle.small_instance.specs.TargetLanguage.{Word, Unset, Number, Pointer, Memory, Code, TargetFault, target_sorts, target_language, target_program}
 
 -- a block at the start: which of its cells are defined, and as what
@@ -35,15 +36,22 @@ target_after fs start n = run target_language (target_program fs) n
 abbrev pub BlockImage : Store → Memory → Type 0
 BlockImage s m = (k n : ℕ) → k < block → s.cells k ≡ Some n → m 0 k ≡ Number n
 
+-- The dummies of each unit among these frames that are cells of the block stand behind the parameters
+-- of its function, which are the first two cells of the function's frame.
+abbrev pub DummiesStand : List (Frame source_sorts) → Memory → Type 0
+DummiesStand [] m = Unit {0}
+DummiesStand (Has i v ∷ us) m =
+    (v.bound.first < block → m (frame_of i) 0 ≡ Pointer 0 v.bound.first) × (v.bound.second < block → m (frame_of i) 1 ≡ Pointer 0 v.bound.second) × DummiesStand us m
+
 -- the active functions, wrappers left out, are those of the active units in their order
 abbrev pub SameActive : List ℕ → List ℕ → Type 0
 SameActive units functions = without (λ k. nat_eq (k % 2) 1) functions ≡ map (λ i. 2 * i) units
 
--- Both run, or both have ended the same way, and the block stands in memory; nothing is said where the
--- source is broken.
+-- Both run, or both have ended the same way, the block stands in memory, and the dummies of the units
+-- that wait stand; nothing is said where the source is broken.
 pub data Same : State Ending source_sorts → State Ending target_sorts → Type 0 where
   running : {i k : ℕ} {v : View} {us : List (Frame source_sorts)} {s : Store} {w : ℕ} {fs : List (Frame target_sorts)} {m : Memory} →
-      SameActive (i ∷ numbers us) (k ∷ numbers fs) → BlockImage s m → Same (Runs i v us s) (Runs k w fs m)
+      SameActive (i ∷ numbers us) (k ∷ numbers fs) → BlockImage s m → DummiesStand us m → Same (Runs i v us s) (Runs k w fs m)
   over : {e : Ending} {us : List (Frame source_sorts)} {s : Store} {fs : List (Frame target_sorts)} {m : Memory} →
       SameActive (numbers us) (numbers fs) → BlockImage s m → Same (Over e us s) (Over e fs m)
   undefined : {f : Fault} {ks : List ℕ} {y : State Ending target_sorts} → Same (Broken f ks) y

@@ -1,5 +1,5 @@
 use Rattle.std.proofs.Common.{◌≡◌, ◌+◌, ◌≤◌, length, take, get_or, sym, ap, ◌∙◌, arith, add-one}
-use Rattle.edit_rules.specs.FormatTexts.{moved, starting}
+use Rattle.edit_meaning.specs.FormatTexts.{moved, starting}
 use Rattle.edit_rules.specs.FormatPlaces.{mode_in, shape}
 use Rattle.edit_rules.proofs.FormatViable.{reach}
 use Rattle.edit_rules.proofs.FormatMoves.{progress, progress_next, refused_here, front_here, refused_end, deeper}

@@ -1,5 +1,5 @@
 use Rattle.std.proofs.Common.{◌≡◌, ◌+◌, ◌≤◌, take}
-use Rattle.edit_rules.specs.FormatTexts.{starting}
+use Rattle.edit_meaning.specs.FormatTexts.{starting}
 use Rattle.edit_rules.specs.FormatPlaces.{Stands, mode_in}
 use Rattle.edit_rules.proofs.FormatViable.{reach}
 use Rattle.edit_rules.proofs.FormatMoves.{progress}

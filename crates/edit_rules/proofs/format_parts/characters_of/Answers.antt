@@ -1,5 +1,5 @@
 use Rattle.std.proofs.Common.{ap, ◌∙◌, drop, ℕ, Option}
-use Rattle.edit_rules.specs.Formats.{Item, TextIn}
+use Rattle.edit_meaning.specs.Formats.{Item, TextIn}
 use Rattle.edit_rules.specs.FormatParts.{giving, text_by, text_part}
 use Rattle.edit_rules.proofs.format_parts.characters_of.Goals as goal
 

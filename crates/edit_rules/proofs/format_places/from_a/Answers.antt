@@ -1,6 +1,6 @@
 use Rattle.std.proofs.Common.{None, sym, ap, ◌∙◌}
-use Rattle.edit_rules.specs.Formats.{TextIn}
-use Rattle.edit_rules.specs.FormatTexts.{takes}
+use Rattle.edit_meaning.specs.Formats.{TextIn}
+use Rattle.edit_meaning.specs.FormatTexts.{takes}
 use Rattle.edit_rules.specs.FormatPlaces.{shape}
 use Rattle.edit_rules.proofs.FormatMoves.{a_else}
 use Rattle.edit_rules.proofs.format_places.from_a.Goals as goal

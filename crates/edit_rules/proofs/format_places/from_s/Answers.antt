@@ -1,6 +1,6 @@
 use Rattle.std.proofs.Common.{false, sym, ap, ◌∙◌}
-use Rattle.edit_rules.specs.Formats.{PlusSigns}
-use Rattle.edit_rules.specs.FormatTexts.{does}
+use Rattle.edit_meaning.specs.Formats.{PlusSigns}
+use Rattle.edit_meaning.specs.FormatTexts.{does}
 use Rattle.edit_rules.specs.FormatPlaces.{shape}
 use Rattle.edit_rules.proofs.FormatMoves.{s_else}
 use Rattle.edit_rules.proofs.format_places.from_s.Goals as goal

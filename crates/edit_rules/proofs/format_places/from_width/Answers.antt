@@ -1,6 +1,6 @@
 use Rattle.std.proofs.Common.{None, sym, ap, ◌∙◌}
-use Rattle.edit_rules.specs.Formats.{IntIn}
-use Rattle.edit_rules.specs.FormatTexts.{takes, ended}
+use Rattle.edit_meaning.specs.Formats.{IntIn}
+use Rattle.edit_meaning.specs.FormatTexts.{takes, ended}
 use Rattle.edit_rules.specs.FormatPlaces.{sign_in, shape}
 use Rattle.edit_rules.proofs.FormatMoves.{width_else}
 use Rattle.edit_rules.proofs.format_places.from_width.Goals as goal

@@ -1,5 +1,5 @@
 use Rattle.std.proofs.Common.{drop, arith}
-use Rattle.edit_rules.specs.Formats.{pass}
+use Rattle.edit_meaning.specs.Formats.{pass}
 use Rattle.edit_rules.specs.FormatScans.{heaviest}
 use Rattle.edit_rules.proofs.FormatScanSteps.{scan_start, ends_at, no_end}
 use Rattle.edit_rules.proofs.format_scan.weigh.Goals as goal

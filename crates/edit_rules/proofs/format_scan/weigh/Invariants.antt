@@ -1,6 +1,6 @@
 use Rattle.std.proofs.Common.{◌≤◌, ◌-◌, ℕ, List, length, drop}
-use Rattle.edit_rules.specs.Formats.{Format, pass}
-use Rattle.edit_rules.specs.FormatGrammar.{Joint, SpellsList}
+use Rattle.edit_meaning.specs.Formats.{Format, pass}
+use Rattle.edit_meaning.specs.FormatGrammar.{Joint, SpellsList}
 use Rattle.edit_rules.specs.FormatScans.{heaviest, Scanning}
 use Rattle.edit_rules.proofs.format_scan.weigh.Given as goal
 

@@ -1,5 +1,5 @@
 use Rattle.std.proofs.Common.{refl}
-use Rattle.edit_rules.specs.TakenRecords.{input, input_start, taken}
+use Rattle.edit_meaning.specs.TakenRecords.{input, input_start, taken}
 use Rattle.edit_rules.proofs.TransferLaws.{one_by_one-closed}
 use Rattle.edit_rules.proofs.laws.input_item_by_item.Goals as goal
 

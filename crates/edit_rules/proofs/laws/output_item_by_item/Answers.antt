@@ -1,5 +1,5 @@
 use Rattle.std.proofs.Common.{ap, refl}
-use Rattle.edit_rules.specs.EditedRecords.{Output, output, output_start, ended, made_on}
+use Rattle.edit_meaning.specs.EditedRecords.{Output, output, output_start, ended, made_on}
 use Rattle.edit_rules.proofs.TransferLaws.{one_by_one, one_by_one-closed}
 use Rattle.edit_rules.proofs.laws.output_item_by_item.Goals as goal
 

@@ -1,5 +1,5 @@
 use Rattle.std.proofs.Common.{◌≡◌, drop, false}
-use Rattle.edit_rules.specs.ListInput.{ending}
+use Rattle.edit_meaning.specs.ListInput.{ending}
 use Rattle.edit_rules.proofs.list_scan.text_end.Given as goal
 
 abbrev pub invariant-loop-character : goal.invariant-loop-character

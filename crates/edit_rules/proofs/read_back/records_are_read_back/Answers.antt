@@ -1,5 +1,5 @@
 use Rattle.std.proofs.Common.{◌≤◌, arith}
-use Rattle.edit_rules.specs.EditedRecords.{unit_sheet}
+use Rattle.edit_meaning.specs.EditedRecords.{unit_sheet}
 use Rattle.edit_rules.proofs.RecordsBack.{read_back}
 use Rattle.edit_rules.proofs.read_back.records_are_read_back.Goals as goal
 

@@ -14,7 +14,7 @@ returns-then-place-ge-MOST_CARDS c =
 
 pub returns-in-Some : goal.returns-in-Some
 returns-in-Some c =
-    next_card c.args.place c.args.bytes.now c.args.line.now c.args.after.now c.is_empty.result c.in_ok-body.field-0 c.in-Some.body (c.args.place + 1)
+    next_card c.args.file c.args.place c.args.bytes.now c.args.line.now c.args.after.now c.is_empty.result c.in_ok-body.field-0 c.in-Some.body (c.args.place + 1)
     c.if-place-ge-MOST_CARDS.false c.if-bytes-after-gt-MOST_BYTES.false c.is_empty.ensures c.in-Some.is c.in_ok-body.ensures refl
 
 pub returns-in-None : goal.returns-in-None

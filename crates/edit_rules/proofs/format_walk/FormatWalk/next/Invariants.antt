@@ -1,5 +1,5 @@
 use Rattle.std.proofs.Common.{List}
-use Rattle.edit_rules.specs.Formats as formats
+use Rattle.edit_meaning.specs.Formats as formats
 use Rattle.edit_rules.specs.Walks.{Stands, StandsIn}
 use Rattle.edit_rules.proofs.WalkSteps.{Comes}
 use Rattle.edit_rules.proofs.format_walk.FormatWalk.next.Given as goal

@@ -1,5 +1,5 @@
 use Rattle.std.proofs.Common.{ap, ◌∙◌}
-use Rattle.edit_rules.specs.ListInput.{word_length}
+use Rattle.edit_meaning.specs.ListInput.{word_length}
 use Rattle.edit_rules.proofs.TakeSteps.{whole_rest}
 use Rattle.edit_rules.proofs.ReaderSteps.{answers-same, int_given, truth_given}
 use Rattle.edit_rules.proofs.list_reader.ListReader.constant.Goals as goal

@@ -1,5 +1,5 @@
 use Rattle.std.proofs.Common.{sym, subst, ◌∷◌}
-use Rattle.edit_rules.specs.ListItems.{items_from, Follows}
+use Rattle.edit_meaning.specs.ListItems.{items_from, Follows}
 use Rattle.edit_rules.specs.Reader.{kind_of, place_in}
 use Rattle.edit_rules.proofs.ItemSteps.{given-follows}
 use Rattle.edit_rules.proofs.list_reader.ListReader.next.Goals as goal

@@ -1,5 +1,5 @@
 use Rattle.std.proofs.Common.{◌≡◌, ◌+◌, ◌<◌, length, get_or, arith, ap, ◌∙◌}
-use Rattle.edit_rules.specs.ListInput.{run_length}
+use Rattle.edit_meaning.specs.ListInput.{run_length}
 use Rattle.edit_rules.proofs.TakeSteps.{whole_rest}
 use Rattle.edit_rules.proofs.ReaderSteps.{run_two, run_one}
 use Rattle.edit_rules.proofs.list_reader.ListReader.run.Goals as goal

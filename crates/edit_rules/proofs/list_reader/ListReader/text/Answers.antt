@@ -1,5 +1,5 @@
 use Rattle.std.proofs.Common.{ap, ◌≤◌, length, arith, sym, ◌∙◌}
-use Rattle.edit_rules.specs.ListInput.{begins_with}
+use Rattle.edit_meaning.specs.ListInput.{begins_with}
 use Rattle.edit_rules.proofs.TakeSteps.{whole_rest}
 use Rattle.edit_rules.proofs.ReaderSteps.{answers-same, plain_given, quoted_given, word_within}
 use Rattle.edit_rules.proofs.list_reader.ListReader.text.Goals as goal

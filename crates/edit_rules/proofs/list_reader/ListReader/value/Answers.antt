@@ -1,5 +1,5 @@
 use Rattle.std.proofs.Common.{◌+◌, ◌-◌, drop, ap, ◌∙◌}
-use Rattle.edit_rules.specs.ListInput.{repeated_as, digit_count, count_before}
+use Rattle.edit_meaning.specs.ListInput.{repeated_as, digit_count, count_before}
 use Rattle.edit_rules.specs.Reader.{kind_of}
 use Rattle.edit_rules.proofs.TakeSteps.{whole_rest}
 use Rattle.edit_rules.proofs.ReaderSteps.{answers-same, value_counted}

@@ -2,7 +2,7 @@ use Rattle.std.proofs.Common.{true, false}
 use Rattle.std.proofs.Math.Facts.{to_z-of_z}
 use Rattle.f2c_outside.proofs.TableLaws.{open-taken, open-nothing, opened, opened-distinct, at-same-unit, becomes-same}
 use Rattle.std.specs.Prelude.{Ok, Err}
-use Rattle.f2c_outside.specs.declared.unit_table.UnitRefusal.TheVariants.{NotOffered, Taken}
+use Rattle.run_state.specs.declared.refusals.UnitRefusal.TheVariants.{NotOffered, Taken}
 use Rattle.f2c_outside.proofs.PlacedMeaning.{open-means}
 use Rattle.f2c_outside.proofs.unit_table.UnitTable.open_unit.Goals as goal
 

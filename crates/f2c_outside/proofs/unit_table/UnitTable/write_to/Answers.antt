@@ -4,7 +4,7 @@ use Rattle.f2c_outside.specs.Shown.{holds_unit}
 use Rattle.f2c_outside.specs.Table.{IsFirst}
 use Rattle.f2c_outside.proofs.TableLaws.{on-unit, not-on-unit, still-distinct, past-or-failed-only}
 use Rattle.std.specs.Prelude.{Err}
-use Rattle.f2c_outside.specs.declared.unit_table.UnitRefusal.TheVariants.{NotConnected}
+use Rattle.run_state.specs.declared.refusals.UnitRefusal.TheVariants.{NotConnected}
 use Rattle.f2c_outside.proofs.MeaningLaws.{write-means}
 use Rattle.f2c_outside.proofs.unit_table.UnitTable.write_to.Goals as goal
 

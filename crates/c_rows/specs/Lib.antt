@@ -1,0 +1,9 @@
+pub mod CPrograms
+pub mod FaultPrograms
+pub mod FormattedRows
+pub mod LibraryRows
+pub mod LinkPrograms
+pub mod RowTexts
+pub mod Rows
+pub mod Rulings
+pub mod TransferNames

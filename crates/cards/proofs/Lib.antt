@@ -1,0 +1,10 @@
+pub mod ColumnLemmas
+pub mod EndLemmas
+pub mod FaultLemmas
+pub mod FirstLemmas
+pub mod GroupLemmas
+pub mod LabelLemmas
+pub mod LimitLemmas
+pub mod LineLemmas
+pub mod PassLemmas
+pub mod WorkedTexts

@@ -1,0 +1,6 @@
+pub mod DefinitionFits
+pub mod ExpressionFits
+pub mod NameFits
+pub mod SetFits
+pub mod StatementFits
+pub mod UnitFits

@@ -1,0 +1,22 @@
+//! What breaks no row is well typed and well formed, each as the contract of a call that does nothing.
+#![tactic(auto)]
+
+ghost use Rattle.declaration_rows.specs.Fits.{EachFaultlessExpressionIsTyped};
+ghost use Rattle.declaration_rows.specs.Formed.{EachFaultlessStatementIsFormed};
+ghost use Rattle.declaration_rows.specs.SetRows.{EachFaultlessSetIsWellFormed};
+
+/// An expression that breaks no row is read as what it is judged to be: as a value, as an actual argument, as a place
+/// or as pieces of text its reading is well typed.
+pub fn faultless_expressions_are_typed()
+    ensures { EachFaultlessExpressionIsTyped }
+{}
+
+/// A statement that breaks no row is well formed where it stands, wherever what is known of names and labels is so.
+pub fn faultless_statements_are_formed()
+    ensures { EachFaultlessStatementIsFormed }
+{}
+
+/// A set of files that breaks no row is well formed in each of its settings.
+pub fn faultless_sets_are_well_formed()
+    ensures { EachFaultlessSetIsWellFormed }
+{}

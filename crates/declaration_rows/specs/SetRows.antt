@@ -1,0 +1,37 @@
+-- Which rows a set of files breaks, and that a set that breaks none is well formed, whatever its setting.
+-- ANSI X3.9-1978, sections 2.4 and 3.5.
+use Rattle.std.specs.Prelude.{List, [], ◌∷◌, ◌++◌}
+use Rattle.f_tree.specs.declared.names.Options.{Options}
+use Rattle.f_tree.specs.declared.refusals.Refusal.{Refusal}
+use Rattle.f_tree.specs.declared.units.Unit.{Unit as WrittenUnit}
+use Rattle.f_tree.specs.declared.units.File.{File}
+use Rattle.f_tree.specs.declared.units.FileSet.{FileSet}
+use Rattle.f_tree.specs.Setting.{Setting, IsSetting, IsIn}
+use Rattle.f_tree.specs.Meaning.{units_of}
+use Rattle.f_tree.specs.WellFormed.{AreWellFormed}
+use Rattle.declaration_rows.specs.UnitRows.{unit_rows}
+
+unfoldable pub units_rows : Options → List WrittenUnit → List Refusal
+units_rows options [] = []
+units_rows options (u ∷ us) = unit_rows options u ++ units_rows options us
+
+unfoldable pub files_rows : Options → List File → List Refusal
+files_rows options [] = []
+files_rows options (f ∷ fs) = units_rows options f.units ++ files_rows options fs
+
+-- the rows that a set breaks, each with its file and its card
+unfoldable pub set_faults : Options → FileSet → List Refusal
+set_faults options set = files_rows options set.files
+
+-- whether a row holds of a set is computed
+abbrev pub Faults : Options → FileSet → Refusal → Type 0
+Faults options set r = IsIn r (set_faults options set)
+
+-- A set of which no row holds is well formed in each of its settings.
+abbrev pub EachFaultlessSetIsWellFormed : Type 0
+EachFaultlessSetIsWellFormed = (options : Options) (set : FileSet) (g : Setting) → IsSetting (units_of options set) g →
+    ((r : Refusal) → Faults options set r → ⊥) → AreWellFormed g (units_of options set)
+
+unfoldable pub set_rows_opened : Unit {0}
+unfolding units_rows files_rows set_faults
+set_rows_opened = tt

@@ -1,0 +1,65 @@
+use Rattle.std.proofs.Common.{refl}
+use Rattle.f_tree.specs.Meaning.{everything}
+use Rattle.f_tree.specs.Runs.{runs_opened}
+use Rattle.f_tree.specs.Checks.{checks_opened}
+use Rattle.fortran_rows.specs.IllFormedSources.{ill_formed_sources_opened}
+use Rattle.fortran_rows.specs.WorkedSources.{sources_opened}
+use Rattle.declaration_rows.specs.Judgement.{judgement_opened}
+use Rattle.declaration_rows.specs.StatementRows.{statement_rows_opened}
+use Rattle.declaration_rows.specs.NameRows.{name_rows_opened}
+use Rattle.declaration_rows.specs.UnitRows.{unit_rows_opened}
+use Rattle.declaration_rows.specs.SetRows.{set_rows_opened}
+use Rattle.declaration_samples.specs.CardRows.{card_rows_opened}
+use Rattle.declaration_samples.proofs.samples.ill_formed_programs_break_rows.Goals as goal
+
+pub returns-clause-text_to_an_integer : goal.returns-clause-text_to_an_integer
+unfolding everything runs_opened checks_opened ill_formed_sources_opened sources_opened judgement_opened statement_rows_opened name_rows_opened unit_rows_opened set_rows_opened card_rows_opened
+returns-clause-text_to_an_integer c = refl
+
+pub returns-clause-sum_with_a_logical : goal.returns-clause-sum_with_a_logical
+unfolding everything runs_opened checks_opened ill_formed_sources_opened sources_opened judgement_opened statement_rows_opened name_rows_opened unit_rows_opened set_rows_opened card_rows_opened
+returns-clause-sum_with_a_logical c = refl
+
+pub returns-clause-variable_without_type : goal.returns-clause-variable_without_type
+unfolding everything runs_opened checks_opened ill_formed_sources_opened sources_opened judgement_opened statement_rows_opened name_rows_opened unit_rows_opened set_rows_opened card_rows_opened
+returns-clause-variable_without_type c = refl
+
+pub returns-clause-branch_to_no_statement : goal.returns-clause-branch_to_no_statement
+unfolding everything runs_opened checks_opened ill_formed_sources_opened sources_opened judgement_opened statement_rows_opened name_rows_opened unit_rows_opened set_rows_opened card_rows_opened
+returns-clause-branch_to_no_statement c = refl
+
+pub returns-clause-block_left_open : goal.returns-clause-block_left_open
+unfolding everything runs_opened checks_opened ill_formed_sources_opened sources_opened judgement_opened statement_rows_opened name_rows_opened unit_rows_opened set_rows_opened card_rows_opened
+returns-clause-block_left_open c = refl
+
+pub returns-clause-unit_without_its_end : goal.returns-clause-unit_without_its_end
+unfolding everything runs_opened checks_opened ill_formed_sources_opened sources_opened judgement_opened statement_rows_opened name_rows_opened unit_rows_opened set_rows_opened card_rows_opened
+returns-clause-unit_without_its_end c = refl
+
+pub returns-clause-loop_without_its_end : goal.returns-clause-loop_without_its_end
+unfolding everything runs_opened checks_opened ill_formed_sources_opened sources_opened judgement_opened statement_rows_opened name_rows_opened unit_rows_opened set_rows_opened card_rows_opened
+returns-clause-loop_without_its_end c = refl
+
+pub returns-clause-subscripts_too_few : goal.returns-clause-subscripts_too_few
+unfolding everything runs_opened checks_opened ill_formed_sources_opened sources_opened judgement_opened statement_rows_opened name_rows_opened unit_rows_opened set_rows_opened card_rows_opened
+returns-clause-subscripts_too_few c = refl
+
+pub returns-clause-format_that_is_nowhere : goal.returns-clause-format_that_is_nowhere
+unfolding everything runs_opened checks_opened ill_formed_sources_opened sources_opened judgement_opened statement_rows_opened name_rows_opened unit_rows_opened set_rows_opened card_rows_opened
+returns-clause-format_that_is_nowhere c = refl
+
+pub returns-clause-transfer_without_format : goal.returns-clause-transfer_without_format
+unfolding everything runs_opened checks_opened ill_formed_sources_opened sources_opened judgement_opened statement_rows_opened name_rows_opened unit_rows_opened set_rows_opened card_rows_opened
+returns-clause-transfer_without_format c = refl
+
+pub returns-clause-variable_of_any_length : goal.returns-clause-variable_of_any_length
+unfolding everything runs_opened checks_opened ill_formed_sources_opened sources_opened judgement_opened statement_rows_opened name_rows_opened unit_rows_opened set_rows_opened card_rows_opened
+returns-clause-variable_of_any_length c = refl
+
+pub returns-clause-array_of_any_size_in_a_list : goal.returns-clause-array_of_any_size_in_a_list
+unfolding everything runs_opened checks_opened ill_formed_sources_opened sources_opened judgement_opened statement_rows_opened name_rows_opened unit_rows_opened set_rows_opened card_rows_opened
+returns-clause-array_of_any_size_in_a_list c = refl
+
+pub returns-clause-dimension_of_another_type : goal.returns-clause-dimension_of_another_type
+unfolding everything runs_opened checks_opened ill_formed_sources_opened sources_opened judgement_opened statement_rows_opened name_rows_opened unit_rows_opened set_rows_opened card_rows_opened
+returns-clause-dimension_of_another_type c = refl

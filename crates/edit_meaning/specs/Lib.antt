@@ -1,0 +1,13 @@
+pub mod EditedFields
+pub mod EditedRecords
+pub mod FormatGrammar
+pub mod FormatTexts
+pub mod Formats
+pub mod Halts
+pub mod ListInput
+pub mod ListItems
+pub mod Listed
+pub mod TakenFields
+pub mod TakenRecords
+pub mod Transfers
+pub mod ReadBack

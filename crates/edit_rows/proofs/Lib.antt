@@ -1,0 +1,4 @@
+pub mod FormatRows
+pub mod FormatTextRows
+pub mod ListRows
+pub mod ListedRows

@@ -1,0 +1,4 @@
+pub mod ComparedRows
+pub mod InputRows
+pub mod ListErrorRows
+pub mod ReadBackRows

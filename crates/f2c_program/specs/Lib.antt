@@ -1,0 +1,10 @@
+pub mod CommandWords
+pub mod Outcomes
+pub mod Lines
+pub mod Usage
+pub mod TextOfFile
+pub mod ShelfLoops
+pub mod Messages
+pub mod TranslateRows
+pub mod TopCall
+pub mod Program

@@ -1,0 +1,77 @@
+-- The line that each outcome writes on Fault.
+use Rattle.std.specs.Prelude.{ℕ, List, [], ◌∷◌, ◌++◌, Option, Some, None, codes, decimal, nat_lt, if◌then◌else◌}
+use Rattle.f2c_outside.specs.declared.shelves.Place.{Place}
+use Rattle.f2c_outside.specs.declared.shelves.Place.TheVariants.{Input, Output, Fault, File}
+use Rattle.f2c_outside.specs.Texts.{word_at}
+use Rattle.f_tree.specs.declared.refusals.Refusal.{Refusal}
+use Rattle.f_tree.specs.RefusalRows.{number_of, text_of}
+use Rattle.f2c_program.specs.declared.outcome.Outcome.{Outcome}
+use Rattle.f2c_program.specs.declared.outcome.Outcome.TheVariants.{Done, Refused, BadWord, NotThere, Unread, Unwritten, NoMemory}
+
+-- a place as a message names it: a file by its name, a stream in angle brackets
+abbrev pub shown : Place → List ℕ
+shown Input = codes "<stdin>"
+shown Output = codes "<stdout>"
+shown Fault = codes "<stderr>"
+shown (File name) = name
+
+-- the name of the file with this number among those that are translated, as a message gives it: Input
+-- alone is translated
+abbrev pub file_shown : ℕ → List ℕ
+file_shown file = shown Input
+
+-- the word with this number, or that it is missing where there is none
+abbrev pub word_shown : Option (List ℕ) → List ℕ
+word_shown (Some word) = word
+word_shown None = codes "missing"
+
+-- what stands before the number of a row of refusals, so that it has two digits at least
+abbrev pub row_start : ℕ → List ℕ
+row_start number = if nat_lt number 10 then codes ": F0" else codes ": F"
+
+-- the pieces of a line, one after the other
+abbrev pub joined : List (List ℕ) → List ℕ
+joined [] = []
+joined (piece ∷ others) = piece ++ joined others
+
+-- f2c: FILE:CARD: F11 TEXT
+abbrev pub refusal_line : Refusal → List ℕ
+refusal_line refusal =
+    joined
+    (codes "f2c: "
+    ∷ file_shown refusal.file
+    ∷ codes ":"
+    ∷ decimal refusal.card
+    ∷ row_start (number_of refusal.kind)
+    ∷ decimal (number_of refusal.kind)
+    ∷ codes " "
+    ∷ text_of refusal.kind
+    ∷ codes "\n"
+    ∷ [])
+
+-- f2c: word I: WORD
+abbrev pub bad_word_line : List (List ℕ) → ℕ → List ℕ
+bad_word_line words number =
+    joined (codes "f2c: word " ∷ decimal number ∷ codes ": " ∷ word_shown (word_at number words) ∷ codes "\n" ∷ [])
+
+-- f2c: FILE: not there
+abbrev pub not_there_line : Place → List ℕ
+not_there_line place = joined (codes "f2c: " ∷ shown place ∷ codes ": not there\n" ∷ [])
+
+-- f2c: FILE: shelf fault
+abbrev pub shelf_fault_line : Place → List ℕ
+shelf_fault_line place = joined (codes "f2c: " ∷ shown place ∷ codes ": shelf fault\n" ∷ [])
+
+-- f2c: out of memory
+abbrev pub no_memory_line : List ℕ
+no_memory_line = joined (codes "f2c: out of memory\n" ∷ [])
+
+-- the line of an outcome; a command that did its work writes none
+abbrev pub line_of : List (List ℕ) → Outcome → List ℕ
+line_of words Done = []
+line_of words (Refused refusal) = refusal_line refusal
+line_of words (BadWord number) = bad_word_line words number
+line_of words (NotThere place) = not_there_line place
+line_of words (Unread place) = shelf_fault_line place
+line_of words (Unwritten place) = shelf_fault_line place
+line_of words NoMemory = no_memory_line

@@ -1,0 +1,13 @@
+-- The exit status of each outcome.
+use Rattle.std.specs.Prelude.{ℕ}
+use Rattle.f2c_program.specs.declared.outcome.Outcome.{Outcome}
+use Rattle.f2c_program.specs.declared.outcome.Outcome.TheVariants.{Done, Refused, BadWord, NotThere, Unread, Unwritten, NoMemory}
+
+abbrev pub status_of : Outcome → ℕ
+status_of Done = 0
+status_of (Refused refusal) = 1
+status_of (BadWord number) = 2
+status_of (NotThere place) = 3
+status_of (Unread place) = 3
+status_of (Unwritten place) = 3
+status_of NoMemory = 5

@@ -1,0 +1,53 @@
+-- What the top call does: the outcome of the command that the words ask for, its message and its status.
+use Rattle.std.specs.Prelude.{◌≡◌, ℕ, ◌⊎◌, List}
+use Rattle.f2c_outside.specs.declared.shelves.Place.TheVariants.{Input, Output}
+use Rattle.f2c_outside.specs.Shelf.{ShelfState, Rose}
+use Rattle.f2c_program.specs.declared.command.Command.{Command}
+use Rattle.f2c_program.specs.declared.command.Command.TheVariants as command
+use Rattle.f2c_program.specs.declared.outcome.Outcome.{Outcome}
+use Rattle.f2c_program.specs.declared.outcome.Outcome.TheVariants as outcome
+use Rattle.f2c_program.specs.CommandWords.{command_of}
+use Rattle.f2c_program.specs.Outcomes.{status_of}
+use Rattle.f2c_program.specs.Lines.{line_of, bad_word_line}
+use Rattle.f2c_program.specs.ShelfLoops.{Both, IsKept, written}
+use Rattle.f2c_program.specs.Messages.{Said, Gained}
+use Rattle.f2c_program.specs.TranslateRows.{WroteText, TranslateEnded, TranslateRows}
+use Rattle.f2c_program.specs.Usage.{usage}
+
+-- no command goes on with the word of this number, and the shelf was not touched
+pub record BadWordEnded (number : ℕ) (b a : ShelfState) (ended : Outcome) : Type 0 where
+  pub named : ended ≡ outcome.BadWord number
+  pub kept : IsKept b a
+
+-- how each command ends, before its message is written
+abbrev pub Ran : Command → ShelfState → ShelfState → Outcome → Type 0
+Ran command.Translate b a ended = TranslateEnded Input Output b a ended
+Ran command.Help b a ended = WroteText Output usage b a ended
+Ran (command.BadWord number) b a ended = BadWordEnded number b a ended
+
+-- the command came to an outcome, which decides the message and the status; one that did its work has no message
+pub record Concluded (words : List (List ℕ)) (b a : ShelfState) (status : ℕ) : Type 0 where
+  pub ended : Outcome
+  pub middle : ShelfState
+  pub ran : Ran (command_of words) b middle ended
+  pub said : Said (line_of words ended) middle a
+  pub silent : ended ≡ outcome.Done → a ≡ middle
+  pub status_is : status ≡ status_of ended
+
+-- bad words: status 2, the line on Fault names the word, and nothing else changed
+pub record BadWordRows (words : List (List ℕ)) (number : ℕ) (b a : ShelfState) (status : ℕ) : Type 0 where
+  pub bad : status ≡ 2
+  pub said : Both b.told a.told (Gained (bad_word_line words number) b.faults a.faults)
+
+-- the usage: with status 0 it stands on Output, and no count rose; 3 only where a count rose
+pub record HelpRows (b a : ShelfState) (status : ℕ) : Type 0 where
+  pub statuses : (status ≡ 0) ⊎ (status ≡ 3)
+  pub shown : status ≡ 0 → a.told ≡ written Output usage b.told
+  pub quiet : status ≡ 0 → a.faults ≡ b.faults
+  pub rose : status ≡ 3 → Rose b.faults a.faults
+
+-- what the exit status says of each command
+abbrev pub Commanded : List (List ℕ) → Command → ShelfState → ShelfState → ℕ → Type 0
+Commanded words command.Translate b a status = TranslateRows Input Output b a status
+Commanded words command.Help b a status = HelpRows b a status
+Commanded words (command.BadWord number) b a status = BadWordRows words number b a status

@@ -1,0 +1,15 @@
+-- What `-h` and `--help` put on Output: every word that a command takes has a line.
+use Rattle.std.specs.Prelude.{ℕ, List, [], ◌∷◌, codes}
+use Rattle.f2c_program.specs.Lines.{joined}
+
+abbrev pub usage : List ℕ
+usage =
+    joined
+    (codes "usage: f2c <FILE.f >FILE.c\n"
+    ∷ codes "Translates the FORTRAN 77 file on standard input to C on standard output.\n"
+    ∷ codes "\n"
+    ∷ codes "  -h, --help  puts this on standard output, and reads nothing\n"
+    ∷ codes "\n"
+    ∷ codes "Status 0: it is done. 1: the file is refused, and a line says at which card and why.\n"
+    ∷ codes "2: this word is none of those above. 3: a stream failed. 5: out of memory.\n"
+    ∷ [])

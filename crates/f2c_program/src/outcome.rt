@@ -1,0 +1,42 @@
+//! How a command ended.
+
+ghost use Rattle.std.specs.Prelude.{◌≡◌};
+ghost use Rattle.f2c_program.specs.Outcomes.{status_of};
+
+use f_tree::Refusal;
+use f2c_outside::shelves::Place;
+
+/// How a command ended, one variant for each cause.
+#[derive(Drop)]
+pub enum Outcome {
+    /// The command did its work.
+    Done,
+    /// The set of files has this first refusal.
+    Refused(Refusal),
+    /// With the word of this number, counted from 1, no command goes on.
+    BadWord(usize),
+    /// This file is to be read and is not on the shelf.
+    NotThere(Place),
+    /// The shelf failed while this place was being read.
+    Unread(Place),
+    /// The shelf failed while this place was being written.
+    Unwritten(Place),
+    /// Memory ran out.
+    NoMemory,
+}
+
+impl Outcome {
+    /// The exit status: 0, 1 for a refusal, 2 for bad words, 3 for a file that is not there or a shelf
+    /// that failed, 5 where memory ran out.
+    pub fn status(&self) -> u8
+        ensures { result ≡ status_of self.now }
+    {
+        match self {
+            Outcome::Done => 0,
+            Outcome::Refused(_) => 1,
+            Outcome::BadWord(_) => 2,
+            Outcome::NotThere(_) | Outcome::Unread(_) | Outcome::Unwritten(_) => 3,
+            Outcome::NoMemory => 5,
+        }
+    }
+}

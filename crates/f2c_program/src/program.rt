@@ -1,0 +1,118 @@
+//! The program around the top call: the words of the command line, the real files and streams, and the exit status.
+
+ghost use Rattle.std.specs.Prelude.{◌≡◌, ◌++◌, drop, map, is_ok, IfOk, OnOk};
+ghost use Rattle.std.specs.Process.{exit_status};
+ghost use Rattle.std.specs.String.{string_bytes};
+ghost use Rattle.f2c_program.specs.declared.program.NoWords.TheVariants as no_words;
+ghost use Rattle.f2c_program.specs.Program.{Called, StatusFor, IsStatusOfProgram};
+
+use crate::top_call::f2c;
+use f2c_outside::host_shelf::HostShelf;
+use f2c_outside::shelves::Shelf;
+use f2c_outside::texts::{NoMemory, Words};
+use f2c_outside::unit_table::UnitTable;
+use std::alloc::{AllocGlobal, Global};
+use std::env;
+use std::io::ErrorKind;
+use std::process::ExitCode;
+use std::rt::{Env, HostRuntime};
+
+/// The status of a command line that is not in the grammar.
+const BAD_WORDS: u8 = 2;
+
+/// The status where memory ran out before the top call began.
+const NO_MEMORY: u8 = 5;
+
+/// Why there are no words.
+#[derive(Clone, Copy, Debug, PartialEq, Eq)]
+pub(crate) enum NoWords {
+    /// Memory ran out.
+    NoMemory,
+    /// A word is not UTF-8.
+    NotText,
+}
+
+impl From<NoMemory> for NoWords {
+    ghost from_gives = { λ _ reason. reason ≡ no_words.NoMemory };
+
+    fn from(_error: NoMemory) -> NoWords {
+        NoWords::NoMemory
+    }
+}
+
+/// Puts these words behind the others.
+fn put_words(words: &mut Words, texts: &[String]) -> Result<(), NoMemory>
+    ensures { OnOk result (words.new ≡ words.old ++ map string_bytes texts.now) }
+{
+    for text in texts {
+        words.push(text.as_bytes())?;
+    }
+    Ok(())
+}
+
+/// The words behind the program's own name, which is the first of the arguments.
+fn words_of(alloc: Global, arguments: &[String]) -> Result<Words, NoMemory>
+    ensures { IfOk result (λ words. words ≡ map string_bytes (drop 1 arguments.now)) }
+{
+    let mut words = Words::new(alloc)?;
+    if let Some((_, texts)) = arguments.split_first() {
+        put_words(&mut words, texts)?;
+    }
+    Ok(words)
+}
+
+/// The words of the command line, without the program's name.
+pub(crate) fn command_words<R: Env + AllocGlobal>(rt: &R) -> Result<Words, NoWords> {
+    let arguments = match env::args(rt) {
+        Ok(arguments) => arguments,
+        Err(error) if error.kind() == ErrorKind::InvalidData => return Err(NoWords::NotText),
+        Err(_) => return Err(NoWords::NoMemory),
+    };
+    match arguments.collect::<Vec<String>>(rt.alloc()) {
+        Ok(arguments) => Ok(words_of(rt.alloc(), &arguments)?),
+        Err(_) => Err(NoWords::NoMemory),
+    }
+}
+
+/// Calls the top call on a shelf, with a table in which no unit is connected, and gives its status.
+fn status_of_call<H: Shelf>(alloc: Global, words: &Words, shelf: &mut H, units: UnitTable) -> u8
+    ensures { Called words.now (H.state shelf.old) result }
+{
+    f2c(alloc, words, shelf, units).status
+}
+
+/// The status for the words of the command line, or for why there are none, and for a table of the units, where
+/// there was memory for one.
+fn status_for(
+    rt: &HostRuntime,
+    words: Result<Words, NoWords>,
+    units: Result<UnitTable, NoMemory>,
+) -> u8
+    ensures { StatusFor words (is_ok units) result }
+{
+    let alloc = rt.alloc();
+    match (words, units) {
+        (Ok(words), Ok(units)) => {
+            let mut shelf = HostShelf::new(alloc, rt, rt.stderr());
+            status_of_call(alloc, &words, &mut shelf, units)
+        }
+        (Err(NoWords::NotText), _) => {
+            let _ = rt.eprintln("f2c: a word is not UTF-8");
+            BAD_WORDS
+        }
+        _ => {
+            let _ = rt.eprintln("f2c: out of memory");
+            NO_MEMORY
+        }
+    }
+}
+
+/// Runs the program, and gives its exit status: that of the top call on the words of the command line; 2 where a word is not
+/// UTF-8; 5 where memory ran out before the top call.
+pub fn run(rt: &HostRuntime) -> ExitCode
+    ensures { IsStatusOfProgram (exit_status result) }
+{
+    let words = command_words(rt);
+    let units = UnitTable::new(rt.alloc());
+    ExitCode::from(status_for(rt, words, units))
+}

@@ -1,0 +1,38 @@
+//! The translation of one file.
+
+ghost use Rattle.std.specs.Prelude.{◌≡◌, IfOk, IfErr};
+ghost use Rattle.first_translator.specs.Translated.{translated};
+ghost use Rattle.c_text.specs.Printed.{printed};
+ghost use Rattle.f2c_program.specs.TextOfFile.{IsTextOf, IsRefusedFor};
+
+use c_text::print_c;
+use f_tree::{Fail, File};
+use first_path::faithful_translations::translations_are_faithful;
+use first_reader::read_file;
+use first_translator::translate;
+use std::alloc::{AllocError, Global};
+
+/// The C text of the tree of a file. An error says that there is no memory for it.
+fn text_of_tree(alloc: Global, file: &File) -> Result<Vec<u8>, AllocError>
+    ensures { IfOk result (λ text. text.items ≡ printed (translated file.now)) }
+{
+    let tree = translate(alloc, file)?;
+    print_c(alloc, &tree)
+}
+
+/// The C text of the set that is this one file, which is faithful to it, or its first refusal.
+pub(crate) fn translation(alloc: Global, bytes: &[u8]) -> Result<Vec<u8>, Fail>
+    ensures done { IfOk result (λ text. IsTextOf bytes.now text.items) }
+    ensures refused { IfErr result (IsRefusedFor bytes.now) }
+{
+    match read_file(alloc, bytes, 0) {
+        Err(fail) => Err(fail),
+        Ok(file) => match text_of_tree(alloc, &file) {
+            Err(_) => Err(Fail::NoMemory),
+            Ok(text) => {
+                translations_are_faithful();
+                Ok(text)
+            }
+        },
+    }
+}

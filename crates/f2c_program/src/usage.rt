@@ -1,0 +1,28 @@
+//! The usage of the program.
+
+ghost use Rattle.f2c_outside.specs.declared.shelves.Place.TheVariants as place;
+ghost use Rattle.f2c_program.specs.Usage.{usage};
+ghost use Rattle.f2c_program.specs.TranslateRows.{WroteText};
+
+use crate::outcome::Outcome;
+use crate::shelf_loops::write_pieces;
+use f2c_outside::shelves::{Place, Shelf};
+
+/// Writes the usage on Output.
+pub(crate) fn write_usage<H: Shelf>(shelf: &mut H) -> Outcome
+    ensures { WroteText place.Output usage (H.state shelf.old) (H.state shelf.new) result }
+{
+    let pieces: [&[u8]; 7] = [
+        b"usage: f2c <FILE.f >FILE.c\n",
+        b"Translates the FORTRAN 77 file on standard input to C on standard output.\n",
+        b"\n",
+        b"  -h, --help  puts this on standard output, and reads nothing\n",
+        b"\n",
+        b"Status 0: it is done. 1: the file is refused, and a line says at which card and why.\n",
+        b"2: this word is none of those above. 3: a stream failed. 5: out of memory.\n",
+    ];
+    match write_pieces(shelf, &Place::Output, &pieces) {
+        Err(_) => Outcome::Unwritten(Place::Output),
+        Ok(()) => Outcome::Done,
+    }
+}

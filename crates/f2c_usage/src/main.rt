@@ -1,0 +1,9 @@
+//! f2c translates FORTRAN 77 (ANSI X3.9-1978) to C (ANSI X3.159-1989). This is the program again; its stored run is one
+//! with words.
+#![tactic(auto)]
+
+use std::process::ExitCode;
+
+fn main(rt: HostRuntime) -> ExitCode {
+    f2c_program::run(&rt)
+}

@@ -1,9 +1,0 @@
-use Rattle.std.proofs.Common.{refl}
-use Rattle.f_tree.specs.LongSources.{sum_of_a_thousand}
-use Rattle.f_tree.specs.Meaning.{everything}
-use Rattle.f_tree.specs.Runs.{runs_opened}
-use Rattle.f_tree.proofs.rows.thousands_of_steps_run.Goals as goal
-
-pub returns : goal.returns
-unfolding everything runs_opened sum_of_a_thousand
-returns c = record { sums = record { goes_on = refl; ends = refl; wrote = refl } }

@@ -1,0 +1,4 @@
+pub mod Checks
+pub mod PairProofs
+pub mod ValueProofs
+pub mod BulletProofs

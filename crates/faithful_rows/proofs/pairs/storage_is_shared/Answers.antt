@@ -1,0 +1,34 @@
+-- Object 0 is the common block, object 1 the class.
+use Rattle.std.specs.Prelude.{[], ◌∷◌}
+use Rattle.std.proofs.Common.{refl}
+use Rattle.f_tree.specs.Meaning.{everything}
+use Rattle.f_tree.specs.Runs.{runs_opened}
+use Rattle.c_tree.specs.Opened.{meaning_opened}
+use Rattle.faithful.specs.Opened.{faithful_opened}
+use Rattle.faithful.specs.SameState.{running, ended}
+use Rattle.faithful.specs.SameTransfer as transfer
+use Rattle.faithful.specs.Signatures as signatures
+use Rattle.faithful.specs.FrameImage as frame
+use Rattle.faithful_rows.proofs.Checks.{world_by}
+use Rattle.faithful_rows.proofs.PairProofs.{homes_from}
+use Rattle.faithful_rows.proofs.pairs.storage_is_shared.Goals as goal
+
+pub returns-clause-named : goal.returns-clause-named
+unfolding everything runs_opened meaning_opened faithful_opened
+returns-clause-named c = signatures.more _ _ _ _ (record { functions = refl; objects = refl }) signatures.none
+
+pub returns-clause-start : goal.returns-clause-start
+unfolding everything runs_opened meaning_opened faithful_opened
+returns-clause-start c = running _ _ _ _ _ _ _ _ (world_by _ _ _ (homes_from (0 ∷ 1 ∷ [])) _ _ _ refl transfer.neither refl refl (frame.more _ _ (record { unit = _; is = refl; function = 0; has = refl; dummies = frame.none; result = tt }) frame.none)) refl
+
+pub returns-clause-common : goal.returns-clause-common
+unfolding everything runs_opened meaning_opened faithful_opened
+returns-clause-common c = running _ _ _ _ _ _ _ _ (world_by _ _ _ (homes_from (0 ∷ 1 ∷ [])) _ _ _ refl transfer.neither refl refl (frame.more _ _ (record { unit = _; is = refl; function = 0; has = refl; dummies = frame.none; result = tt }) frame.none)) refl
+
+pub returns-clause-class : goal.returns-clause-class
+unfolding everything runs_opened meaning_opened faithful_opened
+returns-clause-class c = running _ _ _ _ _ _ _ _ (world_by _ _ _ (homes_from (0 ∷ 1 ∷ [])) _ _ _ refl transfer.neither refl refl (frame.more _ _ (record { unit = _; is = refl; function = 0; has = refl; dummies = frame.none; result = tt }) frame.none)) refl
+
+pub returns-clause-ended : goal.returns-clause-ended
+unfolding everything runs_opened meaning_opened faithful_opened
+returns-clause-ended c = ended _ _ _ _ _ (world_by _ _ _ (homes_from (0 ∷ 1 ∷ [])) _ _ _ refl transfer.neither refl refl frame.none) refl

@@ -1,0 +1,4 @@
+pub mod Bullets
+pub mod PairWords
+pub mod Pairs
+pub mod PairRuns

@@ -1,0 +1,2 @@
+pub mod NestStatements
+pub mod RangeActStatements

@@ -1,0 +1,3 @@
+pub mod SettingChecks
+pub mod SettingExamples
+pub mod SyntaxExamples

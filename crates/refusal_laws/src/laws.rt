@@ -1,0 +1,32 @@
+//! What leaves no choice: the trees that files spell, their first refusal, and names in C.
+
+ghost use Rattle.std.specs.Prelude.{◌≡◌, ℕ, List, false, Bool};
+ghost use Rattle.f_tree.specs.declared.refusals.Kind.{Kind};
+ghost use Rattle.f_tree.specs.declared.refusals.Refusal.{Refusal};
+ghost use Rattle.f_tree.specs.declared.units.File.{File};
+ghost use Rattle.f_tree.specs.CNames.{external_name, is_reserved, variable_name};
+ghost use Rattle.f_tree.specs.FirstRefusal.{IsAccepted, IsFirstRefusal, IsSpelled};
+ghost use Rattle.f_tree.specs.RefusalRows.{number_of};
+ghost use Rattle.fortran_text.specs.FirstFault.{FaultOfFile, IsFirst};
+
+/// A set of files spells one list of trees at most, has one first refusal at most, and none where it is accepted.
+pub fn files_are_read_in_one_way()
+    ensures trees { (set : List (List ℕ)) → (xs ys : List File) → IsSpelled set xs → IsSpelled set ys → xs ≡ ys }
+    ensures refusals { (set : List (List ℕ)) → (r q : Refusal) → IsFirstRefusal set r → IsFirstRefusal set q → r ≡ q }
+    ensures accepted { (set : List (List ℕ)) → (r : Refusal) → IsAccepted set → IsFirstRefusal set r → ⊥ }
+{}
+
+/// Two first refusals of the cards of a file stand at one card and are one row. Section 3.2 of the standard, ANSI X3.9-1978.
+pub fn first_refusals_of_cards_are_one()
+    ensures { (refused : Bool) → (bytes : List ℕ) → (card other : ℕ) → (kind row : Kind) → IsFirst (FaultOfFile refused bytes) card kind
+        → IsFirst (FaultOfFile refused bytes) other row → (card ≡ other) × (number_of kind ≡ number_of row) }
+{}
+
+/// Distinct variables have distinct names in C, which are no reserved words; so have distinct procedures and blocks; and where a
+/// variable has the name of a procedure or block in C, the two have one name.
+pub fn names_in_c_are_distinct()
+    ensures variables { (x y : List ℕ) → variable_name x ≡ variable_name y → x ≡ y }
+    ensures unreserved { (x : List ℕ) → is_reserved (variable_name x) ≡ false }
+    ensures externals { (x y : List ℕ) → external_name x ≡ external_name y → x ≡ y }
+    ensures both { (x y : List ℕ) → variable_name x ≡ external_name y → x ≡ y }
+{}

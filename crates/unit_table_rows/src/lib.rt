@@ -1,0 +1,4 @@
+//! Programs over the unit table with devices in memory, whose ends follow from the clauses of its calls alone.
+#![tactic(auto)]
+
+pub mod programs;
