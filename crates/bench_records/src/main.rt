@@ -72,6 +72,7 @@ fn records_of<D: Device>(file: &mut D, count: u32) -> Option<u32> {
     }
 }
 
+/// Prints how many records were read, or fails.
 fn main(rt: HostRuntime) -> ExitCode {
     let Ok(name) = Name::new(rt.alloc(), b"records.txt") else {
         return ExitCode::from(1);

@@ -31,7 +31,7 @@ fn one<T: Drop>(alloc: Global, item: T) -> Result<Items<T>, AllocError> {
     Ok(items)
 }
 
-// `n - (n - -(-n))`, which needs its parentheses and two blanks between signs.
+/// `n - (n - -(-n))`, which needs its parentheses and two blanks between signs.
 fn difference(alloc: Global) -> Result<CExpr, AllocError> {
     let opposite = unary(alloc, UnaryOp::Minus, named(alloc, b"n")?)?;
     let twice = unary(alloc, UnaryOp::Minus, opposite)?;
@@ -39,7 +39,7 @@ fn difference(alloc: Global) -> Result<CExpr, AllocError> {
     binary(alloc, BinaryOp::Subtract, named(alloc, b"n")?, inner)
 }
 
-// `for (i = 0; i < n; ++i) { i = n - (n - - -n); }`
+/// `for (i = 0; i < n; ++i) { i = n - (n - - -n); }`
 fn turns(alloc: Global) -> Result<CStmt, AllocError> {
     let set = CStmt::Set(named(alloc, b"i")?, difference(alloc)?);
     let test = binary(

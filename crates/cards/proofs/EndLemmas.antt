@@ -5,7 +5,9 @@ use Rattle.std.specs.Char.{is_ascii_digit, digit_value, to_ascii_lowercase}
 use Rattle.std.specs.List.{list_all}
 use Rattle.std.specs.Str.{bytes_eq}
 use Rattle.std.proofs.lemmas.Bool.{cases_Bool, eqb-true, ne_eqb, not-true, and_parts}
-use Rattle.fortran_text.specs.CharactersOfText.{Character, Outside, after, shown, behind, characters_from, characters, text_without_blanks, has_counted, is_end}
+use Rattle.fortran_text.specs.CharactersOfText.{after, shown, behind, characters_from, characters, text_without_blanks, has_counted, is_end}
+use Rattle.fortran_text.specs.declared.characters.Character.{Character}
+use Rattle.fortran_text.specs.declared.characters.Standing.TheVariants.{Outside}
 use Rattle.cards.specs.Squeezed.{squeezed}
 
 -- texts without blanks, one clause each

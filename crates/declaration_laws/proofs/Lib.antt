@@ -4,3 +4,4 @@ pub mod NameFits
 pub mod SetFits
 pub mod StatementFits
 pub mod UnitFits
+pub mod VerdictLemmas

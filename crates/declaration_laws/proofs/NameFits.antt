@@ -38,7 +38,7 @@ use Rattle.f_tree.specs.WellFormed.{IsStored, IsOfVariables, IsUpper, AreDimensi
 use Rattle.declaration_rows.specs.Judgement.{unless}
 use Rattle.declaration_rows.specs.Fits.{IsConstant}
 use Rattle.declaration_rows.specs.StatementRows.{is_typed}
-use Rattle.declaration_rows.specs.NameRows.{given_names, own_attributes, all_names, definitions_of, stood, is_integer_value, same_integer, is_integer_name, is_arithmetic, layer_bound, is_bound_expression, is_lower, is_upper, are_dummy_bounds, shape_in, has_value, is_empty, is_function, type_rows, function_rows, is_referenced, conflict_rows, bound_rows, constant_rows, element_rows, at_first, mentions, declares, fixes, first_statements, name_rows, names_rows}
+use Rattle.declaration_rows.specs.NameRows.{given_names, own_attributes, all_names, definitions_of, stood, is_integer_value, same_integer, is_integer_name, is_arithmetic, layer_bound, is_bound_expression, is_lower, is_upper, are_dummy_bounds, shape_in, has_value, is_empty, is_function, type_rows, function_rows, is_referenced, conflict_rows, bound_rows, unmeasured, constant_rows, element_rows, at_first, at_both, mentions, declares, fixes, makes, first_statements, name_rows, names_rows}
 use Rattle.declaration_laws.proofs.ExpressionFits.{none_of_both, unless_holds, is_flat}
 use Rattle.declaration_laws.proofs.StatementFits.{typed_well}
 use Rattle.declaration_laws.proofs.UnitFits.{none_mapped, none_stood, both_true}
@@ -54,19 +54,33 @@ unfolding at_first
 none_at_first u test [] kinds none = none_mapped _ kinds none
 none_at_first u test (s ∷ ss) kinds none = none_if u s kinds (test s.body) (at_first u test ss kinds) (λ more. none_at_first u test ss kinds more) none
 
+none_later : (kinds : List Kind) (b : Bool) (one other : List Refusal) → (one ≡ [] → kinds ≡ []) → (other ≡ [] → kinds ≡ []) →
+    (if b then one else other) ≡ [] → kinds ≡ []
+none_later kinds true one other f g none = f none
+none_later kinds false one other f g none = g none
+
+pub none_at_both : (u : WrittenUnit) (one other : Body → Bool) (ss : List Stmt) (kinds : List Kind) → at_both u one other ss kinds ≡ [] → kinds ≡ []
+unfolding at_both
+none_at_both u one other [] kinds none = none_mapped _ kinds none
+none_at_both u one other (s ∷ ss) kinds none =
+    none_later kinds (one s.body) (at_first u other (s ∷ ss) kinds) (if other s.body then at_first u one ss kinds else at_both u one other ss kinds)
+    (λ first. none_at_first u other (s ∷ ss) kinds first)
+    (λ more. none_later kinds (other s.body) (at_first u one ss kinds) (at_both u one other ss kinds)
+    (λ first. none_at_first u one ss kinds first) (λ rest. none_at_both u one other ss kinds rest) more) none
+
 -- a name breaks none of its rows
 pub record IsFaultless (u : WrittenUnit) (x : Bytes) (a : Attribute) : Type 0 where
   pub no_type : type_rows a ≡ []
   pub no_conflict : conflict_rows u a ≡ []
-  pub no_bound : bound_rows (given_names u) (shape_in u x) a ≡ []
+  pub no_bound : bound_rows (given_names u) (shape_in u x) (unmeasured u x) a ≡ []
   pub no_constant : constant_rows a ≡ []
 
 pub faultless_name : (u : WrittenUnit) (x : Bytes) (a : Attribute) → name_rows u x a ≡ [] → IsFaultless u x a
 unfolding name_rows
 faultless_name u x a none =
     let types : List Refusal = at_first u (mentions u x) (first_statements u x) (type_rows a ++ function_rows (is_referenced u x) a) in
-    let conflicts : List Refusal = at_first u (mentions u x) u.statements (conflict_rows u a) in
-    let bounds : List Refusal = at_first u (declares x) u.statements (bound_rows (given_names u) (shape_in u x) a) in
+    let conflicts : List Refusal = at_both u (makes u x a) (declares x) u.statements (conflict_rows u a) in
+    let bounds : List Refusal = at_first u (declares x) u.statements (bound_rows (given_names u) (shape_in u x) (unmeasured u x) a) in
     let elements : List Refusal = at_first u (declares x) u.statements (element_rows a) in
     let constants : List Refusal = at_first u (fixes x) u.statements (constant_rows a) in
     let h : (types ≡ []) × ((conflicts ++ (bounds ++ (elements ++ constants))) ≡ []) = none_of_both types (conflicts ++ (bounds ++ (elements ++ constants))) none in
@@ -76,8 +90,8 @@ faultless_name u x a none =
     record {
       no_type = (none_of_both (type_rows a) (function_rows (is_referenced u x) a)
           (none_at_first u (mentions u x) (first_statements u x) (type_rows a ++ function_rows (is_referenced u x) a) h.0)).0;
-      no_conflict = none_at_first u (mentions u x) u.statements (conflict_rows u a) k.0;
-      no_bound = none_at_first u (declares x) u.statements (bound_rows (given_names u) (shape_in u x) a) l.0;
+      no_conflict = none_at_both u (makes u x a) (declares x) u.statements (conflict_rows u a) k.0;
+      no_bound = none_at_first u (declares x) u.statements (bound_rows (given_names u) (shape_in u x) (unmeasured u x) a) l.0;
       no_constant = none_at_first u (fixes x) u.statements (constant_rows a) m.1;
     }
 
@@ -204,23 +218,23 @@ pub record HasStorage (a : Attribute) : Type 0 where
   pub ranked : length a.bounds ≡ length a.dimensions
   pub sized : IsTrue (is_some (elements_of a.bounds))
 
-pub stored_rows : (given : Naming) (shape : List WrittenDimension) (a : Attribute) → bound_rows given shape (record a { class = class.Stored }) ≡ [] → HasStorage a
+pub stored_rows : (given : Naming) (shape : List WrittenDimension) (row : Kind) (a : Attribute) → bound_rows given shape row (record a { class = class.Stored }) ≡ [] → HasStorage a
 unfolding bound_rows
-stored_rows given shape a none =
-    let w : List Kind = unless (is_some a.width) BoundNotConstant in
+stored_rows given shape row a none =
+    let w : List Kind = unless (is_some a.width) row in
     let r : List Kind = unless (nat_eq (length a.bounds) (length a.dimensions)) BoundNotConstant in
     let s : List Kind = unless (is_some (elements_of a.bounds)) BoundNotConstant in
     let h : (w ≡ []) × ((r ++ s) ≡ []) = none_of_both w (r ++ s) none in
     let k : (r ≡ []) × (s ≡ []) = none_of_both r s h.1 in
     record {
-      has_width = width_found a.width (unless_holds (is_some a.width) BoundNotConstant h.0);
+      has_width = width_found a.width (unless_holds (is_some a.width) row h.0);
       ranked = eqb-true (length a.bounds) (length a.dimensions) (unless_holds (nat_eq (length a.bounds) (length a.dimensions)) BoundNotConstant k.0);
       sized = unless_holds (is_some (elements_of a.bounds)) BoundNotConstant k.1;
     }
 
-pub stored_by : (given : Naming) (shape : List WrittenDimension) (a : Attribute) → a.class ≡ class.Stored → bound_rows given shape a ≡ [] → HasStorage a
-stored_by given shape a is none =
-    stored_rows given shape a (subst (λ k. bound_rows given shape (record a { class = k }) ≡ []) is none)
+pub stored_by : (given : Naming) (shape : List WrittenDimension) (row : Kind) (a : Attribute) → a.class ≡ class.Stored → bound_rows given shape row a ≡ [] → HasStorage a
+stored_by given shape row a is none =
+    stored_rows given shape row a (subst (λ k. bound_rows given shape row (record a { class = k }) ≡ []) is none)
 
 -- BOUNDS OF DUMMY ARRAYS
 pub never : IsTrue false → ⊥
@@ -340,19 +354,19 @@ bound_named c u x program (no_name is) integer = absurd (no_integer (given_names
 pub no_shape : (a : Attribute) → a.dimensions ≡ [] → (c : Facts) → AreDimensions c a.dimensions
 no_shape a none c = subst (λ ds. AreDimensions c ds) (sym none) formed.no_dimensions
 
-pub dummy_by : (c : Facts) (u : WrittenUnit) (shape : List WrittenDimension) (k : Class) (a : Attribute) → IsTrue (is_dummy k) →
-    bound_rows (given_names u) shape (record a { class = k }) ≡ [] → conflict_rows u (record a { class = k }) ≡ [] →
+pub dummy_by : (c : Facts) (u : WrittenUnit) (shape : List WrittenDimension) (row : Kind) (k : Class) (a : Attribute) → IsTrue (is_dummy k) →
+    bound_rows (given_names u) shape row (record a { class = k }) ≡ [] → conflict_rows u (record a { class = k }) ≡ [] →
     (IsTrue (are_dummy_bounds (given_names u) shape) → AreDimensions c a.dimensions) → AreDimensions c a.dimensions
 unfolding is_dummy bound_rows conflict_rows
-dummy_by c u shape class.Dummy a dummy bounds flat fits = fits (unless_holds (are_dummy_bounds (given_names u) shape) BoundNotConstant bounds)
-dummy_by c u shape class.DummyProcedure a dummy bounds flat fits = no_shape a (empty_list a.dimensions (unless_holds (is_empty a.dimensions) ConflictingAttributes flat)) c
-dummy_by c u shape class.Constant a dummy bounds flat fits = absurd (cc)
-dummy_by c u shape class.Stored a dummy bounds flat fits = absurd (cc)
-dummy_by c u shape class.Result a dummy bounds flat fits = absurd (cc)
-dummy_by c u shape class.Procedure a dummy bounds flat fits = absurd (cc)
-dummy_by c u shape class.StatementFunction a dummy bounds flat fits = absurd (cc)
-dummy_by c u shape class.Intrinsic a dummy bounds flat fits = absurd (cc)
-dummy_by c u shape class.Unit a dummy bounds flat fits = absurd (cc)
+dummy_by c u shape row class.Dummy a dummy bounds flat fits = fits (unless_holds (are_dummy_bounds (given_names u) shape) BoundNotConstant bounds)
+dummy_by c u shape row class.DummyProcedure a dummy bounds flat fits = no_shape a (empty_list a.dimensions (unless_holds (is_empty a.dimensions) ConflictingAttributes flat)) c
+dummy_by c u shape row class.Constant a dummy bounds flat fits = absurd (cc)
+dummy_by c u shape row class.Stored a dummy bounds flat fits = absurd (cc)
+dummy_by c u shape row class.Result a dummy bounds flat fits = absurd (cc)
+dummy_by c u shape row class.Procedure a dummy bounds flat fits = absurd (cc)
+dummy_by c u shape row class.StatementFunction a dummy bounds flat fits = absurd (cc)
+dummy_by c u shape row class.Intrinsic a dummy bounds flat fits = absurd (cc)
+dummy_by c u shape row class.Unit a dummy bounds flat fits = absurd (cc)
 
 pub shape_fits : (c : Facts) (u : WrittenUnit) → ((x : Bytes) → c.program.attribute x ≡ given_names u x) → (x : Bytes) → IsNamed u x →
     IsTrue (are_dummy_bounds (given_names u) (shape_in u x)) → AreDimensions c (given_names u x).dimensions
@@ -365,7 +379,7 @@ shape_fits c u program x (no_name is) bounds = subst (λ a. AreDimensions c a.di
 pub dummy_fits : (c : Facts) (u : WrittenUnit) → ((x : Bytes) → c.program.attribute x ≡ given_names u x) → (x : Bytes) → IsFaultless u x (given_names u x) →
     IsTrue (is_dummy (given_names u x).class) → AreDimensions c (given_names u x).dimensions
 dummy_fits c u program x faultless dummy =
-    dummy_by c u (shape_in u x) (given_names u x).class (given_names u x) dummy faultless.no_bound faultless.no_conflict
+    dummy_by c u (shape_in u x) (unmeasured u x) (given_names u x).class (given_names u x) dummy faultless.no_bound faultless.no_conflict
     (λ bounds. shape_fits c u program x (each_named u x) bounds)
 
 -- RESULTS

@@ -20,9 +20,9 @@ use Rattle.f_tree.specs.Valuing.{elements_of}
 use Rattle.f_tree.specs.WellFormed.{IsNest, IsStored, IsResult, IsWellFormed, is_dummy, AreDimensions}
 use Rattle.fortran_laws.proofs.HomeLemmas.{each_stored_name}
 use Rattle.declaration_rows.specs.Fits.{Agrees}
-use Rattle.declaration_rows.specs.NameRows.{given_names, own_attributes, all_names, definitions_of, known_in, defined_rows, names_rows, shape_in}
+use Rattle.declaration_rows.specs.NameRows.{given_names, own_attributes, all_names, definitions_of, known_in, defined_rows, names_rows, shape_in, unmeasured}
 use Rattle.declaration_rows.specs.UnitRows.{statements_rows, labels_rows, ranges_from, crossing_rows, nest_rows, ends_by_end, end_rows, unit_rows_as, unit_rows}
-use Rattle.declaration_rows.specs.SetRows.{units_rows, files_rows, set_faults, EachFaultlessSetIsWellFormed}
+use Rattle.declaration_rows.specs.SetRows.{all_unit_rows, units_rows, files_rows, set_faults, EachFaultlessSetIsWellFormed}
 use Rattle.declaration_laws.proofs.ExpressionFits.{none_of_both}
 use Rattle.declaration_laws.proofs.UnitFits.{each_line_formed, nest_formed, entries_within, mapped_length, in_either}
 use Rattle.declaration_laws.proofs.NameFits.{all_expansions, IsNamed, a_name, no_name, each_named, IsFaultless, each_faultless, HasStorage, stored_by, dummy_fits, HasResult, result_by}
@@ -102,7 +102,7 @@ module _ (c : Facts) (count : ℕ) (u : WrittenUnit) (reads : IsReadFrom u c.pro
       (c.program.attribute x).class ≡ class.Stored → IsStored c count x
   stored_well x faultless homes of =
       let stored : (given_names u x).class ≡ class.Stored = class_in x class.Stored of in
-      let s : HasStorage (given_names u x) = stored_by (given_names u) (shape_in u x) (given_names u x) stored faultless.no_bound in
+      let s : HasStorage (given_names u x) = stored_by (given_names u) (shape_in u x) (unmeasured u x) (given_names u x) stored faultless.no_bound in
       let at : HasHome c count x = homes stored in
       record {
         width = s.has_width.width;
@@ -167,12 +167,19 @@ pub record IsFaultlessUnit (options : Options) (p : ProgramUnit) : Type 0 where
   pub is : p ≡ unit_read options unit
   pub none : unit_rows options unit ≡ []
 
+pub front_none : (xs ys : List Refusal) → (xs ++ ys) ≡ [] → xs ≡ []
+front_none xs ys none = (none_of_both xs ys none).0
+
+pub unit_none : (options : Options) (u : WrittenUnit) → all_unit_rows options u ≡ [] → unit_rows options u ≡ []
+unfolding all_unit_rows
+unit_none options u none = front_none (unit_rows options u) _ none
+
 pub among_units : (options : Options) (us : List WrittenUnit) (p : ProgramUnit) → units_rows options us ≡ [] → IsIn p (map (unit_read options) us) →
     IsFaultlessUnit options p
 unfolding units_rows
 among_units options [] p none is = elim is [ ]
-among_units options (u ∷ us) p none first_in = record { unit = u; is = refl; none = (none_of_both (unit_rows options u) (units_rows options us) none).0 }
-among_units options (u ∷ us) p none (later_in is) = among_units options us p (none_of_both (unit_rows options u) (units_rows options us) none).1 is
+among_units options (u ∷ us) p none first_in = record { unit = u; is = refl; none = unit_none options u (none_of_both (all_unit_rows options u) (units_rows options us) none).0 }
+among_units options (u ∷ us) p none (later_in is) = among_units options us p (none_of_both (all_unit_rows options u) (units_rows options us) none).1 is
 
 pub among_files : (options : Options) (fs : List File) (p : ProgramUnit) → files_rows options fs ≡ [] → IsIn p (units_in options fs) → IsFaultlessUnit options p
 unfolding files_rows units_in

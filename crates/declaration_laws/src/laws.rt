@@ -4,6 +4,7 @@
 ghost use Rattle.declaration_rows.specs.Fits.{EachFaultlessExpressionIsTyped};
 ghost use Rattle.declaration_rows.specs.Formed.{EachFaultlessStatementIsFormed};
 ghost use Rattle.declaration_rows.specs.SetRows.{EachFaultlessSetIsWellFormed};
+ghost use Rattle.declaration_rows.specs.Verdicts.{EachSetHasAVerdict};
 
 /// An expression that breaks no row is read as what it is judged to be: as a value, as an actual argument, as a place
 /// or as pieces of text its reading is well typed.
@@ -19,4 +20,10 @@ pub fn faultless_statements_are_formed()
 /// A set of files that breaks no row is well formed in each of its settings.
 pub fn faultless_sets_are_well_formed()
     ensures { EachFaultlessSetIsWellFormed }
+{}
+
+/// Each set of files has a first refusal by the rows of its declarations, of the storage of each unit and of what its units
+/// share, or no such row holds and it is well formed in each of its settings.
+pub fn each_set_has_a_verdict()
+    ensures { EachSetHasAVerdict }
 {}

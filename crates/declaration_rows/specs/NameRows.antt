@@ -6,7 +6,7 @@ use Rattle.f_tree.specs.declared.names.Basic.{Basic}
 use Rattle.f_tree.specs.declared.names.Basic.TheVariants.{Integer, Logical, Character}
 use Rattle.f_tree.specs.declared.names.Class.TheVariants as class
 use Rattle.f_tree.specs.declared.refusals.Kind.{Kind}
-use Rattle.f_tree.specs.declared.refusals.Kind.TheVariants.{NameHasTypeReal, ConflictingAttributes, BoundNotConstant, ArrayOfNoElement, BadParameterValue, BadStatementFunction}
+use Rattle.f_tree.specs.declared.refusals.Kind.TheVariants.{NameHasTypeReal, ConflictingAttributes, BoundNotConstant, ArrayOfNoElement, BadParameterValue, UseOfAssumedLength, BadStatementFunction}
 use Rattle.f_tree.specs.declared.refusals.Refusal.{Refusal}
 use Rattle.f_tree.specs.declared.expressions.BinaryOp.{BinaryOp}
 use Rattle.f_tree.specs.declared.expressions.BinaryOp.TheVariants as op
@@ -14,6 +14,8 @@ use Rattle.f_tree.specs.declared.expressions.Expr.{Expr}
 use Rattle.f_tree.specs.declared.expressions.Expr.TheOpen as expr
 use Rattle.f_tree.specs.declared.statements.Body.{Body}
 use Rattle.f_tree.specs.declared.statements.Dimension.{Dimension as WrittenDimension}
+use Rattle.f_tree.specs.declared.statements.LengthSpec.{LengthSpec}
+use Rattle.f_tree.specs.declared.statements.LengthSpec.TheVariants as length'
 use Rattle.f_tree.specs.declared.statements.UpperBound.{UpperBound}
 use Rattle.f_tree.specs.declared.statements.UpperBound.TheVariants as upper
 use Rattle.f_tree.specs.declared.statements.UnitKind.TheVariants as kind
@@ -25,7 +27,7 @@ use Rattle.f_tree.specs.Terms.{Term}
 use Rattle.f_tree.specs.Facts.{Bounds, Attribute}
 use Rattle.f_tree.specs.Valuing.{elements_of}
 use Rattle.f_tree.specs.Uses.{is_among, uses_of_body, uses_of_statements}
-use Rattle.f_tree.specs.Attributes.{from_all, Shaped, shaped_in, constants_in, dimensions_among, constants_of, Expansion, dummy_among, expanded_as, with_expansions, without_expansion, Definition, definitions_in, expansion_of, expansions_from, arrays_of, all_described, attribute_in, names_of, own_names, all_dummies, is_used_as, with_list}
+use Rattle.f_tree.specs.Attributes.{from_all, Shaped, shaped_in, typed_name, constants_in, dimensions_among, constants_of, Expansion, dummy_among, expanded_as, with_expansions, without_expansion, Definition, definitions_in, expansion_of, expansions_from, arrays_of, all_described, attribute_in, names_of, own_names, all_dummies, external_in, called, is_used_as, with_list}
 use Rattle.f_tree.specs.Lines.{Naming}
 use Rattle.declaration_rows.specs.Judgement.{Known, unless, judge}
 use Rattle.declaration_rows.specs.StatementRows.{is_typed, value_rows}
@@ -203,11 +205,19 @@ conflict_rows u a = elim a.class [
   | _ ↦ []
 ]
 
+-- the row of a stored name without a constant length: F39 where its length is `(*)`
+unfoldable pub is_star : Option LengthSpec → Bool
+is_star (Some length'.Star) = true
+is_star _ = false
+
+unfoldable pub unmeasured : WrittenUnit → Bytes → Kind
+unmeasured u x = if is_star (typed_name u x).length then UseOfAssumedLength else BoundNotConstant
+
 -- what is stored has a length and constant bounds; a dummy array has bounds that the call fixes (F23)
-unfoldable pub bound_rows : Naming → List WrittenDimension → Attribute → List Kind
-bound_rows given shape a = elim a.class [
+unfoldable pub bound_rows : Naming → List WrittenDimension → Kind → Attribute → List Kind
+bound_rows given shape row a = elim a.class [
   | class.Stored ↦
-      unless (is_some a.width) BoundNotConstant ++
+      unless (is_some a.width) row ++
       (unless (nat_eq (length a.bounds) (length a.dimensions)) BoundNotConstant ++ unless (is_some (elements_of a.bounds)) BoundNotConstant)
   | class.Dummy ↦ unless (are_dummy_bounds given shape) BoundNotConstant
   | _ ↦ []
@@ -233,6 +243,14 @@ unfoldable pub at_first : WrittenUnit → (Body → Bool) → List Stmt → List
 at_first u test [] kinds = map (λ k. record { file = u.file; card = u.card; kind = k }) kinds
 at_first u test (s ∷ ss) kinds = if test s.body then stood s kinds else at_first u test ss kinds
 
+-- or at the first statement at which statements of two sorts have stood
+unfoldable pub at_both : WrittenUnit → (Body → Bool) → (Body → Bool) → List Stmt → List Kind → List Refusal
+at_both u one other [] kinds = map (λ k. record { file = u.file; card = u.card; kind = k }) kinds
+at_both u one other (s ∷ ss) kinds =
+    if one s.body then at_first u other (s ∷ ss) kinds
+    else if other s.body then at_first u one ss kinds
+    else at_both u one other ss kinds
+
 unfoldable pub mentions : WrittenUnit → Bytes → Body → Bool
 mentions u x b = is_among x (map (λ v. v.name) (uses_of_body (arrays_of u) b))
 
@@ -246,6 +264,14 @@ declares x b = shapes_name x (shaped_in b)
 unfoldable pub fixes : Bytes → Body → Bool
 fixes x b = is_among x (map (λ d. d.name) (constants_in b))
 
+-- what makes a name that has dimensions something that has none
+unfoldable pub makes : WrittenUnit → Bytes → Attribute → Body → Bool
+makes u x a b = elim a.class [
+  | class.Constant ↦ fixes x b
+  | class.DummyProcedure ↦ is_among x (external_in b) || is_used_as called x (uses_of_body (arrays_of u) b)
+  | _ ↦ true
+]
+
 -- the unit's own name and its dummy arguments stand in its first statement
 unfoldable pub first_statements : WrittenUnit → Bytes → List Stmt
 first_statements u x = if is_among x (own_names u ++ all_dummies u) then [] else u.statements
@@ -253,8 +279,8 @@ first_statements u x = if is_among x (own_names u ++ all_dummies u) then [] else
 unfoldable pub name_rows : WrittenUnit → Bytes → Attribute → List Refusal
 name_rows u x a =
     at_first u (mentions u x) (first_statements u x) (type_rows a ++ function_rows (is_referenced u x) a) ++
-    (at_first u (mentions u x) u.statements (conflict_rows u a) ++
-    (at_first u (declares x) u.statements (bound_rows (given_names u) (shape_in u x) a) ++
+    (at_both u (makes u x a) (declares x) u.statements (conflict_rows u a) ++
+    (at_first u (declares x) u.statements (bound_rows (given_names u) (shape_in u x) (unmeasured u x) a) ++
     (at_first u (declares x) u.statements (element_rows a) ++ at_first u (fixes x) u.statements (constant_rows a))))
 
 unfoldable pub names_rows : WrittenUnit → List Bytes → List Refusal
@@ -262,5 +288,5 @@ names_rows u [] = []
 names_rows u (x ∷ xs) = name_rows u x (given_names u x) ++ names_rows u xs
 
 unfoldable pub name_rows_opened : Unit {0}
-unfolding given_names own_attributes all_names signature_of signature_among definitions_of signatures_of known_in dummy_or unless_dummy known_within dummies_rows definition_rows definitions_rows stood defined_rows same_integer is_integer_value is_integer_name is_arithmetic layer_bound is_bound_expression is_lower is_upper are_dummy_bounds shape_in has_value is_empty is_function type_rows function_rows is_referenced conflict_rows bound_rows constant_rows reaches have_elements element_rows at_first mentions shapes_name declares fixes first_statements name_rows names_rows
+unfolding given_names own_attributes all_names signature_of signature_among definitions_of signatures_of known_in dummy_or unless_dummy known_within dummies_rows definition_rows definitions_rows stood defined_rows same_integer is_integer_value is_integer_name is_arithmetic layer_bound is_bound_expression is_lower is_upper are_dummy_bounds shape_in has_value is_empty is_function type_rows function_rows is_referenced conflict_rows is_star unmeasured bound_rows constant_rows reaches have_elements element_rows at_first at_both mentions shapes_name declares fixes makes first_statements name_rows names_rows
 name_rows_opened = tt

@@ -9,11 +9,27 @@ use Rattle.f_tree.specs.declared.units.FileSet.{FileSet}
 use Rattle.f_tree.specs.Setting.{Setting, IsSetting, IsIn}
 use Rattle.f_tree.specs.Meaning.{units_of}
 use Rattle.f_tree.specs.WellFormed.{AreWellFormed}
+use Rattle.f_tree.specs.Lines.{unit_read}
 use Rattle.declaration_rows.specs.UnitRows.{unit_rows}
+use Rattle.declaration_rows.specs.UndeclaredRows.{undeclared_rows_opened, unit_undeclared_rows}
+use Rattle.declaration_rows.specs.OrderRows.{order_rows_opened, unit_order_rows}
+use Rattle.declaration_rows.specs.BlockRows.{block_rows_opened, unit_block_rows}
+use Rattle.declaration_rows.specs.FormatRows.{format_rows_opened, unit_format_rows}
+use Rattle.declaration_rows.specs.ExpansionRows.{expansion_rows_opened, unit_expansion_rows}
+use Rattle.declaration_rows.specs.GivenRows.{given_rows_opened, unit_given_rows}
+use Rattle.declaration_rows.specs.LengthRows.{length_rows_opened, unit_length_rows}
+use Rattle.declaration_rows.specs.ReferenceRows.{reference_rows_opened, unit_reference_rows}
+
+-- of a unit: those without which it is well formed, and those that the standard asks for besides
+unfoldable pub all_unit_rows : Options → WrittenUnit → List Refusal
+all_unit_rows options u =
+    unit_rows options u ++
+    (unit_undeclared_rows options u ++
+    (unit_order_rows u ++ (unit_block_rows u (unit_read options u) ++ (unit_format_rows u ++ (unit_reference_rows u ++ (unit_length_rows u ++ (unit_expansion_rows u ++ unit_given_rows u)))))))
 
 unfoldable pub units_rows : Options → List WrittenUnit → List Refusal
 units_rows options [] = []
-units_rows options (u ∷ us) = unit_rows options u ++ units_rows options us
+units_rows options (u ∷ us) = all_unit_rows options u ++ units_rows options us
 
 unfoldable pub files_rows : Options → List File → List Refusal
 files_rows options [] = []
@@ -33,5 +49,5 @@ EachFaultlessSetIsWellFormed = (options : Options) (set : FileSet) (g : Setting)
     ((r : Refusal) → Faults options set r → ⊥) → AreWellFormed g (units_of options set)
 
 unfoldable pub set_rows_opened : Unit {0}
-unfolding units_rows files_rows set_faults
+unfolding all_unit_rows units_rows files_rows set_faults undeclared_rows_opened order_rows_opened block_rows_opened format_rows_opened reference_rows_opened length_rows_opened expansion_rows_opened given_rows_opened
 set_rows_opened = tt

@@ -5,6 +5,7 @@ use Rattle.f_tree.specs.declared.units.FileSet.{FileSet}
 use Rattle.f_tree.specs.RefusalRows.{number_of}
 use Rattle.f_tree.specs.Runs.{no_options}
 use Rattle.declaration_rows.specs.SetRows.{set_faults}
+use Rattle.declaration_rows.specs.Verdicts.{storage_faults, shared_faults}
 
 pub record Row : Type 0 where
   pub card : ℕ
@@ -20,10 +21,22 @@ at_card card number = record { card = card; number = number }
 unfoldable pub rows_of : FileSet → List Row
 rows_of set = map row_of (set_faults no_options set)
 
+-- those of what its units share
+unfoldable pub shared_rows_of : FileSet → List Row
+shared_rows_of set = map row_of (shared_faults no_options set)
+
+-- those of the storage of its units
+unfoldable pub storage_rows_of : FileSet → List Row
+storage_rows_of set = map row_of (storage_faults no_options set)
+
+unfoldable pub later_rows_of_all : List FileSet → List Row
+later_rows_of_all [] = []
+later_rows_of_all (set ∷ sets) = (storage_rows_of set ++ shared_rows_of set) ++ later_rows_of_all sets
+
 unfoldable pub rows_of_all : List FileSet → List Row
 rows_of_all [] = []
 rows_of_all (set ∷ sets) = rows_of set ++ rows_of_all sets
 
 unfoldable pub card_rows_opened : Unit {0}
-unfolding row_of at_card rows_of rows_of_all
+unfolding row_of at_card rows_of shared_rows_of storage_rows_of later_rows_of_all rows_of_all
 card_rows_opened = tt

@@ -1,2 +1,4 @@
 pub mod CardRows
 pub mod Strays
+pub mod OrderSources
+pub mod StorageStrays

@@ -34,7 +34,7 @@ pub fn ill_formed_programs_break_rows()
     ensures subscripts_too_few { rows_of subscripts_too_few ≡ at_card 2 32 ∷ [] }
     ensures format_that_is_nowhere { rows_of format_that_is_nowhere ≡ at_card 1 27 ∷ [] }
     ensures transfer_without_format { rows_of transfer_without_format ≡ at_card 1 11 ∷ [] }
-    ensures variable_of_any_length { rows_of variable_of_any_length ≡ at_card 1 23 ∷ [] }
+    ensures variable_of_any_length { rows_of variable_of_any_length ≡ at_card 1 39 ∷ [] }
     ensures array_of_any_size_in_a_list { rows_of array_of_any_size_in_a_list ≡ at_card 5 32 ∷ [] }
     ensures dimension_of_another_type { rows_of dimension_of_another_type ≡ at_card 5 23 ∷ [] }
 {}

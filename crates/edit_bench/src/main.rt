@@ -51,6 +51,7 @@ fn count_back(count: u32, field: &mut [u8]) -> u32 {
     back
 }
 
+/// Edits and takes back so many integers.
 fn main(rt: HostRuntime) -> ExitCode {
     let count = word_at(&rt, 1, INTEGERS);
     let width = (word_at(&rt, 2, WIDTH) as usize).min(WIDEST);

@@ -49,7 +49,7 @@ pub fn edit_text(value: &[u8], into: &mut [u8])
     }
 }
 
-// The sign of a number, where one is written.
+/// The sign of a number, where one is written.
 fn signed(value: i32, plus: bool) -> &'static [u8]
     ensures { result.now ≡ sign_of value plus }
 {
@@ -62,7 +62,7 @@ fn signed(value: i32, plus: bool) -> &'static [u8]
     }
 }
 
-// A sign and digits, right in the field.
+/// A sign and digits, right in the field.
 fn put_number(sign: &[u8], least: usize, digits: &[u8], into: &mut [u8])
     ensures { into.new ≡ right_in (length into.old) (sign.now ++ with_zeros least digits.now) }
 {

@@ -6,9 +6,11 @@ ghost use Rattle.edit_rules.specs.FormatChecks.{IsFront, IsRefusedAt, FormatsAre
 ghost use Rattle.edit_rules.specs.FormatStandings.{progress_in};
 
 use crate::format_places::{Joint, Mode, Move, Place, step};
+use thiserror::Error;
 
 /// No front of a text is a format.
-#[derive(Clone, Copy, Debug, PartialEq, Eq)]
+#[derive(Clone, Copy, Debug, PartialEq, Eq, Error)]
+#[error("no format goes on at place {place}")]
 pub struct BadFormat {
     /// The first place at which no format goes on, from 0; the text's length where the text ends too early.
     pub place: usize,
@@ -53,7 +55,7 @@ pub fn check_format(text: &[u8]) -> Result<usize, BadFormat>
     Err(BadFormat { place: text.len() })
 }
 
-// One character more.
+/// One character more.
 fn advance(standing: Standing, character: u8) -> Progress
     requires { standing.depth < usize.MAX }
     ensures { progress_in result ≡ progress_by standing.depth (shape (moved standing.depth (mode_in standing.mode) character)) }
@@ -71,7 +73,7 @@ fn advance(standing: Standing, character: u8) -> Progress
 }
 
 #[tactic(auto, using(crate::proofs::FormatMoves::closing_one, crate::proofs::FormatMoves::closing_more))]
-// A right parenthesis, where so many are open.
+/// A right parenthesis, where so many are open.
 fn close(depth: usize) -> Progress
     ensures { progress_in result ≡ closing_at depth }
 {

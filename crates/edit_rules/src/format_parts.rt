@@ -42,7 +42,7 @@ pub struct Parted {
     pub behind: usize,
 }
 
-// The number at the front, zero where there is none, and the length of its characters.
+/// The number at the front, zero where there is none, and the length of its characters.
 fn number(rest: &[u8]) -> Counted
     ensures value { number_in rest.now result ≡ number_from 0 rest.now rest.now }
     ensures within { result.behind ≤ length rest.now }
@@ -62,6 +62,7 @@ fn number(rest: &[u8]) -> Counted
     Counted { number, behind }
 }
 
+/// A number with one digit more.
 fn with_digit(number: usize, character: u8) -> usize
     requires { number ≤ 65535 }
     ensures value { result ≡ number_with number character }
@@ -70,7 +71,7 @@ fn with_digit(number: usize, character: u8) -> usize
     (number * 10 + character.saturating_sub(b'0') as usize).min(65_535)
 }
 
-// The next character that is no blank, a letter in upper case, and the length up to and with it.
+/// The next character that is no blank, a letter in upper case, and the length up to and with it.
 fn character(rest: &[u8]) -> Sign
     ensures value { sign_in rest.now result ≡ next_sign rest.now }
     ensures within { result.behind ≤ length rest.now }
@@ -90,7 +91,7 @@ fn character(rest: &[u8]) -> Sign
     }
 }
 
-// The number at a place.
+/// The number at a place.
 fn number_at(text: &[u8], at: usize) -> Counted
     requires { at ≤ length text.now }
     ensures value { number_in text.now result ≡ number_of (drop at text.now) }
@@ -105,7 +106,7 @@ fn number_at(text: &[u8], at: usize) -> Counted
     }
 }
 
-// The next character from a place on.
+/// The next character from a place on.
 fn sign_at(text: &[u8], at: usize) -> Sign
     requires { at ≤ length text.now }
     ensures value { sign_in text.now result ≡ sign_of (drop at text.now) }
@@ -120,7 +121,7 @@ fn sign_at(text: &[u8], at: usize) -> Sign
     }
 }
 
-// Iw and Iw.m, behind the letter.
+/// Iw and Iw.m, behind the letter.
 fn int(text: &[u8], times: usize, at: usize) -> Parted
     requires { at ≤ length text.now }
     ensures value { parted_in text.now result ≡ int_part times (drop at text.now) }
@@ -148,7 +149,7 @@ fn int(text: &[u8], times: usize, at: usize) -> Parted
     }
 }
 
-// Lw, behind the letter.
+/// Lw, behind the letter.
 fn logical(text: &[u8], times: usize, at: usize) -> Parted
     requires { at ≤ length text.now }
     ensures value { parted_in text.now result ≡ logical_part times (drop at text.now) }
@@ -165,7 +166,7 @@ fn logical(text: &[u8], times: usize, at: usize) -> Parted
     }
 }
 
-// A and Aw, behind the letter.
+/// A and Aw, behind the letter.
 fn characters_of(text: &[u8], times: usize, at: usize) -> Parted
     requires { at ≤ length text.now }
     ensures value { parted_in text.now result ≡ text_part times (drop at text.now) }
@@ -182,13 +183,14 @@ fn characters_of(text: &[u8], times: usize, at: usize) -> Parted
     }
 }
 
+/// A width, where the number is one.
 fn width_if(number: usize) -> Option<usize>
     ensures { result ≡ width_by number }
 {
     if number == 0 { None } else { Some(number) }
 }
 
-// One control edit.
+/// One control edit.
 fn once(edit: Edit, behind: usize) -> Parted
     ensures { result ≡ record { part = part.Give 1 edit; behind = behind } }
 {
@@ -198,7 +200,7 @@ fn once(edit: Edit, behind: usize) -> Parted
     }
 }
 
-// S, SS and SP, behind the letter.
+/// S, SS and SP, behind the letter.
 fn plus(text: &[u8], at: usize) -> Parted
     requires { at ≤ length text.now }
     ensures value { parted_in text.now result ≡ plus_part (drop at text.now) }
@@ -215,7 +217,7 @@ fn plus(text: &[u8], at: usize) -> Parted
     once(Edit::ShowPlus(false), at)
 }
 
-// BN and BZ, behind the letter.
+/// BN and BZ, behind the letter.
 fn blanks(text: &[u8], at: usize) -> Parted
     requires { at ≤ length text.now }
     ensures value { parted_in text.now result ≡ blanks_part (drop at text.now) }
@@ -226,7 +228,7 @@ fn blanks(text: &[u8], at: usize) -> Parted
     once(Edit::ZeroBlanks(sign.character == b'Z'), sign.behind)
 }
 
-// Tn, TLn and TRn, behind the letter.
+/// Tn, TLn and TRn, behind the letter.
 fn tab(text: &[u8], at: usize) -> Parted
     requires { at ≤ length text.now }
     ensures value { parted_in text.now result ≡ tab_part (drop at text.now) }
@@ -246,7 +248,7 @@ fn tab(text: &[u8], at: usize) -> Parted
     once(Edit::Column(column.number), column.behind)
 }
 
-// The size of a text in apostrophes as it is written, up to the apostrophe that ends it.
+/// The size of a text in apostrophes as it is written, up to the apostrophe that ends it.
 fn written_len(rest: &[u8]) -> usize
     ensures value { result ≡ written_size false rest.now }
     ensures within { result ≤ length rest.now }
@@ -265,7 +267,7 @@ fn written_len(rest: &[u8]) -> usize
     size
 }
 
-// A text in apostrophes, behind the first of them.
+/// A text in apostrophes, behind the first of them.
 fn quoted(text: &[u8], at: usize) -> Parted
     requires { at ≤ length text.now }
     ensures value { parted_in text.now result ≡ quoted_part (drop at text.now) }
@@ -281,7 +283,7 @@ fn quoted(text: &[u8], at: usize) -> Parted
     once(edit, (to + 1).min(text.len()))
 }
 
-// nH, behind the letter.
+/// nH, behind the letter.
 fn verbatim(text: &[u8], size: usize, at: usize) -> Parted
     requires at { at ≤ length text.now }
     requires size { size ≤ 65535 }
@@ -298,7 +300,7 @@ fn verbatim(text: &[u8], size: usize, at: usize) -> Parted
     once(edit, to)
 }
 
-// The part by the letter behind a number, or behind none.
+/// The part by the letter behind a number, or behind none.
 #[tactic(auto, unfolding(crate::specs::FormatParts::letter_part))]
 fn letter(text: &[u8], number: usize, sign: Sign) -> Parted
     requires at { sign.behind ≤ length text.now }
@@ -324,7 +326,7 @@ fn letter(text: &[u8], number: usize, sign: Sign) -> Parted
     }
 }
 
-// The part by the character behind a number, or behind none.
+/// The part by the character behind a number, or behind none.
 fn mark(text: &[u8], number: usize, sign: Sign) -> Parted
     requires at { sign.behind ≤ length text.now }
     requires number { number ≤ 65535 }

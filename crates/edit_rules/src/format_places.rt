@@ -86,7 +86,7 @@ pub fn step(depth: usize, mode: Mode, character: u8) -> Move
     }
 }
 
-// Outside texts blanks mean nothing.
+/// Outside texts blanks mean nothing.
 fn step_outside(depth: usize, place: Place, character: u8) -> Move
     ensures { shape_in result ≡ shape (outside_text depth (place_in place) character) }
 {
@@ -97,6 +97,7 @@ fn step_outside(depth: usize, place: Place, character: u8) -> Move
     }
 }
 
+/// A character inside a text in apostrophes.
 fn step_in_text(some: bool, character: u8) -> Move
     ensures { shape_in result ≡ shape (in_text (character == 39) some character) }
 {
@@ -108,7 +109,7 @@ fn step_in_text(some: bool, character: u8) -> Move
 }
 
 #[tactic(auto, using(crate::proofs::FormatMoves::shape_behind))]
-// With a second apostrophe it is a character of the text, and else it ends the text.
+/// With a second apostrophe it is a character of the text, and else it ends the text.
 fn step_behind_quote(depth: usize, some: bool, character: u8) -> Move
     ensures { shape_in result ≡ shape (behind_quote (character == 39) some depth character) }
 {
@@ -121,6 +122,7 @@ fn step_behind_quote(depth: usize, some: bool, character: u8) -> Move
     }
 }
 
+/// A character of the text behind `nH`.
 fn step_verbatim(more: u16) -> Move
     ensures { (c : ℕ) → shape_in result ≡ shape (verbatim more c) }
 {
@@ -131,6 +133,7 @@ fn step_verbatim(more: u16) -> Move
     }
 }
 
+/// A character where nothing is open but parentheses.
 fn from_place(depth: usize, place: Place, sign: Sign) -> Move
     ensures { shape_in result ≡ shape (outside depth (place_in place) (sign_in sign)) }
 {
@@ -146,6 +149,7 @@ fn from_place(depth: usize, place: Place, sign: Sign) -> Move
     }
 }
 
+/// The first character of a format.
 fn from_start(sign: Sign) -> Move
     ensures { shape_in result ≡ shape (at_start (sign_in sign)) }
 {
@@ -155,7 +159,7 @@ fn from_start(sign: Sign) -> Move
     }
 }
 
-// A character between items.
+/// A character between items.
 fn from_joint(depth: usize, joint: Joint, sign: Sign) -> Move
     ensures { shape_in result ≡ shape (between depth (joint_in joint) (sign_in sign)) }
 {
@@ -167,6 +171,7 @@ fn from_joint(depth: usize, joint: Joint, sign: Sign) -> Move
     }
 }
 
+/// A closing parenthesis.
 fn close(joint: Joint) -> Move
     ensures { shape_in result ≡ shape (only_if (may_close (joint_in joint)) (Closes same)) }
 {
@@ -176,6 +181,7 @@ fn close(joint: Joint) -> Move
     }
 }
 
+/// The start of a part behind a joint.
 fn part(joint: Joint) -> Move
     ensures { shape_in result ≡ shape (only_if (takes_comma (joint_in joint)) (To (Outside (At Wanted)) same)) }
 {
@@ -185,6 +191,7 @@ fn part(joint: Joint) -> Move
     }
 }
 
+/// The character that begins a part.
 fn begin(depth: usize, joint: Joint, sign: Sign) -> Move
     ensures { shape_in result ≡ shape (only_if (takes_item (joint_in joint)) (item depth (sign_in sign))) }
 {
@@ -194,7 +201,7 @@ fn begin(depth: usize, joint: Joint, sign: Sign) -> Move
     }
 }
 
-// The first character of an item.
+/// The first character of an item.
 fn first(depth: usize, sign: Sign) -> Move
     ensures { shape_in result ≡ shape (item depth (sign_in sign)) }
 {
@@ -213,7 +220,7 @@ fn first(depth: usize, sign: Sign) -> Move
     }
 }
 
-// A group, at most 20 deep.
+/// A group, at most 20 deep.
 fn open(depth: usize) -> Move
     ensures { (repeat : ℕ) → shape_in result ≡ shape (opens depth repeat) }
 {
@@ -224,12 +231,14 @@ fn open(depth: usize) -> Move
     }
 }
 
+/// The place before the number of a part.
 fn before(kind: Kind) -> Move
     ensures { shape_in result ≡ Leads (Outside (Before (kind_in kind))) }
 {
     Move::To(Mode::Outside(Place::Before(kind)))
 }
 
+/// The greatest number that a part of this kind may have.
 fn greatest(kind: Kind) -> u16
     ensures { result ≡ most (kind_in kind) }
 {
@@ -246,7 +255,7 @@ fn greatest(kind: Kind) -> u16
     }
 }
 
-// In a number, which is no greater than it may be.
+/// In a number, which is no greater than it may be.
 fn in_bounds(kind: Kind, number: u32) -> Move
     ensures { shape_in result ≡ shape (in_number (kind_in kind) number) }
 {
@@ -257,6 +266,7 @@ fn in_bounds(kind: Kind, number: u32) -> Move
     }
 }
 
+/// The first character of a number.
 fn from_first(kind: Kind, sign: Sign) -> Move
     ensures { shape_in result ≡ shape (first_digit (kind_in kind) (sign_in sign)) }
 {
@@ -266,6 +276,7 @@ fn from_first(kind: Kind, sign: Sign) -> Move
     }
 }
 
+/// A character behind a digit.
 fn from_digit(depth: usize, kind: Kind, number: u16, sign: Sign) -> Move
     ensures { shape_in result ≡ shape (next_digit depth (kind_in kind) number (sign_in sign)) }
 {
@@ -275,7 +286,7 @@ fn from_digit(depth: usize, kind: Kind, number: u16, sign: Sign) -> Move
     }
 }
 
-// The character behind a number.
+/// The character behind a number.
 fn from_number(depth: usize, kind: Kind, number: u16, sign: Sign) -> Move
     ensures { shape_in result ≡ shape (behind_number depth (kind_in kind) number (sign_in sign)) }
 {
@@ -290,12 +301,14 @@ fn from_number(depth: usize, kind: Kind, number: u16, sign: Sign) -> Move
     }
 }
 
+/// Whether a number may be a width.
 fn is_width(number: u16) -> bool
     ensures { result ≡ is_from 1 1024 number }
 {
     1 <= number && number <= 1_024
 }
 
+/// Whether a number may be a repeat count.
 fn is_repeat(number: u16) -> bool
     ensures { result ≡ is_from 1 32767 number }
 {
@@ -303,7 +316,7 @@ fn is_repeat(number: u16) -> bool
 }
 
 #[tactic(auto, using(crate::proofs::FormatMoves::shape_behind))]
-// The character behind an item, which is in form or not.
+/// The character behind an item, which is in form or not.
 fn settle(well: bool, depth: usize, sign: Sign) -> Move
     ensures { (change : Made → Made) → shape_in result ≡ shape (ended well change depth (sign_in sign)) }
 {
@@ -314,7 +327,7 @@ fn settle(well: bool, depth: usize, sign: Sign) -> Move
     }
 }
 
-// The character behind a number in front of an item.
+/// The character behind a number in front of an item.
 fn from_count(depth: usize, number: u16, sign: Sign) -> Move
     ensures { shape_in result ≡ shape (counted depth number (sign_in sign)) }
 {
@@ -328,6 +341,7 @@ fn from_count(depth: usize, number: u16, sign: Sign) -> Move
     }
 }
 
+/// A character behind a repeat count.
 fn from_repeat(depth: usize, number: u16, sign: Sign) -> Move
     requires { IsTrue (is_repeated (sign_in sign)) }
     ensures { shape_in result ≡ shape (counted depth number (sign_in sign)) }
@@ -344,6 +358,7 @@ fn from_repeat(depth: usize, number: u16, sign: Sign) -> Move
     }
 }
 
+/// The `H` behind a length, and what else may stand there.
 fn from_length(number: u16, sign: Sign) -> Move
     requires { IsTrue (has_length (sign_in sign)) }
     ensures { (depth : ℕ) → shape_in result ≡ shape (counted depth number (sign_in sign)) }
@@ -357,6 +372,7 @@ fn from_length(number: u16, sign: Sign) -> Move
     }
 }
 
+/// A character behind a signed scale factor.
 fn from_scale(number: u16, sign: Sign) -> Move
     ensures { shape_in result ≡ shape (scaled number (sign_in sign)) }
 {
@@ -366,6 +382,7 @@ fn from_scale(number: u16, sign: Sign) -> Move
     }
 }
 
+/// A character behind a width.
 fn from_width(depth: usize, width: u16, sign: Sign) -> Move
     ensures { shape_in result ≡ shape (wide depth width (sign_in sign)) }
 {
@@ -375,6 +392,7 @@ fn from_width(depth: usize, width: u16, sign: Sign) -> Move
     }
 }
 
+/// The point behind a width.
 fn point(width: u16) -> Move
     ensures { shape_in result ≡ shape (only_if (is_from 1 1024 width) (To (Outside (Before (Least width))) same)) }
 {
@@ -385,6 +403,7 @@ fn point(width: u16) -> Move
     }
 }
 
+/// A character behind `A`.
 fn from_a(depth: usize, sign: Sign) -> Move
     ensures { shape_in result ≡ shape (behind_a depth (sign_in sign)) }
 {
@@ -394,6 +413,7 @@ fn from_a(depth: usize, sign: Sign) -> Move
     }
 }
 
+/// A character behind `B`.
 fn from_b(sign: Sign) -> Move
     ensures { shape_in result ≡ shape (behind_b (sign_in sign)) }
 {
@@ -403,6 +423,7 @@ fn from_b(sign: Sign) -> Move
     }
 }
 
+/// A character behind `S`.
 fn from_s(depth: usize, sign: Sign) -> Move
     ensures { shape_in result ≡ shape (behind_s depth (sign_in sign)) }
 {
@@ -412,6 +433,7 @@ fn from_s(depth: usize, sign: Sign) -> Move
     }
 }
 
+/// A character behind `T`.
 fn from_t(sign: Sign) -> Move
     ensures { shape_in result ≡ shape (behind_t (sign_in sign)) }
 {

@@ -35,7 +35,7 @@ pub fn weight_of(edit: Edit) -> usize
     }
 }
 
-// Behind one more part, where it is not the end of the list.
+/// Behind one more part, where it is not the end of the list.
 fn over(text: &[u8], scan: Scan, part: Part) -> Scan
     requires room { scan.depth < length text.now }
     requires inner { part ≡ Part.Close → 0 < scan.depth }
@@ -94,7 +94,7 @@ pub fn weigh(text: &[u8], from: usize) -> Weighed
     }
 }
 
-// Whether the list ends.
+/// Whether the list ends.
 fn is_end(part: Part, depth: usize) -> bool
     ensures yes { result ≡ true → part ≡ Part.Close }
     ensures outermost { result ≡ true → depth ≡ 0 }

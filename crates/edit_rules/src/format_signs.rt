@@ -37,6 +37,7 @@ pub fn read_sign(character: u8) -> Sign
     upper(character.to_ascii_uppercase())
 }
 
+/// What a capital letter is in a format.
 fn upper(character: u8) -> Sign
     ensures { sign_in result ≡ upper_sign character }
 {
@@ -47,6 +48,7 @@ fn upper(character: u8) -> Sign
     }
 }
 
+/// What a character that is no letter and no digit is in a format.
 fn mark(character: u8) -> Sign
     ensures { sign_in result ≡ mark_of character }
 {
@@ -63,6 +65,7 @@ fn mark(character: u8) -> Sign
     }
 }
 
+/// What a letter is in a format.
 fn letter(character: u8) -> Sign
     ensures { sign_in result ≡ letter_of character }
 {

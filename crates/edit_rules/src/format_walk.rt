@@ -75,7 +75,7 @@ impl FormatWalk {
 }
 
 impl FormatWalk {
-    // Before the part at a place.
+    /// Before the part at a place.
     fn moved(&self, place: usize) -> FormatWalk
         ensures { result ≡ record self.now { place = place; left = 0 } }
     {
@@ -85,7 +85,7 @@ impl FormatWalk {
         walk
     }
 
-    // Behind a comma, a scale factor or the sign of one.
+    /// Behind a comma, a scale factor or the sign of one.
     fn joint(&self, text: &[u8], behind: usize, wants: bool) -> Step
         requires behind { self.now.place < behind }
         requires within { behind ≤ length text.now }
@@ -96,7 +96,7 @@ impl FormatWalk {
         Step::On(self.moved(behind))
     }
 
-    // At a colon.
+    /// At a colon.
     fn colon(&self, text: &[u8], behind: usize, wants: bool) -> Step
         requires behind { self.now.place < behind }
         requires within { behind ≤ length text.now }
@@ -111,7 +111,7 @@ impl FormatWalk {
         }
     }
 
-    // Behind one copy of an edit.
+    /// Behind one copy of an edit.
     fn given(&self, times: usize, behind: usize) -> FormatWalk
         ensures last { (if self.now.left == 0 then times else self.now.left) ≤ 1 → result ≡ record self.now { place = behind; left = 0 } }
         ensures more { 1 < (if self.now.left == 0 then times else self.now.left)
@@ -126,7 +126,7 @@ impl FormatWalk {
         walk
     }
 
-    // At an edit.
+    /// At an edit.
     fn give(&self, text: &[u8], times: usize, edit: Edit, behind: usize, wants: bool) -> Step
         requires behind { self.now.place < behind }
         requires within { behind ≤ length text.now }
@@ -144,7 +144,7 @@ impl FormatWalk {
         Step::Gives(edit, self.given(times, behind))
     }
 
-    // Before a place behind a group that is passed as a whole.
+    /// Before a place behind a group that is passed as a whole.
     fn passed(&self, place: usize) -> FormatWalk
         ensures { result ≡ record self.now { place = place; left = 0; again = (if self.now.depth == 0 then self.now.place else self.now.again) } }
     {
@@ -155,7 +155,7 @@ impl FormatWalk {
         walk
     }
 
-    // In a group, from its start on.
+    /// In a group, from its start on.
     fn entered(&self, start: usize, times: usize) -> FormatWalk
         requires { self.now.depth < 20 }
         ensures fields { result ≡ record {
@@ -180,7 +180,7 @@ impl FormatWalk {
         walk
     }
 
-    // At a left parenthesis.
+    /// At a left parenthesis.
     fn open(&self, text: &[u8], times: usize, behind: usize, wants: bool) -> Step
         requires behind { self.now.place < behind }
         requires within { behind ≤ length text.now }
@@ -199,7 +199,7 @@ impl FormatWalk {
         Step::On(self.passed(group.behind))
     }
 
-    // Behind the innermost group.
+    /// Behind the innermost group.
     fn left_group(&self, place: usize) -> FormatWalk
         ensures { result ≡ record self.now { place = place; left = 0; depth = self.now.depth - 1 } }
     {
@@ -210,7 +210,7 @@ impl FormatWalk {
         walk
     }
 
-    // At the start of an open group, of which one copy fewer is left.
+    /// At the start of an open group, of which one copy fewer is left.
     fn turned(&self, depth: usize, group: Group) -> FormatWalk
         requires { depth < 20 }
         ensures fields { result ≡ record self.now { place = group.start; left = 0; groups = result.groups } }
@@ -227,7 +227,7 @@ impl FormatWalk {
         walk
     }
 
-    // At the right parenthesis of a group.
+    /// At the right parenthesis of a group.
     fn close(&self, text: &[u8], behind: usize, wants: bool) -> Step
         requires behind { self.now.place < behind }
         requires within { behind ≤ length text.now }
@@ -245,7 +245,7 @@ impl FormatWalk {
         Step::On(self.turned(depth, group))
     }
 
-    // At the right parenthesis of the format.
+    /// At the right parenthesis of the format.
     fn end(&self, text: &[u8], behind: usize, wants: bool) -> Step
         requires again { self.now.again ≤ length text.now }
         requires outside { self.now.depth ≡ 0 }
@@ -263,7 +263,7 @@ impl FormatWalk {
         Step::Gives(Edit::NoDescriptor, *self)
     }
 
-    // One part further.
+    /// One part further.
     fn step(&self, text: &[u8], wants: bool) -> Step
         requires place { self.now.place ≤ length text.now }
         requires again { self.now.again ≤ length text.now }
@@ -291,14 +291,14 @@ impl FormatWalk {
     }
 }
 
-// Where the format is gone on with, behind a group at a place.
+/// Where the format is gone on with, behind a group at a place.
 fn again_from(depth: usize, place: usize, again: usize) -> usize
     ensures { result ≡ (if depth == 0 then place else again) }
 {
     if depth == 0 { place } else { again }
 }
 
-// Whether a walk that wants no item ends at an edit of a weight.
+/// Whether a walk that wants no item ends at an edit of a weight.
 fn pauses(wants: bool, weight: usize, at: usize) -> bool
     ensures wants { result ≡ true → wants ≡ false }
     ensures weight { result ≡ true → weight ≡ at }
@@ -307,7 +307,7 @@ fn pauses(wants: bool, weight: usize, at: usize) -> bool
     !wants && weight == at
 }
 
-// How many copies of an edit are left, all where none was given.
+/// How many copies of an edit are left, all where none was given.
 fn copies_left(left: usize, times: usize) -> usize
     ensures { result ≡ (if left == 0 then times else left) }
 {

@@ -96,6 +96,7 @@ impl ListReader {
 }
 
 impl ListReader {
+    /// What comes next in the line, where the last value left off.
     #[tactic(auto, unfolding(edit_meaning::specs::ListInput::given))]
     fn after(&self, line: &[u8], kind: ItemKind) -> Next
         requires { StandsIn self.now line.now }
@@ -109,7 +110,7 @@ impl ListReader {
         }
     }
 
-    // The value behind the separators at the place.
+    /// The value behind the separators at the place.
     fn behind_separators(&self, line: &[u8], kind: ItemKind, valued: bool) -> Next
         requires { self.now.place ≤ length line.now }
         ensures { Answers self.now line.now (given_behind (kind_of kind) (sought valued (drop self.now.place line.now))) result }
@@ -131,7 +132,7 @@ impl ListReader {
         }
     }
 
-    // The value at a place: a constant, or one behind a repeat count, or nulls.
+    /// The value at a place: a constant, or one behind a repeat count, or nulls.
     fn value(&self, line: &[u8], kind: ItemKind, at: usize) -> Next
         requires { at ≤ length line.now }
         ensures { Answers self.now line.now (value_as (kind_of kind) (drop at line.now)) result }
@@ -142,7 +143,7 @@ impl ListReader {
         }
     }
 
-    // A constant that stands for `more` values more, or so many nulls.
+    /// A constant that stands for `more` values more, or so many nulls.
     fn repeated(&self, line: &[u8], kind: ItemKind, at: usize, more: usize) -> Next
         requires { at ≤ length line.now }
         ensures { Answers self.now line.now (repeated_as (kind_of kind) more (drop at line.now)) result }
@@ -154,7 +155,7 @@ impl ListReader {
         }
     }
 
-    // The constant at a place.
+    /// The constant at a place.
     fn constant(&self, line: &[u8], kind: ItemKind, at: usize, more: usize) -> Next
         requires { at ≤ length line.now }
         ensures { Answers self.now line.now (constant_as (kind_of kind) more (drop at line.now)) result }
@@ -171,7 +172,7 @@ impl ListReader {
         }
     }
 
-    // The text of a constant at a place, up to its end or, in apostrophes, its first piece.
+    /// The text of a constant at a place, up to its end or, in apostrophes, its first piece.
     fn text(&self, line: &[u8], at: usize, end: usize, more: usize) -> Next
         requires at { at ≤ length line.now }
         requires end { end ≡ at + word_length (drop at line.now) }
@@ -190,7 +191,7 @@ impl ListReader {
         }
     }
 
-    // What an item gets inside a text in apostrophes.
+    /// What an item gets inside a text in apostrophes.
     fn inside(&self, line: &[u8], more: usize, constant: usize) -> Next
         requires place { self.now.place ≤ length line.now }
         requires constant { constant ≤ length line.now }
@@ -212,7 +213,7 @@ impl ListReader {
         }
     }
 
-    // A piece of a text in apostrophes, from a place on.
+    /// A piece of a text in apostrophes, from a place on.
     fn piece(&self, line: &[u8], from: usize, more: usize, constant: usize) -> Next
         requires from { from ≤ length line.now }
         requires constant { constant ≤ length line.now }
@@ -231,7 +232,7 @@ impl ListReader {
         }
     }
 
-    // The characters up to the next apostrophe, with one of two.
+    /// The characters up to the next apostrophe, with one of two.
     fn run(&self, line: &[u8], from: usize, more: usize, constant: usize) -> Next
         requires from { from ≤ length line.now }
         requires constant { constant ≤ length line.now }
@@ -280,7 +281,7 @@ impl ListReader {
         }
     }
 
-    // A null, and `more` nulls more.
+    /// A null, and `more` nulls more.
     fn nulls(&self, line: &[u8], at: usize, more: usize) -> Next
         requires { at ≤ length line.now }
         ensures { Answers self.now line.now (nulls more (drop at line.now)) result }
@@ -297,7 +298,7 @@ impl ListReader {
         Next { item, reader }
     }
 
-    // An error by its number.
+    /// An error by its number.
     fn bad(&self, error: TakeError) -> Next
         ensures { (line : List ℕ) → Answers self.now line (Wrong (error_number error)) result }
     {
@@ -307,7 +308,7 @@ impl ListReader {
         }
     }
 
-    // The item of an integer, and the reader behind it.
+    /// The item of an integer, and the reader behind it.
     fn number(&self, line: &[u8], word: Result<i32, TakeError>, reader: ListReader) -> Next
         requires { StandsIn reader line.now }
         ensures { Answers self.now line.now (given_number (numbered word) (place_in line.now reader)) result }
@@ -321,7 +322,7 @@ impl ListReader {
         }
     }
 
-    // The item of a logical, and the reader behind it.
+    /// The item of a logical, and the reader behind it.
     fn truth(&self, line: &[u8], word: Result<bool, TakeError>, reader: ListReader) -> Next
         requires { StandsIn reader line.now }
         ensures { Answers self.now line.now (given_truth (numbered word) (place_in line.now reader)) result }
@@ -336,7 +337,7 @@ impl ListReader {
     }
 }
 
-// Between values at a place.
+/// Between values at a place.
 fn between(valued: bool, place: usize) -> ListReader
     ensures place { (line : List ℕ) → place_in line result ≡ Between valued (drop place line) }
     ensures stands { (line : List ℕ) → place ≤ length line → StandsIn result line }
@@ -347,7 +348,7 @@ fn between(valued: bool, place: usize) -> ListReader
     }
 }
 
-// Behind a constant that stands for `more` values more.
+/// Behind a constant that stands for `more` values more.
 fn behind(more: usize, constant: usize, end: usize) -> ListReader
     ensures place { (line : List ℕ) → place_in line result ≡ behind_constant more (drop constant line) (drop end line) }
     ensures stands { (line : List ℕ) → constant ≤ length line → end ≤ length line → StandsIn result line }

@@ -27,13 +27,14 @@ pub enum TextEnd {
     Badly,
 }
 
+/// Whether a character ends a value: a blank, a comma or a slash.
 pub fn separates(character: u8) -> bool
     ensures { result ≡ is_separator character }
 {
     character == b' ' || character == b',' || character == b'/'
 }
 
-// Passes blanks, and one comma behind a value.
+/// Passes blanks, and one comma behind a value.
 pub fn seek(rest: &[u8], valued: bool) -> Sought
     ensures found { sought_at rest.now result ≡ sought valued rest.now }
     ensures within { SoughtWithin (length rest.now) result }
@@ -51,7 +52,7 @@ pub fn seek(rest: &[u8], valued: bool) -> Sought
     Sought::End { valued }
 }
 
-// The length of the characters up to the next separator.
+/// The length of the characters up to the next separator.
 pub fn word_len(rest: &[u8]) -> usize
     ensures value { result ≡ word_length rest.now }
     ensures within { result ≤ length rest.now }
@@ -59,7 +60,7 @@ pub fn word_len(rest: &[u8]) -> usize
     rest.iter().take_while(|c| !separates(**c)).count()
 }
 
-// The length of the characters up to the next apostrophe.
+/// The length of the characters up to the next apostrophe.
 pub fn run_len(rest: &[u8]) -> usize
     ensures value { result ≡ run_length rest.now }
     ensures within { result ≤ length rest.now }
@@ -67,7 +68,7 @@ pub fn run_len(rest: &[u8]) -> usize
     rest.iter().take_while(|c| **c != b'\'').count()
 }
 
-// Whether an apostrophe stands in front.
+/// Whether an apostrophe stands in front.
 pub fn is_quoted(rest: &[u8]) -> bool
     ensures value { result ≡ begins_with 39 rest.now }
     ensures some { IsTrue result → 0 < length rest.now }
@@ -78,7 +79,7 @@ pub fn is_quoted(rest: &[u8]) -> bool
     }
 }
 
-// The number of digits at the front.
+/// The number of digits at the front.
 pub fn digits_len(rest: &[u8]) -> usize
     ensures value { result ≡ digit_count rest.now }
     ensures within { result ≤ length rest.now }
@@ -86,7 +87,7 @@ pub fn digits_len(rest: &[u8]) -> usize
     rest.iter().take_while(|c| c.is_ascii_digit()).count()
 }
 
-// How a text in apostrophes ends.
+/// How a text in apostrophes ends.
 pub fn text_end(rest: &[u8]) -> TextEnd
     ensures { ending_of result ≡ ending false rest.now }
 {
@@ -104,7 +105,7 @@ pub fn text_end(rest: &[u8]) -> TextEnd
     if quoted { TextEnd::Well } else { TextEnd::Open }
 }
 
-// An integer: an optional sign and digits.
+/// An integer: an optional sign and digits.
 pub fn read_int(word: &[u8]) -> Result<i32, TakeError>
     ensures { numbered result ≡ int_word_of_blanks word.now }
 {
@@ -115,7 +116,7 @@ pub fn read_int(word: &[u8]) -> Result<i32, TakeError>
     }
 }
 
-// A logical: an optional point, T or F in either case, and then anything.
+/// A logical: an optional point, T or F in either case, and then anything.
 pub fn read_logical(word: &[u8]) -> Result<bool, TakeError>
     ensures { numbered result ≡ logical_word word.now }
 {
@@ -125,6 +126,7 @@ pub fn read_logical(word: &[u8]) -> Result<bool, TakeError>
     }
 }
 
+/// The logical that a first letter means.
 fn read_letter(letters: &[u8]) -> Result<bool, TakeError>
     ensures { numbered result ≡ truth_letter letters.now }
 {
@@ -136,7 +138,7 @@ fn read_letter(letters: &[u8]) -> Result<bool, TakeError>
 }
 
 #[tactic(auto, using(crate::proofs::ListScans::digit_characters))]
-// The repeat count before an asterisk, where one stands in front.
+/// The repeat count before an asterisk, where one stands in front.
 pub fn repeat_count(rest: &[u8]) -> Option<usize>
     ensures { result ≡ count_before rest.now }
 {
@@ -147,7 +149,7 @@ pub fn repeat_count(rest: &[u8]) -> Option<usize>
     }
 }
 
-// The number of the digits, from 1 to 32,767.
+/// The number of the digits, from 1 to 32,767.
 fn as_count(digits: &[u8]) -> Option<usize>
     requires { IsTrue (all_ascii_digits digits.now) }
     ensures { result ≡ count_of (digits_value 10 digits.now) }
@@ -155,6 +157,7 @@ fn as_count(digits: &[u8]) -> Option<usize>
     within_counts(folded(digits, false))
 }
 
+/// A number as a repeat count, where it is from 1 to 32,767.
 fn within_counts(count: u64) -> Option<usize>
     ensures { result ≡ count_of count }
 {

@@ -79,7 +79,7 @@ impl ListWriter {
     ghost use Rattle.edit_meaning.specs.Listed.{shown, Int};
     ghost use Rattle.edit_rules.specs.Writer.{done_by, text_of, Puts};
 
-    // Puts the text of an item.
+    /// Puts the text of an item.
     #[tactic(auto, unfolding(edit_meaning::specs::Listed::shown))]
     fn put_item(&mut self, item: ListValue<'_>, line: &mut [u8]) -> ListPut
         requires columns { length line.old ≡ 80 }
@@ -97,7 +97,7 @@ impl ListWriter {
     }
 
     #[tactic(auto, unfolding(edit_meaning::specs::Listed::shown))]
-    // Puts one blank and the number's shortest text.
+    /// Puts one blank and the number's shortest text.
     fn put_int(&mut self, number: i32, line: &mut [u8]) -> ListPut
         requires columns { length line.old ≡ 80 }
         requires blank { take 1 line.old ≡ 32 ∷ [] }
@@ -110,7 +110,7 @@ impl ListWriter {
         self.put_text(&text[..used], line)
     }
 
-    // Puts a text that stands as it is.
+    /// Puts a text that stands as it is.
     fn put_text(&mut self, text: &[u8], line: &mut [u8]) -> ListPut
         requires columns { length line.old ≡ 80 }
         requires blank { take 1 line.old ≡ 32 ∷ [] }
@@ -136,7 +136,7 @@ impl ListWriter {
     }
 }
 
-// One blank and the number's shortest text, at the front of `into`; gives their length.
+/// One blank and the number's shortest text, at the front of `into`; gives their length.
 fn show_int(number: i32, into: &mut [u8]) -> usize
     requires { length into.old ≡ 12 }
     ensures within { result ≤ 12 }

@@ -7,15 +7,19 @@ ghost use Rattle.edit_meaning.specs.TakenFields.{behind_blanks, with_blanks_as, 
 ghost use Rattle.edit_rules.specs.TakeErrors.{error_number, numbered};
 
 use crate::columns::{fill, place};
+use thiserror::Error;
 
 /// Why a field has no value.
-#[derive(Clone, Copy, Debug, PartialEq, Eq)]
+#[derive(Clone, Copy, Debug, PartialEq, Eq, Error)]
 pub enum TakeError {
     /// No integer: number 1.
+    #[error("not an integer")]
     BadInteger,
     /// No logical: number 2.
+    #[error("not a logical")]
     BadLogical,
     /// An integer past 32 bits: number 3.
+    #[error("an integer past 32 bits")]
     TooLarge,
 }
 
@@ -72,13 +76,14 @@ pub fn take_text(field: &[u8], into: &mut [u8])
     }
 }
 
-// The place of the first character that is no blank, or the length.
+/// The place of the first character that is no blank, or the length.
 fn leading_blanks(field: &[u8]) -> usize
     ensures { result ≡ position_or_len (λ c. not (c == 32)) field.now }
 {
     field.iter().take_while(|c| **c == b' ').count()
 }
 
+/// A field without the blanks at its front.
 #[tactic(auto, using(crate::proofs::TakeSteps::behind_blanks_is, crate::proofs::TakeSteps::position_within))]
 fn without_leading_blanks(field: &[u8]) -> &[u8]
     ensures { result.now ≡ behind_blanks field.now }
@@ -86,7 +91,7 @@ fn without_leading_blanks(field: &[u8]) -> &[u8]
     &field[leading_blanks(field)..]
 }
 
-// T or F in front.
+/// T or F in front.
 fn letter(letters: &[u8]) -> Result<bool, TakeError>
     ensures { numbered result ≡ truth_of letters.now }
 {
@@ -97,7 +102,7 @@ fn letter(letters: &[u8]) -> Result<bool, TakeError>
     }
 }
 
-// The number of the digits, with its sign.
+/// The number of the digits, with its sign.
 #[tactic(auto, using(crate::proofs::TakeSteps::signed_int_capped))]
 pub fn number_in(negative: bool, digits: &[u8], zero_blanks: bool) -> Result<i32, TakeError>
     ensures { numbered result ≡ int_of negative (with_blanks_as zero_blanks digits.now) }
@@ -108,26 +113,28 @@ pub fn number_in(negative: bool, digits: &[u8], zero_blanks: bool) -> Result<i32
     with_sign(negative, size_in(digits, zero_blanks))
 }
 
-// Whether there are digits, and nothing but digits and blanks.
+/// Whether there are digits, and nothing but digits and blanks.
 fn has_number(digits: &[u8], zero_blanks: bool) -> bool
     ensures { result ≡ is_number (with_blanks_as zero_blanks digits.now) }
 {
     has_digit(digits, zero_blanks) && all_digits(digits)
 }
 
+/// Whether there is a digit that counts.
 fn has_digit(digits: &[u8], zero_blanks: bool) -> bool
     ensures { result ≡ list_any (λ c. zero_blanks || not (c == 32)) digits.now }
 {
     digits.iter().any(|c| zero_blanks || *c != b' ')
 }
 
+/// Whether there are digits and blanks alone.
 fn all_digits(digits: &[u8]) -> bool
     ensures { result ≡ list_all (λ c. c == 32 || is_ascii_digit c) digits.now }
 {
     digits.iter().all(|c| *c == b' ' || c.is_ascii_digit())
 }
 
-// The size of the number, or the greatest u64 where it is past that.
+/// The size of the number, or the greatest u64 where it is past that.
 #[tactic(auto, using(crate::proofs::TakeSteps::size_is))]
 fn size_in(digits: &[u8], zero_blanks: bool) -> u64
     requires { IsTrue (is_number (with_blanks_as zero_blanks digits.now)) }
@@ -136,6 +143,7 @@ fn size_in(digits: &[u8], zero_blanks: bool) -> u64
     folded(digits, zero_blanks)
 }
 
+/// The number that digits give, which stays at a bound past 32 bits.
 pub fn folded(digits: &[u8], zero_blanks: bool) -> u64
     ensures { result ≡ fold (λ size c. next_size zero_blanks size c) 0 digits.now }
 {
@@ -144,7 +152,7 @@ pub fn folded(digits: &[u8], zero_blanks: bool) -> u64
         .fold(0, |size, c| with_digit(size, *c, zero_blanks))
 }
 
-// The size with one more character.
+/// The size with one more character.
 fn with_digit(size: u64, character: u8, zero_blanks: bool) -> u64
     ensures { result ≡ next_size zero_blanks size character }
 {
@@ -155,6 +163,7 @@ fn with_digit(size: u64, character: u8, zero_blanks: bool) -> u64
         .saturating_add(character.saturating_sub(b'0') as u64)
 }
 
+/// A number with its sign, where it has 32 bits.
 fn with_sign(negative: bool, size: u64) -> Result<i32, TakeError>
     ensures { numbered result ≡ signed_int negative size }
 {

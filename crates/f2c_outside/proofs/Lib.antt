@@ -1,6 +1,5 @@
 pub mod ShelfLaws
 mod TextLemmas
-mod StreamLaws
 mod MemoryLaws
 mod TapeLaws
 pub mod TableLaws

@@ -1,18 +1,15 @@
 //! Devices over the real streams. No clause tells what these hold: they are the trusted edge.
 
-ghost use Rattle.std.specs.Prelude.{◌≡◌, ◌≤◌, ◌++◌, ◌∷◌, [], IsTrue, false};
-ghost use Rattle.std.specs.Io.KnownBytes.{Appends};
+ghost use Rattle.std.specs.Prelude.{◌≡◌, ◌≤◌, false};
 ghost use Rattle.f2c_outside.specs.Shelf.{Rose};
 ghost use Rattle.f2c_outside.specs.Device.{one_more};
 ghost use Rattle.f2c_outside.specs.HostState.{untold_device};
 
 use crate::devices::{Device, DeviceFault, Got};
 use crate::memory_device::give;
+use host_lines::{Found, put_line, read_line};
 use std::alloc::Global;
 use std::io::{Read, Write};
-
-/// The most turns of a loop of a host device. Each takes or puts at least one byte; a further turn is a fault.
-pub(crate) const MOST_TURNS: usize = 67_108_865;
 
 /// A stream that is written, as a device: each record goes out as its bytes and an LF. It fails at a
 /// read or a move, and `finish` flushes the stream.
@@ -49,7 +46,7 @@ impl<W: Write + Drop> Device for HostOutput<W> {
 
     fn write_record(&mut self, bytes: &[u8]) -> Result<(), DeviceFault> {
         self.tally.call();
-        if self.records < u64::MAX && put_line(&mut self.writer, bytes) {
+        if self.records < u64::MAX && put_line(&mut self.writer, bytes).is_ok() {
             self.records += 1;
             self.finished = false;
             return Ok(());
@@ -119,11 +116,11 @@ impl<F: Read + Drop> Device for HostInput<F> {
         self.tally.call();
         if self.records < u64::MAX {
             match read_line(&mut self.reader, &mut self.line) {
-                Ok(true) => {
+                Ok(Found::End) => return Got::End,
+                Ok(Found::Line | Found::LastLine) => {
                     self.records += 1;
                     return give(self.line.as_slice(), into);
                 }
-                Ok(false) => return Got::End,
                 Err(_) => {}
             }
         }
@@ -195,40 +192,4 @@ impl Tally {
         self.faults = self.faults.saturating_add(1);
         DeviceFault::Failed
     }
-}
-
-/// Writes a text and an LF, and says whether all of it went out.
-#[tactic(auto, using(crate::proofs::StreamLaws::appended_twice))]
-pub(crate) fn put_line<W: Write>(writer: &mut W, bytes: &[u8]) -> bool
-    ensures { IsTrue result → Appends (W.contents writer.old) (W.contents writer.new) (bytes.now ++ 10 ∷ []) }
-{
-    put_all(writer, bytes) && put_all(writer, b"\n")
-}
-
-/// Writes bytes, and says whether all of them went out.
-pub(crate) fn put_all<W: Write>(writer: &mut W, bytes: &[u8]) -> bool
-    ensures { IsTrue result → Appends (W.contents writer.old) (W.contents writer.new) bytes.now }
-{
-    writer.write_all(bytes).is_ok()
-}
-
-/// Reads a line without its LF, and says whether there was one. A last line may lack its LF.
-fn read_line<F: Read>(reader: &mut F, line: &mut Vec<u8>) -> Result<bool, DeviceFault> {
-    line.clear();
-    for _ in 0..MOST_TURNS {
-        let mut byte = [0u8; 1];
-        match reader.read(&mut byte) {
-            Ok(0) => return Ok(!line.is_empty()),
-            Ok(_) => {
-                if byte[0] == b'\n' {
-                    return Ok(true);
-                }
-                if line.push(byte[0]).is_err() {
-                    return Err(DeviceFault::Failed);
-                }
-            }
-            Err(_) => return Err(DeviceFault::Failed),
-        }
-    }
-    Err(DeviceFault::Failed)
 }

@@ -2,21 +2,18 @@
 
 ghost use Rattle.std.specs.Prelude.{◌≡◌, false};
 ghost use Rattle.f2c_outside.specs.HostState.{untold_device};
-ghost use Rattle.f2c_outside.specs.LineEnds.{is_end, behind_line, IsLastEnd};
-ghost use Rattle.f2c_outside.specs.Table.{IsFirst};
+ghost use Rattle.f2c_outside.specs.LineEnds.{behind_line};
 
 use crate::devices::{Device, DeviceFault, Got};
-use crate::host_devices::{MOST_TURNS, Tally, put_all, put_line};
+use crate::host_devices::Tally;
 use crate::memory_device::give;
 use crate::texts::Name;
+use host_lines::{CHUNK, Found, MOST_TURNS, last_end, line_at, lines_from, put_record};
 use std::alloc::Global;
 use std::fs;
 use std::fs::{OpenFile, OpenOptions};
 use std::io::{Read, Seek, SeekFrom, Write};
 use std::rt::Files;
-
-/// How many bytes are read at once.
-const CHUNK: usize = 4096;
 
 /// A file as a device: each line is a record, without its LF. It is opened at the first call, and made
 /// where it is not there. A write or an end of file cuts off the records from the position on.
@@ -61,13 +58,14 @@ impl<R: Files + Drop> Device for HostFile<R> {
         self.tally.call();
         let _open = open_if_needed(&self.rt, &self.name, &mut self.file);
         match next_line(&mut self.file, self.offset, &mut self.line) {
-            Ok(Some(ended)) if self.records < u64::MAX => {
+            Ok(Found::End) => Got::End,
+            Ok(found) if self.records < u64::MAX => {
+                let ended = found == Found::Line;
                 self.records += 1;
                 self.offset = after_line(self.offset, self.line.len(), ended);
                 self.lacks_end = !ended;
                 give(self.line.as_slice(), into)
             }
-            Ok(None) => Got::End,
             _ => {
                 let _fault = self.tally.fail();
                 Got::Failed
@@ -135,7 +133,7 @@ impl<R: Files + Drop> Device for HostFile<R> {
     fn finish(&mut self) -> Result<u64, DeviceFault> {
         self.tally.call();
         let _open = open_if_needed(&self.rt, &self.name, &mut self.file);
-        match lines_from(&mut self.file, self.offset) {
+        match lines_left(&mut self.file, self.offset) {
             Ok(more) if more <= u64::MAX - self.records => {
                 self.finished = true;
                 Ok(self.records + more)
@@ -183,57 +181,23 @@ fn cut<F: OpenFile>(file: &mut Option<F>, offset: u64) -> bool {
     }
 }
 
-/// Reads the line at an offset, without its LF, and says whether it has one; `None` at the end of the file.
+/// Reads the line at an offset, without its LF. A file that is not open is a fault.
 fn next_line<F: Read + Seek>(
     file: &mut Option<F>,
     offset: u64,
     line: &mut Vec<u8>,
-) -> Result<Option<bool>, DeviceFault> {
-    line.clear();
-    let Some(file) = file else {
-        return Err(DeviceFault::Failed);
-    };
-    if file.seek(SeekFrom::Start(offset)).is_err() {
-        return Err(DeviceFault::Failed);
+) -> Result<Found, DeviceFault> {
+    match file {
+        Some(file) => line_at(file, offset, line).map_err(|_| DeviceFault::Failed),
+        None => Err(DeviceFault::Failed),
     }
-    let mut chunk = [0u8; CHUNK];
-    for _ in 0..MOST_TURNS {
-        match file.read(&mut chunk) {
-            Ok(0) if line.is_empty() => return Ok(None),
-            Ok(0) => return Ok(Some(false)),
-            Ok(count) => match add_line(&chunk[..count], line) {
-                Ok(true) => return Ok(Some(true)),
-                Ok(false) => {}
-                Err(fault) => return Err(fault),
-            },
-            Err(_) => return Err(DeviceFault::Failed),
-        }
-    }
-    Err(DeviceFault::Failed)
 }
 
-/// Where the first LF stands.
-fn first_end(bytes: &[u8]) -> Option<usize>
-    ensures { IsFirst is_end bytes.now result }
-{
-    for (number, byte) in bytes.iter().enumerate() {
-        if *byte == b'\n' {
-            return Some(number);
-        }
-    }
-    None
-}
-
-/// Puts the bytes before the first LF behind a line, and says whether there is an LF.
-fn add_line(bytes: &[u8], line: &mut Vec<u8>) -> Result<bool, DeviceFault> {
-    let end = first_end(bytes);
-    let part = match end {
-        Some(end) => bytes.get(..end).unwrap_or(bytes),
-        None => bytes,
-    };
-    match line.extend_from_slice(part) {
-        Ok(()) => Ok(end.is_some()),
-        Err(_) => Err(DeviceFault::Failed),
+/// How many lines there are from an offset on. A file that is not open is a fault.
+fn lines_left<F: Read + Seek>(file: &mut Option<F>, offset: u64) -> Result<u64, DeviceFault> {
+    match file {
+        Some(file) => lines_from(file, offset).map_err(|_| DeviceFault::Failed),
+        None => Err(DeviceFault::Failed),
     }
 }
 
@@ -250,8 +214,7 @@ fn write_line<F: Write + Seek + OpenFile>(
     };
     file.set_len(offset).is_ok()
         && file.seek(SeekFrom::Start(offset)).is_ok()
-        && (!lacks_end || put_all(file, b"\n"))
-        && put_line(file, bytes)
+        && put_record(file, lacks_end, bytes).is_ok()
 }
 
 /// The offset at which the line before an offset begins.
@@ -278,45 +241,6 @@ fn line_start<F: Read + Seek>(file: &mut Option<F>, offset: u64) -> Result<u64, 
             return Ok(start.saturating_add(last as u64).saturating_add(1));
         }
         end = start;
-    }
-    Err(DeviceFault::Failed)
-}
-
-/// Where the last LF stands.
-fn last_end(bytes: &[u8]) -> Option<usize>
-    ensures { IsLastEnd bytes.now result }
-{
-    let mut found = None;
-    for (number, byte) in bytes.iter().enumerate() {
-        if *byte == b'\n' {
-            found = Some(number);
-        }
-    }
-    found
-}
-
-/// How many lines there are from an offset on. A last line may lack its LF.
-fn lines_from<F: Read + Seek>(file: &mut Option<F>, offset: u64) -> Result<u64, DeviceFault> {
-    let Some(file) = file else {
-        return Err(DeviceFault::Failed);
-    };
-    if file.seek(SeekFrom::Start(offset)).is_err() {
-        return Err(DeviceFault::Failed);
-    }
-    let mut chunk = [0u8; CHUNK];
-    let mut lines = 0u64;
-    let mut is_inside = false;
-    for _ in 0..MOST_TURNS {
-        match file.read(&mut chunk) {
-            Ok(0) => return Ok(lines.saturating_add(u64::from(is_inside))),
-            Ok(count) => {
-                let part = &chunk[..count];
-                let ends = part.iter().filter(|byte| **byte == b'\n').count();
-                lines = lines.saturating_add(ends as u64);
-                is_inside = part.last() != Some(&b'\n');
-            }
-            Err(_) => return Err(DeviceFault::Failed),
-        }
     }
     Err(DeviceFault::Failed)
 }

@@ -1,8 +1,9 @@
 //! The shelf of the real files and streams. No clause tells what these hold: it is the trusted edge.
 
 ghost use Rattle.std.specs.Prelude.{◌≡◌, ◌≤◌, length, None, IfOk};
+ghost use Rattle.std.specs.Io.KnownBytes.{Keeps, ReadConsumes, WriteAppends};
 ghost use Rattle.f2c_outside.specs.Shelf.{Idle, Rose};
-ghost use Rattle.f2c_outside.specs.Host.{untold};
+ghost use Rattle.f2c_outside.specs.Host.{untold, told_of};
 
 use crate::shelves::{Place, Shelf, ShelfFault};
 use crate::texts::Name;
@@ -156,7 +157,8 @@ fn create_file<R: Files>(rt: &R, name: &Name) -> io::Result<R::File> {
 
 /// Reads from the open file, or from standard input where none is open.
 fn read_some<R: Input, F: Read>(rt: &R, file: &mut Option<F>, into: &mut [u8]) -> io::Result<usize>
-    ensures { IfOk result (λ n. n ≤ length into.old) }
+    ensures fits { IfOk result (λ n. n ≤ length into.old) }
+    ensures bytes { ReadConsumes (told_of F.remaining file.old) (told_of F.remaining file.new) result into.new }
 {
     match file {
         Some(file) => file.read(into),
@@ -172,7 +174,8 @@ fn write_some<R: Print, E: Print, F: Write>(
     file: &mut Option<F>,
     piece: &[u8],
 ) -> io::Result<usize>
-    ensures { IfOk result (λ n. n ≤ length piece.now) }
+    ensures fits { IfOk result (λ n. n ≤ length piece.now) }
+    ensures bytes { WriteAppends (told_of F.contents file.old) (told_of F.contents file.new) result piece.now }
 {
     match (file, active) {
         (Some(file), _) => file.write(piece),
@@ -182,7 +185,9 @@ fn write_some<R: Print, E: Print, F: Write>(
 }
 
 /// Brings what was written to the open file on its way.
-fn flush<F: Write>(file: &mut Option<F>) -> io::Result<()> {
+fn flush<F: Write>(file: &mut Option<F>) -> io::Result<()>
+    ensures { Keeps (told_of F.contents file.old) (told_of F.contents file.new) }
+{
     match file {
         Some(file) => file.flush(),
         None => Ok(()),

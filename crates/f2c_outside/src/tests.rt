@@ -16,6 +16,7 @@ use crate::unit_table::{Closed, NotPlaced, UnitFault, UnitTable};
 use run_state::UnitRefusal;
 use std::alloc::Global;
 use std::cell::Cell;
+use std::fmt::Display;
 use std::io::{ErrorKind, Read, Write};
 use std::process::Abort;
 use std::rc::Rc;
@@ -74,6 +75,7 @@ fn real_files_hold_what_was_put(rt: HostRuntime) -> Result<(), Fail> {
     let mut shelf = HostShelf::new(rt.alloc(), rt, rt.stderr());
     let name = Name::new(rt.alloc(), b"shelf_test.txt")?;
     let place = Place::File(name.copy(rt.alloc())?);
+    fs::write(&rt, "shelf_test.txt", b"what it held before".as_slice())?;
     assert!(rt; holds(&mut shelf, &place, b"A\0\nB"));
     assert!(rt; file_holds(&rt, "shelf_test.txt", b"A\0\nB"));
     assert!(rt; gives(&mut shelf, &place, b"A\0\nB"));
@@ -91,6 +93,49 @@ fn file_holds(rt: &HostRuntime, path: &str, bytes: &[u8]) -> bool {
         Ok(read) => read.as_slice() == bytes,
         Err(_) => false,
     }
+}
+
+/// An error stream that counts the bytes that it takes, or fails.
+#[derive(Drop)]
+struct Errors {
+    taken: Rc<Cell<usize>>,
+    is_failing: bool,
+}
+
+impl Print for Errors {
+    fn print<D: Display + Drop>(&self, _value: D) -> io::Result<()> {
+        Err(io::Error::from(ErrorKind::Other))
+    }
+
+    fn println<D: Display + Drop>(&self, _value: D) -> io::Result<()> {
+        Err(io::Error::from(ErrorKind::Other))
+    }
+
+    fn write_all(&self, bytes: &[u8]) -> io::Result<()> {
+        if self.is_failing {
+            return Err(io::Error::from(ErrorKind::Other));
+        }
+        self.taken.set(self.taken.get().saturating_add(bytes.len()));
+        Ok(())
+    }
+}
+
+#[test]
+fn fault_goes_to_the_error_stream_alone(rt: HostRuntime) -> Result<(), Fail> {
+    for is_failing in [false, true] {
+        let taken = Rc::new(rt.alloc(), Cell::new(0usize))?;
+        let errors = Errors {
+            taken: Rc::clone(&taken)?,
+            is_failing,
+        };
+        let mut shelf = HostShelf::new(rt.alloc(), rt, errors);
+        assert!(rt; shelf.start_write(&Place::Fault).is_ok());
+        assert_eq!(rt; shelf.put(b"BAD\n") == Ok(4), !is_failing);
+        assert_eq!(rt; taken.get(), if is_failing { 0 } else { 4 });
+        assert!(rt; shelf.start_write(&Place::Output).is_ok() && shelf.put(b"") == Ok(0));
+        assert_eq!(rt; taken.get(), if is_failing { 0 } else { 4 });
+    }
+    Ok(())
 }
 
 /// Calls of a unit, each of which calls its device once: which of them failed.
@@ -379,10 +424,33 @@ fn a_stream_takes_and_gives_records(rt: HostRuntime) -> Result<(), Fail> {
     Ok(())
 }
 
-/// A writer that takes so many bytes, at most three at once, and then fails.
+#[test]
+fn what_cannot_be_read_or_written_fails(rt: HostRuntime) -> Result<(), Fail> {
+    let mut shelf = HostShelf::new(rt.alloc(), rt, rt.stderr());
+    let missing = Name::new(rt.alloc(), b"no_such_folder/file")?;
+    let folder = Name::new(rt.alloc(), b".")?;
+    for name in [&missing, &folder] {
+        let mut device = HostFile::new(rt.alloc(), rt, name.copy(rt.alloc())?);
+        assert!(rt; device.read_record(&mut [0u8; 4]) == Got::Failed);
+        assert!(rt; device.write_record(b"A") == Err(DeviceFault::Failed));
+        assert!(rt; device.end_file() == Err(DeviceFault::Failed));
+        assert!(rt; device.finish() == Err(DeviceFault::Failed));
+        let place = Place::File(name.copy(rt.alloc())?);
+        assert!(rt; shelf.start_write(&place) == Err(ShelfFault::Failed));
+    }
+    let place = Place::File(missing);
+    assert!(rt; shelf.start_read(&place) == Err(ShelfFault::Missing));
+    let place = Place::File(folder);
+    assert!(rt; shelf.start_read(&place) == Ok(()));
+    assert!(rt; shelf.take(&mut [0u8; 4]) == Err(ShelfFault::Failed));
+    Ok(())
+}
+
+/// A writer that takes so many bytes, at most three at once, and then fails; it may also fail where it is flushed.
 #[derive(Drop)]
 struct ShortWriter {
     room: usize,
+    is_flushing: bool,
 }
 
 impl Write for ShortWriter {
@@ -396,19 +464,24 @@ impl Write for ShortWriter {
     }
 
     fn flush(&mut self) -> io::Result<()> {
-        Ok(())
+        if self.is_flushing {
+            return Ok(());
+        }
+        Err(io::Error::from(ErrorKind::Other))
     }
 }
 
 #[test]
 fn a_record_goes_out_whole_or_fails(rt: HostRuntime) -> Result<(), Fail> {
     for room in 0..8usize {
-        let mut output = HostOutput::new(ShortWriter { room });
+        let is_flushing = room < 4;
+        let mut output = HostOutput::new(ShortWriter { room, is_flushing });
         assert_eq!(rt;
             output.write_record(b"SIX BY").is_ok(),
             room == 7,
             "room {room}"
         );
+        assert_eq!(rt; output.finish().is_ok(), is_flushing, "room {room}");
     }
     Ok(())
 }

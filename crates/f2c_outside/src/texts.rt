@@ -5,9 +5,11 @@ ghost use Rattle.f2c_outside.specs.Texts.{word_at, IsName};
 
 use std::alloc::{AllocError, AllocFailed, Global};
 use std::marker::Model;
+use thiserror::Error;
 
 /// Memory was wanted and refused. What the call was to change is as it was before.
-#[derive(Clone, Copy, Debug, PartialEq, Eq)]
+#[derive(Clone, Copy, Debug, PartialEq, Eq, Error)]
+#[error("no memory")]
 pub struct NoMemory;
 
 impl From<AllocError> for NoMemory {
@@ -77,11 +79,13 @@ impl Words {
 }
 
 /// Why a name was not made.
-#[derive(Clone, Copy, Debug, PartialEq, Eq)]
+#[derive(Clone, Copy, Debug, PartialEq, Eq, Error)]
 pub enum NameFail {
     /// Memory was refused.
+    #[error("no memory")]
     NoMemory,
     /// The name has no byte, or more than 255.
+    #[error("no name of 1 to 255 bytes")]
     BadName,
 }
 
@@ -103,7 +107,7 @@ impl Model for Name {
 }
 
 /// The most bytes that a name has.
-pub const LONGEST_NAME: usize = 255;
+const LONGEST_NAME: usize = 255;
 
 impl Name {
     /// A name of these bytes. `BadName` comes exactly where they are none or more than 255.

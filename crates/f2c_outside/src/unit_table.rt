@@ -227,62 +227,13 @@ fn end_device(device: &mut Box<dyn Device>, end_mark: &mut bool) -> Result<(), U
     }
 }
 
-impl Connection {
-    /// Reads the next record, and sets the end mark at the end.
-    fn read(&mut self, into: &mut [u8]) -> Result<Got, UnitRefusal>
-        ensures did { ReadFrom (device_state self.old.device) self.old.end_mark (device_state self.new.device) self.new.end_mark into.old into.new result }
-        ensures unit { self.new.unit ≡ self.old.unit }
-        ensures blanks { self.new.zero_blanks ≡ self.old.zero_blanks }
-    {
-        read_device(&mut self.device, &mut self.end_mark, into)
-    }
-
-    /// Writes a record, unless the end mark stands.
-    fn write(&mut self, bytes: &[u8]) -> Result<(), UnitRefusal>
-        ensures did { WrittenTo (device_state self.old.device) self.old.end_mark (device_state self.new.device) self.new.end_mark bytes.now result }
-        ensures unit { self.new.unit ≡ self.old.unit }
-        ensures blanks { self.new.zero_blanks ≡ self.old.zero_blanks }
-    {
-        write_device(&mut self.device, self.end_mark, bytes)
-    }
-
-    /// Clears a standing end mark, or else goes back by one record.
-    fn back(&mut self) -> Result<(), UnitRefusal>
-        ensures did { BackOn (device_state self.old.device) self.old.end_mark (device_state self.new.device) self.new.end_mark result }
-        ensures unit { self.new.unit ≡ self.old.unit }
-        ensures blanks { self.new.zero_blanks ≡ self.old.zero_blanks }
-    {
-        back_device(&mut self.device, &mut self.end_mark)
-    }
-
-    /// Goes before the first record, and clears the end mark.
-    fn rewind(&mut self) -> Result<(), UnitRefusal>
-        ensures did { RewoundOn (device_state self.old.device) self.old.end_mark (device_state self.new.device) self.new.end_mark result }
-        ensures unit { self.new.unit ≡ self.old.unit }
-        ensures blanks { self.new.zero_blanks ≡ self.old.zero_blanks }
-    {
-        rewind_device(&mut self.device, &mut self.end_mark)
-    }
-
-    /// Finishes the device, and answers how many records it has.
-    fn finish(&mut self) -> Result<u64, UnitRefusal>
-        ensures did { FinishedOn (device_state self.old.device) self.old.end_mark (device_state self.new.device) self.new.end_mark result }
-        ensures unit { self.new.unit ≡ self.old.unit }
-        ensures blanks { self.new.zero_blanks ≡ self.old.zero_blanks }
-    {
-        match self.device.finish() {
-            Ok(records) => Ok(records),
-            Err(_) => Err(UnitRefusal::Failed),
-        }
-    }
-
-    /// Cuts off the records from the position on, and sets the end mark, unless it stands.
-    fn end(&mut self) -> Result<(), UnitRefusal>
-        ensures did { EndedOn (device_state self.old.device) self.old.end_mark (device_state self.new.device) self.new.end_mark result }
-        ensures unit { self.new.unit ≡ self.old.unit }
-        ensures blanks { self.new.zero_blanks ≡ self.old.zero_blanks }
-    {
-        end_device(&mut self.device, &mut self.end_mark)
+/// Finishes a device, and answers how many records it has.
+fn finish_device(device: &mut Box<dyn Device>, end_mark: bool) -> Result<u64, UnitRefusal>
+    ensures { FinishedOn (device_state device.old) end_mark (device_state device.new) end_mark result }
+{
+    match device.finish() {
+        Ok(records) => Ok(records),
+        Err(_) => Err(UnitRefusal::Failed),
     }
 }
 
@@ -292,7 +243,11 @@ fn read_row(row: &mut Row, into: &mut [u8]) -> Result<Got, UnitRefusal>
         (λ d m d' m'. ReadFrom d m d' m' into.old into.new result) }
 {
     match row {
-        Row::Connected(connection) => connection.read(into),
+        Row::Connected(connection) => read_device(
+            &mut connection.device,
+            &mut connection.end_mark,
+            into,
+        ),
         _ => Err(UnitRefusal::NotConnected),
     }
 }
@@ -303,7 +258,11 @@ fn write_row(row: &mut Row, bytes: &[u8]) -> Result<(), UnitRefusal>
         (λ d m d' m'. WrittenTo d m d' m' bytes.now result) }
 {
     match row {
-        Row::Connected(connection) => connection.write(bytes),
+        Row::Connected(connection) => write_device(
+            &mut connection.device,
+            connection.end_mark,
+            bytes,
+        ),
         _ => Err(UnitRefusal::NotConnected),
     }
 }
@@ -314,7 +273,7 @@ fn back_row(row: &mut Row) -> Result<(), UnitRefusal>
         (λ d m d' m'. BackOn d m d' m' result) }
 {
     match row {
-        Row::Connected(connection) => connection.back(),
+        Row::Connected(connection) => back_device(&mut connection.device, &mut connection.end_mark),
         _ => Err(UnitRefusal::NotConnected),
     }
 }
@@ -325,7 +284,10 @@ fn rewind_row(row: &mut Row) -> Result<(), UnitRefusal>
         (λ d m d' m'. RewoundOn d m d' m' result) }
 {
     match row {
-        Row::Connected(connection) => connection.rewind(),
+        Row::Connected(connection) => rewind_device(
+            &mut connection.device,
+            &mut connection.end_mark,
+        ),
         _ => Err(UnitRefusal::NotConnected),
     }
 }
@@ -336,7 +298,7 @@ fn end_row(row: &mut Row) -> Result<(), UnitRefusal>
         (λ d m d' m'. EndedOn d m d' m' result) }
 {
     match row {
-        Row::Connected(connection) => connection.end(),
+        Row::Connected(connection) => end_device(&mut connection.device, &mut connection.end_mark),
         _ => Err(UnitRefusal::NotConnected),
     }
 }
@@ -347,7 +309,7 @@ fn finish_row(row: &mut Row) -> Result<u64, UnitRefusal>
         (λ d m d' m'. FinishedOn d m d' m' result) }
 {
     match row {
-        Row::Connected(connection) => connection.finish(),
+        Row::Connected(connection) => finish_device(&mut connection.device, connection.end_mark),
         _ => Err(UnitRefusal::NotConnected),
     }
 }
@@ -367,7 +329,10 @@ fn take_row(row: &mut Row) -> Result<Taken, UnitRefusal>
         (λ d m d' m'. FinishedOn d m d' m' (Err refused))) }
 {
     match mem::replace(row, Row::Closed) {
-        Row::Connected(mut connection) => match connection.finish() {
+        Row::Connected(mut connection) => match finish_device(
+            &mut connection.device,
+            connection.end_mark,
+        ) {
             Ok(records) => Ok(Taken {
                 device: device_of(Row::Connected(connection)),
                 records,

@@ -12,11 +12,12 @@ use first_reader::read_file;
 use first_translator::translate;
 use std::alloc::{AllocError, Global};
 
-/// The C text of the tree of a file. An error says that there is no memory for it.
-fn text_of_tree(alloc: Global, file: &File) -> Result<Vec<u8>, AllocError>
-    ensures { IfOk result (λ text. text.items ≡ printed (translated file.now)) }
+/// The C text of the tree of a file, which is dropped before the text is made. An error says that there is no memory for it.
+fn text_of_tree(alloc: Global, file: File) -> Result<Vec<u8>, AllocError>
+    ensures { IfOk result (λ text. text.items ≡ printed (translated file)) }
 {
-    let tree = translate(alloc, file)?;
+    let tree = translate(alloc, &file)?;
+    drop(file);
     print_c(alloc, &tree)
 }
 
@@ -27,7 +28,7 @@ pub(crate) fn translation(alloc: Global, bytes: &[u8]) -> Result<Vec<u8>, Fail>
 {
     match read_file(alloc, bytes, 0) {
         Err(fail) => Err(fail),
-        Ok(file) => match text_of_tree(alloc, &file) {
+        Ok(file) => match text_of_tree(alloc, file) {
             Err(_) => Err(Fail::NoMemory),
             Ok(text) => {
                 translations_are_faithful();

@@ -4,6 +4,7 @@
 
 use std::process::ExitCode;
 
+/// Runs the program with the words of the command line.
 fn main(rt: HostRuntime) -> ExitCode {
     f2c_program::run(&rt)
 }

@@ -60,6 +60,7 @@ impl Builtin {
         }
     }
 
+    /// The types of its arguments.
     #[tactic(auto, unfolding(crate::specs::Translated::builtin_arguments))]
     fn arguments(self) -> &'static [ArgumentType]
         ensures { result.now ≡ spec.builtin_arguments self }

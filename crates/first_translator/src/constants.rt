@@ -30,6 +30,7 @@ pub fn constants(alloc: Global, units: &[Unit]) -> Result<Items<CConstant>, Allo
     table(alloc, &values)
 }
 
+/// The constants of the table, one for each value in ascending order.
 fn table(alloc: Global, values: &BTreeSet<i32>) -> Result<Items<CConstant>, AllocError>
     ensures { IfOk result (λ table. table ≡ map spec.constant_of values.now.keys) }
 {
@@ -40,6 +41,7 @@ fn table(alloc: Global, values: &BTreeSet<i32>) -> Result<Items<CConstant>, Allo
     Ok(Items::from_vec(table))
 }
 
+/// The constant of a value.
 #[tactic(auto, unfolding(crate::specs::Translated::constant_of))]
 fn constant(alloc: Global, value: i32) -> Result<CConstant, AllocError>
     ensures { IfOk result (λ c. c ≡ spec.constant_of value) }
@@ -48,6 +50,7 @@ fn constant(alloc: Global, value: i32) -> Result<CConstant, AllocError>
     Ok(CConstant { name, value })
 }
 
+/// The values that stand alone as output items in some unit.
 #[tactic(auto, unfolding(crate::specs::Translated::constants_of))]
 fn constant_values(alloc: Global, units: &[Unit]) -> Result<BTreeSet<i32>, AllocError>
     ensures { IfOk result (λ values. values.keys ≡ spec.constants_of units.now) }
@@ -59,6 +62,7 @@ fn constant_values(alloc: Global, units: &[Unit]) -> Result<BTreeSet<i32>, Alloc
     Ok(values)
 }
 
+/// Adds those of the statements.
 #[tactic(auto, unfolding(crate::specs::Translated::constants_in))]
 fn note_statements(values: &mut BTreeSet<i32>, statements: &[Stmt]) -> Result<(), AllocError>
     ensures { OnOk result (values.new.keys ≡ fold (insert_key int_cmp) values.old.keys
@@ -70,6 +74,7 @@ fn note_statements(values: &mut BTreeSet<i32>, statements: &[Stmt]) -> Result<()
     Ok(())
 }
 
+/// Adds those of an output list, where there is one.
 #[tactic(auto, unfolding(crate::specs::Translated::constants_of_output))]
 fn note_output(values: &mut BTreeSet<i32>, items: Option<&[ListItem]>) -> Result<(), AllocError>
     ensures { OnOk result (values.new.keys ≡ fold (insert_key int_cmp) values.old.keys
@@ -81,6 +86,7 @@ fn note_output(values: &mut BTreeSet<i32>, items: Option<&[ListItem]>) -> Result
     }
 }
 
+/// Adds those of the items.
 fn note_items(values: &mut BTreeSet<i32>, items: &[ListItem]) -> Result<(), AllocError>
     ensures { OnOk result (values.new.keys
         ≡ fold (insert_key int_cmp) values.old.keys (flat_map spec.item_constants items.now)) }
@@ -91,6 +97,7 @@ fn note_items(values: &mut BTreeSet<i32>, items: &[ListItem]) -> Result<(), Allo
     Ok(())
 }
 
+/// Adds that of an item.
 fn note_item(values: &mut BTreeSet<i32>, item: &ListItem) -> Result<(), AllocError>
     ensures { OnOk result (values.new.keys
         ≡ fold (insert_key int_cmp) values.old.keys (spec.item_constants item.now)) }
@@ -105,6 +112,7 @@ fn note_item(values: &mut BTreeSet<i32>, item: &ListItem) -> Result<(), AllocErr
     }
 }
 
+/// Adds the value of an expression that is a constant.
 fn note_constant(values: &mut BTreeSet<i32>, source: &Expr) -> Result<(), AllocError>
     ensures { OnOk result (values.new.keys
         ≡ fold (insert_key int_cmp) values.old.keys (spec.constants_for source.now)) }
@@ -115,6 +123,7 @@ fn note_constant(values: &mut BTreeSet<i32>, source: &Expr) -> Result<(), AllocE
     }
 }
 
+/// Adds a value.
 fn note(values: &mut BTreeSet<i32>, value: &i32) -> Result<(), AllocError>
     ensures { OnOk result (values.new.keys ≡ insert_key int_cmp values.old.keys value.now) }
 {

@@ -26,6 +26,7 @@ pub fn functions(alloc: Global, units: &[Unit]) -> Result<Items<CFunction>, Allo
     Ok(Items::from_vec(functions))
 }
 
+/// Adds the function of a unit.
 #[tactic(auto, unfolding(crate::specs::Translated::functions_of))]
 fn add_function(
     alloc: Global,
@@ -40,7 +41,8 @@ fn add_function(
             functions.push(main_function(alloc, unit.statements.as_slice())?)?;
             Ok(())
         }
-        _ => Ok(()),
+        // Units that no accepted file has yet.
+        UnitKind::Subroutine | UnitKind::Function(_) | UnitKind::BlockData => Ok(()),
     }
 }
 

@@ -37,6 +37,7 @@ pub fn add_items(
     Ok(())
 }
 
+/// Adds the statements that pass an item, whose temporary would have the number.
 fn add_item(
     alloc: Global,
     statements: &mut Vec<CStmt>,
@@ -48,10 +49,12 @@ fn add_item(
 {
     match item {
         ListItem::Item(source) => add_passed(alloc, statements, temporary, source),
-        _ => Ok(()),
+        // No accepted file has an implied DO yet.
+        ListItem::Loop(_, _) => Ok(()),
     }
 }
 
+/// Adds the statements that pass the value of an expression.
 fn add_passed(
     alloc: Global,
     statements: &mut Vec<CStmt>,
@@ -99,6 +102,7 @@ fn add_temporary(
     add_item_call(alloc, statements, place)
 }
 
+/// Adds the call that passes the object of a name.
 #[tactic(auto, unfolding(crate::specs::Translated::item_call))]
 fn add_item_call(alloc: Global, statements: &mut Vec<CStmt>, place: Text) -> Result<(), AllocError>
     ensures { OnOk result (statements.new.items ≡ statements.old.items ++ spec.item_call place ∷ []) }
@@ -108,6 +112,7 @@ fn add_item_call(alloc: Global, statements: &mut Vec<CStmt>, place: Text) -> Res
     Ok(())
 }
 
+/// The arguments of the call that passes the object of a name.
 #[tactic(auto, unfolding(crate::specs::Translated::item_arguments, crate::specs::Translated::integer_kind, crate::specs::Translated::one_element))]
 fn item_arguments(alloc: Global, place: Text) -> Result<Items<CExpr>, AllocError>
     ensures { IfOk result (λ arguments. arguments ≡ spec.item_arguments place) }

@@ -4,17 +4,17 @@
 ghost use Rattle.std.specs.Prelude.{◌≡◌, IfOk};
 ghost use Rattle.first_translator.specs.Translated.{translated};
 
-pub mod builtins;
-pub mod constants;
-pub mod functions;
-pub mod items;
-pub mod locals;
-pub mod names;
-pub mod outputs;
-pub mod statements;
-pub mod used;
-pub mod values;
-pub mod variables;
+mod builtins;
+mod constants;
+mod functions;
+mod items;
+mod locals;
+mod names;
+mod outputs;
+mod statements;
+mod used;
+mod values;
+mod variables;
 
 use c_tree::file::CFile;
 use constants::constants;

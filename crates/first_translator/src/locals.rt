@@ -31,6 +31,7 @@ pub fn locals(alloc: Global, statements: &[Stmt]) -> Result<Items<CLocal>, Alloc
     Ok(Items::from_vec(locals))
 }
 
+/// Adds the declarations of so many temporaries, numbered from 1.
 fn add_temporaries(alloc: Global, locals: &mut Vec<CLocal>, count: usize) -> Result<(), AllocError>
     ensures { OnOk result (locals.new.items
         ≡ locals.old.items ++ map spec.temporary_local (range_with_len 1 count)) }
@@ -41,6 +42,7 @@ fn add_temporaries(alloc: Global, locals: &mut Vec<CLocal>, count: usize) -> Res
     Ok(())
 }
 
+/// The declaration of a temporary.
 #[tactic(auto, unfolding(crate::specs::Translated::temporary_local))]
 fn temporary(alloc: Global, number: usize) -> Result<CLocal, AllocError>
     ensures { IfOk result (λ l. l ≡ spec.temporary_local number) }
@@ -49,6 +51,7 @@ fn temporary(alloc: Global, number: usize) -> Result<CLocal, AllocError>
     Ok(CLocal::Number(NumberType::Integer, name))
 }
 
+/// Adds the declarations of the library functions that are used.
 fn add_builtins(alloc: Global, locals: &mut Vec<CLocal>, used: &[Builtin]) -> Result<(), AllocError>
     ensures { OnOk result
         (locals.new.items ≡ locals.old.items ++ map spec.declaration_of used.now) }
@@ -59,6 +62,7 @@ fn add_builtins(alloc: Global, locals: &mut Vec<CLocal>, used: &[Builtin]) -> Re
     Ok(())
 }
 
+/// Adds the declarations of the variables.
 fn add_variables(
     alloc: Global,
     locals: &mut Vec<CLocal>,
@@ -73,6 +77,7 @@ fn add_variables(
     Ok(())
 }
 
+/// The declaration of a variable.
 #[tactic(auto, unfolding(crate::specs::Translated::variable_local))]
 fn variable(alloc: Global, name: &[u8]) -> Result<CLocal, AllocError>
     ensures { IfOk result (λ l. l ≡ spec.variable_local name.now) }
@@ -81,6 +86,7 @@ fn variable(alloc: Global, name: &[u8]) -> Result<CLocal, AllocError>
     Ok(CLocal::StaticNumber(NumberType::Integer, name, None))
 }
 
+/// Adds the control lists of the outputs.
 fn add_control_lists(
     alloc: Global,
     locals: &mut Vec<CLocal>,
@@ -97,6 +103,7 @@ fn add_control_lists(
     Ok(())
 }
 
+/// Adds a control list.
 #[tactic(auto, unfolding(crate::specs::Translated::control_lists_of, crate::specs::Translated::control_lists_for))]
 fn add_control_list(
     alloc: Global,

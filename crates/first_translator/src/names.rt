@@ -64,12 +64,14 @@ static FIELD_NAMES: [&[u8]; 25] = [
 /// The single letters that are not left to variables.
 static SINGLE_LETTERS: [&[u8]; 7] = [b"c", b"d", b"g", b"h", b"i", b"r", b"z"];
 
+/// Whether a name is one of these words.
 fn is_among(words: &[&[u8]], name: &[u8]) -> bool
     ensures { result ≡ list_any (λ word. bytes_eq word.now name.now) words.now }
 {
     words.iter().any(|word| *word == name)
 }
 
+/// Whether a name is a word of C.
 #[tactic(auto, unfolding(f_tree::specs::CNames::c_keywords))]
 fn is_keyword(name: &[u8]) -> bool
     ensures { result ≡ spec.is_among spec.c_keywords name.now }
@@ -77,6 +79,7 @@ fn is_keyword(name: &[u8]) -> bool
     is_among(&C_KEYWORDS, name)
 }
 
+/// Whether a name is one that the include line or the library declares.
 #[tactic(auto, unfolding(f_tree::specs::CNames::built_in_names))]
 fn is_built_in(name: &[u8]) -> bool
     ensures { result ≡ spec.is_among spec.built_in_names name.now }
@@ -84,6 +87,7 @@ fn is_built_in(name: &[u8]) -> bool
     is_among(&BUILT_IN_NAMES, name)
 }
 
+/// Whether a name is that of a field of a list.
 #[tactic(auto, unfolding(f_tree::specs::CNames::field_names))]
 fn is_field(name: &[u8]) -> bool
     ensures { result ≡ spec.is_among spec.field_names name.now }
@@ -91,6 +95,7 @@ fn is_field(name: &[u8]) -> bool
     is_among(&FIELD_NAMES, name)
 }
 
+/// Whether a name is a single letter that made names are built from.
 #[tactic(auto, unfolding(f_tree::specs::CNames::single_letters))]
 fn is_single_letter(name: &[u8]) -> bool
     ensures { result ≡ spec.is_among spec.single_letters name.now }
@@ -98,6 +103,7 @@ fn is_single_letter(name: &[u8]) -> bool
     is_among(&SINGLE_LETTERS, name)
 }
 
+/// Whether a name may not stand in the C text as it is.
 #[tactic(auto, unfolding(f_tree::specs::CNames::is_reserved))]
 fn is_reserved(name: &[u8]) -> bool
     ensures { result ≡ spec.is_reserved name.now }
@@ -105,6 +111,7 @@ fn is_reserved(name: &[u8]) -> bool
     is_keyword(name) || is_built_in(name) || is_field(name) || is_single_letter(name)
 }
 
+/// Whether a name has an underscore.
 #[tactic(auto, unfolding(f_tree::specs::CNames::has_underscore))]
 fn has_underscore(name: &[u8]) -> bool
     ensures { result ≡ spec.has_underscore name.now }
@@ -112,6 +119,7 @@ fn has_underscore(name: &[u8]) -> bool
     name.iter().any(|byte| *byte == b'_')
 }
 
+/// Whether a name gets two underscores at its end.
 #[tactic(auto, unfolding(f_tree::specs::CNames::takes_underscores))]
 fn takes_underscores(name: &[u8]) -> bool
     ensures { result ≡ spec.takes_underscores name.now }

@@ -62,6 +62,7 @@ pub fn temporaries(item: &ListItem) -> usize
     }
 }
 
+/// How many temporaries an item wants: one where its value has no place.
 fn temporaries_for(source: &Expr) -> usize
     ensures count { result ≡ spec.temporaries_for source.now }
     ensures small { result ≤ 1 }

@@ -29,6 +29,7 @@ pub fn body(alloc: Global, statements: &[Stmt]) -> Result<Items<CStmt>, AllocErr
     Ok(Items::from_vec(body))
 }
 
+/// Adds the C statements of a statement, whose first control list has the number.
 fn add_statement(
     alloc: Global,
     body: &mut Vec<CStmt>,
@@ -48,6 +49,7 @@ fn add_statement(
     }
 }
 
+/// Adds the C assignment of an assignment.
 #[tactic(auto, unfolding(crate::specs::Translated::assignment))]
 fn add_assignment(
     alloc: Global,
@@ -73,6 +75,7 @@ fn add_return(body: &mut Vec<CStmt>) -> Result<(), AllocError>
     Ok(())
 }
 
+/// Adds the calls of an output, where the statement is one that is built.
 #[tactic(auto, unfolding(crate::specs::Translated::output_of))]
 fn add_output(
     alloc: Global,
@@ -89,6 +92,7 @@ fn add_output(
     }
 }
 
+/// Adds the calls that start a list-directed output, pass its items and end it.
 #[tactic(auto, unfolding(crate::specs::Translated::list_output))]
 fn add_list_output(
     alloc: Global,
@@ -109,7 +113,7 @@ fn add_list_output(
 fn start(alloc: Global, list: usize) -> Result<CStmt, AllocError>
     ensures { IfOk result (λ s. s ≡ spec.start_of list) }
 {
-    let mut arguments = Items::new(alloc);
+    let mut arguments = Vec::with_capacity(alloc, 1)?;
     arguments.push(address_of(alloc, control_list_name(alloc, list)?)?)?;
-    call_of(alloc, Builtin::StartListOutput, arguments)
+    call_of(alloc, Builtin::StartListOutput, Items::from_vec(arguments))
 }

@@ -11,6 +11,7 @@ use names::{constant_name, control_list_name, main_name, temporary_name, variabl
 use plain_data::Boxed;
 use std::test::Fail;
 
+/// Adds a statement.
 fn push(statements: &mut Vec<Stmt>, body: Body) -> Result<(), AllocError> {
     statements.push(Stmt {
         label: None,
@@ -21,6 +22,7 @@ fn push(statements: &mut Vec<Stmt>, body: Body) -> Result<(), AllocError> {
     Ok(())
 }
 
+/// Adds a PRINT of an item.
 fn push_print(alloc: Global, statements: &mut Vec<Stmt>, item: Expr) -> Result<(), AllocError> {
     let mut items = Items::new(alloc);
     items.push(ListItem::Item(item))?;
@@ -31,10 +33,12 @@ fn push_print(alloc: Global, statements: &mut Vec<Stmt>, item: Expr) -> Result<(
     )
 }
 
+/// An expression that is a name.
 fn name(alloc: Global, text: &[u8]) -> Result<Expr, AllocError> {
     Ok(Expr::Name(Items::from_slice(alloc, text)?))
 }
 
+/// A boxed expression that is a name.
 fn boxed_name(alloc: Global, text: &[u8]) -> Result<Boxed<Expr>, AllocError> {
     Boxed::new(alloc, name(alloc, text)?)
 }
@@ -46,6 +50,7 @@ fn sum(alloc: Global) -> Result<Expr, AllocError> {
     Ok(Expr::Binary(BinaryOp::Plus, left, right))
 }
 
+/// A file of one main program.
 fn main_program(alloc: Global, statements: Vec<Stmt>) -> Result<File, AllocError> {
     let mut units = Items::new(alloc);
     units.push(Unit {
@@ -91,6 +96,7 @@ fn declared(alloc: Global, tree: &CFile) -> Result<Vec<u8>, AllocError> {
     Ok(names)
 }
 
+/// Adds the names that a function declares.
 fn add_declared(names: &mut Vec<u8>, function: &CFunction) -> Result<(), AllocError> {
     names.push(b' ')?;
     names.extend_from_slice(function.name.as_slice())?;

@@ -22,6 +22,7 @@ pub fn used_builtins(alloc: Global, statements: &[Stmt]) -> Result<Vec<Builtin>,
     Ok(used)
 }
 
+/// Adds the library functions that an output uses, where there is one.
 #[tactic(auto, unfolding(crate::specs::Translated::builtins_of_output))]
 fn note_output(used: &mut Vec<Builtin>, items: Option<&[ListItem]>) -> Result<(), AllocError>
     ensures { OnOk result (used.new.items
@@ -33,6 +34,7 @@ fn note_output(used: &mut Vec<Builtin>, items: Option<&[ListItem]>) -> Result<()
     }
 }
 
+/// Adds those of a list-directed output.
 fn note_list_output(used: &mut Vec<Builtin>, items: &[ListItem]) -> Result<(), AllocError>
     ensures { OnOk result (used.new.items
         ≡ fold spec.used used.old.items (spec.builtins_of_output (Some items.now))) }
@@ -42,6 +44,7 @@ fn note_list_output(used: &mut Vec<Builtin>, items: &[ListItem]) -> Result<(), A
     note(used, Builtin::EndListOutput)
 }
 
+/// Adds those of the items.
 fn note_items(used: &mut Vec<Builtin>, items: &[ListItem]) -> Result<(), AllocError>
     ensures { OnOk result (used.new.items
         ≡ fold spec.used used.old.items (flat_map spec.item_builtins items.now)) }
@@ -52,6 +55,7 @@ fn note_items(used: &mut Vec<Builtin>, items: &[ListItem]) -> Result<(), AllocEr
     Ok(())
 }
 
+/// Adds that of an item.
 fn note_item(used: &mut Vec<Builtin>, item: &ListItem) -> Result<(), AllocError>
     ensures { OnOk result
         (used.new.items ≡ fold spec.used used.old.items (spec.item_builtins item.now)) }
@@ -62,6 +66,7 @@ fn note_item(used: &mut Vec<Builtin>, item: &ListItem) -> Result<(), AllocError>
     }
 }
 
+/// Adds a library function, where it is not among them.
 #[tactic(auto, unfolding(crate::specs::Translated::used))]
 fn note(used: &mut Vec<Builtin>, builtin: Builtin) -> Result<(), AllocError>
     ensures { OnOk result (used.new.items ≡ spec.used used.old.items builtin) }
@@ -73,6 +78,7 @@ fn note(used: &mut Vec<Builtin>, builtin: Builtin) -> Result<(), AllocError>
     Ok(())
 }
 
+/// Whether a library function is among those that are used.
 fn is_used(used: &[Builtin], builtin: Builtin) -> bool
     ensures { result ≡ list_any (λ other. spec.place_of other == spec.place_of builtin) used.now }
 {

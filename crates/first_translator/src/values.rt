@@ -51,7 +51,22 @@ fn operated(
             Boxed::new(alloc, left)?,
             Boxed::new(alloc, right)?,
         )),
-        _ => Ok(CExpr::Number(0)),
+        // Operators that no accepted file has yet.
+        Operator::Power
+        | Operator::Times
+        | Operator::Divide
+        | Operator::Minus
+        | Operator::Concatenate
+        | Operator::Less
+        | Operator::LessOrEqual
+        | Operator::Equal
+        | Operator::NotEqual
+        | Operator::Greater
+        | Operator::GreaterOrEqual
+        | Operator::And
+        | Operator::Or
+        | Operator::Equivalent
+        | Operator::NotEquivalent => Ok(CExpr::Number(0)),
     }
 }
 

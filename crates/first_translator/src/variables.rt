@@ -26,6 +26,7 @@ pub fn variables<'a>(
     Ok(names)
 }
 
+/// Adds the names of a statement.
 fn note_statement<'a>(names: &mut IndexSet<&'a [u8]>, body: &'a Body) -> Result<(), AllocError>
     ensures { OnOk result
         (texts names.new.keys ≡ fold spec.seen (texts names.old.keys) (spec.variables_in body.now)) }
@@ -42,6 +43,7 @@ fn note_statement<'a>(names: &mut IndexSet<&'a [u8]>, body: &'a Body) -> Result<
     }
 }
 
+/// Adds the names of an output list, where there is one.
 #[tactic(auto, unfolding(crate::specs::Translated::names_of_output))]
 fn note_output<'a>(
     names: &mut IndexSet<&'a [u8]>,
@@ -56,6 +58,7 @@ fn note_output<'a>(
     }
 }
 
+/// Adds the names of the items.
 fn note_items<'a>(names: &mut IndexSet<&'a [u8]>, items: &'a [ListItem]) -> Result<(), AllocError>
     ensures { OnOk result (texts names.new.keys
         ≡ fold spec.seen (texts names.old.keys) (flat_map spec.item_names items.now)) }
@@ -66,6 +69,7 @@ fn note_items<'a>(names: &mut IndexSet<&'a [u8]>, items: &'a [ListItem]) -> Resu
     Ok(())
 }
 
+/// Adds the names of an item.
 fn note_item<'a>(names: &mut IndexSet<&'a [u8]>, item: &'a ListItem) -> Result<(), AllocError>
     ensures { OnOk result
         (texts names.new.keys ≡ fold spec.seen (texts names.old.keys) (spec.item_names item.now)) }
@@ -76,6 +80,7 @@ fn note_item<'a>(names: &mut IndexSet<&'a [u8]>, item: &'a ListItem) -> Result<(
     }
 }
 
+/// Adds the names of an expression from the left.
 fn note_names<'a>(names: &mut IndexSet<&'a [u8]>, source: &'a Expr) -> Result<(), AllocError>
     ensures { OnOk result
         (texts names.new.keys ≡ fold spec.seen (texts names.old.keys) (spec.names_in source.now)) }
@@ -90,6 +95,7 @@ fn note_names<'a>(names: &mut IndexSet<&'a [u8]>, source: &'a Expr) -> Result<()
     }
 }
 
+/// Adds a name, where it was not seen before.
 fn note<'a>(names: &mut IndexSet<&'a [u8]>, name: &'a [u8]) -> Result<(), AllocError>
     ensures { OnOk result (texts names.new.keys ≡ spec.seen (texts names.old.keys) name.now) }
 {

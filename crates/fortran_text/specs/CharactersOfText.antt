@@ -3,6 +3,9 @@
 use Rattle.std.specs.Prelude.{ℕ, zero, suc, ◌+◌, ◌*◌, Bool, true, false, ◌&&◌, ◌||◌, ◌==◌, nat_eq, List, [], ◌∷◌, ◌++◌, map, codes, Option, Some, None, if◌then◌else◌}
 use Rattle.std.specs.Char.{is_ascii_digit, is_ascii_lowercase, digit_value, to_ascii_lowercase}
 use Rattle.std.specs.List.{starts_with}
+use Rattle.fortran_text.specs.declared.characters.Character.{Character}
+use Rattle.fortran_text.specs.declared.characters.Standing.{Standing}
+use Rattle.fortran_text.specs.declared.characters.Standing.TheVariants.{Outside, Inside, Closed, Parted, Counted}
 use Rattle.std.specs.Str.{bytes_eq}
 
 -- A blank.
@@ -16,20 +19,6 @@ is_apostrophe c = c == 39
 -- A letter or a digit, in a text without upper case.
 abbrev pub is_letter_or_digit : ℕ → Bool
 is_letter_or_digit c = is_ascii_lowercase c || is_ascii_digit c
-
--- A character of a text, and whether it stands inside a character constant.
-pub record Character : Type 0 where
-  pub code : ℕ
-  pub quoted : Bool
-
--- Where a text has come to: outside constants, with the number that the digits just before write; inside a constant; behind the apostrophe
--- that may end it; behind blanks after that; or in the text after nH, with the number of its characters that come after the next one.
-pub data Standing : Type 0 where
-  Outside : Option ℕ → Standing
-  Inside : Standing
-  Closed : Standing
-  Parted : Standing
-  Counted : ℕ → Standing
 
 -- At the beginning of the n characters after nH.
 unfoldable pub counting : ℕ → Standing

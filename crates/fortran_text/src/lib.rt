@@ -3,6 +3,8 @@
 //! are the types that they and the code share.
 #![tactic(auto)]
 
+mod characters;
 mod source;
 
+pub use characters::{Character, Standing};
 pub use source::{CardKind, Statement};

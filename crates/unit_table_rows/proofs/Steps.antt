@@ -1,11 +1,11 @@
 -- What one call of a unit table does to a unit whose state is known, from the clauses of the call alone.
-use Rattle.std.proofs.Common.{◌≡◌, ℕ, ◌+◌, ◌-◌, ◌≤◌, ◌<◌, ℤ, Bool, true, false, List, [], ◌∷◌, ◌++◌, length, take, drop, Option, Some, None, refl, ap, sym, ◌∙◌, subst, arith}
-use Rattle.std.specs.Prelude.{Result, Ok, Err, IsErrOf, IsOk, OnErr, slice_get, if◌then◌else◌}
+use Rattle.std.proofs.Common.{◌≡◌, ℕ, ◌+◌, ◌≤◌, ◌<◌, ℤ, Bool, true, false, List, [], ◌∷◌, ◌++◌, length, take, drop, Option, Some, None, refl, ap, sym, ◌∙◌, subst, arith}
+use Rattle.std.specs.Prelude.{Result, Ok, Err, IsErrOf, IsOk, OnErr, slice_get}
 use Rattle.std.specs.Ordering.{int_eq}
 use Rattle.std.proofs.lemmas.Bool.Decides.{Decides-int_eq}
 use Rattle.f2c_outside.specs.Device.{DeviceState}
-use Rattle.f2c_outside.specs.Table.{Row, Connects, AtUnit, OnUnit, ReadFrom, WrittenTo, EndedOn, is_connected, at_unit}
-use Rattle.f2c_outside.specs.Meaning.{Tells, Means, MeansReading, MeansClosing, ReadsLine, ReadsAs, units_of, unit_of, connected_in}
+use Rattle.f2c_outside.specs.Table.{Row, Connects, Offers, AtUnit, OnUnit, ReadFrom, WrittenTo, EndedOn, is_connected, at_unit}
+use Rattle.f2c_outside.specs.Meaning.{Tells, Means, MeansReading, MeansClosing, ReadsLine, units_of, unit_of, connected_in}
 use Rattle.f2c_outside.proofs.TableLaws.{none-front}
 use Rattle.f2c_outside.proofs.MeaningLaws.{chosen-true, unit-there, connected-none}
 use Rattle.f2c_outside.specs.declared.devices.Got.{Got}
@@ -205,6 +205,92 @@ found-line got.End line unit s b a old new means on has at fits =
     in let wrong : None ≡ Some line = same.0 in absurd (cc)
 found-line got.Failed line unit s b a old new means on has at fits = absurd (never-failed unit b a old new on)
 
+-- the row of a unit whose state is known
+record Row-of (unit : ℤ) (s : UnitState) (b a : List Row) (R : DeviceState → Bool → DeviceState → Bool → Type 0) : Type 0 where
+  at : AtUnit unit b a R
+  mark : at.end_mark ≡ s.end_mark
+
+row-of :
+    {T : Type 0} (unit : ℤ) (s : UnitState) (b a : List Row) (result : Result T UnitRefusal) (R : DeviceState → Bool → DeviceState → Bool → Type 0)
+    → OnUnit unit b a result R
+    → Has b unit (Some s)
+    → Row-of unit s b a R
+row-of unit s b a result R on has = by-test (is_connected unit b) refl
+  where
+    by-test : (connected : Bool) → is_connected unit b ≡ connected → Row-of unit s b a R
+    by-test true is =
+        let at : AtUnit unit b a R = on.found is
+        in let same : unit_of at.device at.end_mark at.zero_blanks ≡ s =
+        some-same
+        (sym (unit-there at.front at.back unit at.device at.end_mark at.zero_blanks (none-front (at_unit unit) at.front at.back at.alone))
+        ∙ ap (λ (rows : List Row). connected_in rows unit) (sym at.was)
+        ∙ has.is)
+        in record { at = at; mark = ap (λ (u : UnitState). u.end_mark) same }
+    by-test false is = let wrong : None ≡ Some s = sym (connected-none b unit is) ∙ has.is in absurd (cc)
+
+-- the row is as before, and so are all
+rows-kept :
+    (unit : ℤ) (b a front back : List Row) (d d' : DeviceState) (m m' z : Bool)
+    → b ≡ front ++ Connects unit d m z ∷ back
+    → a ≡ front ++ Connects unit d' m' z ∷ back
+    → d' ≡ d
+    → m' ≡ m
+    → a ≡ b
+rows-kept unit b a front back d d' m m' z was now same mark =
+    now
+    ∙ ap (λ (x : DeviceState). front ++ Connects unit x m' z ∷ back) same
+    ∙ ap (λ (x : Bool). front ++ Connects unit d x z ∷ back) mark
+    ∙ sym was
+
+-- a record was found that does not fit
+pub record FoundLong (answer : Got) (line : List ℕ) (unit : ℤ) (s : UnitState) (a : List Row) (old new : List ℕ) : Type 0 where
+  pub is : answer ≡ got.Long (length line)
+  pub slice : new ≡ old
+  pub has : Has a unit (Some (record s { position = s.position + 1 }))
+
+pub found-long :
+    (answer : Got) (line : List ℕ) (unit : ℤ) (s : UnitState) (b a : List Row) (old new : List ℕ)
+    → (Tells b → MeansReading (Ok answer) (read_unit unit (units_of b)) a old new)
+    → OnUnit unit b a (let r : Result Got UnitRefusal = Ok answer in r) (λ d m d' m'. ReadFrom d m d' m' old new (Ok answer))
+    → Has b unit (Some s)
+    → slice_get s.records s.position ≡ Some line
+    → length old < length line
+    → FoundLong answer line unit s a old new
+found-long (got.Line n) line unit s b a old new means on has at over =
+    let m : MeansReading (Ok (got.Line n)) (read_unit unit (units_of b)) a old new = means has.tells
+    in let d : ReadsLine (read_unit unit (units_of b)) (units_of a) (λ l. (length l ≡ n) × (new ≡ l ++ drop n old)) = m.done
+    in let same : (Some d.line ≡ Some line) × (units_of a ≡ with_unit unit (Some (behind (Some line) s)) (units_of b)) =
+    found-same (read_unit unit (units_of b)) (record { found = Some d.line; after = units_of a })
+    (record { found = Some line; after = with_unit unit (Some (behind (Some line) s)) (units_of b) }) d.is
+    (reading-is unit (Some line) s (units_of b) has.is at)
+    in let count : n ≡ length line = sym d.holds.0 ∙ ap length (some-same same.0)
+    in let r : Row-of unit s b a (λ d m d' m'. ReadFrom d m d' m' old new (Ok (got.Line n))) =
+    row-of unit s b a (let r : Result Got UnitRefusal = Ok (got.Line n) in r) (λ d m d' m'. ReadFrom d m d' m' old new (Ok (got.Line n))) on has
+    in let fits : n ≤ length old = r.at.did.read.fits
+    in absurd (omega arith)
+found-long (got.Long n) line unit s b a old new means on has at over =
+    let m : MeansReading (Ok (got.Long n)) (read_unit unit (units_of b)) a old new = means has.tells
+    in let d : ReadsLine (read_unit unit (units_of b)) (units_of a) (λ l. (length l ≡ n) × (length old < n)) = m.done
+    in let same : (Some d.line ≡ Some line) × (units_of a ≡ with_unit unit (Some (behind (Some line) s)) (units_of b)) =
+    found-same (read_unit unit (units_of b)) (record { found = Some d.line; after = units_of a })
+    (record { found = Some line; after = with_unit unit (Some (behind (Some line) s)) (units_of b) }) d.is
+    (reading-is unit (Some line) s (units_of b) has.is at)
+    in let r : Row-of unit s b a (λ d m d' m'. ReadFrom d m d' m' old new (Ok (got.Long n))) =
+    row-of unit s b a (let r : Result Got UnitRefusal = Ok (got.Long n) in r) (λ d m d' m'. ReadFrom d m d' m' old new (Ok (got.Long n))) on has
+    in record {
+      is = ap got.Long (sym d.holds.0 ∙ ap length (some-same same.0));
+      slice = r.at.did.read.slice;
+      has = has-changed unit (Some (behind (Some line) s)) b a m.tells same.1;
+    }
+found-long got.End line unit s b a old new means on has at over =
+    let m : MeansReading (Ok got.End) (read_unit unit (units_of b)) a old new = means has.tells
+    in let same : (None ≡ Some line) × (units_of a ≡ with_unit unit (Some (behind (Some line) s)) (units_of b)) =
+    found-same (read_unit unit (units_of b)) (record { found = None; after = units_of a })
+    (record { found = Some line; after = with_unit unit (Some (behind (Some line) s)) (units_of b) }) m.done
+    (reading-is unit (Some line) s (units_of b) has.is at)
+    in let wrong : None ≡ Some line = same.0 in absurd (cc)
+found-long got.Failed line unit s b a old new means on has at over = absurd (never-failed unit b a old new on)
+
 -- the end was found
 pub record FoundEnd (answer : Got) (unit : ℤ) (s : UnitState) (a : List Row) : Type 0 where
   pub is : answer ≡ got.End
@@ -242,43 +328,6 @@ found-end (got.Long n) unit s b a old new means on has at =
     (reading-is unit None s (units_of b) has.is at)).0
     in absurd (cc)
 found-end got.Failed unit s b a old new means on has at = absurd (never-failed unit b a old new on)
-
--- the row of a unit whose state is known
-record Row-of (unit : ℤ) (s : UnitState) (b a : List Row) (R : DeviceState → Bool → DeviceState → Bool → Type 0) : Type 0 where
-  at : AtUnit unit b a R
-  mark : at.end_mark ≡ s.end_mark
-
-row-of :
-    {T : Type 0} (unit : ℤ) (s : UnitState) (b a : List Row) (result : Result T UnitRefusal) (R : DeviceState → Bool → DeviceState → Bool → Type 0)
-    → OnUnit unit b a result R
-    → Has b unit (Some s)
-    → Row-of unit s b a R
-row-of unit s b a result R on has = by-test (is_connected unit b) refl
-  where
-    by-test : (connected : Bool) → is_connected unit b ≡ connected → Row-of unit s b a R
-    by-test true is =
-        let at : AtUnit unit b a R = on.found is
-        in let same : unit_of at.device at.end_mark at.zero_blanks ≡ s =
-        some-same
-        (sym (unit-there at.front at.back unit at.device at.end_mark at.zero_blanks (none-front (at_unit unit) at.front at.back at.alone))
-        ∙ ap (λ (rows : List Row). connected_in rows unit) (sym at.was)
-        ∙ has.is)
-        in record { at = at; mark = ap (λ (u : UnitState). u.end_mark) same }
-    by-test false is = let wrong : None ≡ Some s = sym (connected-none b unit is) ∙ has.is in absurd (cc)
-
--- the row is as before, and so are all
-rows-kept :
-    (unit : ℤ) (b a front back : List Row) (d d' : DeviceState) (m m' z : Bool)
-    → b ≡ front ++ Connects unit d m z ∷ back
-    → a ≡ front ++ Connects unit d' m' z ∷ back
-    → d' ≡ d
-    → m' ≡ m
-    → a ≡ b
-rows-kept unit b a front back d d' m m' z was now same mark =
-    now
-    ∙ ap (λ (x : DeviceState). front ++ Connects unit x m' z ∷ back) same
-    ∙ ap (λ (x : Bool). front ++ Connects unit d x z ∷ back) mark
-    ∙ sym was
 
 -- behind the endfile record nothing is written, and nothing changes
 pub write-past :
@@ -322,6 +371,17 @@ still-free unit b a same free = ap (is_connected unit) same ∙ free
 pub fresh : (rows : List Row) → rows ≡ Connects the_unit (tape_state empty_tape) false false ∷ [] → Has rows the_unit (at_record [] 0 false)
 fresh rows is =
     subst (λ (r : List Row). Has r the_unit (at_record [] 0 false)) (sym is) (record { tells = (refl, tt); is = refl })
+
+-- two files of one name in the drawer, the first with a record
+pub both_offered :
+    (rows between : List Row)
+    → rows ≡ between ++ Offers (68 ∷ []) (tape_state empty_tape) ∷ []
+    → between ≡ Offers (68 ∷ []) (tape_state (record empty_tape { records = (65 ∷ []) ∷ [] })) ∷ []
+    → HasDrawer rows None two_files
+both_offered rows between is first =
+    subst (λ (r : List Row). HasDrawer r None two_files)
+    (sym (is ∙ ap (λ (r : List Row). r ++ Offers (68 ∷ []) (tape_state empty_tape) ∷ []) first))
+    (record { tells = (refl, (refl, tt)); is = refl; drawer = refl })
 
 -- what opening gives where the unit is free and these files stand in the drawer
 opening-is :

@@ -1,6 +1,10 @@
 -- How the programs over a unit table end.
-use Rattle.std.specs.Prelude.{◌≡◌, ℕ, ℤ, Bool, true, false, List, [], ◌∷◌, Option, Some, None, pos}
+use Rattle.std.specs.Prelude.{◌≡◌, ℕ, ℤ, Bool, true, false, List, [], ◌∷◌, Option, Some, pos}
+use Rattle.std.specs.declared.alloc.Global.{Global}
+use Rattle.std.specs.declared.dyn_box.DynBox.{DynBox}
 use Rattle.f2c_outside.specs.Table.{Row}
+use Rattle.f2c_outside.specs.declared.unit_table.NotPlaced.{NotPlaced}
+use Rattle.f2c_outside.specs.declared.unit_table.NotPlaced.TheVariants as refusal
 use Rattle.f2c_outside.specs.Meaning.{Tells, units_of}
 use Rattle.run_state.specs.Units.{UnitState, Offered}
 
@@ -42,3 +46,8 @@ pub record HasDrawer (rows : List Row) (state : Option UnitState) (files : List 
   pub tells : Tells rows
   pub is : (units_of rows).connected the_unit ≡ state
   pub drawer : (units_of rows).drawer ≡ files
+
+-- a device came back because the unit is connected
+abbrev pub IsTaken : {V : Type 0} {H : V → Type 0} → DynBox V Global H → NotPlaced V H → Type 0
+IsTaken device (refusal.Taken back) = back ≡ device
+IsTaken device (refusal.NoMemory back) = ⊥

@@ -53,6 +53,28 @@ pub fn read_both(table: &mut UnitTable, into: &mut [u8]) -> Result<Seen, UnitRef
     })
 }
 
+/// Reads the second record into a slice that it does not fit: its length is told, the slice stays, and the unit stands behind it.
+pub fn read_long(table: &mut UnitTable, into: &mut [u8]) -> Result<Got, UnitRefusal>
+    requires has { Has (rows_of (λ b. (⟦<dyn Device as Device>⟧ b.vtable).device_state b.value) table.old) the_unit (at_record two_records 1 false) }
+    requires room { length into.old ≡ 1 }
+    ensures long { IfOk result (λ got. got ≡ Got.Long 2) }
+    ensures slice { OnOk result (into.new ≡ into.old) }
+    ensures has { OnOk result (Has (rows_of (λ b. (⟦<dyn Device as Device>⟧ b.vtable).device_state b.value) table.new) the_unit (at_record two_records 2 false)) }
+{
+    let got = table.read_from(3, into)?;
+    Ok(got)
+}
+
+/// REWIND clears a standing end mark, and BACKSPACE before the first record does nothing.
+pub fn rewind_and_back(table: &mut UnitTable) -> Result<(), UnitRefusal>
+    requires { Has (rows_of (λ b. (⟦<dyn Device as Device>⟧ b.vtable).device_state b.value) table.old) the_unit (at_record two_records 2 true) }
+    ensures { OnOk result (Has (rows_of (λ b. (⟦<dyn Device as Device>⟧ b.vtable).device_state b.value) table.new) the_unit (at_record two_records 0 false)) }
+{
+    table.rewind_unit(3)?;
+    table.back_unit(3)?;
+    Ok(())
+}
+
 /// What was answered behind the endfile record.
 #[derive(Clone, Copy)]
 pub struct Refused {

@@ -55,19 +55,19 @@ fn print_item(alloc: Global, value: Expr) -> Result<Body, AllocError>
 fn one_item(alloc: Global, value: Expr) -> Result<Items<ListItem>, AllocError>
     ensures { IfOk result (λ items. items ≡ Item value ∷ []) }
 {
-    let mut items = Items::new(alloc);
+    let mut items = Vec::with_capacity(alloc, 1)?;
     items.push(ListItem::Item(value))?;
-    Ok(items)
+    Ok(Items::from_vec(items))
 }
 
 /// The standard unit, list-directed.
 fn standard_output(alloc: Global) -> Result<Items<Control>, AllocError>
     ensures { IfOk result (λ controls. controls ≡ star UnitWord ∷ star Format ∷ []) }
 {
-    let mut controls = Items::new(alloc);
+    let mut controls = Vec::with_capacity(alloc, 2)?;
     controls.push(starred(ControlWord::Unit))?;
     controls.push(starred(ControlWord::Format))?;
-    Ok(controls)
+    Ok(Items::from_vec(controls))
 }
 
 /// A control word with `*`.

@@ -10,8 +10,8 @@ returns-in-Item c =
     appended_as c.args.statements.now.items (passed c.args.temporary c.in-Item.source) (item_statements c.args.temporary c.args.item.now) _ c.add_passed.result
     (sym (item_statements-Item c.args.temporary c.in-Item.source) ∙ ap (item_statements c.args.temporary) (sym c.in-Item.is)) c.add_passed.ensures
 
-pub returns-in_default : goal.returns-in_default
-returns-in_default c =
+pub returns-in-Loop : goal.returns-in-Loop
+returns-in-Loop c =
     sym (append-nil c.args.statements.now.items)
     ∙ ap (λ zs. c.args.statements.now.items ++ zs)
-    (sym (item_statements-Loop c.args.temporary c.in_default.field-0 c.in_default.field-1) ∙ ap (item_statements c.args.temporary) (sym c.in_default.is))
+    (sym (item_statements-Loop c.args.temporary c.in-Loop.field-0 c.in-Loop.field-1) ∙ ap (item_statements c.args.temporary) (sym c.in-Loop.is))

@@ -1,0 +1,55 @@
+use Rattle.std.proofs.Common.{refl}
+use Rattle.f_tree.specs.Meaning.{everything}
+use Rattle.f_tree.specs.Runs.{runs_opened}
+use Rattle.f_tree.specs.Checks.{checks_opened}
+use Rattle.fortran_rows.specs.WorkedSources.{sources_opened}
+use Rattle.declaration_rows.specs.Judgement.{judgement_opened}
+use Rattle.declaration_rows.specs.StatementRows.{statement_rows_opened}
+use Rattle.declaration_rows.specs.NameRows.{name_rows_opened}
+use Rattle.declaration_rows.specs.UnitRows.{unit_rows_opened}
+use Rattle.declaration_rows.specs.SetRows.{set_rows_opened}
+use Rattle.declaration_rows.specs.GlobalRows.{global_rows_opened}
+use Rattle.declaration_rows.specs.Verdicts.{verdicts_opened}
+use Rattle.declaration_samples.specs.CardRows.{card_rows_opened}
+use Rattle.declaration_samples.specs.OrderSources.{order_sources_opened}
+use Rattle.declaration_samples.proofs.orders.orders_break_rows.Goals as goal
+
+pub returns-clause-dimension_too_late : goal.returns-clause-dimension_too_late
+unfolding everything runs_opened checks_opened sources_opened judgement_opened statement_rows_opened name_rows_opened unit_rows_opened set_rows_opened global_rows_opened verdicts_opened card_rows_opened order_sources_opened
+returns-clause-dimension_too_late c = refl
+
+pub returns-clause-implicit_too_late : goal.returns-clause-implicit_too_late
+unfolding everything runs_opened checks_opened sources_opened judgement_opened statement_rows_opened name_rows_opened unit_rows_opened set_rows_opened global_rows_opened verdicts_opened card_rows_opened order_sources_opened
+returns-clause-implicit_too_late c = refl
+
+pub returns-clause-constants_among_implicits : goal.returns-clause-constants_among_implicits
+unfolding everything runs_opened checks_opened sources_opened judgement_opened statement_rows_opened name_rows_opened unit_rows_opened set_rows_opened global_rows_opened verdicts_opened card_rows_opened order_sources_opened
+returns-clause-constants_among_implicits c = refl
+
+pub returns-clause-constant_typed_too_late : goal.returns-clause-constant_typed_too_late
+unfolding everything runs_opened checks_opened sources_opened judgement_opened statement_rows_opened name_rows_opened unit_rows_opened set_rows_opened global_rows_opened verdicts_opened card_rows_opened order_sources_opened
+returns-clause-constant_typed_too_late c = refl
+
+pub returns-clause-return_of_a_main_program : goal.returns-clause-return_of_a_main_program
+unfolding everything runs_opened checks_opened sources_opened judgement_opened statement_rows_opened name_rows_opened unit_rows_opened set_rows_opened global_rows_opened verdicts_opened card_rows_opened order_sources_opened
+returns-clause-return_of_a_main_program c = refl
+
+pub returns-clause-assignment_in_block_data : goal.returns-clause-assignment_in_block_data
+unfolding everything runs_opened checks_opened sources_opened judgement_opened statement_rows_opened name_rows_opened unit_rows_opened set_rows_opened global_rows_opened verdicts_opened card_rows_opened order_sources_opened
+returns-clause-assignment_in_block_data c = refl
+
+pub returns-clause-definition_too_late : goal.returns-clause-definition_too_late
+unfolding everything runs_opened checks_opened sources_opened judgement_opened statement_rows_opened name_rows_opened unit_rows_opened set_rows_opened global_rows_opened verdicts_opened card_rows_opened order_sources_opened
+returns-clause-definition_too_late c = refl
+
+pub returns-clause-variable_not_declared : goal.returns-clause-variable_not_declared
+unfolding everything runs_opened checks_opened sources_opened judgement_opened statement_rows_opened name_rows_opened unit_rows_opened set_rows_opened global_rows_opened verdicts_opened card_rows_opened order_sources_opened
+returns-clause-variable_not_declared c = refl
+
+pub returns-clause-variable_declared : goal.returns-clause-variable_declared
+unfolding everything runs_opened checks_opened sources_opened judgement_opened statement_rows_opened name_rows_opened unit_rows_opened set_rows_opened global_rows_opened verdicts_opened card_rows_opened order_sources_opened
+returns-clause-variable_declared c = refl
+
+pub returns-clause-implicit_twice : goal.returns-clause-implicit_twice
+unfolding everything runs_opened checks_opened sources_opened judgement_opened statement_rows_opened name_rows_opened unit_rows_opened set_rows_opened global_rows_opened verdicts_opened card_rows_opened order_sources_opened
+returns-clause-implicit_twice c = refl

@@ -1,0 +1,76 @@
+use Rattle.std.proofs.Common.{refl}
+use Rattle.f_tree.specs.Meaning.{everything}
+use Rattle.f_tree.specs.Runs.{runs_opened}
+use Rattle.f_tree.specs.Checks.{checks_opened}
+use Rattle.fortran_rows.specs.WorkedSources.{sources_opened}
+use Rattle.fortran_rows.specs.StorageSources.{storage_sources_opened}
+use Rattle.declaration_rows.specs.Judgement.{judgement_opened}
+use Rattle.declaration_rows.specs.StatementRows.{statement_rows_opened}
+use Rattle.declaration_rows.specs.NameRows.{name_rows_opened}
+use Rattle.declaration_rows.specs.UnitRows.{unit_rows_opened}
+use Rattle.declaration_rows.specs.SetRows.{set_rows_opened}
+use Rattle.declaration_rows.specs.Verdicts.{verdicts_opened}
+use Rattle.declaration_samples.specs.CardRows.{card_rows_opened}
+use Rattle.declaration_samples.specs.OrderSources.{order_sources_opened}
+use Rattle.declaration_samples.specs.StorageStrays.{storage_strays_opened}
+use Rattle.declaration_samples.proofs.storage.storage_breaks_rows.Goals as goal
+
+pub returns-clause-place_tied_to_two : goal.returns-clause-place_tied_to_two
+unfolding everything runs_opened checks_opened sources_opened storage_sources_opened judgement_opened statement_rows_opened name_rows_opened unit_rows_opened set_rows_opened verdicts_opened card_rows_opened order_sources_opened storage_strays_opened
+returns-clause-place_tied_to_two c = refl
+
+pub returns-clause-place_tied_again : goal.returns-clause-place_tied_again
+unfolding everything runs_opened checks_opened sources_opened storage_sources_opened judgement_opened statement_rows_opened name_rows_opened unit_rows_opened set_rows_opened verdicts_opened card_rows_opened order_sources_opened storage_strays_opened
+returns-clause-place_tied_again c = refl
+
+pub returns-clause-subscript_past_the_last : goal.returns-clause-subscript_past_the_last
+unfolding everything runs_opened checks_opened sources_opened storage_sources_opened judgement_opened statement_rows_opened name_rows_opened unit_rows_opened set_rows_opened verdicts_opened card_rows_opened order_sources_opened storage_strays_opened
+returns-clause-subscript_past_the_last c = refl
+
+pub returns-clause-blocks_joined : goal.returns-clause-blocks_joined
+unfolding everything runs_opened checks_opened sources_opened storage_sources_opened judgement_opened statement_rows_opened name_rows_opened unit_rows_opened set_rows_opened verdicts_opened card_rows_opened order_sources_opened storage_strays_opened
+returns-clause-blocks_joined c = refl
+
+pub returns-clause-block_extended_before_its_start : goal.returns-clause-block_extended_before_its_start
+unfolding everything runs_opened checks_opened sources_opened storage_sources_opened judgement_opened statement_rows_opened name_rows_opened unit_rows_opened set_rows_opened verdicts_opened card_rows_opened order_sources_opened storage_strays_opened
+returns-clause-block_extended_before_its_start c = refl
+
+pub returns-clause-block_extended_behind_its_end : goal.returns-clause-block_extended_behind_its_end
+unfolding everything runs_opened checks_opened sources_opened storage_sources_opened judgement_opened statement_rows_opened name_rows_opened unit_rows_opened set_rows_opened verdicts_opened card_rows_opened order_sources_opened storage_strays_opened
+returns-clause-block_extended_behind_its_end c = refl
+
+pub returns-clause-number_past_a_word : goal.returns-clause-number_past_a_word
+unfolding everything runs_opened checks_opened sources_opened storage_sources_opened judgement_opened statement_rows_opened name_rows_opened unit_rows_opened set_rows_opened verdicts_opened card_rows_opened order_sources_opened storage_strays_opened
+returns-clause-number_past_a_word c = refl
+
+pub returns-clause-number_on_a_word : goal.returns-clause-number_on_a_word
+unfolding everything runs_opened checks_opened sources_opened storage_sources_opened judgement_opened statement_rows_opened name_rows_opened unit_rows_opened set_rows_opened verdicts_opened card_rows_opened order_sources_opened storage_strays_opened
+returns-clause-number_on_a_word c = refl
+
+pub returns-clause-one_value : goal.returns-clause-one_value
+unfolding everything runs_opened checks_opened sources_opened storage_sources_opened judgement_opened statement_rows_opened name_rows_opened unit_rows_opened set_rows_opened verdicts_opened card_rows_opened order_sources_opened storage_strays_opened
+returns-clause-one_value c = refl
+
+pub returns-clause-two_values : goal.returns-clause-two_values
+unfolding everything runs_opened checks_opened sources_opened storage_sources_opened judgement_opened statement_rows_opened name_rows_opened unit_rows_opened set_rows_opened verdicts_opened card_rows_opened order_sources_opened storage_strays_opened
+returns-clause-two_values c = refl
+
+pub returns-clause-value_of_another_type : goal.returns-clause-value_of_another_type
+unfolding everything runs_opened checks_opened sources_opened storage_sources_opened judgement_opened statement_rows_opened name_rows_opened unit_rows_opened set_rows_opened verdicts_opened card_rows_opened order_sources_opened storage_strays_opened
+returns-clause-value_of_another_type c = refl
+
+pub returns-clause-value_given_twice : goal.returns-clause-value_given_twice
+unfolding everything runs_opened checks_opened sources_opened storage_sources_opened judgement_opened statement_rows_opened name_rows_opened unit_rows_opened set_rows_opened verdicts_opened card_rows_opened order_sources_opened storage_strays_opened
+returns-clause-value_given_twice c = refl
+
+pub returns-clause-blank_common_filled : goal.returns-clause-blank_common_filled
+unfolding everything runs_opened checks_opened sources_opened storage_sources_opened judgement_opened statement_rows_opened name_rows_opened unit_rows_opened set_rows_opened verdicts_opened card_rows_opened order_sources_opened storage_strays_opened
+returns-clause-blank_common_filled c = refl
+
+pub returns-clause-block_filled_outside : goal.returns-clause-block_filled_outside
+unfolding everything runs_opened checks_opened sources_opened storage_sources_opened judgement_opened statement_rows_opened name_rows_opened unit_rows_opened set_rows_opened verdicts_opened card_rows_opened order_sources_opened storage_strays_opened
+returns-clause-block_filled_outside c = refl
+
+pub returns-clause-block_data : goal.returns-clause-block_data
+unfolding everything runs_opened checks_opened sources_opened storage_sources_opened judgement_opened statement_rows_opened name_rows_opened unit_rows_opened set_rows_opened verdicts_opened card_rows_opened order_sources_opened storage_strays_opened
+returns-clause-block_data c = refl

@@ -1,0 +1,10 @@
+pub mod ControlForms
+pub mod DeclarationForms
+pub mod ExpressionSpelling
+pub mod Forms
+pub mod IncludedFiles
+pub mod ListForms
+pub mod StatementForms
+pub mod StatementSpelling
+pub mod SyntaxRows
+pub mod UnitsOfFile

@@ -1,0 +1,3 @@
+pub mod KindRows
+pub mod PieceRows
+pub mod RefusedTexts

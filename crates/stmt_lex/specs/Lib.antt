@@ -1,0 +1,4 @@
+pub mod DigitValues
+pub mod SeenTokens
+pub mod Standings
+pub mod TokensOfTexts
