@@ -102,7 +102,7 @@ pub(crate) fn label_of(field: &[u8]) -> Option<u32>
 
 /// Whether a text is END: without its blanks it is the word.
 #[tactic(auto, using(crate::proofs::EndLemmas::end_by_blanks))]
-pub(crate) fn is_end(text: &[u8]) -> bool
+pub fn is_end(text: &[u8]) -> bool
     ensures { result ≡ is_end text.now }
 {
     is_word(text, b"end")

@@ -13,5 +13,5 @@ mod reader;
 mod tests;
 
 pub use fortran_text::{CardKind, Statement};
-pub use kinds::card_kind;
+pub use kinds::{card_kind, is_end};
 pub use reader::{Cards, read_cards, read_included};

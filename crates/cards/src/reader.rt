@@ -35,6 +35,13 @@ impl Model for Cards {
 }
 
 impl Cards {
+    /// The statements, in their order.
+    pub fn statements(&self) -> &[Statement]
+        ensures { result.now ≡ self.now.statements }
+    {
+        self.statements.as_slice()
+    }
+
     /// How many statements the file has.
     pub fn len(&self) -> usize
         ensures { result ≡ length self.now.statements }

@@ -1,2 +1,4 @@
 mod Rows
+mod TextLemmas
+mod WordLemmas
 mod Writing

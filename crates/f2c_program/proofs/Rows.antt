@@ -7,22 +7,21 @@ use Rattle.f2c_outside.specs.declared.shelves.Place.{Place}
 use Rattle.f2c_outside.specs.declared.shelves.Place.TheVariants.{Input, Output, Fault}
 use Rattle.f2c_outside.specs.Shelf.{ShelfState, Contents, Rose, Quiet, Lacks, bytes_of, begun, added}
 use Rattle.f2c_outside.proofs.ShelfLaws.{told-nil}
+use Rattle.f_tree.specs.declared.names.Options.{Options}
 use Rattle.f_tree.specs.declared.refusals.Refusal.{Refusal}
-use Rattle.f_tree.specs.FirstRefusal.{IsFirstRefusal, IsAccepted, most_bytes}
-use Rattle.fortran_laws.proofs.RefusalLemmas.{accepted_is_not_refused}
-use Rattle.fortran_laws.proofs.LongFileLemmas.{long_file_refusal, long_file_is_not_accepted}
+use Rattle.fortran_text.specs.FirstFault.{most_bytes}
+use Rattle.file_acceptance.specs.FileRows.{IsFirstRefusal}
+use Rattle.file_acceptance.proofs.LongFiles.{accepted_is_not_refused, long_is_not_accepted, refused_by_front}
 use Rattle.f2c_program.specs.declared.command.Command.{Command}
 use Rattle.f2c_program.specs.declared.command.Command.TheVariants as command
 use Rattle.f2c_program.specs.declared.outcome.Outcome.{Outcome}
 use Rattle.f2c_program.specs.declared.outcome.Outcome.TheVariants as outcome
 use Rattle.f2c_program.specs.Outcomes.{status_of}
 use Rattle.f2c_program.specs.Lines.{line_of, refusal_line, bad_word_line, not_there_line, shelf_fault_line, no_memory_line}
-use Rattle.first_path.specs.Translation.{IsTranslation}
-use Rattle.faithful.specs.Faithful.{IsFaithful}
 use Rattle.f2c_program.specs.TextOfFile.{IsTextOf}
 use Rattle.f2c_program.specs.ShelfLoops.{Both, IsFront, IsKept, IsRead, IsWritten, IsUnwritten, IsFrontWritten, written}
 use Rattle.f2c_program.specs.Messages.{Said, Gained}
-use Rattle.f2c_program.specs.TranslateRows.{WroteText, set_of, IsTranslated, IsRefused, EndedDone, EndedRefused, EndedNotThere, EndedUnread, EndedUnwritten, TranslateEnded, TranslatedBytes, RefusedRow, TranslatedRow, FaultRow, TranslateRows}
+use Rattle.f2c_program.specs.TranslateRows.{WroteText, IsTranslated, IsRefused, EndedDone, EndedRefused, EndedNotThere, EndedUnread, EndedUnwritten, TranslateEnded, TranslatedBytes, RefusedRow, TranslatedRow, FaultRow, TranslateRows}
 use Rattle.f2c_program.specs.TopCall.{Ran, Commanded, HelpRows, BadWordRows, BadWordEnded}
 use Rattle.f2c_program.specs.Usage.{usage}
 use Rattle.f2c_program.proofs.Writing.{front_of}
@@ -115,9 +114,13 @@ not_both : (before after : ℕ) → Rose before after → Quiet before after →
 not_both before after rose quiet =
     let less : before < after = rose quiet.below in let same : after ≡ before = quiet.same in omega arith
 
+-- a file with a text is not refused
+text_is_not_refused : (options : Options) (bytes text : List ℕ) (refusal : Refusal) → IsTextOf options bytes text → IsFirstRefusal options bytes refusal → ⊥
+text_is_not_refused options bytes text refusal made refused = accepted_is_not_refused options bytes made.tree refusal made.accepted refused
+
 rows-done :
-    (from to : Place) (b m a : ShelfState) → EndedDone from to b m → Said [] m a → a ≡ m → TranslateRows from to b a 0
-rows-done from to b m a ended said silent =
+    (options : Options) (from to : Place) (b m a : ShelfState) → EndedDone options from to b m → Said [] m a → a ≡ m → TranslateRows options from to b a 0
+rows-done options from to b m a ended said silent =
     record {
       quiet = λ is. ap (λ (s : ShelfState). s.faults) silent ∙ ended.quiet;
       statuses = inl refl;
@@ -125,42 +128,42 @@ rows-done from to b m a ended said silent =
       refused_where =
           for_some b.told _
           (λ c is refusal refused.
-          absurd (accepted_is_not_refused (set_of from c) refusal
-          (some_at b.told (IsTranslated from ended.text) c is ended.translated).accepted refused.first));
+          absurd (text_is_not_refused options (bytes_of from c) ended.text refusal
+          (some_at b.told (IsTranslated options from ended.text) c is ended.translated).text_of refused.first));
       fault_or_missing = λ is. absurd (omega arith);
       translated = λ is.
-          both-map (λ c. added to ended.text (begun to c)) b.told a.told (TranslatedRow from to)
+          both-map (λ c. added to ended.text (begun to c)) b.told a.told (TranslatedRow options from to)
           (said-nil m a said ∙ ended.written.whole)
           (λ c is. record {
             text = ended.text;
-            translated = some_at b.told (IsTranslated from ended.text) c is ended.translated;
+            translated = some_at b.told (IsTranslated options from ended.text) c is ended.translated;
             written = refl;
           });
       complete = λ quiet. for_some b.told _ (λ c is there accepted. inl refl);
       complete_refused = λ quiet.
           for_some b.told _
           (λ c is refusal refused.
-          absurd (accepted_is_not_refused (set_of from c) refusal
-          (some_at b.told (IsTranslated from ended.text) c is ended.translated).accepted refused.first));
+          absurd (text_is_not_refused options (bytes_of from c) ended.text refusal
+          (some_at b.told (IsTranslated options from ended.text) c is ended.translated).text_of refused.first));
       fault = λ is. absurd (omega arith);
       no_memory = λ is. absurd (omega arith);
     }
 
 rows-refused :
-    (from to : Place) (refusal : Refusal) (b m a : ShelfState)
-    → EndedRefused from refusal b m
+    (options : Options) (from to : Place) (refusal : Refusal) (b m a : ShelfState)
+    → EndedRefused options from refusal b m
     → Said (refusal_line refusal) m a
-    → TranslateRows from to b a 1
-rows-refused from to refusal b m a ended said =
+    → TranslateRows options from to b a 1
+rows-refused options from to refusal b m a ended said =
     record {
       quiet = λ is. absurd (omega arith);
       statuses = inr (inl refl);
       refused_only = λ is.
-          both_then b.told a.told (Gained (refusal_line refusal) b.faults a.faults) (RefusedRow from b.faults a.faults)
+          both_then b.told a.told (Gained (refusal_line refusal) b.faults a.faults) (RefusedRow options from b.faults a.faults)
           (gained (refusal_line refusal) b.told b.faults m a ended.kept.same ended.kept.later said)
           (λ c d is gain. record {
             refusal = refusal;
-            first = (some_at b.told (IsRefused from refusal) c is ended.refused).first;
+            first = (some_at b.told (IsRefused options from refusal) c is ended.refused).first;
             said = gain;
           });
       refused_where = for_some b.told _ (λ c is other refused. inl refl);
@@ -169,19 +172,19 @@ rows-refused from to refusal b m a ended said =
       complete = λ quiet.
           for_some b.told _
           (λ c is there accepted.
-          absurd (accepted_is_not_refused (set_of from c) refusal accepted
-          (some_at b.told (IsRefused from refusal) c is ended.refused).first));
+          absurd (accepted_is_not_refused options (bytes_of from c) accepted.tree refusal accepted.is
+          (some_at b.told (IsRefused options from refusal) c is ended.refused).first));
       complete_refused = λ quiet. for_some b.told _ (λ c is other refused. inl refl);
       fault = λ is. absurd (omega arith);
       no_memory = λ is. absurd (omega arith);
     }
 
 rows-not_there :
-    (from to place : Place) (b m a : ShelfState)
+    (options : Options) (from to place : Place) (b m a : ShelfState)
     → EndedNotThere from place b m
     → Said (not_there_line place) m a
-    → TranslateRows from to b a 3
-rows-not_there from to place b m a ended said =
+    → TranslateRows options from to b a 3
+rows-not_there options from to place b m a ended said =
     record {
       quiet = λ is. absurd (omega arith);
       statuses = inr (inr (inl refl));
@@ -194,7 +197,7 @@ rows-not_there from to place b m a ended said =
       complete_refused = λ quiet.
           for_some b.told _ (λ c is refusal refused. absurd (refused.there (some_at b.told (Lacks from) c is ended.lacks)));
       fault = λ is.
-          both_then b.told a.told (Gained (not_there_line from) b.faults a.faults) (FaultRow from to b.faults a.faults)
+          both_then b.told a.told (Gained (not_there_line from) b.faults a.faults) (FaultRow options from to b.faults a.faults)
           (gained (not_there_line from) b.told b.faults m a ended.kept.same ended.kept.later
           (subst (λ (p : Place). Said (not_there_line p) m a) ended.named said))
           (λ c d is gain. inl (some_at b.told (Lacks from) c is ended.lacks, gain));
@@ -202,11 +205,11 @@ rows-not_there from to place b m a ended said =
     }
 
 rows-unread :
-    (from to place : Place) (b m a : ShelfState)
+    (options : Options) (from to place : Place) (b m a : ShelfState)
     → EndedUnread from place b m
     → Said (shelf_fault_line place) m a
-    → TranslateRows from to b a 3
-rows-unread from to place b m a ended said =
+    → TranslateRows options from to b a 3
+rows-unread options from to place b m a ended said =
     let rose : Rose b.faults a.faults = λ below.
     let last = said.later
     in let less : b.faults < m.faults = ended.rose (omega arith) in omega arith
@@ -220,7 +223,7 @@ rows-unread from to place b m a ended said =
       complete = λ quiet. absurd (not_both b.faults a.faults rose quiet);
       complete_refused = λ quiet. absurd (not_both b.faults a.faults rose quiet);
       fault = λ is.
-          both_then b.told a.told (Gained (shelf_fault_line from) b.faults a.faults) (FaultRow from to b.faults a.faults)
+          both_then b.told a.told (Gained (shelf_fault_line from) b.faults a.faults) (FaultRow options from to b.faults a.faults)
           (gained (shelf_fault_line from) b.told b.faults m a ended.kept.same ended.kept.later
           (subst (λ (p : Place). Said (shelf_fault_line p) m a) ended.named said))
           (λ c d is gain. inr (inl gain));
@@ -228,42 +231,42 @@ rows-unread from to place b m a ended said =
     }
 
 unwritten-row :
-    (from to : Place) (text : List ℕ) (b m a : ShelfState)
-    → IfSome b.told (IsTranslated from text)
+    (options : Options) (from to : Place) (text : List ℕ) (b m a : ShelfState)
+    → IfSome b.told (IsTranslated options from text)
     → IsUnwritten to text b m
     → Said (shelf_fault_line to) m a
     → (m.told ≡ b.told) ⊎ ((part : List ℕ) × IsFront part text × (m.told ≡ written to part b.told))
-    → Both b.told a.told (FaultRow from to b.faults a.faults)
-unwritten-row from to text b m a translated unwritten said (inl same) =
-    both_then b.told a.told (Gained (shelf_fault_line to) b.faults a.faults) (FaultRow from to b.faults a.faults)
+    → Both b.told a.told (FaultRow options from to b.faults a.faults)
+unwritten-row options from to text b m a translated unwritten said (inl same) =
+    both_then b.told a.told (Gained (shelf_fault_line to) b.faults a.faults) (FaultRow options from to b.faults a.faults)
     (gained (shelf_fault_line to) b.told b.faults m a same unwritten.later said)
     (λ c d is gain.
     inr (inr (record {
       text = text;
-      translated = some_at b.told (IsTranslated from text) c is translated;
+      translated = some_at b.told (IsTranslated options from text) c is translated;
       middle = c;
       front = inl refl;
       said = gain;
     })))
-unwritten-row from to text b m a translated unwritten said (inr part) =
+unwritten-row options from to text b m a translated unwritten said (inr part) =
     both_mapped (λ c. added to part.0 (begun to c)) b.told a.told (Gained (shelf_fault_line to) b.faults a.faults)
-    (FaultRow from to b.faults a.faults)
+    (FaultRow options from to b.faults a.faults)
     (gained (shelf_fault_line to) (written to part.0 b.told) b.faults m a part.2 unwritten.later said)
     (λ c d is gain.
     inr (inr (record {
       text = text;
-      translated = some_at b.told (IsTranslated from text) c is translated;
+      translated = some_at b.told (IsTranslated options from text) c is translated;
       middle = added to part.0 (begun to c);
       front = inr (part.0, part.1, refl);
       said = gain;
     })))
 
 rows-unwritten :
-    (from to place : Place) (b m a : ShelfState)
-    → EndedUnwritten from to place b m
+    (options : Options) (from to place : Place) (b m a : ShelfState)
+    → EndedUnwritten options from to place b m
     → Said (shelf_fault_line place) m a
-    → TranslateRows from to b a 3
-rows-unwritten from to place b m a ended said =
+    → TranslateRows options from to b a 3
+rows-unwritten options from to place b m a ended said =
     let rose : Rose b.faults a.faults = λ below.
     let last = said.later
     in let less : b.faults < m.faults = ended.unwritten.rose (omega arith) in omega arith
@@ -277,14 +280,14 @@ rows-unwritten from to place b m a ended said =
       complete = λ quiet. absurd (not_both b.faults a.faults rose quiet);
       complete_refused = λ quiet. absurd (not_both b.faults a.faults rose quiet);
       fault = λ is.
-          unwritten-row from to ended.text b m a ended.translated ended.unwritten
+          unwritten-row options from to ended.text b m a ended.translated ended.unwritten
           (subst (λ (p : Place). Said (shelf_fault_line p) m a) ended.named said) ended.unwritten.front;
       no_memory = λ is. absurd (omega arith);
     }
 
 rows-no_memory :
-    (from to : Place) (b m a : ShelfState) → IsKept b m → Said no_memory_line m a → TranslateRows from to b a 5
-rows-no_memory from to b m a kept said =
+    (options : Options) (from to : Place) (b m a : ShelfState) → IsKept b m → Said no_memory_line m a → TranslateRows options from to b a 5
+rows-no_memory options from to b m a kept said =
     record {
       quiet = λ is. absurd (omega arith);
       statuses = inr (inr (inr refl));
@@ -299,18 +302,18 @@ rows-no_memory from to b m a kept said =
     }
 
 rows-translate :
-    (words : List (List ℕ)) (from to : Place) (b m a : ShelfState) (ended : Outcome)
-    → TranslateEnded from to b m ended
+    (options : Options) (words : List (List ℕ)) (from to : Place) (b m a : ShelfState) (ended : Outcome)
+    → TranslateEnded options from to b m ended
     → Said (line_of words ended) m a
     → (ended ≡ outcome.Done → a ≡ m)
-    → TranslateRows from to b a (status_of ended)
-rows-translate words from to b m a outcome.Done ran said silent = rows-done from to b m a ran said (silent refl)
-rows-translate words from to b m a (outcome.Refused refusal) ran said silent = rows-refused from to refusal b m a ran said
-rows-translate words from to b m a (outcome.BadWord number) ran said silent = absurd ran
-rows-translate words from to b m a (outcome.NotThere place) ran said silent = rows-not_there from to place b m a ran said
-rows-translate words from to b m a (outcome.Unread place) ran said silent = rows-unread from to place b m a ran said
-rows-translate words from to b m a (outcome.Unwritten place) ran said silent = rows-unwritten from to place b m a ran said
-rows-translate words from to b m a outcome.NoMemory ran said silent = rows-no_memory from to b m a ran said
+    → TranslateRows options from to b a (status_of ended)
+rows-translate options words from to b m a outcome.Done ran said silent = rows-done options from to b m a ran said (silent refl)
+rows-translate options words from to b m a (outcome.Refused refusal) ran said silent = rows-refused options from to refusal b m a ran said
+rows-translate options words from to b m a (outcome.BadWord number) ran said silent = absurd ran
+rows-translate options words from to b m a (outcome.NotThere place) ran said silent = rows-not_there options from to place b m a ran said
+rows-translate options words from to b m a (outcome.Unread place) ran said silent = rows-unread options from to place b m a ran said
+rows-translate options words from to b m a (outcome.Unwritten place) ran said silent = rows-unwritten options from to place b m a ran said
+rows-translate options words from to b m a outcome.NoMemory ran said silent = rows-no_memory options from to b m a ran said
 
 rows-bad_word :
     (words : List (List ℕ)) (number : ℕ) (b m a : ShelfState) (ended : Outcome)
@@ -359,75 +362,71 @@ pub commanded :
     → Said (line_of words ended) m a
     → (ended ≡ outcome.Done → a ≡ m)
     → Commanded words asked b a (status_of ended)
-commanded words command.Translate b m a ended ran said silent = rows-translate words Input Output b m a ended ran said silent
+commanded words (command.Translate options) b m a ended ran said silent = rows-translate options words Input Output b m a ended ran said silent
 commanded words command.Help b m a ended ran said silent = rows-help words b m a ended ran said silent
 commanded words (command.BadWord number) b m a ended ran said silent = rows-bad_word words number b m a ended ran said
 
--- a file that is accepted once it was read up to a number of bytes was read whole
+-- a file that has a text once it was read up to a number of bytes was read whole
 whole-take :
-    (most : ℕ) (bytes text : List ℕ)
+    (options : Options) (most : ℕ) (bytes text made : List ℕ)
     → most ≡ suc most_bytes
-    → IsAccepted (bytes ∷ [])
+    → IsTextOf options bytes made
     → bytes ≡ take most text
     → bytes ≡ text
-whole-take most bytes text is accepted front =
-    let short : most_bytes < length bytes → ⊥ = λ long. long_file_is_not_accepted bytes long accepted
+whole-take options most bytes text made is of front =
+    let short : most_bytes < length bytes → ⊥ = λ long. long_is_not_accepted options bytes of.tree long of.accepted
     in let e : length bytes ≡ min most (length text) = ap length front ∙ length-take most text
     in front ∙ take_all most text (omega (arith, short))
 
 -- the first refusal of what was read of a file is that of the file
 refusal-take :
-    (most : ℕ) (text : List ℕ) (refusal : Refusal)
+    (options : Options) (most : ℕ) (text : List ℕ) (refusal : Refusal)
     → most ≡ suc most_bytes
     → (most_bytes < length text) ⊎ (length text ≤ most_bytes)
-    → IsFirstRefusal (take most text ∷ []) refusal
-    → IsFirstRefusal (text ∷ []) refusal
-refusal-take most text refusal is (inl long) first = (long_file_refusal text most is long refusal).1 first
-refusal-take most text refusal is (inr short) first =
-    subst (λ (file : List ℕ). IsFirstRefusal (file ∷ []) refusal) (take_all most text (omega arith)) first
+    → IsFirstRefusal options (take most text) refusal
+    → IsFirstRefusal options text refusal
+refusal-take options most text refusal is (inl long) first =
+    refused_by_front options text refusal long (subst (λ (n : ℕ). IsFirstRefusal options (take n text) refusal) is first)
+refusal-take options most text refusal is (inr short) first =
+    subst (λ (file : List ℕ). IsFirstRefusal options file refusal) (take_all most text (omega arith)) first
 
 translated_at :
-    (from : Place) (most : ℕ) (bytes text : List ℕ) (told : Option Contents)
+    (options : Options) (from : Place) (most : ℕ) (bytes text : List ℕ) (told : Option Contents)
     → most ≡ suc most_bytes
     → IfSome told (λ contents. ¬ Lacks from contents)
     → IfSome told (λ contents. bytes ≡ take most (bytes_of from contents))
-    → IsTextOf bytes text
-    → IfSome told (IsTranslated from text)
-translated_at from most bytes text None long there front done = tt
-translated_at from most bytes text (Some c) long there front done =
-    let whole : bytes ≡ bytes_of from c = whole-take most bytes (bytes_of from c) long done.accepted front
-    in record {
-      there = there;
-      accepted = subst (λ (file : List ℕ). IsAccepted (file ∷ [])) whole done.accepted;
-      translation = subst (λ (file : List ℕ). IsTranslation (file ∷ []) text) whole done.translation;
-      faithful = subst (λ (file : List ℕ). IsFaithful (file ∷ []) (text ∷ [])) whole done.faithful;
-    }
+    → IsTextOf options bytes text
+    → IfSome told (IsTranslated options from text)
+translated_at options from most bytes text None long there front done = tt
+translated_at options from most bytes text (Some c) long there front done =
+    let whole : bytes ≡ bytes_of from c = whole-take options most bytes (bytes_of from c) text long done front
+    in record { there = there; text_of = subst (λ (file : List ℕ). IsTextOf options file text) whole done }
 
 refused_at :
-    (from : Place) (most : ℕ) (bytes : List ℕ) (refusal : Refusal) (told : Option Contents)
+    (options : Options) (from : Place) (most : ℕ) (bytes : List ℕ) (refusal : Refusal) (told : Option Contents)
     → most ≡ suc most_bytes
     → IfSome told (λ contents. ¬ Lacks from contents)
     → IfSome told (λ contents. bytes ≡ take most (bytes_of from contents))
-    → IsFirstRefusal (bytes ∷ []) refusal
-    → IfSome told (IsRefused from refusal)
-refused_at from most bytes refusal None long there front first = tt
-refused_at from most bytes refusal (Some c) long there front first =
+    → IsFirstRefusal options bytes refusal
+    → IfSome told (IsRefused options from refusal)
+refused_at options from most bytes refusal None long there front first = tt
+refused_at options from most bytes refusal (Some c) long there front first =
     record {
       there = there;
       first =
-          refusal-take most (bytes_of from c) refusal long (cases_lt most_bytes (length (bytes_of from c)))
-          (subst (λ (file : List ℕ). IsFirstRefusal (file ∷ []) refusal) front first);
+          refusal-take options most (bytes_of from c) refusal long (cases_lt most_bytes (length (bytes_of from c)))
+          (subst (λ (file : List ℕ). IsFirstRefusal options file refusal) front first);
     }
 
 -- what was read of a file that is accepted is all that the place holds
 held_at :
-    (from : Place) (most : ℕ) (bytes text : List ℕ) (told : Option Contents)
+    (options : Options) (from : Place) (most : ℕ) (bytes text : List ℕ) (told : Option Contents)
     → most ≡ suc most_bytes
     → IfSome told (λ contents. bytes ≡ take most (bytes_of from contents))
-    → IsTextOf bytes text
+    → IsTextOf options bytes text
     → IfSome told (λ contents. bytes ≡ bytes_of from contents)
-held_at from most bytes text None long front done = tt
-held_at from most bytes text (Some c) long front done = whole-take most bytes (bytes_of from c) long done.accepted front
+held_at options from most bytes text None long front done = tt
+held_at options from most bytes text (Some c) long front done = whole-take options most bytes (bytes_of from c) text long done front
 
 -- what was read of a file is a front of what the place holds
 front_at :
@@ -468,40 +467,40 @@ kept-kept b m a first second =
     record { same = second.same ∙ first.same; later = let one = first.later in let two = second.later in omega arith }
 
 pub translated_whole :
-    (from to : Place) (most : ℕ) (b m a : ShelfState) (bytes : List ℕ) (ended : Outcome)
+    (options : Options) (from to : Place) (most : ℕ) (b m a : ShelfState) (bytes : List ℕ) (ended : Outcome)
     → most ≡ suc most_bytes
     → IsRead from most b m bytes
-    → TranslatedBytes bytes to m a ended
-    → TranslateEnded from to b a ended
-translated_whole from to most b m a bytes outcome.Done long read done =
+    → TranslatedBytes options bytes to m a ended
+    → TranslateEnded options from to b a ended
+translated_whole options from to most b m a bytes outcome.Done long read done =
     record {
       bytes = bytes;
       text = done.0;
       made = done.1;
-      whole = held_at from most bytes done.0 b.told long read.front done.1;
+      whole = held_at options from most bytes done.0 b.told long read.front done.1;
       quiet = done.2.quiet ∙ read.quiet;
-      translated = translated_at from most bytes done.0 b.told long read.there read.front done.1;
+      translated = translated_at options from most bytes done.0 b.told long read.there read.front done.1;
       written = written-same to done.0 b m a read.kept read.quiet done.2;
     }
-translated_whole from to most b m a bytes (outcome.Refused refusal) long read refused =
+translated_whole options from to most b m a bytes (outcome.Refused refusal) long read refused =
     record {
       kept = kept-kept b m a read.kept refused.1;
       bytes = bytes;
       first = refused.0;
       front = front_at from most bytes b.told read.front;
-      refused = refused_at from most bytes refusal b.told long read.there read.front refused.0;
+      refused = refused_at options from most bytes refusal b.told long read.there read.front refused.0;
     }
-translated_whole from to most b m a bytes (outcome.BadWord number) long read never = absurd never
-translated_whole from to most b m a bytes (outcome.NotThere place) long read never = absurd never
-translated_whole from to most b m a bytes (outcome.Unread place) long read never = absurd never
-translated_whole from to most b m a bytes (outcome.Unwritten place) long read unwritten =
+translated_whole options from to most b m a bytes (outcome.BadWord number) long read never = absurd never
+translated_whole options from to most b m a bytes (outcome.NotThere place) long read never = absurd never
+translated_whole options from to most b m a bytes (outcome.Unread place) long read never = absurd never
+translated_whole options from to most b m a bytes (outcome.Unwritten place) long read unwritten =
     record {
       named = unwritten.0;
       bytes = bytes;
       text = unwritten.1.0;
       made = unwritten.1.1;
-      whole = held_at from most bytes unwritten.1.0 b.told long read.front unwritten.1.1;
-      translated = translated_at from most bytes unwritten.1.0 b.told long read.there read.front unwritten.1.1;
+      whole = held_at options from most bytes unwritten.1.0 b.told long read.front unwritten.1.1;
+      translated = translated_at options from most bytes unwritten.1.0 b.told long read.there read.front unwritten.1.1;
       unwritten = unwritten-same to unwritten.1.0 b m a read.kept unwritten.1.2;
     }
-translated_whole from to most b m a bytes outcome.NoMemory long read kept = kept-kept b m a read.kept kept
+translated_whole options from to most b m a bytes outcome.NoMemory long read kept = kept-kept b m a read.kept kept

@@ -21,7 +21,7 @@ pub record BadWordEnded (number : ℕ) (b a : ShelfState) (ended : Outcome) : Ty
 
 -- how each command ends, before its message is written
 abbrev pub Ran : Command → ShelfState → ShelfState → Outcome → Type 0
-Ran command.Translate b a ended = TranslateEnded Input Output b a ended
+Ran (command.Translate options) b a ended = TranslateEnded options Input Output b a ended
 Ran command.Help b a ended = WroteText Output usage b a ended
 Ran (command.BadWord number) b a ended = BadWordEnded number b a ended
 
@@ -48,6 +48,6 @@ pub record HelpRows (b a : ShelfState) (status : ℕ) : Type 0 where
 
 -- what the exit status says of each command
 abbrev pub Commanded : List (List ℕ) → Command → ShelfState → ShelfState → ℕ → Type 0
-Commanded words command.Translate b a status = TranslateRows Input Output b a status
+Commanded words (command.Translate options) b a status = TranslateRows options Input Output b a status
 Commanded words command.Help b a status = HelpRows b a status
 Commanded words (command.BadWord number) b a status = BadWordRows words number b a status

@@ -5,9 +5,10 @@ use Rattle.f2c_program.specs.Lines.{joined}
 abbrev pub usage : List ℕ
 usage =
     joined
-    (codes "usage: f2c <FILE.f >FILE.c\n"
+    (codes "usage: f2c [-72] <FILE.f >FILE.c\n"
     ∷ codes "Translates the FORTRAN 77 file on standard input to C on standard output.\n"
     ∷ codes "\n"
+    ∷ codes "  -72         refuses text past column 72\n"
     ∷ codes "  -h, --help  puts this on standard output, and reads nothing\n"
     ∷ codes "\n"
     ∷ codes "Status 0: it is done. 1: the file is refused, and a line says at which card and why.\n"

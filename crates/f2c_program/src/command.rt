@@ -1,15 +1,17 @@
 //! What the words of the command line ask for.
 
 ghost use Rattle.std.specs.Prelude.{◌≡◌};
-ghost use Rattle.f2c_program.specs.CommandWords.{is_help, command_of};
+ghost use Rattle.f2c_outside.specs.Texts.{word_at};
+ghost use Rattle.f2c_program.specs.CommandWords as words_of;
 
+use f_tree::names::Options;
 use f2c_outside::texts::Words;
 
 /// What is to be done.
 #[derive(Clone, Copy)]
 pub enum Command {
-    /// Read Input to its end and write its translation on Output.
-    Translate,
+    /// Read Input to its end and write its translation on Output, under these options.
+    Translate(Options),
     /// Write the usage on Output.
     Help,
     /// Nothing: with the word of this number, counted from 1, no command goes on.
@@ -18,19 +20,73 @@ pub enum Command {
 
 /// Whether a word asks for the usage.
 fn is_help(word: &[u8]) -> bool
-    ensures { result ≡ is_help word.now }
+    ensures { result ≡ words_of.is_help word.now }
 {
     word == b"-h".as_slice() || word == b"--help".as_slice()
 }
 
-/// The command that the words ask for: translation where there is no word, and the usage where `-h` or
+/// Whether a word says that text past column 72 is refused.
+fn is_long_cards(word: &[u8]) -> bool
+    ensures { result ≡ words_of.is_long_cards word.now }
+{
+    word == b"-72".as_slice()
+}
+
+/// The options of a translation, where text past column 72 is refused or not.
+fn options_with(long_cards: bool) -> Options
+    ensures { result ≡ words_of.options_with long_cards }
+{
+    Options {
+        undeclared: false,
+        onetrip: false,
+        long_cards,
+        checks: false,
+    }
+}
+
+/// Whether the word with a number is an option of a translation.
+fn is_option(words: &Words, number: usize) -> bool
+    ensures { result ≡ words_of.is_option (word_at number words.now) }
+{
+    match words.get(number) {
+        Some(word) => is_long_cards(word),
+        None => false,
+    }
+}
+
+/// The number of the first word that is no option of a translation.
+#[tactic(auto, using(crate::proofs::WordLemmas::goes_on, crate::proofs::WordLemmas::stops, crate::proofs::WordLemmas::ends))]
+fn first_other(words: &Words) -> Option<usize>
+    ensures { result ≡ words_of.first_other 1 words.now }
+{
+    let mut passed = 0;
+    while passed < words.len() {
+        if !is_option(words, passed + 1) {
+            return Some(passed + 1);
+        }
+        passed += 1;
+    }
+    None
+}
+
+/// A translation under options, unless a word is none.
+fn translation_by(words: &Words) -> Command
+    ensures { result ≡ words_of.translation_by (words_of.first_other 1 words.now) }
+{
+    match first_other(words) {
+        Some(number) => Command::BadWord(number),
+        None => Command::Translate(options_with(true)),
+    }
+}
+
+/// The command that the words ask for: translation where there is no word or options alone, and the usage where `-h` or
 /// `--help` is the only one. No other command has a word yet.
 pub fn command_of_words(words: &Words) -> Command
-    ensures { result ≡ command_of words.now }
+    ensures { result ≡ words_of.command_of words.now }
 {
     match words.get(1) {
-        None => Command::Translate,
-        Some(first) if !is_help(first) => Command::BadWord(1),
+        None => Command::Translate(options_with(false)),
+        Some(first) if !is_help(first) => translation_by(words),
         Some(_) if words.len() == 1 => Command::Help,
         Some(_) => Command::BadWord(2),
     }

@@ -82,6 +82,60 @@ static integer c__3 = 3;
 } /* MAIN__ */
 ";
 
+/// One file for each row of cards and of statements, and files with more than one fault: by phase, then card, then number.
+const REFUSED: [(&[u8], &[u8]); 14] = [
+    (
+        b"      I=\x01\n      END\n",
+        b"f2c: <stdin>:1: F01 character outside the set\n",
+    ),
+    (
+        b"1A    I=1\n      END\n",
+        b"f2c: <stdin>:1: F02 bad label field\n",
+    ),
+    (
+        b"     1 I=1\n      END\n",
+        b"f2c: <stdin>:1: F04 continuation without statement\n",
+    ),
+    (b"      I=1\n", b"f2c: <stdin>:1: F06 no END\n"),
+    (b"      I=1\n      J\n", b"f2c: <stdin>:2: F06 no END\n"),
+    (
+        b"      I=1\n      J\n      END\n",
+        b"f2c: <stdin>:2: F10 unknown statement\n",
+    ),
+    (
+        b"      I=1+\n      END\n",
+        b"f2c: <stdin>:1: F11 syntax error\n",
+    ),
+    (
+        b"      I=2147483648\n      END\n",
+        b"f2c: <stdin>:1: F12 integer too large\n",
+    ),
+    (
+        b"      ABCDEFGHIJKLMNOPQRSTUVWXYZABCDEF=1\n      END\n",
+        b"f2c: <stdin>:1: F13 name too long\n",
+    ),
+    (
+        b"      PRINT *,''\n      END\n",
+        b"f2c: <stdin>:1: F14 bad character constant\n",
+    ),
+    (
+        b"      REAL X\n      END\n",
+        b"f2c: <stdin>:1: F15 type not supported\n",
+    ),
+    (
+        b"      PAUSE\n      END\n",
+        b"f2c: <stdin>:1: F16 statement or specifier not supported\n",
+    ),
+    (
+        b"      DO 10 I=1,2\n   10 CONTINUE\n      I=\n      END\n",
+        b"f2c: <stdin>:3: F11 syntax error\n",
+    ),
+    (
+        b"      DO 10 I=1,2\n   10 CONTINUE\n      END\n",
+        b"f2c: <stdin>:1: F99 not built yet\n",
+    ),
+];
+
 const NOT_BUILT_AT_1: &[u8] = b"f2c: <stdin>:1: F99 not built yet\n";
 
 /// Calls `f2c` over a shelf in memory with these bytes on Input, of which the shelf call of this number
@@ -138,15 +192,20 @@ fn expect_bad_word(
 #[test]
 fn worked_rows(rt: HostRuntime) -> Result<(), Fail> {
     let alloc = rt.alloc();
-    let second: &[u8] = b"f2c: <stdin>:2: F99 not built yet\n";
     expect_text(&rt, alloc, CARDS, TEXT)?;
     expect_text(&rt, alloc, C_WORD_CARDS, C_WORD_TEXT)?;
     expect_refusal(&rt, alloc, b"", NOT_BUILT_AT_1)?;
-    expect_refusal(&rt, alloc, b"      I=1+\n      END\n", NOT_BUILT_AT_1)?;
-    expect_refusal(&rt, alloc, b"      I=1\n", NOT_BUILT_AT_1)?;
-    expect_refusal(&rt, alloc, b"      I=1\n      J\n", second)?;
+    for (cards, line) in REFUSED {
+        expect_refusal(&rt, alloc, cards, line)?;
+    }
     expect_bad_word(&rt, alloc, &["-q"], b"f2c: word 1: -q\n")?;
-    expect_bad_word(&rt, alloc, &["a.f", "-q"], b"f2c: word 1: a.f\n")
+    expect_bad_word(&rt, alloc, &["a.f", "-q"], b"f2c: word 1: a.f\n")?;
+    expect_bad_word(&rt, alloc, &["-72", "-q"], b"f2c: word 2: -q\n")?;
+    let (status, shelf) = call(alloc, &["-72", "-72"], C_WORD_CARDS, 0)?;
+    assert_eq!(rt; status, 1);
+    let line: &[u8] = b"f2c: <stdin>:3: F05 text past column 72\n";
+    assert_eq!(rt; shelf.fault_text(), line);
+    Ok(())
 }
 
 /// So many cards `I=1`, and one with END that is filled with blanks up to this number of bytes.
@@ -176,14 +235,14 @@ fn input_at_its_limits(rt: HostRuntime) -> Result<(), Fail> {
         &rt,
         alloc,
         &too_many_cards,
-        b"f2c: <stdin>:65537: F99 not built yet\n",
+        b"f2c: <stdin>:65537: F07 file too long\n",
     )?;
     let too_many_bytes = long_input(alloc, 1, 16_777_217)?;
     expect_refusal(
         &rt,
         alloc,
         &too_many_bytes,
-        b"f2c: <stdin>:2: F99 not built yet\n",
+        b"f2c: <stdin>:2: F07 file too long\n",
     )
 }
 

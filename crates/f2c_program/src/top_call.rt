@@ -13,6 +13,7 @@ use crate::shelf_loops::{ReadFail, read_place, write_place};
 use crate::translation::translation;
 use crate::usage::write_usage;
 use f_tree::Fail;
+use f_tree::names::Options;
 use f2c_outside::shelves::{Place, Shelf};
 use f2c_outside::texts::Words;
 use f2c_outside::unit_table::UnitTable;
@@ -43,11 +44,17 @@ fn write_translation<H: Shelf>(shelf: &mut H, to: Place, text: &[u8]) -> Outcome
 }
 
 /// Writes the translation of these bytes, which were read, to a place.
-fn translate_bytes<H: Shelf>(alloc: Global, shelf: &mut H, bytes: &[u8], to: Place) -> Outcome
+fn translate_bytes<H: Shelf>(
+    alloc: Global,
+    options: &Options,
+    shelf: &mut H,
+    bytes: &[u8],
+    to: Place,
+) -> Outcome
     requires { IsTarget to }
-    ensures { TranslatedBytes bytes.now to (H.state shelf.old) (H.state shelf.new) result }
+    ensures { TranslatedBytes options.now bytes.now to (H.state shelf.old) (H.state shelf.new) result }
 {
-    match translation(alloc, bytes) {
+    match translation(alloc, options, bytes) {
         Err(Fail::NoMemory) => Outcome::NoMemory,
         Err(Fail::Refused(refusal)) => Outcome::Refused(refusal),
         Ok(text) => write_translation(shelf, to, &text),
@@ -56,16 +63,22 @@ fn translate_bytes<H: Shelf>(alloc: Global, shelf: &mut H, bytes: &[u8], to: Pla
 
 /// Reads one place and writes the translation of what it holds to another. Nothing is written where the
 /// file is refused.
-fn translate_place<H: Shelf>(alloc: Global, shelf: &mut H, from: Place, to: Place) -> Outcome
+fn translate_place<H: Shelf>(
+    alloc: Global,
+    options: &Options,
+    shelf: &mut H,
+    from: Place,
+    to: Place,
+) -> Outcome
     requires source { IsSource from }
     requires target { IsTarget to }
-    ensures { TranslateEnded from to (H.state shelf.old) (H.state shelf.new) result }
+    ensures { TranslateEnded options.now from to (H.state shelf.old) (H.state shelf.new) result }
 {
     match read_place(alloc, shelf, &from, MOST_BYTES) {
         Err(ReadFail::NoMemory) => Outcome::NoMemory,
         Err(ReadFail::NotThere) => Outcome::NotThere(from),
         Err(ReadFail::Failed) => Outcome::Unread(from),
-        Ok(bytes) => translate_bytes(alloc, shelf, &bytes, to),
+        Ok(bytes) => translate_bytes(alloc, options, shelf, &bytes, to),
     }
 }
 
@@ -74,7 +87,9 @@ fn carry_out<H: Shelf>(alloc: Global, words: &Words, shelf: &mut H) -> Outcome
     ensures { Ran (command_of words.now) (H.state shelf.old) (H.state shelf.new) result }
 {
     match command_of_words(words) {
-        Command::Translate => translate_place(alloc, shelf, Place::Input, Place::Output),
+        Command::Translate(options) => {
+            translate_place(alloc, &options, shelf, Place::Input, Place::Output)
+        },
         Command::Help => write_usage(shelf),
         Command::BadWord(number) => Outcome::BadWord(number),
     }

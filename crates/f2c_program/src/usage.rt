@@ -12,10 +12,11 @@ use f2c_outside::shelves::{Place, Shelf};
 pub(crate) fn write_usage<H: Shelf>(shelf: &mut H) -> Outcome
     ensures { WroteText place.Output usage (H.state shelf.old) (H.state shelf.new) result }
 {
-    let pieces: [&[u8]; 7] = [
-        b"usage: f2c <FILE.f >FILE.c\n",
+    let pieces: [&[u8]; 8] = [
+        b"usage: f2c [-72] <FILE.f >FILE.c\n",
         b"Translates the FORTRAN 77 file on standard input to C on standard output.\n",
         b"\n",
+        b"  -72         refuses text past column 72\n",
         b"  -h, --help  puts this on standard output, and reads nothing\n",
         b"\n",
         b"Status 0: it is done. 1: the file is refused, and a line says at which card and why.\n",

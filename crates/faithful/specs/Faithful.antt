@@ -1,4 +1,4 @@
--- When the C texts are faithful to the FORTRAN files: what the contract of the top call says of every translation.
+-- When C texts are faithful to the trees of FORTRAN files: what the contract of the top call says of every translation.
 use Rattle.std.specs.Prelude.{◌≡◌, ℕ, ◌*◌, ◌≤◌, nat_eq, Bool, true, List, [], ◌∷◌, Option, Some, None}
 use Rattle.run_state.specs.Units.{Units}
 use Rattle.f_tree.specs.declared.names.Options.{Options}
@@ -6,7 +6,6 @@ use Rattle.f_tree.specs.declared.units.File.{File}
 use Rattle.f_tree.specs.Values.{NoMeaning, Gives}
 use Rattle.f_tree.specs.Store.{Store}
 use Rattle.f_tree.specs.Facts.{ProgramUnit}
-use Rattle.f_tree.specs.FirstRefusal.{IsSpelled}
 use Rattle.f_tree.specs.Setting.{Setting, IsSetting}
 use Rattle.f_tree.specs.Images.{image_store}
 use Rattle.f_tree.specs.Meaning.{units_in, ftn, act_of, Closed}
@@ -42,11 +41,9 @@ pub record SamePrograms (program : List ProgramUnit) (texts : List CFile) : Type
   pub linked : is_linked (first_broken_rule texts) ≡ true
   pub runs : (setting : Setting) → IsSetting program setting → (units : Units) → IsUnits units → (n : ℕ) → SameRuns program setting texts units n
 
--- each file is spelled by a tree, and its text by a C tree that has exactly the file's functions and external objects; the units
--- have a setting, in which all that DATA statements say is defined; and where the set is closed, the programs are the same
-pub record Faithful (options : Options) (files texts : List (List ℕ)) : Type 0 where
-  pub trees : List File
-  pub spelled : IsSpelled files trees
+-- each text spells a C tree that has exactly the functions and external objects of the file; the units have a setting, in which all that
+-- DATA statements say is defined; and where the set is closed, the programs are the same
+pub record Faithful (options : Options) (trees : List File) (texts : List (List ℕ)) : Type 0 where
   pub c_trees : List CFile
   pub written : SpellAll texts c_trees
   pub signatures : EachHasSignatures options trees c_trees
@@ -55,7 +52,3 @@ pub record Faithful (options : Options) (files texts : List (List ℕ)) : Type 0
   pub imaged : (homes : Setting) → IsSetting (units_in options trees) homes
       → (store : Store) × (image_store homes (units_in options trees) ≡ Gives store)
   pub closed : Closed (units_in options trees) → SamePrograms (units_in options trees) c_trees
-
--- whatever the options
-abbrev pub IsFaithful : List (List ℕ) → List (List ℕ) → Type 0
-IsFaithful files texts = (options : Options) → Faithful options files texts

@@ -1,9 +1,11 @@
+pub mod PathBuilt
 pub mod PathCSteps
 pub mod PathClosed
 pub mod PathCode
 pub mod PathContents
 pub mod PathDeclared
 pub mod PathFaithful
+pub mod PathFiles
 pub mod PathImage
 pub mod PathLinked
 pub mod PathLinking
@@ -21,7 +23,6 @@ pub mod PathStart
 pub mod PathStore
 pub mod PathSums
 pub mod PathText
-pub mod PathTextLength
 pub mod PathTextLines
 pub mod PathTextNames
 pub mod PathTextScope

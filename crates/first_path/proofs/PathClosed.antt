@@ -1,24 +1,21 @@
--- A file that is spelled is closed: it has one main program, which refers to no procedure.
+-- A file that is built is closed: it has one main program, which refers to no procedure.
 use Rattle.std.specs.Prelude.{◌≡◌, ℕ, ◌&&◌, true, false, List, [], ◌∷◌, if◌then◌else◌}
 use Rattle.std.proofs.Common.{refl, sym, ap, ◌∙◌, subst}
 use Rattle.f_tree.specs.declared.names.Class.TheVariants as class
 use Rattle.f_tree.specs.declared.names.Options.{Options}
 use Rattle.f_tree.specs.declared.statements.Stmt.{Stmt}
-use Rattle.f_tree.specs.FirstRefusal as spelled
-use Rattle.f_tree.specs.FirstRefusal.{IsSpelled, main_program}
-use Rattle.f_tree.specs.StatementsOfFile.{statements_of_file}
+use Rattle.f_tree.specs.declared.units.File.{File}
+use Rattle.f_tree.specs.FirstRefusal.{main_program}
 use Rattle.f_tree.specs.Values.{Bytes}
 use Rattle.f_tree.specs.Facts.{Attribute, MainProgram, ProgramUnit}
 use Rattle.f_tree.specs.Uses.{Use, uses_of_statements}
 use Rattle.f_tree.specs.Attributes.{Constant, Expansion, attribute_of, described, all_described, arrays_of}
 use Rattle.f_tree.specs.Lines.{is_procedure, procedures_among, referenced_among, references_of, program_of, with_ties, unit_read}
-use Rattle.f_tree.specs.Meaning.{is_main, mains, all_found, all_references_found, Closed}
+use Rattle.f_tree.specs.Meaning.{units_in, is_main, mains, all_found, all_references_found, Closed}
 use Rattle.fortran_laws.proofs.SimpleNames.{AreSimple, AreAlone, statements_alone}
-use Rattle.fortran_laws.proofs.SimpleSpelling.{spelled_statements}
 use Rattle.fortran_laws.proofs.SimpleAttributes.{each_is_variable}
-use Rattle.first_path.specs.Translation.{EachFileIsClosed}
 use Rattle.first_path.proofs.PathStart.{set_of, unit_main}
-use Rattle.first_path.proofs.PathSet.{unit_in, units_of_tree}
+use Rattle.first_path.proofs.PathSet.{unit_in}
 
 not_procedure : (a : Attribute) → a.class ≡ class.Stored → is_procedure a ≡ false
 unfolding is_procedure
@@ -46,10 +43,7 @@ unit_closed u kind none = record {
   found = ap (λ names. all_found (set_of u) names && true) none;
 }
 
-pub each_file_is_closed : EachFileIsClosed
-each_file_is_closed options bytes [] is = elim is [ ]
-each_file_is_closed options bytes (tree ∷ (other ∷ trees)) (spelled.more _ _ _ _ _ s rest) = elim rest [ ]
-each_file_is_closed options bytes (tree ∷ []) (spelled.more _ _ _ _ _ s (spelled.none _)) =
-    let simple : AreSimple s.trees = spelled_statements 0 true (statements_of_file bytes) s.trees s.spelled in
-    subst Closed (sym (units_of_tree options tree s.trees s.units))
-    (unit_closed (unit_in options s.trees) (unit_main options 0 s.trees) (unit_references options s.trees simple))
+pub built_closed : (options : Options) (tree : File) (trees : List Stmt) → AreSimple trees → units_in options (tree ∷ []) ≡ set_of (unit_in options trees) →
+    Closed (units_in options (tree ∷ []))
+built_closed options tree trees simple units =
+    subst Closed (sym units) (unit_closed (unit_in options trees) (unit_main options 0 trees) (unit_references options trees simple))

@@ -1,6 +1,6 @@
 -- The translation of a file of sums is faithful: the text spells the translated tree, and the run of the C program is in the same state after each
 -- statement step.
-use Rattle.std.specs.Prelude.{◌≡◌, ℕ, ◌+◌, ◌*◌, ◌≤◌, pos, Bool, true, List, [], ◌∷◌, ◌++◌, length, map, flat_map, is_none, if◌then◌else◌, Option, Some, None, slice_get}
+use Rattle.std.specs.Prelude.{◌≡◌, ℕ, ◌+◌, ◌*◌, ◌^◌, ◌≤◌, pos, Bool, List, [], ◌∷◌, ◌++◌, length, map, flat_map, is_none, if◌then◌else◌, Option, Some, None, slice_get}
 use Rattle.std.proofs.Common.{refl, sym, ap, ◌∙◌, subst, arith}
 use Rattle.run_state.specs.Units.{Units}
 use Rattle.simulation.specs.Machine.{Frame, Runs, Has, numbers, run}
@@ -8,10 +8,8 @@ use Rattle.f_tree.specs.declared.names.Options.{Options}
 use Rattle.f_tree.specs.declared.units.File.{File}
 use Rattle.f_tree.specs.declared.expressions.Expr.{Expr}
 use Rattle.f_tree.specs.declared.statements.Stmt.{Stmt}
-use Rattle.f_tree.specs.FirstRefusal.{IsSpelled, IsAccepted, main_program}
-use Rattle.f_tree.specs.FirstRefusal as spelled
-use Rattle.f_tree.specs.StatementsOfFile.{statements_of_file}
-use Rattle.f_tree.specs.Holding.{EachSpelledRunIsMeant}
+use Rattle.f_tree.specs.FirstRefusal.{main_program}
+use Rattle.f_tree.specs.Holding.{EachRunIsMeant}
 use Rattle.c_text.specs.Printed.{printed}
 use Rattle.f_tree.specs.Values.{NoMeaning, Gives}
 use Rattle.f_tree.specs.Store.{Store}
@@ -19,7 +17,7 @@ use Rattle.f_tree.specs.Lines.{unit_read}
 use Rattle.f_tree.specs.Images.{images_from, undefined_store, image_store}
 use Rattle.f_tree.specs.Facts.{ProgramUnit}
 use Rattle.f_tree.specs.Setting.{Setting, IsSetting}
-use Rattle.f_tree.specs.Meaning.{RunState, units_in, units_of, program, facts_at, started, ftn, act_of}
+use Rattle.f_tree.specs.Meaning.{RunState, units_in, program, facts_at, started, ftn, act_of}
 use Rattle.f_tree.specs.Runs.{setting_apart}
 use Rattle.f_tree.specs.World as fortran
 use Rattle.c_tree.specs.World as c
@@ -27,6 +25,7 @@ use Rattle.c_tree.specs.Objects.{Object}
 use Rattle.c_tree.specs.Steps.{language}
 use Rattle.c_tree.specs.Meaning.{meaning, run_of, machine, step_factor}
 use Rattle.first_translator.specs.Translated.{translated, lists_in}
+use Rattle.faithful.specs.Faithful as faithful
 use Rattle.faithful.specs.Faithful.{SpellAll, SameRuns, Faithful}
 use Rattle.faithful.specs.SameState.{Same, running, ended, SameWorld, SameActive}
 use Rattle.faithful.specs.SameTransfer as same
@@ -36,7 +35,6 @@ use Rattle.faithful.specs.StorageImage.{Homes, block_name}
 use Rattle.faithful.specs.FrameImage as each
 use Rattle.faithful.specs.FrameImage.{Each, ProcedureStands, FrameStands, Image}
 use Rattle.fortran_laws.proofs.SimpleNames.{AreSimple}
-use Rattle.first_path.specs.Translation.{IsTranslation}
 use Rattle.first_path.proofs.PathProgram.{sum_value, sum_value-Int, code_of, code_of-Assign, code_of-printed, code_of-End, code_from}
 use Rattle.first_path.proofs.PathStore.{store_of, no_values}
 use Rattle.edit_meaning.specs.Listed as list
@@ -44,8 +42,8 @@ use Rattle.first_path.proofs.PathUnit.{first_statement, print_transfer}
 use Rattle.first_path.proofs.PathCSteps.{printing}
 use Rattle.first_path.proofs.PathStart.{set_of, facts_of, main_frame, started_runs, unit_blocks, unit_ties, no_images}
 use Rattle.first_path.proofs.PathSums as sums
-use Rattle.first_path.proofs.PathSums.{AreSmall, AreOfSums, OfSums, spelled_sums, none_in_range, value_in_range}
-use Rattle.first_path.proofs.PathSet.{unit_in, units_of_tree, unit_setting, only_setting, file_unit, file_images}
+use Rattle.first_path.proofs.PathSums.{AreSmall, AreOfSums, OfSums, none_in_range, value_in_range}
+use Rattle.first_path.proofs.PathSet.{unit_in, units_of_tree, unit_setting, only_setting, unit_formed, file_unit, file_images}
 use Rattle.first_path.proofs.PathImage.{homes_of, names_stand, units_stand, stored_is_variable}
 use Rattle.first_path.proofs.PathSignatures.{main_signature, signatures_of_main, blocks_of_main}
 use Rattle.first_path.proofs.PathLinked.{unit_linked}
@@ -55,7 +53,8 @@ use Rattle.first_path.proofs.PathLinking.{unit_file, unit_function, unit_program
 use Rattle.first_path.proofs.PathMachine.{run_begins, meaning_is, main_wraps_none, step_factor_is}
 use Rattle.first_path.proofs.PathObjects.{Stand, same_range}
 use Rattle.first_path.proofs.PathContents.{contents_of, contents_apart, contents_stand, Covers, contents_cover}
-use Rattle.first_path.proofs.PathTextLength as texts
+use Rattle.first_path.proofs.PathBuilt.{AreBuilt}
+use Rattle.first_path.proofs.PathText.{built_unit, text_of_file}
 use Rattle.first_path.proofs.PathSimulation as pair
 use Rattle.first_path.proofs.PathSimulation.{Pair, Fits, IsCovered, HasTexts, Matched, Keeps, runs_keep, After, at_position}
 
@@ -266,41 +265,33 @@ unfolding image_store images_from
 its_image options trees simple homes = (undefined_store homes, no_images _ (Gives (undefined_store homes)) (unit_in options trees).images (file_images options trees simple))
 
 -- over every setting the runs are the same
-its_runs : EachSpelledRunIsMeant → (options : Options) (bytes : List ℕ) (tree : File) (trees : List Stmt) → IsSpelled (bytes ∷ []) (tree ∷ []) → (is : IsUnit trees) → AreOfSums trees →
+its_runs : EachRunIsMeant → (options : Options) (tree : File) (trees : List Stmt) → (is : IsUnit trees) → AreOfSums trees →
     units_in options (tree ∷ []) ≡ set_of (unit_in options trees) → (homes : Setting) → IsSetting (units_in options (tree ∷ [])) homes → (units : Units) (n : ℕ) →
     SameRuns (units_in options (tree ∷ [])) homes (unit_file trees ∷ []) units n
-unfolding units_of
-its_runs meant options bytes tree trees spelled is of_sums its_units homes setting units n =
-    subst (λ h. SameRuns (units_in options (tree ∷ [])) h (unit_file trees ∷ []) units n) (sym (only_setting options (bytes ∷ []) tree spelled homes setting))
+its_runs meant options tree trees is of_sums its_units homes setting units n =
+    subst (λ h. SameRuns (units_in options (tree ∷ [])) h (unit_file trees ∷ []) units n) (sym (only_setting options tree trees is.simple its_units homes setting))
     (subst (λ S. SameRuns S (setting_apart S) (unit_file trees ∷ []) units n) (sym its_units)
     (same_runs options trees is of_sums units n
-    (subst (λ S. act_of (ftn (setting_apart S) S units n) ≡ Some NoMeaning → ⊥) its_units
-    (meant options (bytes ∷ []) (tree ∷ []) (setting_apart (units_in options (tree ∷ []))) units n spelled (unit_setting options (bytes ∷ []) tree spelled)))))
+    (meant (setting_apart (set_of (unit_in options trees))) (set_of (unit_in options trees)) units n
+    (unit_formed options trees is.simple (setting_apart (set_of (unit_in options trees))) (unit_setting options trees is.simple)))))
 
-faithful_by : EachSpelledRunIsMeant → (options : Options) (bytes text : List ℕ) → length bytes ≤ 16777216 → (tree : File) → IsSpelled (bytes ∷ []) (tree ∷ []) → text ≡ printed (translated tree) →
-    Faithful options (bytes ∷ []) (text ∷ [])
-faithful_by meant options bytes text short tree (spelled.more _ _ _ _ _ s rest) is_printed =
-    let whole : IsSpelled (bytes ∷ []) (tree ∷ []) = spelled.more 0 bytes tree [] [] s rest in
-    let is : IsUnit s.trees = texts.file_unit 0 bytes tree s short in
-    let of_sums : AreOfSums s.trees = spelled_sums 0 true (statements_of_file bytes) s.trees s.spelled in
-    let units : units_in options (tree ∷ []) ≡ set_of (unit_in options s.trees) = units_of_tree options tree s.trees s.units in
-    let c_tree : translated tree ≡ unit_file s.trees = translated_one 0 s.trees tree s.units in
+-- a file whose unit is as a main program that begins the file
+pub faithful_as : EachRunIsMeant → (options : Options) (tree : File) (trees : List Stmt) → AreBuilt trees → 1 + length trees ≤ 2 ^ 64 →
+    tree.units ≡ main_program 0 trees ∷ [] → Faithful options (tree ∷ []) (printed (translated tree) ∷ [])
+faithful_as meant options tree trees built short its_units =
+    let is : IsUnit trees = built_unit trees built.simple built.small short in
+    let units : units_in options (tree ∷ []) ≡ set_of (unit_in options trees) = units_of_tree options tree trees its_units in
+    let c_tree : translated tree ≡ unit_file trees = translated_one 0 trees tree its_units in
     record {
-      trees = tree ∷ [];
-      spelled = whole;
-      c_trees = unit_file s.trees ∷ [];
-      written = subst (λ file. SpellAll (text ∷ []) (file ∷ [])) c_tree (texts.written_text bytes text (record { tree = tree; spelled = whole; is_printed = is_printed }) short);
-      signatures = more tree (unit_file s.trees) [] [] (its_signatures options tree s.trees is.simple s.units) none;
+      c_trees = unit_file trees ∷ [];
+      written = subst (λ file. SpellAll (printed (translated tree) ∷ []) (file ∷ [])) c_tree
+          (faithful.more (printed (translated tree)) (translated tree) [] [] (text_of_file 0 tree trees its_units built.small short) faithful.none);
+      signatures = more tree (unit_file trees) [] [] (its_signatures options tree trees is.simple its_units) none;
       setting = setting_apart (units_in options (tree ∷ []));
-      is_setting = unit_setting options (bytes ∷ []) tree whole;
-      imaged = λ homes setting. subst (λ S. (store : Store) × (image_store homes S ≡ Gives store)) (sym units) (its_image options s.trees is.simple homes);
+      is_setting = subst (λ S. IsSetting S (setting_apart S)) (sym units) (unit_setting options trees is.simple);
+      imaged = λ homes setting. subst (λ S. (store : Store) × (image_store homes S ≡ Gives store)) (sym units) (its_image options trees is.simple homes);
       closed = λ closed. record {
-        linked = unit_linked s.trees;
-        runs = λ homes setting units_before are n. its_runs meant options bytes tree s.trees whole is of_sums units homes setting units_before n;
+        linked = unit_linked trees;
+        runs = λ homes setting units_before are n. its_runs meant options tree trees is built.sums units homes setting units_before n;
       };
     }
-
--- the translation of an accepted file is faithful
-pub translation_is_faithful : EachSpelledRunIsMeant → (options : Options) (bytes text : List ℕ) → IsAccepted (bytes ∷ []) → IsTranslation (bytes ∷ []) text → Faithful options (bytes ∷ []) (text ∷ [])
-translation_is_faithful meant options bytes text accepted translation =
-    faithful_by meant options bytes text (texts.accepted_at_most bytes accepted) translation.tree translation.spelled translation.is_printed

@@ -1,6 +1,5 @@
--- Sums as they are spelled: constants of 32 bits, and values of 32 bits where the names have such.
-use Rattle.std.specs.Prelude.{◌≡◌, ℕ, zero, suc, ◌≤◌, ℤ, pos, ◌+ℤ◌, Bool, true, false, List, [], ◌∷◌, Option, Some, None, slice_get, if◌then◌else◌}
-use Rattle.std.specs.Str.Parse.{digits_value}
+-- Sums as they are translated: constants of 32 bits, and values of 32 bits where the names have such.
+use Rattle.std.specs.Prelude.{◌≡◌, ℕ, ◌≤◌, ℤ, pos, ◌+ℤ◌, Bool, true, false, List, [], ◌∷◌, Option, Some, None, slice_get, if◌then◌else◌}
 use Rattle.std.proofs.Common.{refl, sym, ap, ◌∙◌, subst}
 use Rattle.std.proofs.lemmas.Bool.{le-leb}
 use Rattle.f_tree.specs.declared.expressions.Expr.{Expr}
@@ -10,18 +9,13 @@ use Rattle.f_tree.specs.declared.statements.Body.{Body}
 use Rattle.f_tree.specs.declared.statements.Body as statement
 use Rattle.f_tree.specs.declared.statements.ListItem as list
 use Rattle.f_tree.specs.declared.statements.Stmt.{Stmt}
-use Rattle.f_tree.specs.StatementsOfFile.{Statement}
-use Rattle.f_tree.specs.StatementKind.{StatementKind}
-use Rattle.f_tree.specs.Spelling as spelling
-use Rattle.f_tree.specs.Spelling.{Level, SpellsExpr, IsName, Spells, printed}
-use Rattle.f_tree.specs.FirstRefusal as spelled
-use Rattle.f_tree.specs.FirstRefusal.{SpellsUnit}
+use Rattle.f_tree.specs.Spelling.{IsName, printed}
 use Rattle.f_tree.specs.Values.{Bytes, in_range}
-use Rattle.fortran_laws.proofs.SimpleNames.{IsSum, a_name, a_constant, a_sum}
+use Rattle.fortran_laws.proofs.SimpleNames.{IsSum}
 use Rattle.first_path.proofs.PathProgram.{Environment, kept_in_range, sum_of, sum_value, sum_value-Int, sum_value-Name, sum_value-Plus}
 use Rattle.first_path.proofs.PathStore.{no_values}
 
--- ## Sums as they are spelled
+-- ## Sums as they are translated
 
 -- each constant is of 32 bits
 pub data AreSmall : Expr → Type 0 where
@@ -29,21 +23,9 @@ pub data AreSmall : Expr → Type 0 where
   small_constant : (e : Expr) (z : ℤ) → e ≡ tree.Int z → in_range z ≡ true → AreSmall e
   small_sum : (e a b : Expr) → e ≡ tree.Binary operator.Plus a b → AreSmall a → AreSmall b → AreSmall e
 
-small_number : (n : ℕ) → n ≤ 2147483647 → in_range (pos n) ≡ true
+pub small_number : (n : ℕ) → n ≤ 2147483647 → in_range (pos n) ≡ true
 unfolding in_range
 small_number n is = le-leb n 2147483647 is
-
-pub spelled_small : (level : Level) (text : List ℕ) (e : Expr) → SpellsExpr level text e → AreSmall e
-spelled_small level text e (spelling.name _ _ is same) = small_name e text same
-spelled_small level text e (spelling.constant _ _ is same) = small_constant e (pos (digits_value 10 text)) same (small_number (digits_value 10 text) is.small)
-spelled_small level text e (spelling.alone _ _ h) = spelled_small _ text e h
-spelled_small level text e (spelling.added _ left right _ a b cut same ha hb) = small_sum e a b same (spelled_small _ left a ha) (spelled_small _ right b hb)
-
-pub spelled_sum : (level : Level) (text : List ℕ) (e : Expr) → SpellsExpr level text e → IsSum e
-spelled_sum level text e (spelling.name _ _ is same) = a_name e text same is
-spelled_sum level text e (spelling.constant _ _ is same) = a_constant e (pos (digits_value 10 text)) same
-spelled_sum level text e (spelling.alone _ _ h) = spelled_sum _ text e h
-spelled_sum level text e (spelling.added _ left right _ a b cut same ha hb) = a_sum e a b same (spelled_sum _ left a ha) (spelled_sum _ right b hb)
 
 -- a statement of such a sum
 pub data OfSums : Body → Type 0 where
@@ -51,21 +33,9 @@ pub data OfSums : Body → Type 0 where
   prints : (b : Body) (e : Expr) → b ≡ printed (list.Item e ∷ []) → IsSum e → AreSmall e → OfSums b
   ends : (b : Body) → b ≡ statement.End → OfSums b
 
-spelled_body : (labelled : Bool) (kind : StatementKind) (text : List ℕ) (b : Body) → Spells labelled kind text b → OfSums b
-spelled_body labelled kind text b (spelling.assignment _ target right _ value cut same is h) = assigns b target value same is (spelled_sum _ right value h) (spelled_small _ right value h)
-spelled_body labelled kind text b (spelling.print _ right _ value cut same h) = prints b value same (spelled_sum _ right value h) (spelled_small _ right value h)
-spelled_body labelled kind text b (spelling.end _ _ cut same) = ends b same
-
 -- each statement is one
 abbrev pub AreOfSums : List Stmt → Type 0
 AreOfSums trees = (i : ℕ) (s : Stmt) → slice_get trees i ≡ Some s → OfSums s.body
-
-pub spelled_sums : (file : ℕ) (first : Bool) (sources : List Statement) (trees : List Stmt) → SpellsUnit file first sources trees → AreOfSums trees
-spelled_sums file first sources trees (spelled.ends _ source t s) zero z at = let same : t ≡ z = cc in subst (λ (y : Stmt). OfSums y.body) same (spelled_body _ _ source.text t.body s.spells)
-spelled_sums file first sources trees (spelled.ends _ source t s) (suc i) z at = absurd (cc)
-spelled_sums file first sources trees (spelled.goes_on _ kind source t more others other s rest) zero z at =
-    let same : t ≡ z = cc in subst (λ (y : Stmt). OfSums y.body) same (spelled_body _ kind source.text t.body s.spells)
-spelled_sums file first sources trees (spelled.goes_on _ kind source t more others other s rest) (suc i) z at = spelled_sums file false more others rest i z at
 
 -- ## Values of 32 bits
 

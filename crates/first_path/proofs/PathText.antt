@@ -7,10 +7,9 @@ use Rattle.std.proofs.Common.{refl, ap, sym, ◌∙◌, subst}
 use native.Mathlib.Omega.{arith}
 use Rattle.f_tree.specs.CNames as names
 use Rattle.f_tree.specs.CNames.{Bytes, variable_name, main_name, made_name, constant_name, NumberTemporary, ControlList}
-use Rattle.f_tree.specs.StatementsOfFile.{Statement, statements_of_file}
 use Rattle.f_tree.specs.Spelling.{IsName}
-use Rattle.f_tree.specs.FirstRefusal.{SpellsUnit, SpellsFile}
-use Rattle.fortran_laws.proofs.SimpleSpelling.{spelled_statements}
+use Rattle.f_tree.specs.FirstRefusal.{main_program}
+use Rattle.fortran_laws.proofs.SimpleNames.{AreSimple}
 use Rattle.f_tree.specs.declared.statements.Body.{Body}
 use Rattle.f_tree.specs.declared.statements.Stmt.{Stmt}
 use Rattle.f_tree.specs.declared.units.File.{File}
@@ -42,7 +41,7 @@ use Rattle.first_path.proofs.PathLinking.{unit_file, translated_one}
 use Rattle.first_path.proofs.PathTextNames.{IsWord, is_named, variable_word, temporary_word, list_word, constant_word, called_word, is_fortran_name, in_flat_map, Ascending, no_number, one_number, distinct_constants}
 use Rattle.first_path.proofs.PathTextScope.{EachOf, each_append, IsOurs, a_temporary, a_function as a_builtin, a_variable, a_list, lists_at_most, each_ours, first_apart, constant_is_none, without_keeps, declared_still, IsObject, IsFunction, with_all, all_keep_object, object_there, function_there, first_among, temporary_object, variable_object, list_object, builtin_function, temporary_named, function_named, variable_named, list_named}
 use Rattle.first_path.proofs.PathTextLines.{our_line, heading_reads, end_reads, constant_whole}
-use Rattle.first_path.proofs.PathTextStatements.{AreSmallStatements, small_statements, IsLine, Needs, body_lines}
+use Rattle.first_path.proofs.PathTextStatements.{AreSmallStatements, IsLine, Needs, body_lines}
 use Rattle.first_path.proofs.PathTextUses.{each_from, to_each, variables_named, constants_ascend, few_temporaries, most_of, first_temporary}
 
 -- ## What is declared
@@ -383,18 +382,16 @@ main_text statements small short =
     (constants.reads (printed_function (main_function statements) ++ []) (function.tokens []) (function.reads [] [] at_the_end))
     (constants.spells (function.tokens []) (main_function statements ∷ []) (function_of_main statements (function.tokens []) main (function.spells [])))
 
--- what is spelled is a unit of sums whose program is linked
-pub spelled_unit : (file : ℕ) (first : Bool) (sources : List Statement) (trees : List Stmt) → SpellsUnit file first sources trees → 1 + length trees ≤ 2 ^ 64 → IsUnit trees
-spelled_unit file first sources trees spelled short =
-    let small : AreSmallStatements trees = small_statements file first sources trees spelled in
-    record {
-      simple = spelled_statements file first sources trees spelled;
-      named = to_each IsName (λ v. names.is_name v ≡ true) (λ x name. is_fortran_name x name) (variables_of trees) (variables_named trees small);
-      small = λ z among. number_at z 0 (unit_constants trees) among (constants_ascend trees small);
-      short = short;
-    }
+-- what is built is a unit of sums whose program is linked
+pub built_unit : (trees : List Stmt) → AreSimple trees → AreSmallStatements trees → 1 + length trees ≤ 2 ^ 64 → IsUnit trees
+built_unit trees simple small short = record {
+  simple = simple;
+  named = to_each IsName (λ v. names.is_name v ≡ true) (λ x name. is_fortran_name x name) (variables_of trees) (variables_named trees small);
+  small = λ z among. number_at z 0 (unit_constants trees) among (constants_ascend trees small);
+  short = short;
+}
 
 -- so the printed translation of a file spells the translation
-pub text_of_file : (file : ℕ) (bytes : List ℕ) (one : File) → (s : SpellsFile file bytes one) → 1 + length s.trees ≤ 2 ^ 64 → CText (printed (translated one)) (translated one)
-text_of_file file bytes one s short =
-    subst (λ c. CText (printed c) c) (sym (translated_one file s.trees one s.units)) (main_text s.trees (small_statements file true (statements_of_file bytes) s.trees s.spelled) short)
+pub text_of_file : (file : ℕ) (one : File) (trees : List Stmt) → one.units ≡ main_program file trees ∷ [] → AreSmallStatements trees → 1 + length trees ≤ 2 ^ 64 →
+    CText (printed (translated one)) (translated one)
+text_of_file file one trees units small short = subst (λ c. CText (printed c) c) (sym (translated_one file trees one units)) (main_text trees small short)

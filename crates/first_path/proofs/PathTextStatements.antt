@@ -1,15 +1,9 @@
 -- The C statements of a unit of sums: each reads in its line, where what it names is declared.
-use Rattle.std.specs.Prelude.{◌≡◌, ℕ, ◌<◌, ◌≤◌, ◌^◌, pos, Bool, List, [], ◌∷◌, ◌++◌}
-use Rattle.std.specs.Str.Parse.{digits_value}
+use Rattle.std.specs.Prelude.{◌≡◌, ℕ, ◌<◌, ◌≤◌, ◌^◌, pos, List, [], ◌∷◌, ◌++◌}
 use Rattle.std.proofs.Common.{refl, ap, sym, ◌∙◌, subst}
 use native.Mathlib.Omega.{arith}
 use Rattle.f_tree.specs.CNames.{Bytes, variable_name, made_name, constant_name, NumberTemporary, ControlList}
-use Rattle.f_tree.specs.StatementKind.{StatementKind}
-use Rattle.f_tree.specs.StatementsOfFile.{Statement}
-use Rattle.f_tree.specs.Spelling as spelling
-use Rattle.f_tree.specs.Spelling.{IsName, SpellsExpr, Spells, printed}
-use Rattle.f_tree.specs.FirstRefusal as unit
-use Rattle.f_tree.specs.FirstRefusal.{SpellsUnit}
+use Rattle.f_tree.specs.Spelling.{IsName, printed}
 use Rattle.f_tree.specs.declared.expressions.Expr.{Expr}
 use Rattle.f_tree.specs.declared.expressions.Expr as tree
 use Rattle.f_tree.specs.declared.expressions.BinaryOp.TheVariants as operator
@@ -35,7 +29,7 @@ use Rattle.first_path.proofs.PathTextNames.{IsWord, variable_word, temporary_wor
 use Rattle.first_path.proofs.PathTextScope.{EachOf, each_append, IsObject, IsFunction}
 use Rattle.first_path.proofs.PathTextLines.{Expression, name_piece, number_piece, sum_piece, set_line, HasLibrary, start_line, end_line, return_line, item_line}
 
--- ## Units that are spelled
+-- ## Units that are translated
 
 -- a sum of names of type INTEGER and constants of the subset
 pub data IsSmallSum : Expr → Type 0 where
@@ -51,23 +45,6 @@ pub data IsSmallBody : Body → Type 0 where
 
 abbrev pub AreSmallStatements : List Stmt → Type 0
 AreSmallStatements statements = EachOf (λ s. IsSmallBody s.body) statements
-
--- such are those that are spelled
-small_sum : (level : spelling.Level) (text : List ℕ) (e : Expr) → SpellsExpr level text e → IsSmallSum e
-small_sum level text e (spelling.name w x is same) = a_name e text same is
-small_sum level text e (spelling.constant w x is same) = a_constant e (digits_value 10 text) same is.small
-small_sum level text e (spelling.alone w x h) = small_sum _ text e h
-small_sum level text e (spelling.added w left right x a b cut same ha hb) = a_sum e a b same (small_sum _ left a ha) (small_sum _ right b hb)
-
-small_body : (labelled : Bool) (kind : StatementKind) (text : List ℕ) (b : Body) → Spells labelled kind text b → IsSmallBody b
-small_body labelled kind text b (spelling.assignment w target right x value cut same is h) = assigns b target value same is (small_sum _ right value h)
-small_body labelled kind text b (spelling.print w right x value cut same h) = prints b value same (small_sum _ right value h)
-small_body labelled kind text b (spelling.end w x cut same) = ends b same
-
-pub small_statements : (file : ℕ) (first : Bool) (sources : List Statement) (trees : List Stmt) → SpellsUnit file first sources trees → AreSmallStatements trees
-small_statements file first sources trees (unit.ends _ source one s) = (small_body _ _ source.text one.body s.spells, tt)
-small_statements file first sources trees (unit.goes_on _ kind source one more others other s rest) =
-    (small_body _ kind source.text one.body s.spells, small_statements file _ more others rest)
 
 -- ## Statements
 

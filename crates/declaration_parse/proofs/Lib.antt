@@ -1,0 +1,2 @@
+pub mod DeclarationBlockLemmas
+pub mod DeclarationLemmas

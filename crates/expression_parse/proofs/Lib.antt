@@ -1,0 +1,4 @@
+pub mod ConstantTexts
+pub mod ReadingSteps
+pub mod WantedLemmas
+pub mod WholeReadings

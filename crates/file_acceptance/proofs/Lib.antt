@@ -1,0 +1,2 @@
+pub mod LongFiles
+pub mod FirstRefusals

@@ -1,0 +1,7 @@
+pub mod StatementLemmas
+pub mod UnitLemmas
+pub mod FirstRowLemmas
+pub mod FirstRefusalLemmas
+pub mod OpenBlockLemmas
+pub mod NestLemmas
+pub mod IncludeLemmas

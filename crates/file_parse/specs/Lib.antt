@@ -1,0 +1,4 @@
+pub mod FileTrees
+pub mod FirstRefusals
+pub mod OpenBlocks
+pub mod ReadSoFar

@@ -1,9 +1,0 @@
-mod CardLemmas
-mod ExpressionLemmas
-mod FormLemmas
-mod FormedLemmas
-mod KindLemmas
-mod AnswerLemmas
-mod ReadingLemmas
-mod StatementLemmas
-mod TextLemmas

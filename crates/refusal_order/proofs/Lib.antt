@@ -1,0 +1,2 @@
+pub mod RefusalOrder
+pub mod FirstOfBoth
