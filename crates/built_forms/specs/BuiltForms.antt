@@ -3,9 +3,9 @@
 use Rattle.std.specs.Prelude.{ℕ, ◌<◌, ◌^◌, nat_le, ℤ, pos, int_le, Bool, true, false, not, ◌&&◌, List, [], ◌∷◌, ◌++◌, length, is_none, if◌then◌else◌}
 use Rattle.std.specs.List.{list_all}
 use Rattle.f_tree.specs.Values.{Bytes}
-use Rattle.f_tree.specs.Characters.{is_letter_or_digit}
-use Rattle.f_tree.specs.StatementKind.{begins_with}
-use Rattle.f_tree.specs.Spelling.{is_integer_letter}
+use Rattle.f_tree.specs.SimplePrograms.{is_letter_or_digit}
+use Rattle.f_tree.specs.SimplePrograms.{begins_with}
+use Rattle.f_tree.specs.SimplePrograms.{is_integer_letter}
 use Rattle.f_tree.specs.declared.expressions.BinaryOp.{BinaryOp}
 use Rattle.f_tree.specs.declared.expressions.BinaryOp.TheVariants as op
 use Rattle.f_tree.specs.declared.expressions.Expr.{Expr}

@@ -2,9 +2,9 @@
 
 ghost use Rattle.std.specs.Prelude.{◌≡◌, ◌&&◌};
 ghost use Rattle.std.specs.List.{list_all};
-ghost use Rattle.f_tree.specs.Characters.{is_letter_or_digit};
-ghost use Rattle.f_tree.specs.Spelling.{is_integer_letter};
-ghost use Rattle.f_tree.specs.StatementKind.{begins_with};
+ghost use Rattle.f_tree.specs.SimplePrograms.{is_letter_or_digit};
+ghost use Rattle.f_tree.specs.SimplePrograms.{is_integer_letter};
+ghost use Rattle.f_tree.specs.SimplePrograms.{begins_with};
 ghost use Rattle.built_forms.specs.BuiltForms as forms;
 
 use f_tree::expressions::{BinaryOp, Expr};
@@ -14,7 +14,7 @@ use f_tree::statements::{Body, Control, ControlValue, ControlWord, Direction, Li
 const LONGEST_NAME: usize = 6;
 
 /// Whether a text begins with a letter by which a name is of type INTEGER.
-#[tactic(auto, unfolding(f_tree::specs::StatementKind::begins_with, f_tree::specs::Spelling::is_integer_letter))]
+#[tactic(auto, unfolding(f_tree::specs::SimplePrograms::begins_with, f_tree::specs::SimplePrograms::is_integer_letter))]
 fn begins_as_integer(text: &[u8]) -> bool
     ensures { result ≡ begins_with is_integer_letter text.now }
 {

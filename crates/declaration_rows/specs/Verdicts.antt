@@ -8,7 +8,7 @@ use Rattle.f_tree.specs.declared.units.FileSet.{FileSet}
 use Rattle.f_tree.specs.Facts.{ProgramUnit}
 use Rattle.f_tree.specs.Lines.{unit_read}
 use Rattle.f_tree.specs.RefusalRows.{number_of}
-use Rattle.f_tree.specs.FirstRefusal.{IsNotAfter}
+use Rattle.f_tree.specs.RefusalRows.{IsNotAfter}
 use Rattle.f_tree.specs.Setting.{Setting, IsSetting, IsIn}
 use Rattle.f_tree.specs.Meaning.{units_of}
 use Rattle.f_tree.specs.WellFormed.{AreWellFormed}

@@ -1,4 +1,7 @@
+mod MessageLemmas
+mod ReadLemmas
 mod Rows
+mod SourceLemmas
 mod TextLemmas
 mod WordLemmas
 mod Writing

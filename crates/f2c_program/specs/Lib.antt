@@ -2,7 +2,9 @@ pub mod CommandWords
 pub mod Outcomes
 pub mod Lines
 pub mod Usage
-pub mod TextOfFile
+pub mod SourceOnShelf
+pub mod SourceReads
+pub mod SourceTexts
 pub mod ShelfLoops
 pub mod Messages
 pub mod TranslateRows

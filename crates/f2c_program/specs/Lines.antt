@@ -15,10 +15,10 @@ shown Output = codes "<stdout>"
 shown Fault = codes "<stderr>"
 shown (File name) = name
 
--- the name of the file with this number among those that are translated, as a message gives it: Input
--- alone is translated
-abbrev pub file_shown : ℕ → List ℕ
-file_shown file = shown Input
+-- the file of a refusal as a message gives it: one that is included by its name, else the file that is translated, which is Input
+abbrev pub file_shown : Option (List ℕ) → List ℕ
+file_shown None = shown Input
+file_shown (Some name) = name
 
 -- the word with this number, or that it is missing where there is none
 abbrev pub word_shown : Option (List ℕ) → List ℕ
@@ -35,11 +35,11 @@ joined [] = []
 joined (piece ∷ others) = piece ++ joined others
 
 -- f2c: FILE:CARD: F11 TEXT
-abbrev pub refusal_line : Refusal → List ℕ
-refusal_line refusal =
+abbrev pub refusal_line : Option (List ℕ) → Refusal → List ℕ
+refusal_line included refusal =
     joined
     (codes "f2c: "
-    ∷ file_shown refusal.file
+    ∷ file_shown included
     ∷ codes ":"
     ∷ decimal refusal.card
     ∷ row_start (number_of refusal.kind)
@@ -55,8 +55,8 @@ bad_word_line words number =
     joined (codes "f2c: word " ∷ decimal number ∷ codes ": " ∷ word_shown (word_at number words) ∷ codes "\n" ∷ [])
 
 -- f2c: FILE: not there
-abbrev pub not_there_line : Place → List ℕ
-not_there_line place = joined (codes "f2c: " ∷ shown place ∷ codes ": not there\n" ∷ [])
+abbrev pub not_there_line : List ℕ → List ℕ
+not_there_line name = joined (codes "f2c: " ∷ name ∷ codes ": not there\n" ∷ [])
 
 -- f2c: FILE: shelf fault
 abbrev pub shelf_fault_line : Place → List ℕ
@@ -69,9 +69,9 @@ no_memory_line = joined (codes "f2c: out of memory\n" ∷ [])
 -- the line of an outcome; a command that did its work writes none
 abbrev pub line_of : List (List ℕ) → Outcome → List ℕ
 line_of words Done = []
-line_of words (Refused refusal) = refusal_line refusal
+line_of words (Refused refusal included) = refusal_line included refusal
 line_of words (BadWord number) = bad_word_line words number
-line_of words (NotThere place) = not_there_line place
+line_of words (NotThere name) = not_there_line name
 line_of words (Unread place) = shelf_fault_line place
 line_of words (Unwritten place) = shelf_fault_line place
 line_of words NoMemory = no_memory_line

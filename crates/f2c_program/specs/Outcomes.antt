@@ -5,9 +5,9 @@ use Rattle.f2c_program.specs.declared.outcome.Outcome.TheVariants.{Done, Refused
 
 abbrev pub status_of : Outcome → ℕ
 status_of Done = 0
-status_of (Refused refusal) = 1
+status_of (Refused refusal included) = 1
 status_of (BadWord number) = 2
-status_of (NotThere place) = 3
+status_of (NotThere name) = 3
 status_of (Unread place) = 3
 status_of (Unwritten place) = 3
 status_of NoMemory = 5

@@ -7,6 +7,9 @@ mod outcome;
 mod program;
 mod shelf_loops;
 #[cfg(test)]
+mod source_tests;
+mod sources;
+#[cfg(test)]
 mod tests;
 mod top_call;
 mod translation;

@@ -6,14 +6,14 @@ ghost use Rattle.f2c_program.specs.Messages.{Said};
 ghost use Rattle.f2c_outside.specs.Texts.{word_at};
 
 use crate::outcome::Outcome;
-use crate::shelf_loops::say;
-use f_tree::Refusal;
+use crate::shelf_loops::{say, say_two};
+use f_tree::{Refusal, Text};
 use f2c_outside::shelves::{Place, Shelf};
 use f2c_outside::texts::Words;
 use itoa::Buffer;
 
 /// A place as a message names it: a file by its name, a stream in angle brackets.
-fn place_shown(place: &Place) -> &[u8]
+pub(crate) fn place_shown(place: &Place) -> &[u8]
     ensures { result.now ≡ shown place.now }
 {
     match place {
@@ -41,17 +41,26 @@ fn before_row(number: u8) -> &'static [u8]
     if number < 10 { b": F0" } else { b": F" }
 }
 
+/// The file of a refusal as a message gives it.
+fn file_or_input(included: &Option<Text>) -> &[u8]
+    ensures { result.now ≡ file_shown included.now }
+{
+    match included {
+        Some(name) => name.as_slice(),
+        None => b"<stdin>",
+    }
+}
+
 /// Says `f2c: FILE:CARD: F11 TEXT`.
-fn say_refusal<H: Shelf>(shelf: &mut H, refusal: &Refusal)
-    ensures { Said (refusal_line refusal.now) (H.state shelf.old) (H.state shelf.new) }
+#[tactic(auto, using(crate::proofs::MessageLemmas::refusal_parts))]
+fn say_refusal<H: Shelf>(shelf: &mut H, refusal: &Refusal, included: &Option<Text>)
+    ensures { Said (refusal_line included.now refusal.now) (H.state shelf.old) (H.state shelf.new) }
 {
     let number = refusal.kind.number();
     let mut card = Buffer::new();
     let mut row = Buffer::new();
-    let pieces: [&[u8]; 9] = [
-        b"f2c: ",
-        place_shown(&Place::Input),
-        b":",
+    let file: [&[u8]; 3] = [b"f2c: ", file_or_input(included), b":"];
+    let rest: [&[u8]; 6] = [
         card.format(refusal.card).as_bytes(),
         before_row(number),
         row.format(number).as_bytes(),
@@ -59,7 +68,7 @@ fn say_refusal<H: Shelf>(shelf: &mut H, refusal: &Refusal)
         refusal.kind.text(),
         b"\n",
     ];
-    say(shelf, &pieces);
+    say_two(shelf, &file, &rest);
 }
 
 /// Says `f2c: word I: WORD`.
@@ -84,10 +93,10 @@ pub(crate) fn say_outcome<H: Shelf>(shelf: &mut H, words: &Words, outcome: &Outc
 {
     match outcome {
         Outcome::Done => {}
-        Outcome::Refused(refusal) => say_refusal(shelf, refusal),
+        Outcome::Refused(refusal, included) => say_refusal(shelf, refusal, included),
         Outcome::BadWord(number) => say_bad_word(shelf, words, *number),
-        Outcome::NotThere(place) => {
-            let pieces: [&[u8]; 3] = [b"f2c: ", place_shown(place), b": not there\n"];
+        Outcome::NotThere(name) => {
+            let pieces: [&[u8]; 3] = [b"f2c: ", name.as_slice(), b": not there\n"];
             say(shelf, &pieces);
         }
         Outcome::Unread(place) | Outcome::Unwritten(place) => {

@@ -3,7 +3,7 @@
 ghost use Rattle.std.specs.Prelude.{◌≡◌};
 ghost use Rattle.f2c_program.specs.Outcomes.{status_of};
 
-use f_tree::Refusal;
+use f_tree::{Refusal, Text};
 use f2c_outside::shelves::Place;
 
 /// How a command ended, one variant for each cause.
@@ -11,12 +11,12 @@ use f2c_outside::shelves::Place;
 pub enum Outcome {
     /// The command did its work.
     Done,
-    /// The set of files has this first refusal.
-    Refused(Refusal),
+    /// The source has this first refusal, in the file that is translated or in the one with this name that it includes.
+    Refused(Refusal, Option<Text>),
     /// With the word of this number, counted from 1, no command goes on.
     BadWord(usize),
-    /// This file is to be read and is not on the shelf.
-    NotThere(Place),
+    /// The file of this name is to be read and is not on the shelf.
+    NotThere(Text),
     /// The shelf failed while this place was being read.
     Unread(Place),
     /// The shelf failed while this place was being written.
@@ -33,7 +33,7 @@ impl Outcome {
     {
         match self {
             Outcome::Done => 0,
-            Outcome::Refused(_) => 1,
+            Outcome::Refused(_, _) => 1,
             Outcome::BadWord(_) => 2,
             Outcome::NotThere(_) | Outcome::Unread(_) | Outcome::Unwritten(_) => 3,
             Outcome::NoMemory => 5,

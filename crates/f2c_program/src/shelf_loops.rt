@@ -1,6 +1,6 @@
 //! Reading a whole place of a shelf, and writing a whole text to one.
 
-ghost use Rattle.std.specs.Prelude.{◌≡◌, ◌<◌, ◌≤◌, length, map, vec_len, IfOk, IfErr, OnOk, OnErr};
+ghost use Rattle.std.specs.Prelude.{◌≡◌, ◌++◌, ◌<◌, ◌≤◌, length, map, vec_len, IfOk, IfErr, OnOk, OnErr};
 ghost use Rattle.f2c_outside.specs.Shelf.{IsSource, IsTarget, IsReading, IsWriting};
 ghost use Rattle.f2c_program.specs.Lines.{joined};
 ghost use Rattle.f2c_program.specs.ShelfLoops.{TookMore, TookAll, IsUntaken, IsRead, IsUnreadFor, HasPut, HasPutFront, IsWritten, IsUnwritten};
@@ -170,6 +170,26 @@ pub(crate) fn say<H: Shelf>(shelf: &mut H, pieces: &[&[u8]])
         Ok(()) => {}
     }
     match put_pieces(shelf, pieces) {
+        Err(_) => return,
+        Ok(()) => {}
+    }
+    let _ = shelf.stop();
+}
+
+/// Writes a line of these pieces on Fault, the second ones behind the first: the whole line where the shelf does not fail, else a
+/// front of it.
+pub(crate) fn say_two<H: Shelf>(shelf: &mut H, first: &[&[u8]], second: &[&[u8]])
+    ensures { Said (joined (map (λ p. p.now) first.now) ++ joined (map (λ p. p.now) second.now)) (H.state shelf.old) (H.state shelf.new) }
+{
+    match shelf.start_write(&Place::Fault) {
+        Err(_) => return,
+        Ok(()) => {}
+    }
+    match put_pieces(shelf, first) {
+        Err(_) => return,
+        Ok(()) => {}
+    }
+    match put_pieces(shelf, second) {
         Err(_) => return,
         Ok(()) => {}
     }

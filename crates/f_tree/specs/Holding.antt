@@ -16,7 +16,6 @@ use Rattle.f_tree.specs.Facts.{UnitKind, MainProgram, SubroutineUnit, FunctionUn
 use Rattle.f_tree.specs.World.{Medium, External, Internal, Transfer, World, View, Counted, While, RoundKind, Round, Now, Doing, Turning, Waits, Returning, Called, Passed, Ending, fortran_sorts, Happening}
 use Rattle.f_tree.specs.Association.{start, resume}
 use Rattle.f_tree.specs.Step.{step, deed}
-use Rattle.f_tree.specs.FirstRefusal.{IsSpelled}
 use Rattle.f_tree.specs.Setting.{Setting, IsSetting, IsIn}
 use Rattle.f_tree.specs.Meaning.{RunState, units_of, ftn, act_of, answers_to}
 use Rattle.f_tree.specs.WellTyped.{Sort, ValueOf, PlaceOf, IsOf, AreOf, is_named, IsAnswer, IsValued, Sound}
@@ -206,8 +205,3 @@ EachRunIsMeant = (g : Setting) (S : List ProgramUnit) (units : Units) (n : ℕ) 
 abbrev pub EachEndingIsMeant : Type 0
 EachEndingIsMeant = (g : Setting) (S : List ProgramUnit) (units : Units) (n : ℕ) (e : Ending) (frames : List (Active fortran_sorts)) (w : World) → AreWellFormed g S →
     ftn g S units n ≡ Over e frames w → IsEnding e
-
--- no run of a set that spells trees comes to a form without meaning, whatever the setting of the trees
-abbrev pub EachSpelledRunIsMeant : Type 0
-EachSpelledRunIsMeant = (options : Options) (set : List (List ℕ)) (files : List File) (g : Setting) (units : Units) (n : ℕ) → IsSpelled set files →
-    IsSetting (units_of options (record { files = files })) g → act_of (ftn g (units_of options (record { files = files })) units n) ≡ Some NoMeaning → ⊥

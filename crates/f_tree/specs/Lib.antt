@@ -1,12 +1,9 @@
 pub mod Association
 pub mod Attributes
 pub mod CNames
-pub mod CardKinds
-pub mod Characters
 pub mod Checks
 pub mod Courses
 pub mod Facts
-pub mod FirstRefusal
 pub mod Folds
 pub mod FormatChoice
 pub mod Holding
@@ -21,9 +18,7 @@ pub mod Records
 pub mod RefusalRows
 pub mod Runs
 pub mod Setting
-pub mod Spelling
-pub mod StatementKind
-pub mod StatementsOfFile
+pub mod SimplePrograms
 pub mod Statuses
 pub mod Step
 pub mod Store

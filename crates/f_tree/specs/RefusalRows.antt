@@ -1,6 +1,7 @@
 -- The table of refusals: the number and the words of each row. A message prints a row as F and two
 -- digits, a blank and the words.
-use Rattle.std.specs.Prelude.{ℕ, List, codes}
+use Rattle.std.specs.Prelude.{◌≡◌, ℕ, ◌≤◌, List, codes}
+use Rattle.f_tree.specs.declared.refusals.Refusal.{Refusal}
 use Rattle.f_tree.specs.declared.refusals.Kind.{Kind}
 use Rattle.f_tree.specs.declared.refusals.Kind.TheVariants.{CharacterOutsideSet, BadLabelField, TooManyContinuations, ContinuationWithoutStatement, TextPastColumn72, NoEnd, FileTooLong, UnknownStatement, SyntaxError, IntegerTooLarge, NameTooLong, BadCharacterConstant, TypeNotSupported, StatementOrSpecifierNotSupported, NestingTooDeep, NameHasTypeReal, NameNotDeclared, ConflictingAttributes, BoundNotConstant, ArrayOfNoElement, StatementOutOfOrder, BadParameterValue, LabelMissingOrTwice, BranchIntoBlock, BadDoNest, BadIfNest, OperandTypes, NumberOfSubscripts, NotAssignable, BadData, EquivalenceContradiction, CommonJoinedOrExtended, CommonInitialised, UseOfAssumedLength, BadStatementFunction, BadEntry, CharacterFunctionAsArgument, TwoShapesOfCall, BadFormat, EditDescriptorNotSupported, NumericPlaceNotOnAWord, EndOrIncludeInAnIncludedFile, CommonLengthsDiffer, GlobalNameTwice, TwoMainPrograms, StorageTooLarge, CommonInitialisedTwice, NotBuiltYet}
 
@@ -105,3 +106,9 @@ text_of TwoMainPrograms = codes "two main programs"
 text_of StorageTooLarge = codes "storage too large"
 text_of CommonInitialisedTwice = codes "common initialised twice"
 text_of NotBuiltYet = codes "not built yet"
+
+-- Refusals go by file, then card, then number: the first is not after the second.
+pub record IsNotAfter (r q : Refusal) : Type 0 where
+  pub file : r.file ≤ q.file
+  pub card : q.file ≡ r.file → r.card ≤ q.card
+  pub number : q.file ≡ r.file → q.card ≡ r.card → number_of r.kind ≤ number_of q.kind

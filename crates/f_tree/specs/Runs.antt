@@ -10,7 +10,6 @@ use Rattle.f_tree.specs.Values.{Bytes, Act}
 use Rattle.f_tree.specs.Facts.{Home, Member, ProgramUnit}
 use Rattle.f_tree.specs.Attributes.{is_not_empty}
 use Rattle.f_tree.specs.World.{Ending}
-use Rattle.f_tree.specs.FirstRefusal.{IsSpelled}
 use Rattle.f_tree.specs.Setting.{Setting, IsSetting}
 use Rattle.simulation.specs.Machine.{next}
 use Rattle.f_tree.specs.Step.{fortran}
@@ -124,11 +123,6 @@ ActStays = (g : Setting) (S : List ProgramUnit) (units : Units) (n : ℕ) (act :
 -- where the stored names of the units of a set of files stand leaves no choice
 abbrev pub EachFileSetHasOneSetting : Type 0
 EachFileSetHasOneSetting = (options : Options) (set : FileSet) (g h : Setting) → IsSetting (units_of options set) g → IsSetting (units_of options set) h → g ≡ h
-
--- a set that spells trees has a setting: each stored name in a sequence of its own
-abbrev pub EachSpelledSetStandsApart : Type 0
-EachSpelledSetStandsApart = (options : Options) (set : List (List ℕ)) (files : List File) → IsSpelled set files →
-    IsSetting (units_of options (record { files = files })) (setting_apart (units_of options (record { files = files })))
 
 unfoldable pub runs_opened : Unit {0}
 unfolding is_named_in names_differ shares_nothing share_nothing all_share_nothing outcome_by outcome_of homes_apart all_homes_apart all_sizes setting_apart

@@ -3,7 +3,7 @@ use Rattle.std.specs.Prelude.{◌≡◌, ◌≤◌, List, [], ◌∷◌, ◌++�
 use Rattle.std.proofs.Common.{refl, sym, ap, subst, arith}
 use Rattle.std.proofs.lemmas.List.{append-nil}
 use Rattle.f_tree.specs.declared.refusals.Refusal.{Refusal}
-use Rattle.f_tree.specs.FirstRefusal.{IsNotAfter}
+use Rattle.f_tree.specs.RefusalRows.{IsNotAfter}
 use Rattle.f_tree.specs.RefusalRows.{number_of}
 use Rattle.f_tree.specs.Setting.{IsIn, first_in, later_in}
 use Rattle.file_parse.specs.FirstRefusals.{IsFirstAmong}

@@ -7,7 +7,7 @@ use Rattle.f_tree.specs.declared.refusals.Kind.{Kind}
 use Rattle.f_tree.specs.declared.refusals.Refusal.{Refusal}
 use Rattle.f_tree.specs.declared.statements.Stmt.{Stmt}
 use Rattle.f_tree.specs.declared.units.Unit.{Unit as ProgramUnit}
-use Rattle.f_tree.specs.FirstRefusal.{IsNotAfter}
+use Rattle.f_tree.specs.RefusalRows.{IsNotAfter}
 use Rattle.f_tree.specs.RefusalRows.{number_of}
 use Rattle.fortran_text.specs.Cards.{Card, cards_of}
 use Rattle.fortran_text.specs.KindsOfCards.{kind_of}
@@ -89,7 +89,7 @@ stop_row whole first _ r (stops_behind _ source sources _ none stop) =
     (more.0, more.1, behind first more.0 source more.1 sources more.2, more.3, more.4, more.5)
 
 -- each row stands in the file, behind the cards before it
-card_of_row : (whole : Bool) (file : ℕ) (first : Bool) (before : ℕ) (sources : List Statement) (begins : Bool) (other : Statement) → AreInOrder file before sources →
+pub card_of_row : (whole : Bool) (file : ℕ) (first : Bool) (before : ℕ) (sources : List Statement) (begins : Bool) (other : Statement) → AreInOrder file before sources →
     StandsAt whole first sources begins other → (other.file ≡ file) × (before < other.card)
 card_of_row whole file first _ _ begins other (no_more before) stands = elim stands [ ]
 card_of_row whole file first before _ begins other (one_more _ source sources of_file higher more) (at_first _ _ _) = (of_file, higher)

@@ -5,3 +5,4 @@ pub mod FirstRefusalLemmas
 pub mod OpenBlockLemmas
 pub mod NestLemmas
 pub mod IncludeLemmas
+pub mod SpliceLemmas

@@ -5,7 +5,7 @@ use Rattle.f_tree.specs.declared.refusals.Fail.TheVariants as fail
 use Rattle.f_tree.specs.declared.refusals.Refusal.{Refusal}
 use Rattle.f_tree.specs.declared.units.File.{File}
 use Rattle.f_tree.specs.declared.units.Part.{Part}
-use Rattle.f_tree.specs.FirstRefusal.{IsNotAfter}
+use Rattle.f_tree.specs.RefusalRows.{IsNotAfter}
 use Rattle.fortran_text.specs.StatementsOfFile.{file_cards}
 use Rattle.fortran_text.specs.declared.source.Statement.{Statement}
 use Rattle.fortran_grammar.specs.UnitsOfFile.{SpellsFile}

@@ -1,7 +1,7 @@
 -- The first of some refusals.
 use Rattle.std.specs.Prelude.{◌≡◌, List, [], Option, Some, None}
 use Rattle.f_tree.specs.declared.refusals.Refusal.{Refusal}
-use Rattle.f_tree.specs.FirstRefusal.{IsNotAfter}
+use Rattle.f_tree.specs.RefusalRows.{IsNotAfter}
 use Rattle.f_tree.specs.Setting.{IsIn}
 
 -- The first of some refusals, or none.

@@ -2,3 +2,4 @@ pub mod FileTrees
 pub mod FirstRefusals
 pub mod OpenBlocks
 pub mod ReadSoFar
+pub mod Splices

@@ -2,7 +2,7 @@
 
 ghost use Rattle.std.specs.Prelude.{◌≡◌, ◌++◌, List, true, false};
 ghost use Rattle.f_tree.specs.declared.refusals.Refusal.{Refusal};
-ghost use Rattle.f_tree.specs.FirstRefusal.{IsNotAfter};
+ghost use Rattle.f_tree.specs.RefusalRows.{IsNotAfter};
 ghost use Rattle.file_parse.specs.FirstRefusals.{IsFirstAmong};
 
 use f_tree::Refusal;

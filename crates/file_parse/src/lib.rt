@@ -6,6 +6,7 @@ mod files;
 mod first_refusals;
 mod mentions;
 mod nests;
+mod splices;
 mod statements;
 #[cfg(test)]
 mod tests;
@@ -15,3 +16,4 @@ pub use files::{parse_file, parse_part};
 pub use first_refusals::{first_of, is_not_after};
 pub use mentions::includes;
 pub use nests::first_deep;
+pub use splices::{Places, splice, splice_files};

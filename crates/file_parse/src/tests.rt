@@ -1,7 +1,8 @@
-use crate::{first_deep, includes, parse_file, parse_part};
-use cards::{read_cards, read_included};
+use crate::{Places, first_deep, includes, parse_file, parse_part, splice};
+use cards::{Cards, read_cards, read_included};
 use f_tree::{Fail, File, Options, Refusal, UnitKind};
 use std::alloc::{AllocError, Global};
+use std::collections::HashMap;
 use std::test::Fail as TestFail;
 
 const OPTIONS: Options = Options {
@@ -43,6 +44,17 @@ fn first_unit_deep(alloc: Global, bytes: &[u8]) -> Result<Option<Refusal>, Fail>
         Some(unit) => Ok(first_deep(alloc, unit)?),
         None => Ok(None),
     }
+}
+
+/// The cards of one included file, by its name.
+fn one_place<'a>(
+    alloc: Global,
+    name: &'a [u8],
+    cards: &'a Cards,
+) -> Result<Places<'a>, AllocError> {
+    let mut places = HashMap::new(alloc);
+    places.insert(name, cards)?;
+    Ok(places)
 }
 
 #[test]
@@ -99,12 +111,20 @@ fn finds_the_first_deep_nest(rt: HostRuntime) -> Result<(), TestFail> {
 }
 
 #[test]
-fn tells_what_is_included(rt: HostRuntime) -> Result<(), TestFail> {
+fn splices_a_heading(rt: HostRuntime) -> Result<(), TestFail> {
     let alloc = rt.alloc();
     let tree = file(alloc, b"      INCLUDE 'p'\n      END\n")?;
     assert_eq!(rt; includes(alloc, &tree)?.len(), 1);
     let cards = read_included(alloc, b"      SUBROUTINE S\n", 1, &OPTIONS)?;
     let name: &[u8] = b"p";
     assert_eq!(rt; parse_part(alloc, name, &cards)?.statements.len(), 1);
+    let places = one_place(alloc, name, &cards)?;
+    let tree = splice(alloc, tree, &places)?;
+    let Some(unit) = tree.units.get(0) else {
+        return Err(TestFail::from("no unit"));
+    };
+    assert!(rt; matches!(unit.kind, UnitKind::Subroutine));
+    assert_eq!(rt; (unit.file, unit.card), (1, 1));
+    assert_eq!(rt; unit.statements.len(), 1);
     Ok(())
 }

@@ -4,7 +4,7 @@ use Rattle.std.proofs.Common.{refl, sym, ap, ◌∙◌, subst}
 use Rattle.std.proofs.lemmas.Bool.{leb-true}
 use Rattle.f_tree.specs.Values.{Bytes}
 use Rattle.f_tree.specs.Folds.{folds_opened}
-use Rattle.f_tree.specs.Spelling.{IsName, printed, star}
+use Rattle.f_tree.specs.SimplePrograms.{IsName, printed, star}
 use Rattle.f_tree.specs.declared.expressions.BinaryOp.{BinaryOp}
 use Rattle.f_tree.specs.declared.expressions.BinaryOp.TheVariants as operator
 use Rattle.f_tree.specs.declared.expressions.Expr.{Expr, Int, Logical, Text, Name, Apply', Part', Minus', Plus', Not', Paren', Binary', AltReturn, Bind', Bound, end_of-Expr, more_of-Expr}

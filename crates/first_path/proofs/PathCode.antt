@@ -4,7 +4,7 @@ use Rattle.std.proofs.Common.{refl, sym, ap, ◌∙◌, subst, arith}
 use Rattle.std.proofs.lemmas.List.{append_assoc}
 use Rattle.f_tree.specs.CNames.{Bytes, variable_name, constant_name, made_name, NumberTemporary, ControlList}
 use Rattle.f_tree.specs.Setting.{IsIn, first_in, later_in}
-use Rattle.f_tree.specs.Spelling.{printed}
+use Rattle.f_tree.specs.SimplePrograms.{printed}
 use Rattle.f_tree.specs.declared.expressions.Expr.{Expr}
 use Rattle.f_tree.specs.declared.expressions.Expr.TheVariants as source
 use Rattle.f_tree.specs.declared.expressions.Expr.TheBlock as tree

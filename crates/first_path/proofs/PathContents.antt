@@ -5,7 +5,7 @@ use Rattle.std.proofs.Common.{refl, sym, ap, ◌∙◌, subst, arith}
 use Rattle.std.proofs.lemmas.Bool.{ltb-true, lt-ltb, le-leb}
 use Rattle.f_tree.specs.CNames.{Bytes}
 use Rattle.f_tree.specs.Setting.{IsIn, first_in, later_in}
-use Rattle.f_tree.specs.Spelling.{printed}
+use Rattle.f_tree.specs.SimplePrograms.{printed}
 use Rattle.f_tree.specs.declared.expressions.Expr.{Expr}
 use Rattle.f_tree.specs.declared.expressions.Expr as tree
 use Rattle.f_tree.specs.declared.expressions.Expr.TheBlock as row

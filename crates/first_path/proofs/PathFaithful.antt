@@ -8,7 +8,7 @@ use Rattle.f_tree.specs.declared.names.Options.{Options}
 use Rattle.f_tree.specs.declared.units.File.{File}
 use Rattle.f_tree.specs.declared.expressions.Expr.{Expr}
 use Rattle.f_tree.specs.declared.statements.Stmt.{Stmt}
-use Rattle.f_tree.specs.FirstRefusal.{main_program}
+use Rattle.f_tree.specs.SimplePrograms.{main_program}
 use Rattle.f_tree.specs.Holding.{EachRunIsMeant}
 use Rattle.c_text.specs.Printed.{printed}
 use Rattle.f_tree.specs.Values.{NoMeaning, Gives}

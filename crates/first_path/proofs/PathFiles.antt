@@ -10,7 +10,7 @@ use Rattle.f_tree.specs.declared.statements.UnitKind.{UnitKind}
 use Rattle.f_tree.specs.declared.statements.UnitKind.TheVariants as unit_kind
 use Rattle.f_tree.specs.declared.units.File.{File}
 use Rattle.f_tree.specs.declared.units.Unit.{Unit as ProgramUnit}
-use Rattle.f_tree.specs.FirstRefusal.{main_program}
+use Rattle.f_tree.specs.SimplePrograms.{main_program}
 use Rattle.f_tree.specs.Holding.{EachRunIsMeant}
 use Rattle.f_tree.specs.Values.{Bytes, Gives}
 use Rattle.f_tree.specs.Lines.{unit_read, lines_opened}

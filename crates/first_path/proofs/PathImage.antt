@@ -11,8 +11,8 @@ use Rattle.f_tree.specs.declared.statements.Body as statement
 use Rattle.f_tree.specs.declared.statements.ListItem as list
 use Rattle.f_tree.specs.declared.statements.Stmt.{Stmt}
 use Rattle.f_tree.specs.Folds.{folds_opened}
-use Rattle.f_tree.specs.Spelling.{printed}
-use Rattle.f_tree.specs.FirstRefusal.{main_program}
+use Rattle.f_tree.specs.SimplePrograms.{printed}
+use Rattle.f_tree.specs.SimplePrograms.{main_program}
 use Rattle.f_tree.specs.Values.{Bytes}
 use Rattle.f_tree.specs.Store.{Sequence, Cell}
 use Rattle.f_tree.specs.Facts.{Home, Member, ProgramUnit}

@@ -6,7 +6,7 @@ use Rattle.std.proofs.Common.{refl, ap, sym, ◌∙◌, arith}
 use Rattle.std.proofs.lemmas.List.{length-map}
 use Rattle.f_tree.specs.CNames.{Bytes}
 use Rattle.f_tree.specs.CNames as names
-use Rattle.f_tree.specs.FirstRefusal.{main_program}
+use Rattle.f_tree.specs.SimplePrograms.{main_program}
 use Rattle.f_tree.specs.declared.statements.Stmt.{Stmt}
 use Rattle.f_tree.specs.declared.units.File.{File}
 use Rattle.f_tree.specs.declared.units.Unit as written

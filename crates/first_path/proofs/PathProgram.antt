@@ -4,7 +4,7 @@ use Rattle.std.specs.Prelude.{◌≡◌, ℕ, ◌+◌, ℤ, ◌+ℤ◌, pos, Lis
 use Rattle.std.proofs.Common.{refl}
 use Rattle.f_tree.specs.CNames.{Bytes}
 use Rattle.f_tree.specs.Values.{in_range}
-use Rattle.f_tree.specs.Spelling.{printed}
+use Rattle.f_tree.specs.SimplePrograms.{printed}
 use Rattle.f_tree.specs.declared.expressions.Expr.{Expr, Int, Name, Binary', more_of-Expr, end_of-Expr}
 use Rattle.f_tree.specs.declared.expressions.Expr.TheVariants as source
 use Rattle.f_tree.specs.declared.expressions.Expr.TheBlock as tree

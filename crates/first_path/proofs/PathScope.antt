@@ -13,7 +13,7 @@ use Rattle.std.proofs.lemmas.Slice.Eq.{bytes_eq-Decides}
 use Rattle.std.proofs.lemmas.Bool.Decides.{Decides-int_eq}
 use Rattle.f_tree.specs.CNames.{Bytes, is_name, variable_name, constant_name, made_name, ConstantOf}
 use Rattle.f_tree.specs.Setting.{IsIn, first_in, later_in}
-use Rattle.f_tree.specs.Spelling.{printed}
+use Rattle.f_tree.specs.SimplePrograms.{printed}
 use Rattle.f_tree.specs.declared.expressions.Expr.{Expr}
 use Rattle.f_tree.specs.declared.expressions.Expr.TheVariants as source
 use Rattle.f_tree.specs.declared.expressions.Expr.TheBlock as tree

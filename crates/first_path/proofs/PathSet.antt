@@ -5,7 +5,7 @@ use Rattle.f_tree.specs.declared.names.Class.TheVariants as class
 use Rattle.f_tree.specs.declared.names.Options.{Options}
 use Rattle.f_tree.specs.declared.statements.Stmt.{Stmt}
 use Rattle.f_tree.specs.declared.units.File.{File}
-use Rattle.f_tree.specs.FirstRefusal.{main_program}
+use Rattle.f_tree.specs.SimplePrograms.{main_program}
 use Rattle.f_tree.specs.Values.{Bytes}
 use Rattle.f_tree.specs.Facts.{Home, ProgramUnit}
 use Rattle.f_tree.specs.Setting.{Setting, IsSetting, HasUnit, unit_home}
@@ -18,7 +18,7 @@ use Rattle.fortran_laws.proofs.OneSettingTies.{one_setting_of_files}
 use Rattle.fortran_laws.proofs.SettingsApart.{IsApart, apart_setting}
 use Rattle.fortran_laws.proofs.SimpleNames.{AreSimple}
 use Rattle.fortran_laws.proofs.SimpleUnits.{simple_formed}
-use Rattle.fortran_laws.proofs.SpelledLemmas.{simple_apart}
+use Rattle.fortran_laws.proofs.SimpleApart.{simple_apart}
 use Rattle.first_path.proofs.PathUnit.{IsUnitOf}
 use Rattle.first_path.proofs.PathStart.{set_of, facts_of, unit_of_sums, unit_images}
 

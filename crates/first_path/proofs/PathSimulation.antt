@@ -13,7 +13,7 @@ use Rattle.f_tree.specs.declared.statements.Body.{Body}
 use Rattle.f_tree.specs.declared.statements.Body as statement
 use Rattle.f_tree.specs.declared.statements.ListItem as item
 use Rattle.f_tree.specs.declared.statements.Stmt.{Stmt}
-use Rattle.f_tree.specs.Spelling.{printed}
+use Rattle.f_tree.specs.SimplePrograms.{printed}
 use Rattle.f_tree.specs.Values.{Bytes, Act, Gives}
 use Rattle.f_tree.specs.Facts.{Facts, Frame}
 use Rattle.f_tree.specs.World as fortran

@@ -8,8 +8,8 @@ use Rattle.f_tree.specs.declared.names.Options.{Options}
 use Rattle.f_tree.specs.declared.statements.Body.{Body}
 use Rattle.f_tree.specs.declared.statements.Stmt.{Stmt}
 use Rattle.f_tree.specs.Folds.{folds_opened}
-use Rattle.f_tree.specs.Spelling.{printed}
-use Rattle.f_tree.specs.FirstRefusal.{main_program}
+use Rattle.f_tree.specs.SimplePrograms.{printed}
+use Rattle.f_tree.specs.SimplePrograms.{main_program}
 use Rattle.f_tree.specs.Values.{Bytes, Checked, Gives}
 use Rattle.f_tree.specs.Store.{Store, undefined_units}
 use Rattle.f_tree.specs.Facts.{Attribute, MainProgram, EntryPoint, Home, Image, Member, ProgramUnit, Facts, Frame}
@@ -31,7 +31,7 @@ use Rattle.fortran_laws.proofs.HomeLemmas.{stored_in_unit}
 use Rattle.fortran_laws.proofs.OneSettingNames.{distinct_stored}
 use Rattle.fortran_laws.proofs.SimpleNames.{IsSimple, AreSimple, AreAlone, by_statement, none_in, statements_alone}
 use Rattle.fortran_laws.proofs.SimpleAttributes as attributes
-use Rattle.fortran_laws.proofs.SpelledLemmas.{simple_apart}
+use Rattle.fortran_laws.proofs.SimpleApart.{simple_apart}
 use Rattle.fortran_laws.proofs.SimpleAttributes.{IsInteger, IsVariableName, IsPlain, each_is_variable, unit_integer, unit_plain}
 use Rattle.first_path.proofs.PathStore.{store_of, sequence_for, cells_for, no_values, stored_place}
 use Rattle.first_path.proofs.PathUnit.{HasPlace, IsUnitOf, main_entry, at_statement, arrives}

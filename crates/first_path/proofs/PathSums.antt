@@ -9,7 +9,7 @@ use Rattle.f_tree.specs.declared.statements.Body.{Body}
 use Rattle.f_tree.specs.declared.statements.Body as statement
 use Rattle.f_tree.specs.declared.statements.ListItem as list
 use Rattle.f_tree.specs.declared.statements.Stmt.{Stmt}
-use Rattle.f_tree.specs.Spelling.{IsName, printed}
+use Rattle.f_tree.specs.SimplePrograms.{IsName, printed}
 use Rattle.f_tree.specs.Values.{Bytes, in_range}
 use Rattle.fortran_laws.proofs.SimpleNames.{IsSum}
 use Rattle.first_path.proofs.PathProgram.{Environment, kept_in_range, sum_of, sum_value, sum_value-Int, sum_value-Name, sum_value-Plus}

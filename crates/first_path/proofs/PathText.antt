@@ -7,8 +7,8 @@ use Rattle.std.proofs.Common.{refl, ap, sym, ◌∙◌, subst}
 use native.Mathlib.Omega.{arith}
 use Rattle.f_tree.specs.CNames as names
 use Rattle.f_tree.specs.CNames.{Bytes, variable_name, main_name, made_name, constant_name, NumberTemporary, ControlList}
-use Rattle.f_tree.specs.Spelling.{IsName}
-use Rattle.f_tree.specs.FirstRefusal.{main_program}
+use Rattle.f_tree.specs.SimplePrograms.{IsName}
+use Rattle.f_tree.specs.SimplePrograms.{main_program}
 use Rattle.fortran_laws.proofs.SimpleNames.{AreSimple}
 use Rattle.f_tree.specs.declared.statements.Body.{Body}
 use Rattle.f_tree.specs.declared.statements.Stmt.{Stmt}

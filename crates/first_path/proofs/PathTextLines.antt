@@ -4,7 +4,7 @@ use Rattle.std.proofs.Common.{refl, sym, subst, append_assoc}
 use Rattle.std.proofs.lemmas.Bool.Decides.{nat_tests}
 use native.Mathlib.Omega.{arith}
 use Rattle.f_tree.specs.CNames.{Bytes, variable_name, made_name, constant_name, NumberTemporary, ControlList}
-use Rattle.f_tree.specs.Spelling.{IsName}
+use Rattle.f_tree.specs.SimplePrograms.{IsName}
 use Rattle.c_tree.specs.declared.types.NumberType.TheVariants as number_type
 use Rattle.c_tree.specs.declared.types.ListType.TheVariants as list_type
 use Rattle.c_tree.specs.declared.types.ResultType.TheVariants as gives

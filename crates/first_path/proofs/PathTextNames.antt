@@ -11,9 +11,9 @@ use Rattle.std.proofs.lemmas.List.{append_cancel_left}
 use native.Mathlib.Omega.{arith}
 use Rattle.f_tree.specs.CNames as names
 use Rattle.f_tree.specs.CNames.{Bytes, variable_name, made_name, constant_name, is_reserved, takes_underscores, NumberTemporary, ControlList}
-use Rattle.f_tree.specs.Characters.{is_letter_or_digit}
-use Rattle.f_tree.specs.StatementKind as kind
-use Rattle.f_tree.specs.Spelling.{IsName, is_integer_letter}
+use Rattle.f_tree.specs.SimplePrograms.{is_letter_or_digit}
+use Rattle.f_tree.specs.SimplePrograms as kind
+use Rattle.f_tree.specs.SimplePrograms.{IsName, is_integer_letter}
 use Rattle.fortran_laws.proofs.CNameLaws.{variable_name-not_reserved}
 use Rattle.c_tree.specs.Tokens.{begins_with, is_letter, is_word_byte}
 use Rattle.c_tree.specs.CWords.{words, is_name, is_among}

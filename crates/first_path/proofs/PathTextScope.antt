@@ -5,7 +5,7 @@ use Rattle.std.specs.Cmp.Lexicographic.{same_text}
 use Rattle.std.proofs.Common.{refl, ap, sym, ◌∙◌, cond, true≢false}
 use native.Mathlib.Omega.{arith}
 use Rattle.f_tree.specs.CNames.{Bytes, variable_name, made_name, constant_name, NumberTemporary, ControlList, ConstantOf}
-use Rattle.f_tree.specs.Spelling.{IsName}
+use Rattle.f_tree.specs.SimplePrograms.{IsName}
 use Rattle.f_tree.specs.declared.statements.ListItem.{ListItem}
 use Rattle.f_tree.specs.declared.statements.Stmt.{Stmt}
 use Rattle.fortran_laws.proofs.CNameLaws.{variable_name-not_made}

@@ -3,7 +3,7 @@ use Rattle.std.specs.Prelude.{◌≡◌, ℕ, ◌<◌, ◌≤◌, ◌^◌, pos, 
 use Rattle.std.proofs.Common.{refl, ap, sym, ◌∙◌, subst}
 use native.Mathlib.Omega.{arith}
 use Rattle.f_tree.specs.CNames.{Bytes, variable_name, made_name, constant_name, NumberTemporary, ControlList}
-use Rattle.f_tree.specs.Spelling.{IsName, printed}
+use Rattle.f_tree.specs.SimplePrograms.{IsName, printed}
 use Rattle.f_tree.specs.declared.expressions.Expr.{Expr}
 use Rattle.f_tree.specs.declared.expressions.Expr as tree
 use Rattle.f_tree.specs.declared.expressions.BinaryOp.TheVariants as operator

@@ -4,7 +4,7 @@ use Rattle.std.specs.List.{range_with_len}
 use Rattle.std.proofs.Common.{refl, ap, sym, ◌∙◌, subst}
 use native.Mathlib.Omega.{arith}
 use Rattle.f_tree.specs.CNames.{Bytes}
-use Rattle.f_tree.specs.Spelling.{IsName, printed as printing}
+use Rattle.f_tree.specs.SimplePrograms.{IsName, printed as printing}
 use Rattle.f_tree.specs.declared.expressions.Expr.{Expr}
 use Rattle.f_tree.specs.declared.expressions.Expr as tree
 use Rattle.f_tree.specs.declared.expressions.BinaryOp.TheVariants as operator

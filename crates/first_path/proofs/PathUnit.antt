@@ -21,7 +21,7 @@ use Rattle.f_tree.specs.declared.statements.Body as statement
 use Rattle.f_tree.specs.declared.statements.ListItem as list
 use Rattle.f_tree.specs.declared.statements.Stmt.{Stmt}
 use Rattle.f_tree.specs.Folds.{folds_opened}
-use Rattle.f_tree.specs.Spelling.{printed}
+use Rattle.f_tree.specs.SimplePrograms.{printed}
 use Rattle.f_tree.specs.Values.{Bytes, Spot, Datum, IsInt, IsSpot, Nothing, Act, NoMeaning, Gives, given_that, in_range}
 use Rattle.f_tree.specs.Terms.{Add, Term, Val, Fetch, At, Between, Terms, NoMore, More}
 use Rattle.f_tree.specs.Store.{Store, define}

@@ -9,9 +9,9 @@ use Rattle.f_tree.specs.declared.statements.Stmt.{Stmt}
 use Rattle.f_tree.specs.declared.units.Unit.{Unit as WrittenUnit}
 use Rattle.f_tree.specs.Values.{Bytes}
 use Rattle.f_tree.specs.Facts.{Attribute}
-use Rattle.f_tree.specs.StatementKind.{begins_with}
-use Rattle.f_tree.specs.Spelling.{is_integer_letter, IsName}
-use Rattle.f_tree.specs.FirstRefusal.{main_program}
+use Rattle.f_tree.specs.SimplePrograms.{begins_with}
+use Rattle.f_tree.specs.SimplePrograms.{is_integer_letter, IsName}
+use Rattle.f_tree.specs.SimplePrograms.{main_program}
 use Rattle.f_tree.specs.Setting.{IsIn, first_in, later_in}
 use Rattle.f_tree.specs.Uses.{Use, is_among, uses_of_statements, seen_from, first_seen}
 use Rattle.f_tree.specs.Attributes.{from_all, typed_in, shaped_in, implicit_in, Constant, Expansion, type_among, dimensions_among, typed_or_implied, implied, first_of_two, heading_type, typed_name, bare, width_by, constant_bounds, attribute_of, described, attribute_in, arrays_of, names_of, all_described, attributes_opened}

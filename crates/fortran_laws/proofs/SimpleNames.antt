@@ -13,8 +13,8 @@ use Rattle.f_tree.specs.declared.statements.ListItem as list
 use Rattle.f_tree.specs.declared.statements.Stmt.{Stmt}
 use Rattle.f_tree.specs.Folds.{folds_opened}
 use Rattle.f_tree.specs.Values.{Bytes}
-use Rattle.f_tree.specs.Spelling.{IsName, printed}
-use Rattle.f_tree.specs.FirstRefusal.{main_program}
+use Rattle.f_tree.specs.SimplePrograms.{IsName, printed}
+use Rattle.f_tree.specs.SimplePrograms.{main_program}
 use Rattle.f_tree.specs.Uses as uses
 use Rattle.f_tree.specs.Uses.{Use, Manner, Alone, is_among, uses_of, uses_of_body, uses_of_statements, layer_uses, uses_opened}
 use Rattle.f_tree.specs.Attributes.{from_all, typed_in, shaped_in, constants_in, implicit_in, external_in, intrinsic_in, entry_names_in, entry_dummies_in, assigned_with_list_in, Shaped, Signs, dimensions_among, is_used_as, with_list, called, own_class, class_by, own_names, all_dummies, signs_of, class_of, is_not_empty, attributes_opened}

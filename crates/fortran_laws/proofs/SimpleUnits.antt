@@ -15,8 +15,8 @@ use Rattle.f_tree.specs.Folds.{folds_opened}
 use Rattle.f_tree.specs.Values.{Bytes, IsInt}
 use Rattle.f_tree.specs.Terms.{Add, Val, At, Between, NoMore, More, terms_opened}
 use Rattle.f_tree.specs.Facts.{Attribute, Output, Listed, UnitWord, Item, Done, Before, ToSet, ToBegin, ToEnd, On, Plain, Line, EntryPoint, Facts, Home}
-use Rattle.f_tree.specs.Spelling.{printed}
-use Rattle.f_tree.specs.FirstRefusal.{main_program}
+use Rattle.f_tree.specs.SimplePrograms.{printed}
+use Rattle.f_tree.specs.SimplePrograms.{main_program}
 use Rattle.f_tree.specs.Setting.{IsIn, first_in, later_in}
 use Rattle.f_tree.specs.Reading.{valued_only, placed, name_read, layer_read, read, reading_opened}
 use Rattle.f_tree.specs.Uses as uses

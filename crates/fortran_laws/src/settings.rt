@@ -1,7 +1,7 @@
 //! What is proved of where the stored names of a set of units stand, each as the contract of a call that does nothing.
 #![tactic(auto)]
 
-ghost use Rattle.f_tree.specs.Runs.{EachFileSetHasOneSetting, EachSpelledSetStandsApart};
+ghost use Rattle.f_tree.specs.Runs.{EachFileSetHasOneSetting};
 ghost use Rattle.f_tree.specs.Setting.{EachSetHasOneSetting, EachStoredNameStands};
 ghost use Rattle.f_tree.specs.Runs.{GoesByStep, EndingStays, ActStays};
 
@@ -15,12 +15,6 @@ pub fn settings_are_unique()
 /// In each setting of a set of units, each stored name of each unit has a home in one of the sequences of storage.
 pub fn stored_names_stand()
     ensures stand { EachStoredNameStands }
-{}
-
-/// What is spelled today, files that are each a main program of sums that are assigned to names or printed, has a
-/// setting: each stored name stands in a sequence of its own.
-pub fn spelled_sets_stand_apart()
-    ensures apart { EachSpelledSetStandsApart }
 {}
 
 /// A run goes on by one step at a time, from a state that all its steps before have made; one that has

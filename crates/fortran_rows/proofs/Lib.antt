@@ -1,3 +1,2 @@
 pub mod SettingChecks
 pub mod SettingExamples
-pub mod SyntaxExamples

@@ -1,20 +1,10 @@
-//! What leaves no choice: the trees that files spell, their first refusal, and names in C.
+//! What leaves no choice: the first refusal of the cards of a file, and names in C.
 
 ghost use Rattle.std.specs.Prelude.{◌≡◌, ℕ, List, false, Bool};
 ghost use Rattle.f_tree.specs.declared.refusals.Kind.{Kind};
-ghost use Rattle.f_tree.specs.declared.refusals.Refusal.{Refusal};
-ghost use Rattle.f_tree.specs.declared.units.File.{File};
 ghost use Rattle.f_tree.specs.CNames.{external_name, is_reserved, variable_name};
-ghost use Rattle.f_tree.specs.FirstRefusal.{IsAccepted, IsFirstRefusal, IsSpelled};
 ghost use Rattle.f_tree.specs.RefusalRows.{number_of};
 ghost use Rattle.fortran_text.specs.FirstFault.{FaultOfFile, IsFirst};
-
-/// A set of files spells one list of trees at most, has one first refusal at most, and none where it is accepted.
-pub fn files_are_read_in_one_way()
-    ensures trees { (set : List (List ℕ)) → (xs ys : List File) → IsSpelled set xs → IsSpelled set ys → xs ≡ ys }
-    ensures refusals { (set : List (List ℕ)) → (r q : Refusal) → IsFirstRefusal set r → IsFirstRefusal set q → r ≡ q }
-    ensures accepted { (set : List (List ℕ)) → (r : Refusal) → IsAccepted set → IsFirstRefusal set r → ⊥ }
-{}
 
 /// Two first refusals of the cards of a file stand at one card and are one row. Section 3.2 of the standard, ANSI X3.9-1978.
 pub fn first_refusals_of_cards_are_one()

@@ -4,7 +4,7 @@ use Rattle.std.proofs.lemmas.Bool.{eqb-true, eq-eqb, ltb-true, ltb-false, both_w
 use Rattle.std.proofs.Common.{refl, sym, subst, arith}
 use Rattle.f_tree.specs.declared.refusals.Refusal.{Refusal}
 use Rattle.f_tree.specs.RefusalRows.{number_of}
-use Rattle.f_tree.specs.FirstRefusal.{IsNotAfter}
+use Rattle.f_tree.specs.RefusalRows.{IsNotAfter}
 use Rattle.f_tree.specs.Setting.{IsIn, first_in, later_in}
 use Rattle.declaration_rows.specs.Verdicts.{is_before, earlier, first_of, IsFirstOf}
 

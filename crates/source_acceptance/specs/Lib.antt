@@ -1,2 +1,3 @@
 pub mod SourceFiles
+pub mod TextRows
 pub mod Acceptance

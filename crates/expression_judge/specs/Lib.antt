@@ -1,0 +1,4 @@
+pub mod Operands
+pub mod Intrinsics
+pub mod SeenNames
+pub mod FoundSteps

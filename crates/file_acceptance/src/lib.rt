@@ -1,4 +1,0 @@
-//! When one file is accepted, which is its first refusal, and the laws of both. The functions here do nothing; their contracts are the laws.
-#![tactic(auto)]
-
-pub mod laws;

@@ -1,2 +1,0 @@
-pub mod NestLemmas
-pub mod ReadingLemmas

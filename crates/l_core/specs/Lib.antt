@@ -1,0 +1,4 @@
+pub mod Pures
+pub mod Steps
+pub mod Machine
+pub mod Costs

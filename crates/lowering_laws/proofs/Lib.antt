@@ -1,0 +1,9 @@
+mod WalkLemmas
+mod ShapeLemmas
+mod ClosingLemmas
+mod ExpressionLemmas
+mod ExampleLemmas
+mod CostLemmas
+mod PlaceLemmas
+mod StatementLemmas
+mod LocalLemmas

@@ -1,0 +1,134 @@
+-- Program units whose lowering is computed.
+use Rattle.std.specs.Prelude.{◌≡◌, ℕ, pos, false, List, [], ◌∷◌, Option, Some, None, option_map}
+use Rattle.f_tree.specs.declared.names.Basic.TheVariants.{Integer}
+use Rattle.f_tree.specs.declared.names.Class.TheVariants as class
+use Rattle.f_tree.specs.Values.{Bytes, IsInt}
+use Rattle.f_tree.specs.Terms.{Add, IsLess, IsLessOrEqual, Both, AsFunction, Callee, Term, Val, Fetch, At, Between, Refer, Terms, NoMore, More, terms_opened}
+use Rattle.f_tree.specs.Facts.{MainProgram, ToSet, ToGo, ToGuard, ToEnterArm, ToLoop, ToEnd, Form, Passes, On, Mark, Plain, Opens, Arm, Closes, NoLoop, Line, Attribute, ProgramUnit, Facts}
+use Rattle.f_tree.specs.Places.{place_of_label, places_opened}
+use Rattle.f_tree.specs.Nests.{nests_opened}
+use Rattle.l_core.specs.Pures.{Pure, Constant, Temporary, Load, Name, Operated, NoPure, AndPure}
+use Rattle.l_core.specs.Steps.{Text, Step, Keep, Put, Unless, Skip, Again, Jump, Pass, CallFor, Back}
+use Rattle.lowering.specs.Expressions.{expressions_opened}
+use Rattle.lowering.specs.Statements.{statements_opened}
+use Rattle.lowering.specs.Units.{start_of, lines_marks, lowered_unit, units_opened}
+
+abbrev pub letter : ℕ → Bytes
+letter c = c ∷ []
+
+abbrev pub variable : ℕ → Term
+variable c = Fetch (At (letter c))
+
+-- the value of the function F of a variable
+abbrev pub f_of : ℕ → Term
+f_of c = Refer (record { name = letter 70; want = AsFunction Integer 4 }) (More (At (letter c)) NoMore)
+
+abbrev pub an_integer : Attribute
+an_integer = record { basic = Integer; class = class.Stored; width = Some 4; dimensions = []; bounds = []; constant = None; expansion = None }
+
+abbrev pub line : Option ℕ → Mark → Form → Line
+line label mark form = record { label = label; mark = mark; loop = NoLoop; card = 1; form = form }
+
+abbrev pub unit_of : List Line → Facts
+unit_of lines = record {
+  program = record {
+    kind = MainProgram;
+    entries = record { name = []; formals = []; start = 0 } ∷ [];
+    lines = lines;
+    attribute = λ x. an_integer;
+    formats = [];
+    blocks = [];
+    ties = [];
+    images = [];
+    references = [];
+    stored = [];
+    onetrip = false;
+  };
+  home = λ x. None;
+}
+
+abbrev pub lowered_steps : List Line → Option (List Step)
+lowered_steps lines = option_map (λ u. u.steps) (lowered_unit (unit_of lines))
+
+-- DO 10 I = 1, N, and 10 S = S + F(I)
+abbrev pub a_loop : List Line
+a_loop =
+    line None Plain (On (ToLoop (Some 10)) (More (At (letter 73)) (More (Val (IsInt (pos 1))) (More (variable 78) (More (Val (IsInt (pos 1))) NoMore)))))
+    ∷ line (Some 10) Plain (On ToSet (More (Between Add (variable 83) (f_of 73)) (More (At (letter 83)) NoMore)))
+    ∷ line None Plain (On ToEnd NoMore)
+    ∷ []
+
+abbrev pub name : ℕ → Pure
+name c = Name (letter c)
+
+abbrev pub loop_steps : List Step
+loop_steps =
+    Keep 0 (Load (name 78))
+    ∷ Put (name 73) (Constant (IsInt (pos 1)))
+    ∷ Unless (Operated IsLessOrEqual (Load (name 73)) (Temporary 0)) 5
+    ∷ Keep 1 (Load (name 83))
+    ∷ CallFor 2 (record { name = letter 70; want = AsFunction Integer 4 }) (AndPure (name 73) NoPure)
+    ∷ Put (name 83) (Operated Add (Temporary 1) (Temporary 2))
+    ∷ Put (name 73) (Operated Add (Load (name 73)) (Constant (IsInt (pos 1))))
+    ∷ Again 5
+    ∷ Back
+    ∷ []
+
+-- S = S + F(I); IF (A .LT. B) S = A
+abbrev pub a_sum : List Line
+a_sum =
+    line None Plain (On ToSet (More (Between Add (variable 83) (f_of 73)) (More (At (letter 83)) NoMore)))
+    ∷ line None Plain (On (ToGuard (On ToSet (More (variable 65) (More (At (letter 83)) NoMore)))) (More (Between IsLess (variable 65) (variable 66)) NoMore))
+    ∷ line None Plain (On ToEnd NoMore)
+    ∷ []
+
+abbrev pub sum_text : Text
+sum_text = record {
+  facts = unit_of a_sum;
+  steps =
+      Keep 0 (Load (name 83))
+      ∷ CallFor 1 (record { name = letter 70; want = AsFunction Integer 4 }) (AndPure (name 73) NoPure)
+      ∷ Put (name 83) (Operated Add (Temporary 0) (Temporary 1))
+      ∷ Unless (Operated IsLess (Load (name 65)) (Load (name 66))) 1
+      ∷ Put (name 83) (Load (name 65))
+      ∷ Back
+      ∷ [];
+  begins = start_of (unit_of a_sum).program;
+  position = λ label. option_map (start_of (unit_of a_sum).program) (place_of_label (unit_of a_sum).program label);
+  marks = lines_marks (unit_of a_sum).program 0 a_sum;
+}
+
+-- IF (A .LT. B) THEN; A = B; ELSE IF (L .AND. F(A)) THEN; GO TO 20; ELSE; B = A; END IF; and 20 CONTINUE
+abbrev pub a_block : List Line
+a_block =
+    line None Opens (On ToEnterArm (More (Between IsLess (variable 65) (variable 66)) NoMore))
+    ∷ line None Plain (On ToSet (More (variable 66) (More (At (letter 65)) NoMore)))
+    ∷ line None Arm (On ToEnterArm (More (Between Both (variable 76) (f_of 65)) NoMore))
+    ∷ line None Plain (On (ToGo 20) NoMore)
+    ∷ line None Arm Passes
+    ∷ line None Plain (On ToSet (More (variable 65) (More (At (letter 66)) NoMore)))
+    ∷ line None Closes Passes
+    ∷ line (Some 20) Plain Passes
+    ∷ line None Plain (On ToEnd NoMore)
+    ∷ []
+
+abbrev pub block_steps : List Step
+block_steps =
+    Unless (Operated IsLess (Load (name 65)) (Load (name 66))) 2
+    ∷ Put (name 65) (Load (name 66))
+    ∷ Skip 8
+    ∷ Keep 0 (Load (name 76))
+    ∷ Unless (Temporary 0) 2
+    ∷ CallFor 0 (record { name = letter 70; want = AsFunction Integer 4 }) (AndPure (name 65) NoPure)
+    ∷ Keep 0 (Temporary 0)
+    ∷ Unless (Temporary 0) 2
+    ∷ Jump 20
+    ∷ Skip 1
+    ∷ Put (name 66) (Load (name 65))
+    ∷ Pass
+    ∷ Back
+    ∷ []
+
+unfoldable pub example_opened : Unit {0}
+unfolding terms_opened places_opened nests_opened expressions_opened statements_opened units_opened
+example_opened = tt

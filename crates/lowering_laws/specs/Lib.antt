@@ -1,0 +1,5 @@
+pub mod Walks
+pub mod Midway
+pub mod ExpressionStatements
+pub mod Examples
+pub mod Layer

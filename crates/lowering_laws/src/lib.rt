@@ -1,0 +1,7 @@
+//! Laws of lowering: that the steps of an expression, and of a statement, do what the FORTRAN meaning says. The functions here do nothing;
+//! their contracts are the laws.
+#![tactic(auto)]
+
+pub mod examples;
+pub mod expressions;
+pub mod statements;

@@ -1,0 +1,3 @@
+pub mod FormRows
+pub mod JudgeLemmas
+pub mod OneFile

@@ -1,0 +1,313 @@
+-- The phases that are judged before forms are those of the whole table of refusals: cards, statements, nests.
+use Rattle.std.specs.Prelude.{◌≡◌, ℕ, ◌<◌, ◌≤◌, List, [], ◌∷◌, ◌++◌, length, Option, Some, None}
+use Rattle.std.proofs.Common.{refl, sym, ap, subst, ◌∙◌, arith}
+use Rattle.std.proofs.lemmas.List.{append-nil, length-append}
+use Rattle.f_tree.specs.declared.names.Options.{Options}
+use Rattle.f_tree.specs.declared.refusals.Refusal.{Refusal}
+use Rattle.f_tree.specs.declared.units.File.{File}
+use Rattle.f_tree.specs.declared.units.FileSet.{FileSet}
+use Rattle.f_tree.specs.declared.units.Unit.{Unit as ProgramUnit}
+use Rattle.f_tree.specs.RefusalRows.{IsNotAfter}
+use Rattle.f_tree.specs.Setting.{IsIn, first_in, later_in}
+use Rattle.fortran_grammar.specs.SyntaxRows.{unit_deep_rows}
+use Rattle.declaration_rows.specs.GlobalRows.{all_units}
+use Rattle.declaration_rows.specs.Verdicts.{first_of}
+use Rattle.refusal_order.proofs.RefusalOrder.{IsChosen, none_there, first_there, first_is_chosen}
+use Rattle.source_acceptance.specs.SourceFiles.{Included, Source, names_of, mentioned_from, first_mentions, IsWhole, SpellsSource}
+use Rattle.source_acceptance.specs.Acceptance as table
+use Rattle.source_acceptance.specs.Acceptance.{CardFault, SyntaxFault, deep_rows_of, tree_faults}
+use Rattle.source_verdict.specs.SourceRows.{Phase, Cards, Syntax, Nesting, Forms, place_of, files_not_built, Fault, of_cards, of_syntax, of_nests, of_forms, IsRead, IsFirstRefusal, IsAccepted}
+use Rattle.source_verdict.specs.Fronts.{IsSourceOf}
+use Rattle.source_verdict.proofs.OneSet.{one_set}
+
+-- A FAULT of a phase in both tables
+no_cards_of_trees : (options : Options) (set : FileSet) (r : Refusal) → IsIn r (tree_faults table.Cards options set) → ⊥
+unfolding tree_faults
+no_cards_of_trees options set r among = elim among [ ]
+
+no_syntax_of_trees : (options : Options) (set : FileSet) (r : Refusal) → IsIn r (tree_faults table.Syntax options set) → ⊥
+unfolding tree_faults
+no_syntax_of_trees options set r among = elim among [ ]
+
+cards_down : (options : Options) (source : Source) (r : Refusal) → table.Fault options source table.Cards r → Fault options source Cards r
+cards_down options source r (table.of_cards _ h) = of_cards r h
+cards_down options source r (table.of_trees _ set _ spells among) = absurd (no_cards_of_trees options set r among)
+
+syntax_down : (options : Options) (source : Source) (r : Refusal) → table.Fault options source table.Syntax r → Fault options source Syntax r
+syntax_down options source r (table.of_syntax _ h) = of_syntax r h
+syntax_down options source r (table.of_trees _ set _ spells among) = absurd (no_syntax_of_trees options set r among)
+
+-- what is in one of two lists
+data InEither {A : Type 0} (x : A) (xs ys : List A) : Type 0 where
+  in_one : IsIn x xs → InEither x xs ys
+  in_other : IsIn x ys → InEither x xs ys
+
+later : {A : Type 0} (x y : A) (xs ys : List A) → InEither x xs ys → InEither x (y ∷ xs) ys
+later x y xs ys (in_one among) = in_one (later_in among)
+later x y xs ys (in_other among) = in_other among
+
+either_of : {A : Type 0} (x : A) (xs ys : List A) → IsIn x (xs ++ ys) → InEither x xs ys
+either_of x [] ys among = in_other among
+either_of x (_ ∷ xs) ys first_in = in_one first_in
+either_of x (y ∷ xs) ys (later_in among) = later x y xs ys (either_of x xs ys among)
+
+in_left : {A : Type 0} (x : A) (xs ys : List A) → IsIn x xs → IsIn x (xs ++ ys)
+in_left x [] ys among = elim among [ ]
+in_left x (_ ∷ xs) ys first_in = first_in
+in_left x (y ∷ xs) ys (later_in among) = later_in (in_left x xs ys among)
+
+in_right : {A : Type 0} (x : A) (xs ys : List A) → IsIn x ys → IsIn x (xs ++ ys)
+in_right x [] ys among = among
+in_right x (y ∷ xs) ys among = later_in (in_right x xs ys among)
+
+-- a unit of a file, and its row
+record InUnit (units : List ProgramUnit) (r : Refusal) : Type 0 where
+  unit : ProgramUnit
+  is : IsIn unit units
+  row : IsIn r (unit_deep_rows unit)
+
+unit_by : (u : ProgramUnit) (us : List ProgramUnit) (r : Refusal) → ((IsIn r (deep_rows_of us)) → InUnit us r) → InEither r (unit_deep_rows u) (deep_rows_of us) → InUnit (u ∷ us) r
+unit_by u us r others (in_one among) = record { unit = u; is = first_in; row = among }
+unit_by u us r others (in_other among) = let found = others among in record { unit = found.unit; is = later_in found.is; row = found.row }
+
+unit_of_row : (us : List ProgramUnit) (r : Refusal) → IsIn r (deep_rows_of us) → InUnit us r
+unfolding deep_rows_of
+unit_of_row [] r among = elim among [ ]
+unit_of_row (u ∷ us) r among = unit_by u us r (λ its. unit_of_row us r its) (either_of r (unit_deep_rows u) (deep_rows_of us) among)
+
+row_of_unit : (us : List ProgramUnit) (u : ProgramUnit) (r : Refusal) → IsIn u us → IsIn r (unit_deep_rows u) → IsIn r (deep_rows_of us)
+unfolding deep_rows_of
+row_of_unit [] u r among row = elim among [ ]
+row_of_unit (_ ∷ us) u r first_in row = in_left r (unit_deep_rows u) (deep_rows_of us) row
+row_of_unit (v ∷ us) u r (later_in among) row = in_right r (unit_deep_rows v) (deep_rows_of us) (row_of_unit us u r among row)
+
+record InFile (files : List File) (u : ProgramUnit) : Type 0 where
+  file : File
+  is : IsIn file files
+  has : IsIn u file.units
+
+file_by : (f : File) (fs : List File) (u : ProgramUnit) → (IsIn u (all_units fs) → InFile fs u) → InEither u f.units (all_units fs) → InFile (f ∷ fs) u
+file_by f fs u others (in_one among) = record { file = f; is = first_in; has = among }
+file_by f fs u others (in_other among) = let found = others among in record { file = found.file; is = later_in found.is; has = found.has }
+
+file_of_unit : (fs : List File) (u : ProgramUnit) → IsIn u (all_units fs) → InFile fs u
+unfolding all_units
+file_of_unit [] u among = elim among [ ]
+file_of_unit (f ∷ fs) u among = file_by f fs u (λ its. file_of_unit fs u its) (either_of u f.units (all_units fs) among)
+
+unit_of_file : (fs : List File) (f : File) (u : ProgramUnit) → IsIn f fs → IsIn u f.units → IsIn u (all_units fs)
+unfolding all_units
+unit_of_file [] f u among has = elim among [ ]
+unit_of_file (_ ∷ fs) f u first_in has = in_left u f.units (all_units fs) has
+unit_of_file (g ∷ fs) f u (later_in among) has = in_right u g.units (all_units fs) (unit_of_file fs f u among has)
+
+deep_of_trees : (options : Options) (set : FileSet) (r : Refusal) → IsIn r (tree_faults table.Nesting options set) → IsIn r (deep_rows_of (all_units set.files))
+unfolding tree_faults
+deep_of_trees options set r among = among
+
+trees_of_deep : (options : Options) (set : FileSet) (r : Refusal) → IsIn r (deep_rows_of (all_units set.files)) → IsIn r (tree_faults table.Nesting options set)
+unfolding tree_faults
+trees_of_deep options set r among = among
+
+nests_down : (options : Options) (source : Source) (r : Refusal) → table.Fault options source table.Nesting r → Fault options source Nesting r
+nests_down options source r (table.of_trees _ set _ spells among) =
+    let in_unit = unit_of_row (all_units set.files) r (deep_of_trees options set r among) in
+    let in_file = file_of_unit set.files in_unit.unit in_unit.is in
+    of_nests set in_file.file in_unit.unit r spells in_file.is in_file.has in_unit.row
+
+cards_up : (options : Options) (source : Source) (r : Refusal) → Fault options source Cards r → table.Fault options source table.Cards r
+cards_up options source r (of_cards _ h) = table.of_cards r h
+
+syntax_up : (options : Options) (source : Source) (r : Refusal) → Fault options source Syntax r → table.Fault options source table.Syntax r
+syntax_up options source r (of_syntax _ h) = table.of_syntax r h
+
+nests_up : (options : Options) (source : Source) (r : Refusal) → Fault options source Nesting r → table.Fault options source table.Nesting r
+nests_up options source r (of_nests set file unit _ spells is has row) =
+    table.of_trees table.Nesting set r spells (trees_of_deep options set r (row_of_unit (all_units set.files) unit r (unit_of_file set.files file unit is has) row))
+
+-- THE FIRST REFUSAL of an early phase
+abbrev IsClear : Options → Source → table.Phase → Type 0
+IsClear options source phase = (q : Refusal) → table.Fault options source phase q → ⊥
+
+abbrev IsLeast : Options → Source → table.Phase → Refusal → Type 0
+IsLeast options source phase r = (q : Refusal) → table.Fault options source phase q → IsNotAfter r q
+
+none_before : (earlier : Phase) → place_of earlier < place_of Cards → ⊥
+unfolding place_of
+none_before earlier before = omega (arith, before)
+
+refused_by_cards : (options : Options) (source : Source) (r : Refusal) → table.Fault options source table.Cards r → IsLeast options source table.Cards r →
+    IsFirstRefusal options source r
+refused_by_cards options source r holds least = record {
+  phase = Cards;
+  read = λ earlier q before. absurd (none_before earlier before);
+  holds = cards_down options source r holds;
+  least = λ q h. least q (cards_up options source q h);
+}
+
+before_syntax : (options : Options) (source : Source) → IsClear options source table.Cards → IsRead options source Syntax
+unfolding place_of
+before_syntax options source cards Cards q before h = cards q (cards_up options source q h)
+before_syntax options source cards Syntax q before h = absurd (omega (arith, before))
+before_syntax options source cards Nesting q before h = absurd (omega (arith, before))
+before_syntax options source cards Forms q before h = absurd (omega (arith, before))
+
+refused_by_syntax : (options : Options) (source : Source) (r : Refusal) → IsClear options source table.Cards → table.Fault options source table.Syntax r →
+    IsLeast options source table.Syntax r → IsFirstRefusal options source r
+refused_by_syntax options source r cards holds least = record {
+  phase = Syntax;
+  read = before_syntax options source cards;
+  holds = syntax_down options source r holds;
+  least = λ q h. least q (syntax_up options source q h);
+}
+
+before_nests : (options : Options) (source : Source) → IsClear options source table.Cards → IsClear options source table.Syntax → IsRead options source Nesting
+unfolding place_of
+before_nests options source cards rows Cards q before h = cards q (cards_up options source q h)
+before_nests options source cards rows Syntax q before h = rows q (syntax_up options source q h)
+before_nests options source cards rows Nesting q before h = absurd (omega (arith, before))
+before_nests options source cards rows Forms q before h = absurd (omega (arith, before))
+
+refused_by_nests : (options : Options) (source : Source) (r : Refusal) → IsClear options source table.Cards → IsClear options source table.Syntax →
+    table.Fault options source table.Nesting r → IsLeast options source table.Nesting r → IsFirstRefusal options source r
+refused_by_nests options source r cards rows holds least = record {
+  phase = Nesting;
+  read = before_nests options source cards rows;
+  holds = nests_down options source r holds;
+  least = λ q h. least q (nests_up options source q h);
+}
+
+earlier_clear : (options : Options) (source : Source) (r : Refusal) (first : table.IsFirstRefusal options source r) (phase earlier : table.Phase) → first.phase ≡ phase →
+    table.place_of earlier < table.place_of phase → IsClear options source earlier
+earlier_clear options source r first phase earlier is before q h = first.read earlier q (subst (λ p. table.place_of earlier < table.place_of p) (sym is) before) h
+
+by_phase : (options : Options) (source : Source) (r : Refusal) (first : table.IsFirstRefusal options source r) (phase : table.Phase) → first.phase ≡ phase →
+    table.place_of phase ≤ 2 → IsFirstRefusal options source r
+unfolding table.place_of
+by_phase options source r first table.Cards is early =
+    refused_by_cards options source r (subst (λ p. table.Fault options source p r) is first.holds) (subst (λ p. IsLeast options source p r) is first.least)
+by_phase options source r first table.Syntax is early =
+    refused_by_syntax options source r (earlier_clear options source r first table.Syntax table.Cards is (omega arith))
+    (subst (λ p. table.Fault options source p r) is first.holds) (subst (λ p. IsLeast options source p r) is first.least)
+by_phase options source r first table.Nesting is early =
+    refused_by_nests options source r (earlier_clear options source r first table.Nesting table.Cards is (omega arith))
+    (earlier_clear options source r first table.Nesting table.Syntax is (omega arith))
+    (subst (λ p. table.Fault options source p r) is first.holds) (subst (λ p. IsLeast options source p r) is first.least)
+by_phase options source r first table.Declarations is early = absurd (omega (arith, early))
+by_phase options source r first table.Storage is early = absurd (omega (arith, early))
+by_phase options source r first table.Sharing is early = absurd (omega (arith, early))
+
+pub early_refusal : (options : Options) (source : Source) (r : Refusal) (first : table.IsFirstRefusal options source r) → table.place_of first.phase ≤ 2 →
+    IsFirstRefusal options source r
+early_refusal options source r first early = by_phase options source r first first.phase refl early
+
+-- FORMS, where no earlier phase refuses
+pub record IsSpelledClear (options : Options) (source : Source) (set : FileSet) : Type 0 where
+  pub whole : IsWhole source
+  pub spells : SpellsSource source set
+  pub cards : IsClear options source table.Cards
+  pub rows : IsClear options source table.Syntax
+  pub nests : IsClear options source table.Nesting
+
+before_forms : (options : Options) (source : Source) (set : FileSet) → IsSpelledClear options source set → IsRead options source Forms
+unfolding place_of
+before_forms options source set clear Cards q before h = clear.cards q (cards_up options source q h)
+before_forms options source set clear Syntax q before h = clear.rows q (syntax_up options source q h)
+before_forms options source set clear Nesting q before h = clear.nests q (nests_up options source q h)
+before_forms options source set clear Forms q before h = absurd (omega (arith, before))
+
+-- the rows of forms are those of the one set
+of_the_set : (options : Options) (source : Source) (set : FileSet) → SpellsSource source set → (q : Refusal) → Fault options source Forms q → IsIn q (files_not_built set.files)
+of_the_set options source set spells q (of_forms other _ its among) =
+    subst (λ (s : FileSet). IsIn q (files_not_built s.files)) (one_set source other set its spells) among
+
+data FormsJudged (options : Options) (source : Source) (set : FileSet) : Option Refusal → Type 0 where
+  no_form : files_not_built set.files ≡ [] → FormsJudged options source set None
+  a_form : (r : Refusal) → IsIn r (files_not_built set.files) → ((q : Refusal) → IsIn q (files_not_built set.files) → IsNotAfter r q) → FormsJudged options source set (Some r)
+
+forms_judged : (options : Options) (source : Source) (set : FileSet) (found : Option Refusal) → IsChosen (files_not_built set.files) found → FormsJudged options source set found
+forms_judged options source set _ (none_there empty) = no_form empty
+forms_judged options source set _ (first_there r first) = a_form r first.is first.least
+
+refused_by : (options : Options) (source : Source) (set : FileSet) (found : Option Refusal) (r : Refusal) → IsSpelledClear options source set →
+    FormsJudged options source set found → found ≡ Some r → IsFirstRefusal options source r
+refused_by options source set _ r clear (no_form empty) is = absurd (cc)
+refused_by options source set _ r clear (a_form q among least) is =
+    let same : q ≡ r = cc in
+    subst (IsFirstRefusal options source) same
+    (record {
+      phase = Forms;
+      read = before_forms options source set clear;
+      holds = of_forms set q clear.spells among;
+      least = λ p h. least p (of_the_set options source set clear.spells p h);
+    })
+
+pub forms_refused : (options : Options) (source : Source) (set : FileSet) (r : Refusal) → IsSpelledClear options source set → first_of (files_not_built set.files) ≡ Some r →
+    IsFirstRefusal options source r
+forms_refused options source set r clear is =
+    refused_by options source set (first_of (files_not_built set.files)) r clear
+    (forms_judged options source set (first_of (files_not_built set.files)) (first_is_chosen (files_not_built set.files))) is
+
+none_among : (q : Refusal) (rs : List Refusal) → rs ≡ [] → IsIn q rs → ⊥
+none_among q [] is among = elim among [ ]
+none_among q (r ∷ rs) is among = absurd (cc)
+
+no_forms : (options : Options) (source : Source) (set : FileSet) (found : Option Refusal) → FormsJudged options source set found → found ≡ None →
+    files_not_built set.files ≡ []
+no_forms options source set _ (no_form empty) is = empty
+no_forms options source set _ (a_form q among least) is = absurd (cc)
+
+no_fault : (options : Options) (source : Source) (set : FileSet) → IsSpelledClear options source set → files_not_built set.files ≡ [] →
+    (phase : Phase) (r : Refusal) → Fault options source phase r → ⊥
+no_fault options source set clear none Cards r h = clear.cards r (cards_up options source r h)
+no_fault options source set clear none Syntax r h = clear.rows r (syntax_up options source r h)
+no_fault options source set clear none Nesting r h = clear.nests r (nests_up options source r h)
+no_fault options source set clear none Forms r h = none_among r (files_not_built set.files) none (of_the_set options source set clear.spells r h)
+
+pub set_accepted : (options : Options) (source : Source) (set : FileSet) → IsSpelledClear options source set → first_of (files_not_built set.files) ≡ None →
+    IsAccepted options source set
+set_accepted options source set clear is = record {
+  whole = clear.whole;
+  spelled = clear.spells;
+  sound = no_fault options source set clear
+      (no_forms options source set (first_of (files_not_built set.files)) (forms_judged options source set (first_of (files_not_built set.files)) (first_is_chosen (files_not_built set.files))) is);
+}
+
+-- and what is accepted has no form that is not translated
+not_empty : (rs : List Refusal) → ((r : Refusal) → IsIn r rs → ⊥) → (found : Option Refusal) → IsChosen rs found → rs ≡ []
+not_empty rs none _ (none_there empty) = empty
+not_empty rs none _ (first_there r first) = absurd (none r first.is)
+
+pub accepted_forms : (options : Options) (source : Source) (set : FileSet) → IsAccepted options source set → files_not_built set.files ≡ []
+accepted_forms options source set accepted =
+    not_empty (files_not_built set.files) (λ r among. accepted.sound Forms r (of_forms set r accepted.spelled among)) (first_of (files_not_built set.files))
+    (first_is_chosen (files_not_built set.files))
+
+-- A WHOLE SOURCE has no further files
+names_append : (is js : List Included) → names_of (is ++ js) ≡ names_of is ++ names_of js
+unfolding names_of
+names_append [] js = refl
+names_append (i ∷ is) js = ap (λ ns. i.name ∷ ns) (names_append is js)
+
+names_length : (is : List Included) → length (names_of is) ≡ length is
+unfolding names_of
+names_length [] = refl
+names_length (i ∷ is) = cc (names_length is)
+
+nothing_left : (given rest : List Included) → names_of (given ++ rest) ≡ names_of given → rest ≡ []
+nothing_left given [] same = refl
+nothing_left given (i ∷ rest) same =
+    let one : length (names_of (given ++ i ∷ rest)) ≡ length (names_of given) = ap length same in
+    let two = names_length (given ++ i ∷ rest) in
+    let three = names_length given in
+    let four = length-append given (i ∷ rest) in
+    absurd (omega (arith, one, two, three, four))
+
+pub no_others : (files : List (List ℕ)) (given : List Included) (source : Source) → IsWhole (record { files = files; included = given }) → IsSourceOf files given source →
+    record { files = files; included = given } ≡ source
+no_others files given source whole is =
+    let mentions : names_of source.included ≡ names_of given =
+    is.whole.included ∙ (ap (λ fs. first_mentions [] (mentioned_from 0 fs)) is.files_are ∙ sym whole.included) in
+    let none : is.rest ≡ [] = nothing_left given is.rest (sym (ap names_of is.included) ∙ mentions) in
+    let its : source.included ≡ given = is.included ∙ (ap (λ more. given ++ more) none ∙ append-nil given) in
+    ap (λ fs. record { files = fs; included = given }) (sym is.files_are) ∙ ap (λ xs. record { files = source.files; included = xs }) (sym its)

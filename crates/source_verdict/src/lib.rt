@@ -1,0 +1,5 @@
+//! When a source is accepted for translation, which is its first refusal, and the laws of both. The functions here do nothing; their contracts are
+//! the laws.
+#![tactic(auto)]
+
+pub mod laws;

@@ -1,0 +1,2 @@
+pub mod StatementForms
+pub mod StatementLaws

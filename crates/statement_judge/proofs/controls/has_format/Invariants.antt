@@ -1,0 +1,6 @@
+use Rattle.std.proofs.Common.{◌≡◌, drop}
+use Rattle.declaration_rows.specs.StatementRows.{any_word, is_format_word}
+use Rattle.statement_judge.proofs.controls.has_format.Given as goal
+
+abbrev pub invariant-loop-one : goal.invariant-loop-one
+invariant-loop-one l = any_word is_format_word (drop l.one-index l.list) ≡ any_word is_format_word l.list

@@ -1,0 +1,2 @@
+pub mod StatementSites
+pub mod StatementSteps
