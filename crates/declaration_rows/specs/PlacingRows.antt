@@ -125,7 +125,8 @@ unfoldable pub groups_settled : Facts → Naming → List EquivalenceGroup → B
 groups_settled c names [] = true
 groups_settled c names (g ∷ gs) = all_settled c names g.places && groups_settled c names gs
 
--- The first statement such that the statements up to it have a fault, given whether those before it have it.
+-- The first statement such that the statements up to it have a fault, given whether those before it have it. Where equations contradict each
+-- other, names begin nowhere, and nothing is said of what is joined or extended.
 unfoldable pub newly : Bool → Bool → Kind → List Kind
 newly before now kind = if now && not before then kind ∷ [] else []
 
@@ -136,7 +137,7 @@ placing_rows_from c names before (s ∷ ss) =
     let new = placing_by c names (before ++ s ∷ []) in
     stood s (unless (groups_settled c names (equivalence_in s.body)) EquivalenceContradiction ++
     (newly (contradicts old.equations) (contradicts new.equations) EquivalenceContradiction ++
-    newly (is_joined_or_extended old) (is_joined_or_extended new) CommonJoinedOrExtended)) ++
+    newly (contradicts new.equations || is_joined_or_extended old) (is_joined_or_extended new) CommonJoinedOrExtended)) ++
     placing_rows_from c names (before ++ s ∷ []) ss
 
 -- WHERE A NAME STANDS in its sequence: behind the first item of its block, else behind what begins first.
@@ -176,10 +177,14 @@ word_rows u names p (m ∷ ms) =
 unfoldable pub placing_of : WrittenUnit → ProgramUnit → Placing
 placing_of u p = placing_by (apart p) p.attribute u.statements
 
+-- A name has its place where no equations contradict each other, and no block is joined to another one or extended.
+unfoldable pub is_sound : Placing → Bool
+is_sound p = not (contradicts p.equations) && not (is_joined_or_extended p)
+
 unfoldable pub unit_placing_rows : WrittenUnit → ProgramUnit → List Refusal
 unit_placing_rows u p =
-    placing_rows_from (apart p) p.attribute [] u.statements ++ word_rows u p.attribute (placing_of u p) p.stored
+    placing_rows_from (apart p) p.attribute [] u.statements ++ (if is_sound (placing_of u p) then word_rows u p.attribute (placing_of u p) p.stored else [])
 
 unfoldable pub placing_rows_opened : Unit {0}
-unfolding member_equations tie_equation block_equations placing_by is_reached reached_by all_reached_by with_new further further_times count reached_from is_contradicted contradicts first_item first_items extends_before joins_other is_joined_or_extended all_settled groups_settled newly placing_rows_from least_of first_among start_by place_in is_on_word shares_storage shares word_rows placing_of unit_placing_rows
+unfolding member_equations tie_equation block_equations placing_by is_reached reached_by all_reached_by with_new further further_times count reached_from is_contradicted contradicts first_item first_items extends_before joins_other is_joined_or_extended all_settled groups_settled newly placing_rows_from least_of first_among start_by place_in is_on_word shares_storage shares word_rows placing_of is_sound unit_placing_rows
 placing_rows_opened = tt

@@ -13,14 +13,14 @@ use Rattle.f_tree.specs.Setting.{Setting, IsSetting, IsIn}
 use Rattle.f_tree.specs.Meaning.{units_of}
 use Rattle.f_tree.specs.WellFormed.{AreWellFormed}
 use Rattle.declaration_rows.specs.GlobalRows.{all_units, units_global_rows, global_rows_opened}
-use Rattle.declaration_rows.specs.PlacingRows.{placing_of, unit_placing_rows, placing_rows_opened}
+use Rattle.declaration_rows.specs.PlacingRows.{placing_of, is_sound, unit_placing_rows, placing_rows_opened}
 use Rattle.declaration_rows.specs.DataRows.{unit_data_rows, data_rows_opened}
 use Rattle.declaration_rows.specs.SharedStorageRows.{units_storage_rows, shared_storage_rows_opened}
 use Rattle.declaration_rows.specs.SetRows.{set_faults}
 
--- the rows of the storage of each unit
+-- the rows of the storage of each unit; those of its DATA statements where its names have places
 unfoldable pub unit_storage_faults : WrittenUnit → ProgramUnit → List Refusal
-unit_storage_faults u p = unit_placing_rows u p ++ unit_data_rows u p (placing_of u p)
+unit_storage_faults u p = unit_placing_rows u p ++ (if is_sound (placing_of u p) then unit_data_rows u p (placing_of u p) else [])
 
 unfoldable pub storage_faults_of : Options → List WrittenUnit → List Refusal
 storage_faults_of options [] = []

@@ -2,7 +2,7 @@
 -- where its condition does not hold. ANSI X3.9-1978, sections 10, 11, 12.8 and 15; MIL-STD-1753 for DO WHILE.
 use Rattle.std.specs.Prelude.{ℕ, zero, suc, ◌+◌, ℤ, pos, int_lt, Bool, true, false, ◌||◌, List, [], ◌∷◌, ◌++◌, length, Option, Some, None, if◌then◌else◌}
 use Rattle.f_tree.specs.Values.{Bytes, Datum, IsInt, IsLabel, Nothing}
-use Rattle.f_tree.specs.Terms.{Add, IsLess, IsLessOrEqual, IsEqual, IsGreaterOrEqual, Term, Val, Terms, NoMore, More, any_refers}
+use Rattle.f_tree.specs.Terms.{Add, IsLess, IsLessOrEqual, IsEqual, IsGreaterOrEqual, Wanted, AsSubroutine, AsFunction, Term, Val, Refer, Bind, Terms, NoMore, More, any_refers}
 use Rattle.f_tree.specs.Facts.{Direction, Input, Output, Layout, Listed, Controls, Job, Item, Repeated, Turn, Work, Done, Before, Head, ToSet, ToSetText, ToSetLabel, ToGo, ToPick, ToGoAssigned, ToGoBySign, ToGuard, ToEnterArm, ToLoop, ToTestLoop, ToCall, ToReturn, ToStop, ToBegin, ToTransfer, ToRepeat, ToTurn, ToFinish, ToAuxiliary, ToEnd, Form, Passes, On}
 use Rattle.l_core.specs.Pures.{Pure, Constant, Load, Operated, Chosen, Pures, NoPure, AndPure}
 use Rattle.l_core.specs.Steps.{Starts, Takes, Finishes, Step, Put, PutLabel, Unless, Skip, Again, AgainIf, Jump, Select, JumpBy, CallSub, Branch, Back, BackBy, Halt, Acts}
@@ -79,11 +79,22 @@ unfoldable pub turn_code : Bool → ℕ → Pures → List Step
 turn_code once n (AndPure x (AndPure first (AndPure limit (AndPure by NoPure)))) = Put x (Operated Add (Load x) by) ∷ back_by once (test_by x limit by) n ∷ []
 turn_code once n ps = []
 
--- CALL (15.6): where a label is passed, control may go on there
-unfoldable pub passes_label : Terms → Bool
-passes_label NoMore = false
-passes_label (More (Val (IsLabel l)) ts) = true
-passes_label (More t ts) = passes_label ts
+-- may the value of an operand be a label: a label that is written, or what a subroutine answers
+unfoldable pub wants_no_value : Wanted → Bool
+wants_no_value AsSubroutine = true
+wants_no_value (AsFunction basic width) = false
+
+unfoldable mutual
+  pub may_be_label : Term → Bool
+  may_be_label (Val (IsLabel l)) = true
+  may_be_label (Refer callee ts) = wants_no_value callee.want
+  may_be_label (Bind ts t) = passes_label ts || may_be_label t
+  may_be_label t = false
+
+  -- CALL (15.6): where a label is passed, control may go on there
+  pub passes_label : Terms → Bool
+  passes_label NoMore = false
+  passes_label (More t ts) = may_be_label t || passes_label ts
 
 unfoldable pub branch_code : Bool → ℕ → List Step
 branch_code true k = Branch k ∷ []
@@ -143,5 +154,5 @@ unfoldable mutual
   head_code once k n head operands = None
 
 unfoldable pub statements_opened : Unit {0}
-unfolding behind_operands with_operands put_code put_label_code select_code jump_by_code sign_code unless_code guard_code loop_operands test_by loop_test loop_code back_by turn_code passes_label branch_code call_code back_code item_code work_code begin_code transfer_code form_code head_code
+unfolding behind_operands with_operands put_code put_label_code select_code jump_by_code sign_code unless_code guard_code loop_operands test_by loop_test loop_code back_by turn_code wants_no_value may_be_label passes_label branch_code call_code back_code item_code work_code begin_code transfer_code form_code head_code
 statements_opened = tt

@@ -12,9 +12,9 @@ use Rattle.l_core.specs.Pures.{Pure, Temporary, Applied, Pures, NoPure, AndPure,
 use Rattle.l_core.specs.Steps.{Step, Keep, Compute, CallFor, Text}
 use Rattle.l_core.specs.Machine.{to, onward, keeping, done, step}
 use Rattle.lowering.specs.Expressions.{Purpose, ForUse, ForCall, ForLater, Shape, AsFetch, AsElement, AsAlone, AsPart, AsJoined, AsBefore, AsBetween, AsFunction, AsReference, is_library, for_place, for_function, operand_purpose, pure_of, kept_steps, kept_value, kept_free, function_steps, function_value, function_free, closing, closed_value, closed_free, may_decide, and_then, no_operand, plain, lower_all}
-use Rattle.lowering_laws.specs.Walks.{Spans, at_step, Keeps, stays, goes, SameBelow, Lasts, AllLast, Comes, AllCome, Met}
+use Rattle.lowering_laws.specs.Walks.{Spans, at_step, IsOrdinary, Keeps, stays, goes, SameBelow, Lasts, AllLast, Comes, AllCome, Met}
 use Rattle.lowering_laws.specs.Midway.{finish, Fits, of_fetch, of_element, of_alone, of_part, of_joined, of_before, of_between, of_function, of_reference}
-use Rattle.lowering_laws.proofs.WalkLemmas.{spans_nothing, spans_one, same_refl, kept_above, kept_there, all_last_now, temporary_lasts, at_its_end}
+use Rattle.lowering_laws.proofs.WalkLemmas.{spans_nothing, spans_one, ordinary_by, same_refl, kept_above, kept_there, all_last_now, temporary_lasts, at_its_end}
 use Rattle.lowering_laws.proofs.ShapeLemmas.{wants}
 
 -- ## The pure value of a form
@@ -120,12 +120,12 @@ module _ (u : Text) (f : Frame) (h : ℕ) (w : World) where
       ap (done u (at_step f h q m) w) there ∙ ap (λ z. keeping k (at_step f h q m) w (given_that z (applied function))) e ∙ ap (keeping k (at_step f h q m) w) e'
 
   -- one step that keeps a value, where there is one
-  pub keeps_one : {Good : Datum → Temporaries → Type 0} {Left : Term → ℕ → Temporaries → Type 0} (k q : ℕ) (m : Temporaries) (x : Checked Datum) →
+  pub keeps_one : {Good : Datum → Temporaries → Type 0} {Left : Term → ℕ → Temporaries → Type 0} (k q : ℕ) (m : Temporaries) (x : Checked Datum) → IsOrdinary u q →
       ((d : Datum) → x ≡ Gives d → step u (at_step f h q m) w ≡ Goes (at_step f h (suc q) (with_kept k d m)) w) → ((d : Datum) → x ≡ Gives d → Good d (with_kept k d m)) →
       Met u f h w k q m (suc q) Good Left (at_once x)
   unfolding at_once
-  keeps_one k q m (Gives d) st good = record { met = record { kept = with_kept k d m; way = goes (st d refl) (omega arith) stays; same = kept_above k k d m (omega arith); good = good d refl } }
-  keeps_one k q m (Fails act) st good = record { met = tt }
+  keeps_one k q m (Gives d) ordinary st good = record { met = record { kept = with_kept k d m; way = goes ordinary (st d refl) (omega arith) stays; same = kept_above k k d m (omega arith); good = good d refl } }
+  keeps_one k q m (Fails act) ordinary st good = record { met = tt }
 
   -- a value that is kept in a temporary lasts
   pub kept_comes : (purpose : Purpose) (k : ℕ) (d : Datum) (m : Temporaries) → Comes u.facts f w.store purpose (suc k) (with_kept k d m) (Temporary k) d
@@ -135,7 +135,7 @@ module _ (u : Text) (f : Frame) (h : ℕ) (w : World) where
 
   kept_at : {Left : Term → ℕ → Temporaries → Type 0} (purpose : Purpose) (k q : ℕ) (m : Temporaries) (p : Pure) → slice_get u.steps q ≡ Some (Keep k p) →
       Met u f h w k q m (suc q) (λ d m'. Comes u.facts f w.store purpose (suc k) m' (Temporary k) d) Left (at_once (meant u.facts f m w.store p))
-  kept_at purpose k q m p there = keeps_one k q m (meant u.facts f m w.store p) (λ d e. kept_step k q m p d there e) (λ d e. kept_comes purpose k d m)
+  kept_at purpose k q m p there = keeps_one k q m (meant u.facts f m w.store p) (ordinary_by u q (Keep k p) there tt) (λ d e. kept_step k q m p d there e) (λ d e. kept_comes purpose k d m)
 
   -- a pure value that is what it is whatever becomes of the temporaries from n on
   abbrev pub Stays : ℕ → Temporaries → Pure → Type 0
@@ -178,7 +178,7 @@ module _ (u : Text) (f : Frame) (h : ℕ) (w : World) where
   function_met {Left = Left} true function purpose k n q q' m ps ds now spans =
       let one = spans_one u spans in
       subst (λ z. Met u f h w k q m z (λ d m'. Comes u.facts f w.store purpose (suc k) m' (Temporary k) d) Left (at_once (applied function ds))) (sym one.1)
-      (keeps_one k q m (applied function ds) (λ d e'. computed_step k q m function ps ds d one.0 (now m (same_refl n m)) e') (λ d e'. kept_comes purpose k d m))
+      (keeps_one k q m (applied function ds) (ordinary_by u q (Compute k function ps) one.0 tt) (λ d e'. computed_step k q m function ps ds d one.0 (now m (same_refl n m)) e') (λ d e'. kept_comes purpose k d m))
   function_met false function purpose k n q q' m ps ds now spans = value_of_shape (AsFunction function) purpose k n q q' m ps ds some_values tt now spans
 
   -- a place, whose operands last as long as it

@@ -14,9 +14,9 @@ use Rattle.l_core.specs.Pures.{Pure, Constant, Temporary, Name, AllOf, Prefixed,
 use Rattle.l_core.specs.Steps.{Step, Keep, Unless, Text}
 use Rattle.l_core.specs.Machine.{to, testing, done, step}
 use Rattle.lowering.specs.Expressions.{Purpose, ForUse, ForCall, ForLater, Lowered, plain, and_then, no_operand, ahead, Shape, AsFetch, AsElement, AsAlone, AsPart, AsJoined, AsBefore, AsBetween, AsFunction, AsReference, is_library, for_place, for_function, operand_purpose, pure_of, kept_steps, kept_value, kept_free, closing, closed_value, closed_free, shaped, takes_steps, any_takes, may_decide, wanted_where, guarded, lowered_between, argument, in_order, lower, lower_all}
-use Rattle.lowering_laws.specs.Walks.{Spans, nothing, at_step, Keeps, stays, goes, SameBelow, Lasts, AllLast, Comes, AllCome, Ends, CallsFor, Follows, Met}
+use Rattle.lowering_laws.specs.Walks.{Spans, nothing, at_step, IsOrdinary, Keeps, stays, goes, SameBelow, Lasts, AllLast, Comes, AllCome, Ends, CallsFor, Follows, Met}
 use Rattle.lowering_laws.specs.Midway.{formed, finish, Fits, of_fetch, of_element, of_alone, of_part, of_joined, of_before, of_between, of_function, of_reference, first_of, both_of, guard_of, IsMidway, at_start, at_end, in_operands, in_deciding, in_left, in_right, in_arguments, in_expansion, AreMidway, none_left, at_first, at_later}
-use Rattle.lowering_laws.proofs.WalkLemmas.{split, spans_up, spans_length, spans_nothing, spans_one, spans_first, same_refl, same_trans, same_less, kept_above, kept_there, lasts_same, lasts_more, all_last_same, all_last_more, all_last_now, temporary_lasts, join, behind, with_less, then_met, then_at_once, without_steps, at_its_end}
+use Rattle.lowering_laws.proofs.WalkLemmas.{split, ordinary_by, spans_up, spans_length, spans_nothing, spans_one, spans_first, same_refl, same_trans, same_less, kept_above, kept_there, lasts_same, lasts_more, all_last_same, all_last_more, all_last_now, temporary_lasts, join, behind, with_less, then_met, then_at_once, without_steps, at_its_end}
 use Rattle.lowering_laws.proofs.ShapeLemmas.{and_false, no_reference, none_call, no_steps, free_grows, all_grow, lower_formed, reduce_formed}
 use Rattle.lowering_laws.proofs.ClosingLemmas.{Suits, suits, keeps_one, kept_comes, kept_step, value_met, closing_met}
 
@@ -402,13 +402,13 @@ module _ (u : Text) (f : Frame) (h : ℕ) (w : World) where
       (λ r' p' m' same mid. in_right a may takes wants mid spans)
       (λ d m' come same.
       subst (λ z. Met u f h w k q m' z (λ d m''. Comes u.facts f w.store purpose (suc k) m'' (Temporary k) d) (λ r' p' m''. IsMidway u f env es purpose k (Between op t b) r' p' m'' q') (at_once (operated op a d))) (sym one.1)
-      (keeps_one u f h w k q m' (operated op a d)
+      (keeps_one u f h w k q m' (operated op a d) (ordinary_by u q (Keep k (lower env ForUse k b).value) one.0 tt)
       (λ d' e. kept_step u f h w k q m' (lower env ForUse k b).value d' one.0 (come.now m' (same_refl (lower env ForUse k b).free m') ∙ ap Gives (right_value op a d d' (decides op may) wants e)))
       (λ d' e. kept_comes u f h w purpose k d' m')))))
 
   -- a forward way of two steps
-  two_steps : {q q' : ℕ} {m m' : Temporaries} → step u (at_step f h q m) w ≡ Goes (at_step f h (suc q) m') w → step u (at_step f h (suc q) m') w ≡ Goes (at_step f h q' m') w → suc q < q' → Keeps u f h w q m q' m'
-  two_steps one two forward = goes one (omega arith) (goes two forward stays)
+  two_steps : {q q' : ℕ} {m m' : Temporaries} → IsOrdinary u q → IsOrdinary u (suc q) → step u (at_step f h q m) w ≡ Goes (at_step f h (suc q) m') w → step u (at_step f h (suc q) m') w ≡ Goes (at_step f h q' m') w → suc q < q' → Keeps u f h w q m q' m'
+  two_steps ordinary ordinary' one two forward = goes ordinary one (omega arith) (goes ordinary' two forward stays)
 
   length_with_one : (xs : List Step) (x : Step) → length (xs ++ x ∷ []) ≡ suc (length xs)
   length_with_one [] x = refl
@@ -432,7 +432,7 @@ module _ (u : Text) (f : Frame) (h : ℕ) (w : World) where
       record {
         met = record {
           kept = m1;
-          way = two_steps one two (omega (arith, end));
+          way = two_steps (ordinary_by u q (Keep k (lower env ForUse k t).value) first.0 tt) (ordinary_by u (suc q) (Unless (wanted_where op k) (suc (length (lower env ForUse k b).steps))) second.0 tt) one two (omega (arith, end));
           same = kept_above k k a m (omega arith);
           good =
               subst (λ (z : Lowered Pure). Comes u.facts f w.store purpose z.free m1 z.value d) (sym (lower_guarded env purpose k op t b may takes))
@@ -450,7 +450,7 @@ module _ (u : Text) (f : Frame) (h : ℕ) (w : World) where
       let same = kept_above k k a m (omega arith) in
       subst (λ l. Met u f h w k q m q' (λ d m'. Comes u.facts f w.store purpose (lower env purpose k (Between op t b)).free m' (lower env purpose k (Between op t b)).value d) (λ r' p' m'. IsMidway u f env es purpose k (Between op t b) r' p' m' q')
       (right_after l (then_by (reduce u.facts f w.store es b) (Between op (Val a)) (λ d. at_once (operated op a d))))) e
-      (behind u f h w (two_steps one two (omega arith)) same
+      (behind u f h w (two_steps (ordinary_by u q (Keep k (lower env ForUse k t).value) first.0 tt) (ordinary_by u (suc q) (Unless (wanted_where op k) (suc (length (lower env ForUse k b).steps))) second.0 tt) one two (omega arith)) same
       (close_right env es purpose k op t b b a (suc (suc q)) parts.0 q' m1 may takes e (right (suc (suc q)) parts.0 m1 parts.1 (all_last_same u.facts f k m m1 env es same argued)) parts.2))
   guarded_met env es purpose k op t b q q' m may takes right spans argued a now Wrong e = record { met = tt }
 

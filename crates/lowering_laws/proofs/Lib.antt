@@ -5,5 +5,9 @@ mod ExpressionLemmas
 mod ExampleLemmas
 mod CostLemmas
 mod PlaceLemmas
+mod LabelLemmas
+mod CallLemmas
 mod StatementLemmas
 mod LocalLemmas
+mod CodeLemmas
+mod LayoutLemmas

@@ -10,10 +10,10 @@ use Rattle.f_tree.specs.Store.{Store}
 use Rattle.f_tree.specs.Valuing.{Red, Valued, Bad, Asks, then_by, at_once}
 use Rattle.f_tree.specs.World.{World}
 use Rattle.l_core.specs.Pures.{Pure, Temporary, Pures, NoPure, AndPure, Temporaries, with_kept, if_kept, meant, all_meant}
-use Rattle.l_core.specs.Steps.{Step, Text}
+use Rattle.l_core.specs.Steps.{Step, Branch, Text}
 use Rattle.l_core.specs.Machine.{step}
 use Rattle.lowering.specs.Expressions.{Purpose, ForLater}
-use Rattle.lowering_laws.specs.Walks.{Spans, nothing, further, at_step, Keeps, stays, goes, SameBelow, Lasts, AllLast, Comes, AllCome, Ends, CallsFor, Follows, Met}
+use Rattle.lowering_laws.specs.Walks.{Spans, nothing, further, at_step, IsOrdinary, Keeps, stays, goes, SameBelow, Lasts, AllLast, Comes, AllCome, Ends, CallsFor, Follows, Met}
 
 -- valuing comes to no call
 unfoldable pub IsAtOnce : {A T : Type 0} → Red A T → Type 0
@@ -44,6 +44,15 @@ spans_one u (further e nothing) = (e, refl)
 
 pub spans_first : (u : Text) {p q : ℕ} {st : Step} {sts : List Step} → Spans u p (st ∷ sts) q → (slice_get u.steps p ≡ Some st) × Spans u (suc p) sts q
 spans_first u (further e s) = (e, s)
+
+-- ## Steps that are no branches behind a CALL
+
+abbrev pub IsNoBranch : Step → Type 0
+IsNoBranch (Branch k) = ⊥
+IsNoBranch st = Unit {0}
+
+pub ordinary_by : (u : Text) (p : ℕ) (st : Step) → slice_get u.steps p ≡ Some st → IsNoBranch st → IsOrdinary u p
+ordinary_by u p st e no_branch k e' = let same : st ≡ Branch k = cc in subst IsNoBranch same no_branch
 
 -- ## Temporaries
 
@@ -120,15 +129,15 @@ temporary_lasts c f k d m there m' s after = ap if_kept (after k (omega arith) �
 module _ (u : Text) (f : Frame) (h : ℕ) (w : World) where
   pub join : {p q r : ℕ} {m m' m'' : Temporaries} → Keeps u f h w p m q m' → Keeps u f h w q m' r m'' → Keeps u f h w p m r m''
   join stays after = after
-  join (goes st forward way) after = goes st forward (join way after)
+  join (goes ordinary st forward way) after = goes ordinary st forward (join way after)
 
   pub onward : {p q : ℕ} {m m' : Temporaries} → Keeps u f h w p m q m' → p ≤ q
   onward stays = omega arith
-  onward (goes st forward way) = let later = onward way in omega (arith, forward, later)
+  onward (goes ordinary st forward way) = let later = onward way in omega (arith, forward, later)
 
   pub still : {p q : ℕ} {m m' : Temporaries} → Keeps u f h w p m q m' → q ≡ p → m' ≡ m
   still stays same = refl
-  still (goes st forward way) same = let later = onward way in absurd (omega (arith, forward, later, same))
+  still (goes ordinary st forward way) same = let later = onward way in absurd (omega (arith, forward, later, same))
 
   -- behind a way, what follows is what follows from its start
   behind_way : {A T : Type 0} (Good : A → Temporaries → Type 0) (Left : T → ℕ → Temporaries → Type 0) (k p q r : ℕ) (m m' : Temporaries) (x : Red A T) →

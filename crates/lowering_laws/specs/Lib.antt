@@ -3,3 +3,4 @@ pub mod Midway
 pub mod ExpressionStatements
 pub mod Examples
 pub mod Layer
+pub mod Layout

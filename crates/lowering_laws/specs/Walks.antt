@@ -8,7 +8,7 @@ use Rattle.f_tree.specs.Facts.{Facts, Frame}
 use Rattle.f_tree.specs.Valuing.{Red, Valued, Bad, Asks}
 use Rattle.f_tree.specs.World.{World}
 use Rattle.l_core.specs.Pures.{Pure, Pures, NoPure, AndPure, Temporaries, with_kept, meant, all_meant}
-use Rattle.l_core.specs.Steps.{Step, CallFor, Text}
+use Rattle.l_core.specs.Steps.{Step, CallFor, Branch, Text}
 use Rattle.l_core.specs.Machine.{View, step}
 use Rattle.lowering.specs.Expressions.{Purpose, ForLater}
 
@@ -21,10 +21,14 @@ pub data Spans (u : Text) : ℕ → List Step → ℕ → Type 0 where
 abbrev pub at_step : Frame → ℕ → ℕ → Temporaries → View
 at_step f h p m = record { frame = f; at = p; kept = m; height = h }
 
+-- a step that is no branch behind a CALL: such a step stands on no way, so that it may be taken before one
+abbrev pub IsOrdinary : Text → ℕ → Type 0
+IsOrdinary u p = (k : ℕ) → slice_get u.steps p ≡ Some (Branch k) → ⊥
+
 -- a way forward that only keeps values
 pub data Keeps (u : Text) (f : Frame) (h : ℕ) (w : World) : ℕ → Temporaries → ℕ → Temporaries → Type 0 where
   stays : {p : ℕ} {m : Temporaries} → Keeps u f h w p m p m
-  goes : {p p' q : ℕ} {m m' m'' : Temporaries} → step u (at_step f h p m) w ≡ Goes (at_step f h p' m') w → p < p' → Keeps u f h w p' m' q m'' → Keeps u f h w p m q m''
+  goes : {p p' q : ℕ} {m m' m'' : Temporaries} → IsOrdinary u p → step u (at_step f h p m) w ≡ Goes (at_step f h p' m') w → p < p' → Keeps u f h w p' m' q m'' → Keeps u f h w p m q m''
 
 -- the temporaries below one are the same
 abbrev pub SameBelow : ℕ → Temporaries → Temporaries → Type 0

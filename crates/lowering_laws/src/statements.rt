@@ -1,9 +1,21 @@
-//! A unit is simulated by its text, as the contract of a call that does nothing.
+//! A unit is simulated by its text, as the contracts of calls that do nothing.
 
 ghost use Rattle.lowering_laws.specs.Layer.{EachTextSimulates};
+ghost use Rattle.lowering_laws.specs.Layout.{EachTextIsLaidOut, EachUnitSimulates};
 
-/// Each step of a unit of assignments, GO TO, logical IF, RETURN, STOP, END and statements that take no step, with references to functions
-/// anywhere in them, is followed by steps of its text that cost at most the whole text, whatever the steps cost, if each costs something.
+/// Each step of a unit whose text is laid out as `IsLaidOut` says is followed by steps of its text that cost at most the whole text, whatever
+/// the steps cost, if each costs something: assignments, ASSIGN, branches, logical IF, IF blocks, CALL, RETURN, STOP, END and statements that
+/// take no step, with references to functions anywhere in them.
 pub fn texts_simulate()
     ensures { EachTextSimulates }
+{}
+
+/// The text that lowering gives to a unit of these statements is laid out so, if END stands last.
+pub fn texts_are_laid_out()
+    ensures { EachTextIsLaidOut }
+{}
+
+/// Such a unit is simulated by the text that lowering gives to it.
+pub fn units_simulate()
+    ensures { EachUnitSimulates }
 {}

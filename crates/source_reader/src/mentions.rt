@@ -79,12 +79,7 @@ pub(crate) fn included_name(
 ) -> Result<Option<Text>, AllocError>
     ensures { IfOk result (λ name. name ≡ included_name statement.now) }
 {
-    match classify(
-        alloc,
-        false,
-        statement.label.is_some(),
-        statement.text.as_slice(),
-    )? {
+    match classify(false, statement.label.is_some(), statement.text.as_slice()) {
         Some(StmtKind::Include) => name_that_stands(alloc, statement),
         _ => Ok(None),
     }

@@ -25,10 +25,9 @@ const ONE_CARD: usize = 66;
 pub fn read_statement(alloc: Global, first: bool, source: &Statement) -> Result<Stmt, Fail>
     ensures { IsTree first source.now result }
 {
-    match classify(alloc, first, source.label.is_some(), source.text.as_slice()) {
-        Ok(Some(kind)) => tree_of_kind(alloc, first, kind, source),
-        Ok(None) => Err(refused(source, Kind::UnknownStatement)),
-        Err(_) => Err(Fail::NoMemory),
+    match classify(first, source.label.is_some(), source.text.as_slice()) {
+        Some(kind) => tree_of_kind(alloc, first, kind, source),
+        None => Err(refused(source, Kind::UnknownStatement)),
     }
 }
 

@@ -1,7 +1,11 @@
+pub mod CursorLemmas
 pub mod CutLemmas
 pub mod DottedLemmas
 pub mod KindLemmas
+pub mod PlaceLaws
+pub mod PlaceLemmas
 pub mod ReaderLemmas
 pub mod RowLemmas
 pub mod StandingLemmas
+pub mod StepLaws
 pub mod StepLemmas

@@ -85,7 +85,7 @@ token_on whole text fuel next_fuel m at c rest s found longer start some less th
     start ∙ ap (λ l. seen text found ++ l) after ∙ sym (append_assoc (seen text found) one (pieces_from next_fuel s.next (drop (at + s.len) text)))
     ∙ ap (λ l. l ++ pieces_from next_fuel s.next (drop (at + s.len) text)) (sym (ap (λ l. seen text l) more ∙ seen_more text at found s.token short))
 
-front : (slice : List Character) (e : Character) → 1 ≤ length slice → slice ≡ get_or slice 0 e ∷ drop 1 slice
+pub front : (slice : List Character) (e : Character) → 1 ≤ length slice → slice ≡ get_or slice 0 e ∷ drop 1 slice
 front [] e some = absurd (omega arith)
 front (c ∷ rest) e some = refl
 
@@ -99,7 +99,7 @@ unfolding pieces_from
 no_fuel zero m text h = refl
 no_fuel (suc fuel) m text h = absurd (omega arith)
 
-empty : (slice : List Character) → length slice < 1 → slice ≡ []
+pub empty : (slice : List Character) → length slice < 1 → slice ≡ []
 empty [] h = refl
 empty (c ∷ rest) h = absurd (omega arith)
 

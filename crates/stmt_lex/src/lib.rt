@@ -3,8 +3,10 @@
 #![tactic(auto)]
 
 mod classes;
+mod cursor;
 mod cuts;
 mod kinds;
+mod places;
 mod reader;
 mod rows;
 mod squeeze;
@@ -15,5 +17,6 @@ mod token;
 mod words;
 
 pub use kinds::classify;
+pub use places::{Place, token_places};
 pub use reader::tokens;
 pub use token::{LexFail, Span, Token, TokenList};

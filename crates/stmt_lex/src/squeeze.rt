@@ -1,12 +1,11 @@
 //! The characters of a text, without the blanks outside constants. Sections 3.1 and 3.3.
 
-ghost use Rattle.std.specs.Prelude.{◌≡◌, ◌++◌, ◌<◌, ◌≤◌, nat_eq, length, map, codes, IfOk, None};
-ghost use Rattle.std.specs.List.{starts_with};
-ghost use Rattle.fortran_text.specs.CharactersOfText.{after, shown, mark, behind, counting, characters_from, has_counted, characters};
+ghost use Rattle.std.specs.Prelude.{◌≡◌, ◌++◌, IfOk, None};
+ghost use Rattle.fortran_text.specs.CharactersOfText.{after, shown, mark, behind, counting, characters_from, characters};
 ghost use Rattle.fortran_text.specs.declared.characters.Standing.TheVariants.{Outside};
-ghost use Rattle.fortran_lexemes.specs.PiecesOfText.{codes_of};
 ghost use Rattle.stmt_lex.specs.Standings.{capped};
 
+use crate::cursor::has_counted;
 use fortran_text::{Character, Standing};
 use plain_data::Items;
 use std::alloc::{AllocError, Global};
@@ -44,7 +43,7 @@ fn behind(counts: bool, digits: Option<u64>, c: u8) -> Standing
 
 /// Behind a character.
 #[tactic(auto, unfolding(fortran_text::specs::CharactersOfText::after, crate::specs::Standings::capped))]
-fn after(counts: bool, standing: Standing, c: u8) -> Standing
+pub(crate) fn after(counts: bool, standing: Standing, c: u8) -> Standing
     ensures { result ≡ capped (after counts standing c) }
 {
     match standing {
@@ -130,19 +129,8 @@ fn squeezed(alloc: Global, counts: bool, text: &[u8]) -> Result<Items<Character>
     Ok(found)
 }
 
-/// Whether the codes of characters begin with a word.
-fn codes_begin(text: &[Character], word: &[u8]) -> bool
-    ensures { result ≡ starts_with nat_eq (codes_of text.now) word.now }
-{
-    match (text, word) {
-        (_, []) => true,
-        ([c, rest @ ..], [code, more @ ..]) => c.code == *code && codes_begin(rest, more),
-        _ => false,
-    }
-}
-
 /// The characters of the text of a statement.
-#[tactic(auto, unfolding(fortran_text::specs::CharactersOfText::has_counted, fortran_text::specs::CharactersOfText::characters))]
+#[tactic(auto, unfolding(fortran_text::specs::CharactersOfText::characters))]
 pub(crate) fn characters(
     alloc: Global,
     labelled: bool,
@@ -150,10 +138,5 @@ pub(crate) fn characters(
 ) -> Result<Items<Character>, AllocError>
     ensures { IfOk result (λ found. found ≡ characters labelled text.now) }
 {
-    let found = squeezed(alloc, false, text)?;
-    if labelled && codes_begin(found.as_slice(), b"format(") {
-        squeezed(alloc, true, text)
-    } else {
-        Ok(found)
-    }
+    squeezed(alloc, has_counted(labelled, text), text)
 }

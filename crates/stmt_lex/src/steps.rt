@@ -337,8 +337,7 @@ fn behind_if_step(
     if is_then(first, rest) {
         return Ok(token_step(Token::Then, 4, Mode::Plain));
     }
-    let kind = kind_of_characters(alloc, false, text)?;
-    Ok(inner_step(kind, first, rest))
+    Ok(inner_step(kind_of_characters(false, text), first, rest))
 }
 
 /// The word that is expected, if it stands there.

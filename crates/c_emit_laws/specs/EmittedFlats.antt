@@ -1,0 +1,66 @@
+-- What the flat C items for lowered steps do, one for each step. ANSI X3.9-1978, sections 10 and 11; C89, 3.6.
+use Rattle.std.specs.Prelude.{◌≡◌, ℕ, suc, ◌+◌, ◌≤◌, List, length, Option, Some, slice_get, slice_set}
+use Rattle.simulation.specs.Machine.{Goes}
+use Rattle.f_tree.specs.World as fortran
+use Rattle.l_core.specs.Pures.{Pure}
+use Rattle.l_core.specs.Steps.{Step, Put, Keep, Unless, AgainIf, Skip, Again, Jump, Pass, Text}
+use Rattle.l_core.specs.Machine.{View, step}
+use Rattle.c_tree.specs.Objects as objects_of
+use Rattle.c_tree.specs.Flat.{Flat}
+use Rattle.c_tree.specs.World as c
+use Rattle.c_tree.specs.Linking as linking
+use Rattle.c_tree.specs.Steps as c_steps
+use Rattle.c_tree.specs.Steps.{deed}
+use Rattle.c_image.specs.World.{World, with_held, IsHomeless}
+use Rattle.c_image.specs.Standing.{Stands}
+use Rattle.c_image.specs.Knowing.{IsApart}
+use Rattle.c_image_laws.specs.Meanings.{StandsAfter}
+use Rattle.c_emit.specs.Numbers.{Writing}
+use Rattle.c_emit.specs.Flats.{flat_of}
+use Rattle.c_emit_laws.specs.EmittedNumbers.{IsKnown}
+
+-- a step that changes no temporary, and calls, answers and ends nothing
+pub data Steers : Step → Type 0 where
+  by_put : (place p : Pure) → Steers (Put place p)
+  by_test : (p : Pure) (n : ℕ) → Steers (Unless p n)
+  by_test_back : (p : Pure) (n : ℕ) → Steers (AgainIf p n)
+  by_skip : (n : ℕ) → Steers (Skip n)
+  by_return : (n : ℕ) → Steers (Again n)
+  by_jump : (label : ℕ) → Steers (Jump label)
+  by_pass : Steers Pass
+
+-- where the lowered text has gone, the C function goes: at the item of the step that is next, over a store that stands; what the procedure knows is as
+-- it was
+pub record GoesAlike (μ : World) (v v' : View) (x' : fortran.World) (place : ℕ → ℕ) (function : linking.Function) (view : c_steps.View) (world : c.World) (item : Flat) : Type 0 where
+  pub frame : v'.frame ≡ v.frame
+  pub kept : v'.kept ≡ v.kept
+  pub height : v'.height ≡ v.height
+  pub after : StandsAfter μ x'.store (λ objects. deed function view world item ≡ Goes (record view { position = place v'.at }) (record world { objects = objects }))
+
+-- Each step of a text that puts a number at a place, tests, jumps or does nothing, and goes on, is the one item that is emitted for it.
+abbrev pub FlatsGoOn : Type 0
+FlatsGoOn = (u : Text) (v v' : View) (x x' : fortran.World) (μ : World) (w : Writing) (place : ℕ → ℕ) (function : linking.Function) (view : c_steps.View) (world : c.World) (st : Step) (item : Flat) →
+    w.facts ≡ u.facts → slice_get u.steps v.at ≡ Some st → Steers st → flat_of w place u.position v.at st ≡ Some item →
+    view.position ≡ place v.at → place (suc v.at) ≡ place v.at + 1 → Stands μ x.store world.objects → IsKnown μ w v.frame v.kept → step u v x ≡ Goes v' x' →
+    GoesAlike μ v v' x' place function view world item
+
+-- where the lowered text has kept a value, the C function has it in the object of the temporary: the store stands as before, and what the procedure
+-- knows now is so
+pub record KeepsAlike (μ : World) (v v' : View) (x x' : fortran.World) (w : Writing) (k size : ℕ) (place : ℕ → ℕ) (function : linking.Function) (view : c_steps.View) (world : c.World) (item : Flat) : Type 0 where
+  pub frame : v'.frame ≡ v.frame
+  pub height : v'.height ≡ v.height
+  pub same : x' ≡ x
+  pub bytes : List (Option ℕ)
+  pub same_size : length bytes ≡ size
+  pub goes : deed function view world item ≡
+      Goes (record view { position = place v'.at }) (record world { objects = slice_set world.objects (w.naming.temporary k) (objects_of.Bytes bytes) })
+  pub stands : Stands (with_held μ (w.naming.temporary k) (Some (objects_of.Bytes bytes))) x'.store (slice_set world.objects (w.naming.temporary k) (objects_of.Bytes bytes))
+  pub known : IsKnown (with_held μ (w.naming.temporary k) (Some (objects_of.Bytes bytes))) w v'.frame v'.kept
+
+-- A step that keeps a number in a temporary of its own, and goes on, is the one item that is emitted for it.
+abbrev pub KeptFlatsGoOn : Type 0
+KeptFlatsGoOn = (u : Text) (v v' : View) (x x' : fortran.World) (μ : World) (w : Writing) (place : ℕ → ℕ) (function : linking.Function) (view : c_steps.View) (world : c.World) (k : ℕ) (old : List (Option ℕ)) (p : Pure) (item : Flat) →
+    w.facts ≡ u.facts → slice_get u.steps v.at ≡ Some (Keep k p) → flat_of w place u.position v.at (Keep k p) ≡ Some item →
+    view.position ≡ place v.at → place (suc v.at) ≡ place v.at + 1 → Stands μ x.store world.objects → IsKnown μ w v.frame v.kept →
+    μ.frozen (w.naming.temporary k) ≡ Some (objects_of.Bytes old) → 4 ≤ length old → IsHomeless μ (w.naming.temporary k) → IsApart w.naming k → step u v x ≡ Goes v' x' →
+    KeepsAlike μ v v' x x' w k (length old) place function view world item

@@ -1,0 +1,96 @@
+-- A function whose unit has an integer that is 2, and whose first temporary holds 5: what is known of it, and how the values of expressions and
+-- the targets of assignments are written.
+use Rattle.std.specs.Prelude.{ℕ, zero, suc, pos, true, false, [], ◌∷◌, Some, None}
+use Rattle.f_tree.specs.declared.names.Basic.TheVariants.{Integer}
+use Rattle.f_tree.specs.declared.names.Class.TheVariants as class
+use Rattle.f_tree.specs.Values.{IsInt}
+use Rattle.f_tree.specs.Terms.{Add, IsLess, Negate, Remainder}
+use Rattle.f_tree.specs.Facts.{MainProgram, Attribute, Facts, Frame}
+use Rattle.l_core.specs.Pures.{Pure, Constant, Temporary, Load, Name, ElementOf, Prefixed, Operated, Applied, NoPure, AndPure, Temporaries}
+use Rattle.c_tree.specs.Access.{ToNumber, ToPointer}
+use Rattle.c_tree.specs.declared.expression.BinaryOp.TheVariants as op
+use Rattle.c_tree.specs.declared.expression.UnaryOp.TheVariants as prefix
+use Rattle.c_tree.specs.Terms as c
+use Rattle.c_tree.specs.Terms.{Term}
+use Rattle.c_image.specs.Addresses.{Address, Alone}
+use Rattle.c_image.specs.Elements.{Quantity, Written, Saved}
+use Rattle.c_emit.specs.Numbers.{Writing}
+
+abbrev pub an_integer : Attribute
+an_integer = record { basic = Integer; class = class.Stored; width = Some 4; dimensions = []; bounds = []; constant = None; expansion = None }
+
+-- a main program of which each name stands in the first sequence
+abbrev pub one_integer : Facts
+one_integer = record {
+  program = record {
+    kind = MainProgram;
+    entries = record { name = []; formals = []; start = 0 } ∷ [];
+    lines = [];
+    attribute = λ x. an_integer;
+    formats = [];
+    blocks = [];
+    ties = [];
+    images = [];
+    references = [];
+    stored = [];
+    onetrip = false;
+  };
+  home = λ x. Some (record { sequence = 0; first = 0 });
+}
+
+abbrev pub its_frame : Frame
+its_frame = record { called = record { name = []; formals = []; start = 0 }; bound = λ x. None; lengths = λ x. None; alternates = []; dimensions = λ x. None; result = None; base = 0 }
+
+abbrev pub holds_five : Temporaries
+holds_five zero = Some (IsInt (pos 5))
+holds_five (suc k) = None
+
+-- by addresses, and by the bounds of arrays
+abbrev pub writing_by : Address → (ℕ → Quantity) → (ℕ → Quantity) → Writing
+writing_by address lower size = record {
+  naming = record { address = λ x. address; length = λ x. 9; lower = λ x k. lower k; size = λ x k. size k; temporary = λ k. 2 };
+  facts = one_integer;
+  is_number = λ k. true;
+}
+
+abbrev pub its_writing : Writing
+its_writing = writing_by (Alone 0) (λ k. Written (pos 0)) (λ k. Written (pos 0))
+
+abbrev pub a_name : Pure
+a_name = Name (73 ∷ [])
+
+-- I + 5, where 5 is kept
+abbrev pub a_sum : Pure
+a_sum = Operated Add (Load a_name) (Temporary 0)
+
+abbrev pub its_term : Term
+its_term = c.Between op.Add (c.Variable 0 ToNumber) (c.Variable 2 ToNumber)
+
+-- an element of an array of two dimensions, (1:10, -1:n), in a block behind 8 bytes: A(I, 3)
+abbrev pub lower_bounds : ℕ → Quantity
+lower_bounds zero = Written (pos 1)
+lower_bounds (suc k) = Saved 7
+
+abbrev pub sizes : ℕ → Quantity
+sizes k = Written (pos 10)
+
+abbrev pub an_element : Pure
+an_element = ElementOf (65 ∷ []) (AndPure (Load a_name) (AndPure (Constant (IsInt (pos 3))) NoPure))
+
+-- (3 - low) * 10 + (I - 1), and the 2 numbers that stand before the array; I is an element of the object without one, by its own place there
+abbrev pub its_place : Term
+its_place =
+    c.Element (c.Array 4 ToNumber)
+    (c.Between op.Add
+    (c.Between op.Add (c.Between op.Multiply (c.Between op.Subtract (c.Constant (pos 3)) (c.Variable 7 ToNumber)) (c.Constant (pos 10)))
+    (c.Between op.Subtract (c.Element (c.Array 4 ToNumber) (c.Constant (pos 2))) (c.Constant (pos 1))))
+    (c.Constant (pos 2)))
+
+-- MOD(-I, 7) .LT. I, of a dummy
+abbrev pub a_relation : Pure
+a_relation = Operated IsLess (Applied Remainder (AndPure (Prefixed Negate (Load a_name)) (AndPure (Constant (IsInt (pos 7))) NoPure))) (Load a_name)
+
+abbrev pub its_test : Term
+its_test =
+    let dummy = c.Prefixed prefix.Deref (c.Variable 6 (ToPointer ToNumber)) in
+    c.Between op.Less (c.Between op.Remainder (c.Prefixed prefix.Minus dummy) (c.Constant (pos 7))) dummy

@@ -1,0 +1,4 @@
+pub mod Example
+pub mod EmittedNumbers
+pub mod EmittedSteps
+pub mod EmittedFlats

@@ -1,0 +1,4 @@
+pub mod SignLemmas
+pub mod StatementForms
+pub mod ClassLemmas
+pub mod UsedForms

@@ -1,0 +1,2 @@
+pub mod StatedNames
+pub mod KnownSigns

@@ -1,0 +1,4 @@
+pub mod NoteLemmas
+pub mod NoteForms
+pub mod PlaceLemmas
+pub mod SeenLemmas

@@ -1,0 +1,7 @@
+use Rattle.std.proofs.Common.{◌≡◌, drop, map}
+use Rattle.f_tree.specs.Values.{Bytes}
+use Rattle.name_places.specs.FirstPlaces.{noted}
+use Rattle.name_places.proofs.notes.note_texts.Given as goal
+
+abbrev pub invariant-loop-item : goal.invariant-loop-item
+invariant-loop-item l = (q : Bytes) → noted l.at l.initial.places (l.items) q ≡ noted l.at l.places (drop l.item-index l.items) q
