@@ -19,4 +19,5 @@ mod words;
 pub use kinds::classify;
 pub use places::{Place, token_places};
 pub use reader::tokens;
+pub use squeeze::squeezed;
 pub use token::{LexFail, Span, Token, TokenList};

@@ -116,8 +116,9 @@ fn with_shown(
     Ok(longer)
 }
 
-/// The characters of a text where it is told whether nH counts characters.
-fn squeezed(alloc: Global, counts: bool, text: &[u8]) -> Result<Items<Character>, AllocError>
+/// The characters of a text, each with whether it stands in a constant, where it is told whether nH counts characters: blanks outside
+/// constants are left out. Sections 3.1 and 3.3. Takes bytes. The only error is want of memory.
+pub fn squeezed(alloc: Global, counts: bool, text: &[u8]) -> Result<Items<Character>, AllocError>
     ensures { IfOk result (λ found. found ≡ characters_from counts (Outside None) text.now) }
 {
     let mut found = Items::new(alloc);
