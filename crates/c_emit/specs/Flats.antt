@@ -1,12 +1,15 @@
--- The flat C item for a lowered step over numbers: assignments, tests and jumps. One item for each step; none for a step that is not emitted
+-- The flat C item for a lowered step over numbers: assignments, tests, jumps, the return of what is no function, and the
+-- calls of the library for list-directed output and STOP. One item for each step; none for a step that is not emitted
 -- yet. ANSI X3.9-1978, sections 10 and 11; C89, 3.3.16, 3.6.4 and 3.6.6.
-use Rattle.std.specs.Prelude.{ℕ, suc, ◌+◌, ◌-◌, Option, Some, None, option_map}
+use Rattle.std.specs.Prelude.{ℕ, zero, suc, ◌+◌, ◌-◌, pos, Option, Some, None, option_map}
+use Rattle.f_tree.specs.Facts.{Output, Listed, UnitKind, MainProgram, SubroutineUnit}
 use Rattle.l_core.specs.Steps as step
 use Rattle.l_core.specs.Steps.{Step}
 use Rattle.c_tree.specs.Access.{ToNumber}
-use Rattle.c_tree.specs.Terms.{Term, Variable}
-use Rattle.c_tree.specs.Flat.{Flat, Assign, Branch, Jump, Nothing}
+use Rattle.c_tree.specs.Terms.{Term, Constant, Variable}
+use Rattle.c_tree.specs.Flat.{Flat, Assign, Branch, Jump, Return, Nothing}
 use Rattle.c_emit.specs.Numbers.{Writing, value_term, place_term, if_number}
+use Rattle.c_emit.specs.Calls.{start_item, takes_item, finish_item, stop_item}
 
 unfoldable pub assigned : Option Term → Option Term → Option Flat
 assigned (Some target) (Some value) = Some (Assign target value)
@@ -16,6 +19,12 @@ assigned _ _ = None
 unfoldable pub jump_to : (ℕ → ℕ) → Option ℕ → Option Flat
 jump_to place None = None
 jump_to place (Some n) = Some (Jump (place n))
+
+-- END and RETURN: a procedure that is no function gives 0 (15.6.2)
+unfoldable pub returned_by : UnitKind → Option Flat
+returned_by MainProgram = Some (Return (Some (Constant (pos 0))))
+returned_by SubroutineUnit = Some (Return (Some (Constant (pos 0))))
+returned_by _ = None
 
 -- given the position of the item for each step, and the step of each label
 unfoldable pub flat_of : Writing → (ℕ → ℕ) → (ℕ → Option ℕ) → ℕ → Step → Option Flat
@@ -27,8 +36,13 @@ flat_of w place label n (step.Skip m) = Some (Jump (place (suc n + m)))
 flat_of w place label n (step.Again m) = Some (Jump (place (n - m)))
 flat_of w place label n (step.Jump l) = jump_to place (label l)
 flat_of w place label n step.Pass = Some Nothing
+flat_of w place label n step.Back = returned_by w.facts.program.kind
+flat_of w place label n (step.Acts (step.Starts Output Listed controls) ps m) = start_item w n controls ps
+flat_of w place label n (step.Acts step.Takes ps m) = takes_item w n ps
+flat_of w place label n (step.Acts step.Finishes ps zero) = finish_item w ps
+flat_of w place label n (step.Halt text) = Some (stop_item w n text)
 flat_of w place label n _ = None
 
 unfoldable pub flats_opened : Unit {0}
-unfolding assigned jump_to flat_of
+unfolding assigned jump_to returned_by flat_of
 flats_opened = tt

@@ -1,2 +1,4 @@
 pub mod Numbers
+pub mod Types
+pub mod Calls
 pub mod Flats

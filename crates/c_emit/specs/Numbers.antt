@@ -1,12 +1,12 @@
 -- The C expression for a lowered value that is a number or a truth value. None where the value is a text, or takes a call of the library.
 -- ANSI X3.9-1978, sections 5.4, 6 and 15.10; C89, 3.3.
-use Rattle.std.specs.Prelude.{ℕ, suc, pos, Bool, true, false, List, [], ◌∷◌, ◌&&◌, Option, Some, None, option_map, if◌then◌else◌}
+use Rattle.std.specs.Prelude.{ℕ, suc, ℤ, pos, Bool, true, false, not, List, [], ◌∷◌, ◌&&◌, Option, Some, None, option_map, if◌then◌else◌}
 use Rattle.f_tree.specs.declared.names.Basic.{Basic}
 use Rattle.f_tree.specs.declared.names.Basic.TheVariants.{Integer, Logical, Character, Untyped}
 use Rattle.f_tree.specs.declared.names.Class.{Class}
 use Rattle.f_tree.specs.declared.names.Class.TheVariants as class
 use Rattle.f_tree.specs.Values.{Bytes, Datum, IsInt, IsLog, in_range}
-use Rattle.f_tree.specs.Facts.{Facts}
+use Rattle.f_tree.specs.Facts.{Bounds, Facts}
 use Rattle.l_core.specs.Pures.{Pure, Constant, Temporary, Load, Name, ElementOf, Prefixed, Operated, Applied, Chosen, Pures, NoPure, AndPure}
 use Rattle.c_tree.specs.Access.{ToNumber}
 use Rattle.c_tree.specs.Terms as c
@@ -16,11 +16,25 @@ use Rattle.c_image.specs.Elements.{Step, step_for, index_term}
 use Rattle.c_image.specs.Operations.{constant_term, prefix_for, operator_for, function_term}
 use Rattle.c_image.specs.Knowing.{Naming}
 
--- what is known of a function where its values are written: what stands for the names of its unit, and which temporaries hold numbers
+-- what a function calls of the library, and the objects of its program that it passes there
+pub record Library : Type 0 where
+  -- how many functions the program has; those of the library have the numbers behind them
+  pub own : ℕ
+  -- is there an object that holds a constant, and which
+  pub has : ℤ → Bool
+  pub constant : ℤ → ℕ
+  -- the control list of the transfer that begins at a step, and the text that a step passes
+  pub list : ℕ → ℕ
+  pub text : ℕ → ℕ
+
+-- what is known of a function where its values are written: what stands for the names of its unit, which temporaries hold numbers, of what type
+-- what one holds before a step is, and what it calls
 pub record Writing : Type 0 where
   pub naming : Naming
   pub facts : Facts
   pub is_number : ℕ → Bool
+  pub kind : ℕ → ℕ → Option Basic
+  pub library : Library
 
 unfoldable pub is_numeric : Basic → Bool
 is_numeric Integer = true
@@ -37,6 +51,18 @@ is_variable _ = false
 -- a variable or an array of numbers
 unfoldable pub has_number : Writing → Bytes → Bool
 has_number w x = is_variable (w.facts.program.attribute x).class && is_numeric (w.facts.program.attribute x).basic
+
+-- an array has bounds
+unfoldable pub has_bounds : List Bounds → Bool
+has_bounds [] = false
+has_bounds (b ∷ bs) = true
+
+-- one number by its name, and an array of numbers
+unfoldable pub is_scalar : Writing → Bytes → Bool
+is_scalar w x = has_number w x && not (has_bounds (w.facts.program.attribute x).bounds)
+
+unfoldable pub is_array : Writing → Bytes → Bool
+is_array w x = has_number w x && has_bounds (w.facts.program.attribute x).bounds
 
 -- a constant: `.TRUE.` is 1 and `.FALSE.` is 0
 unfoldable pub constant_value : Datum → Option Term
@@ -87,8 +113,8 @@ unfoldable mutual
   value_term w p = None
 
   pub place_term : Writing → Pure → Option Term
-  place_term w (Name x) = if_number (has_number w x) (Some (number_term (w.naming.address x)))
-  place_term w (ElementOf x ps) = if_number (has_number w x) (element_value w.naming x (value_terms w ps))
+  place_term w (Name x) = if_number (is_scalar w x) (Some (number_term (w.naming.address x)))
+  place_term w (ElementOf x ps) = if_number (is_array w x) (element_value w.naming x (value_terms w ps))
   place_term w p = None
 
   pub value_terms : Writing → Pures → Option (List Term)
@@ -96,5 +122,5 @@ unfoldable mutual
   value_terms w (AndPure p ps) = one_more (value_term w p) (value_terms w ps)
 
 unfoldable pub numbers_opened : Unit {0}
-unfolding is_numeric is_variable has_number constant_value with_two with_three one_more steps_from element_value applied_value if_number value_term place_term value_terms
+unfolding is_numeric is_variable has_number has_bounds is_scalar is_array constant_value with_two with_three one_more steps_from element_value applied_value if_number value_term place_term value_terms
 numbers_opened = tt

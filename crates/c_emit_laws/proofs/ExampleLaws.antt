@@ -6,14 +6,14 @@ use Rattle.f_tree.specs.Values.{Bytes, Spot, Datum, IsInt, IsSpot, Gives, in_ran
 use Rattle.f_tree.specs.Store.{Whole, Number, store_opened}
 use Rattle.f_tree.specs.Valuing.{whole, bounds_of, valuing_opened}
 use Rattle.l_core.specs.Pures.{meant, pures_opened}
-use Rattle.c_image.specs.Addresses.{Reaches, IsSound, Inside, Through}
+use Rattle.c_image.specs.Addresses.{Reaches, IsSound, Through}
 use Rattle.c_image.specs.Held.{whole_for, Holds}
 use Rattle.c_image_laws.specs.Example.{two_homes, two_sequences, three_objects}
 use Rattle.c_image_laws.specs.Meanings.{Means}
 use Rattle.c_image_laws.proofs.ExampleStands.{example_stands}
 use Rattle.c_emit.specs.Numbers.{value_term, place_term, numbers_opened}
 use Rattle.c_emit_laws.specs.EmittedNumbers.{IsKnown}
-use Rattle.c_emit_laws.specs.Example.{its_writing, its_frame, holds_five, one_integer, a_sum, its_term, writing_by, lower_bounds, sizes, an_element, its_place, a_relation, its_test}
+use Rattle.c_emit_laws.specs.Example.{its_writing, its_frame, holds_five, one_integer, a_sum, its_term, writing_by, lower_bounds, sizes, array_writing, an_element, its_place, a_relation, its_test}
 use Rattle.c_emit_laws.proofs.NumberLaws.{numbers_are_emitted}
 
 abbrev its_spot : Spot
@@ -73,7 +73,7 @@ pub sum_written : value_term its_writing a_sum ≡ Some its_term
 unfolding numbers_opened
 sum_written = refl
 
-pub element_written : place_term (writing_by (Inside 4 8) lower_bounds sizes) an_element ≡ Some its_place
+pub element_written : place_term array_writing an_element ≡ Some its_place
 unfolding numbers_opened values_opened
 element_written = refl
 

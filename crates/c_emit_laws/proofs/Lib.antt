@@ -6,3 +6,4 @@ pub mod FittingNumbers
 pub mod NumberLaws
 pub mod SubscriptLaws
 pub mod StepLaws
+pub mod TypeLaws

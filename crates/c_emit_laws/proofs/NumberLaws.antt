@@ -1,5 +1,5 @@
 -- The C expressions for numbers have their values, and those for their places name them.
-use Rattle.std.specs.Prelude.{◌≡◌, ℕ, pos, Bool, true, false, ◌&&◌, List, [], ◌∷◌, Option, Some, None, if◌then◌else◌}
+use Rattle.std.specs.Prelude.{◌≡◌, ℕ, pos, Bool, true, false, not, ◌&&◌, List, [], ◌∷◌, Option, Some, None, if◌then◌else◌}
 use Rattle.std.proofs.Common.{refl, sym, ap, ◌∙◌, subst}
 use Rattle.f_tree.specs.declared.names.Basic.{Basic}
 use Rattle.f_tree.specs.declared.names.Basic.TheVariants as basic
@@ -34,7 +34,7 @@ use Rattle.c_image_laws.proofs.OperatorValues.{means_logical, prefix_meant, oper
 use Rattle.c_image_laws.proofs.PlaceValues.{reached_object, number_place}
 use Rattle.c_image_laws.proofs.SoundPlaces.{is_further}
 use Rattle.c_image_laws.proofs.TestedValues.{choices_are_meant}
-use Rattle.c_emit.specs.Numbers.{Writing, is_numeric, is_variable, has_number, constant_value, with_two, with_three, one_more, steps_from, element_value, applied_value, if_number, value_term, place_term, value_terms}
+use Rattle.c_emit.specs.Numbers.{Writing, is_numeric, is_variable, has_number, has_bounds, is_scalar, is_array, constant_value, with_two, with_three, one_more, steps_from, element_value, applied_value, if_number, value_term, place_term, value_terms}
 use Rattle.c_emit_laws.specs.EmittedNumbers.{IsKnown, IsNumberPlace, NumbersAreEmitted, PlacesAreEmitted}
 use Rattle.c_emit_laws.proofs.FittingNumbers.{FitsUnit, AllFit, prefixed_fits, operated_fits, applied_fits, fetched_fits}
 use Rattle.c_emit_laws.proofs.Choices.{Got, got, mapped_by}
@@ -131,6 +131,10 @@ element_by : (naming : Naming) (x : Bytes) (xs : Option (List Term)) (term : Ter
 unfolding element_value
 element_by naming x (Some ts) term h = record { terms = ts; terms_are = refl; is = h }
 element_by naming x None term h = absurd (cc)
+
+left_is : (a b : Bool) → (a && b) ≡ true → a ≡ true
+left_is true b h = refl
+left_is false b h = absurd (cc)
 
 both_are : (a b : Bool) → (a && b) ≡ true → b ≡ true
 both_are true b h = h
@@ -287,16 +291,17 @@ module _ (μ : World) (s : Store) (objects : List Object) (w : Writing) (frame :
       let value = whole_fetched at.place.basic at.place found.sequence.cells d at.numeric found.found in
       record { whole = value.value; is = value.is; counts = at.named.holds ∙ number_fetched μ s objects at.place at.object d value.value stands at.sound at.at there value.is }
 
-  name_place : (x : Bytes) (term : Term) (d : Datum) → if_number (has_number w x) (Some (number_term (w.naming.address x))) ≡ Some term → whole w.facts frame x ≡ Gives d → IsNumberPlace μ objects term d
-  unfolding has_number
+  name_place : (x : Bytes) (term : Term) (d : Datum) → if_number (is_scalar w x) (Some (number_term (w.naming.address x))) ≡ Some term → whole w.facts frame x ≡ Gives d → IsNumberPlace μ objects term d
+  unfolding has_number is_scalar
   name_place x term d emitted gives =
-      let number = number_by (has_number w x) _ term emitted in
-      let spot = known.spots x d number.holds_is gives in
+      let number = number_by (is_scalar w x) _ term emitted in
+      let holds = left_is (has_number w x) (not (has_bounds (w.facts.program.attribute x).bounds)) number.holds_is in
+      let spot = known.spots x d holds gives in
       let is : whole w.facts frame x ≡ Gives (IsSpot spot.0) = gives ∙ ap Gives spot.1 in
       let reaches = known.knows.reaches x spot.0 is in
       let sound = known.knows.sound x spot.0 is in
       let object = reached_object μ spot.0 (w.naming.address x) reaches in
-      let typed = numeric_access (w.facts.program.attribute x).basic (both_are (is_variable (w.facts.program.attribute x).class) (is_numeric (w.facts.program.attribute x).basic) number.holds_is) in
+      let typed = numeric_access (w.facts.program.attribute x).basic (both_are (is_variable (w.facts.program.attribute x).class) (is_numeric (w.facts.program.attribute x).basic) holds) in
       let numeric : access_to spot.0.basic ≡ ToNumber = ap access_to (known.types x spot.0 is) ∙ typed in
       let same : number_term (w.naming.address x) ≡ term = (let e = number.is in cc) in
       record {
@@ -308,6 +313,10 @@ module _ (μ : World) (s : Store) (objects : List Object) (w : Writing) (frame :
         at = object.1;
         named = subst (λ t. IsPlace objects t object.0 spot.0.first ToNumber) same (number_place μ s objects spot.0 (w.naming.address x) object.0 stands sound numeric reaches object.1);
       }
+
+  array_holds : (x : Bytes) → is_array w x ≡ true → has_number w x ≡ true
+  unfolding is_array
+  array_holds x h = left_is (has_number w x) (has_bounds (w.facts.program.attribute x).bounds) h
 
   element_place : (x : Bytes) (ts : List Term) (ds : List Datum) (term : Term) (d : Datum) → has_number w x ≡ true → element_value w.naming x (Some ts) ≡ Some term → AllMean objects ts ds →
       element w.facts frame x ds ≡ Gives d → IsNumberPlace μ objects term d
@@ -389,10 +398,10 @@ module _ (μ : World) (s : Store) (objects : List Object) (w : Writing) (frame :
     places : (p : Pure) (term : Term) (d : Datum) → place_term w p ≡ Some term → meant w.facts frame temporaries s p ≡ Gives d → IsNumberPlace μ objects term d
     places (Name x) term d emitted gives = name_place x term d emitted gives
     places (ElementOf x ps) term d emitted gives =
-        let number = number_by (has_number w x) (element_value w.naming x (value_terms w ps)) term emitted in
+        let number = number_by (is_array w x) (element_value w.naming x (value_terms w ps)) term emitted in
         let g = got (all_meant w.facts frame temporaries s ps) (element w.facts frame x) d gives in
         let m = element_by w.naming x (value_terms w ps) term number.is in
-        element_place x m.terms g.value term d number.holds_is m.is (all_values ps m.terms g.value m.terms_are g.is) g.gives
+        element_place x m.terms g.value term d (array_holds x number.holds_is) m.is (all_values ps m.terms g.value m.terms_are g.is) g.gives
     places (Constant e) term d emitted gives = absurd (cc)
     places (Temporary k) term d emitted gives = absurd (cc)
     places (Load p) term d emitted gives = absurd (cc)

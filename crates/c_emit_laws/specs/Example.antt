@@ -1,6 +1,6 @@
 -- A function whose unit has an integer that is 2, and whose first temporary holds 5: what is known of it, and how the values of expressions and
 -- the targets of assignments are written.
-use Rattle.std.specs.Prelude.{ℕ, zero, suc, pos, true, false, [], ◌∷◌, Some, None}
+use Rattle.std.specs.Prelude.{ℕ, zero, suc, pos, negsuc, true, false, [], ◌∷◌, Some, None, bytes_eq, if◌then◌else◌}
 use Rattle.f_tree.specs.declared.names.Basic.TheVariants.{Integer}
 use Rattle.f_tree.specs.declared.names.Class.TheVariants as class
 use Rattle.f_tree.specs.Values.{IsInt}
@@ -12,7 +12,7 @@ use Rattle.c_tree.specs.declared.expression.BinaryOp.TheVariants as op
 use Rattle.c_tree.specs.declared.expression.UnaryOp.TheVariants as prefix
 use Rattle.c_tree.specs.Terms as c
 use Rattle.c_tree.specs.Terms.{Term}
-use Rattle.c_image.specs.Addresses.{Address, Alone}
+use Rattle.c_image.specs.Addresses.{Address, Alone, Inside}
 use Rattle.c_image.specs.Elements.{Quantity, Written, Saved}
 use Rattle.c_emit.specs.Numbers.{Writing}
 
@@ -51,6 +51,8 @@ writing_by address lower size = record {
   naming = record { address = λ x. address; length = λ x. 9; lower = λ x k. lower k; size = λ x k. size k; temporary = λ k. 2 };
   facts = one_integer;
   is_number = λ k. true;
+  kind = λ n k. None;
+  library = record { own = 1; has = λ z. false; constant = λ z. 0; list = λ n. 0; text = λ n. 0 };
 }
 
 abbrev pub its_writing : Writing
@@ -73,6 +75,14 @@ lower_bounds (suc k) = Saved 7
 
 abbrev pub sizes : ℕ → Quantity
 sizes k = Written (pos 10)
+
+abbrev pub an_array : Attribute
+an_array = record an_integer { bounds = record { lower = pos 1; upper = Some (pos 10) } ∷ record { lower = negsuc 0; upper = None } ∷ [] }
+
+abbrev pub array_writing : Writing
+array_writing = record (writing_by (Inside 4 8) lower_bounds sizes) {
+  facts = record one_integer { program = record one_integer.program { attribute = λ x. if bytes_eq x (65 ∷ []) then an_array else an_integer } };
+}
 
 abbrev pub an_element : Pure
 an_element = ElementOf (65 ∷ []) (AndPure (Load a_name) (AndPure (Constant (IsInt (pos 3))) NoPure))

@@ -1,4 +1,5 @@
 pub mod Example
 pub mod EmittedNumbers
 pub mod EmittedSteps
+pub mod EmittedTypes
 pub mod EmittedFlats

@@ -2,12 +2,12 @@
 
 ghost use Rattle.std.specs.Prelude.{◌≡◌, Some, pos};
 ghost use Rattle.f_tree.specs.Values.{IsInt};
-ghost use Rattle.c_image.specs.Addresses.{Inside, Through};
+ghost use Rattle.c_image.specs.Addresses.{Through};
 ghost use Rattle.c_image_laws.specs.Example.{two_homes, three_objects};
 ghost use Rattle.c_image_laws.specs.Meanings.{Means};
 ghost use Rattle.c_emit.specs.Numbers.{value_term, place_term};
 ghost use Rattle.c_emit_laws.specs.EmittedNumbers.{IsKnown};
-ghost use Rattle.c_emit_laws.specs.Example.{its_writing, its_frame, holds_five, a_sum, its_term, writing_by, lower_bounds, sizes, an_element, its_place, a_relation, its_test};
+ghost use Rattle.c_emit_laws.specs.Example.{its_writing, its_frame, holds_five, a_sum, its_term, writing_by, lower_bounds, sizes, array_writing, an_element, its_place, a_relation, its_test};
 
 /// What is asked of a function is met by one, in a store that stands; and the sum of an integer that is 2 and a temporary that holds 5 is 7.
 pub fn example_is_known()
@@ -18,6 +18,6 @@ pub fn example_is_known()
 /// A sum, an element of an array in a block whose second lower bound is told at the call, and a relation of a dummy, as they are written.
 pub fn examples_are_written()
     ensures sum { value_term its_writing a_sum ≡ Some its_term }
-    ensures element { place_term (writing_by (Inside 4 8) lower_bounds sizes) an_element ≡ Some its_place }
+    ensures element { place_term array_writing an_element ≡ Some its_place }
     ensures relation { value_term (writing_by (Through 6) lower_bounds sizes) a_relation ≡ Some its_test }
 {}

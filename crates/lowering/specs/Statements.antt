@@ -1,11 +1,11 @@
 -- The steps of a statement. What a statement needs to know of what stands around it are the first free temporary and how many steps are passed
 -- where its condition does not hold. ANSI X3.9-1978, sections 10, 11, 12.8 and 15; MIL-STD-1753 for DO WHILE.
-use Rattle.std.specs.Prelude.{ℕ, zero, suc, ◌+◌, ℤ, pos, int_lt, Bool, true, false, ◌||◌, List, [], ◌∷◌, ◌++◌, length, Option, Some, None, if◌then◌else◌}
-use Rattle.f_tree.specs.Values.{Bytes, Datum, IsInt, IsLabel, Nothing}
-use Rattle.f_tree.specs.Terms.{Add, IsLess, IsLessOrEqual, IsEqual, IsGreaterOrEqual, Wanted, AsSubroutine, AsFunction, Term, Val, Refer, Bind, Terms, NoMore, More, any_refers}
-use Rattle.f_tree.specs.Facts.{Direction, Input, Output, Layout, Listed, Controls, Job, Item, Repeated, Turn, Work, Done, Before, Head, ToSet, ToSetText, ToSetLabel, ToGo, ToPick, ToGoAssigned, ToGoBySign, ToGuard, ToEnterArm, ToLoop, ToTestLoop, ToCall, ToReturn, ToStop, ToBegin, ToTransfer, ToRepeat, ToTurn, ToFinish, ToAuxiliary, ToEnd, Form, Passes, On}
+use Rattle.std.specs.Prelude.{ℕ, pos, int_lt, Bool, true, false, ◌||◌, List, [], ◌∷◌, ◌++◌, length, Option, Some, None, if◌then◌else◌}
+use Rattle.f_tree.specs.Values.{Bytes, IsInt, IsLabel}
+use Rattle.f_tree.specs.Terms.{Add, IsLess, IsLessOrEqual, IsEqual, IsGreaterOrEqual, Wanted, AsSubroutine, AsFunction, Term, Val, Fetch, Refer, Bind, Terms, NoMore, More, any_refers}
+use Rattle.f_tree.specs.Facts.{Direction, Layout, Controls, AuxiliaryKind, Item, Repeated, Turn, Work, Done, Before, Head, ToSet, ToSetLabel, ToGo, ToPick, ToGoAssigned, ToGoBySign, ToGuard, ToEnterArm, ToLoop, ToTestLoop, ToCall, ToReturn, ToStop, ToBegin, ToAuxiliary, ToEnd, Form, Passes, On}
 use Rattle.l_core.specs.Pures.{Pure, Constant, Load, Operated, Chosen, Pures, NoPure, AndPure}
-use Rattle.l_core.specs.Steps.{Starts, Takes, Finishes, Step, Put, PutLabel, Unless, Skip, Again, AgainIf, Jump, Select, JumpBy, CallSub, Branch, Back, BackBy, Halt, Acts}
+use Rattle.l_core.specs.Steps.{Starts, Takes, Finishes, Auxiliary, Step, Put, PutLabel, Unless, Again, AgainIf, Jump, Select, JumpBy, CallSub, Branch, Back, BackBy, Halt, Acts}
 use Rattle.lowering.specs.Expressions.{Purpose, ForUse, ForCall, ForLater, Lowered, and_then, ahead, lower, lower_all}
 
 -- operands, and what is done with them; none where there are other operands than the statement takes
@@ -108,10 +108,16 @@ back_code NoPure = Some (Back ∷ [])
 back_code (AndPure p NoPure) = Some (BackBy p ∷ [])
 back_code ps = None
 
+-- the value of a variable or of an array element is handed on where it stands; another is kept, so that it has an address
+unfoldable pub item_purpose : Term → Purpose
+item_purpose (Fetch t) = ForUse
+item_purpose t = ForCall
+
 -- the items of a list, each with its act, and behind them the end of the transfer (12.8); an implied DO is not lowered yet
 unfoldable pub item_code : ℕ → Term → Option (List Step) → Option (List Step)
 item_code k t None = None
-item_code k t (Some more) = let l = lower_all NoPure ForCall k (More t NoMore) in Some (l.steps ++ Acts Takes l.value (length more) ∷ more)
+item_code k t (Some more) =
+    Some ((lower_all NoPure (item_purpose t) k (More t NoMore)).steps ++ Acts Takes (lower_all NoPure (item_purpose t) k (More t NoMore)).value (length more) ∷ more)
 
 unfoldable pub work_code : ℕ → Work → Option (List Step)
 work_code k Done = Some (Acts Finishes NoPure 0 ∷ [])
@@ -123,10 +129,9 @@ unfoldable pub begin_code : Direction → Layout → Controls → Option (List S
 begin_code way layout controls None ps = None
 begin_code way layout controls (Some items) ps = Some (Acts (Starts way layout controls) ps (length items) ∷ items)
 
--- list-directed output; other transfers are not lowered yet
-unfoldable pub transfer_code : ℕ → Direction → Layout → Controls → Work → Terms → Option (List Step)
-transfer_code k Output Listed controls work operands = with_operands (lower_all NoPure ForUse k operands) (begin_code Output Listed controls (work_code k work))
-transfer_code k way layout controls work operands = None
+-- OPEN and its kin (12.10)
+unfoldable pub auxiliary_code : AuxiliaryKind → Controls → Pures → Option (List Step)
+auxiliary_code which controls ps = Some (Acts (Auxiliary which controls) ps 0 ∷ [])
 
 -- A form, given whether the ranges of DO loops are run at least once, the first free temporary, and how many steps are passed where its
 -- condition does not hold. None where the form is not lowered yet.
@@ -149,10 +154,11 @@ unfoldable mutual
   head_code once k n (ToCall name) operands = with_operands (lower_all NoPure ForCall k operands) (call_code k name (passes_label operands))
   head_code once k n ToReturn operands = with_operands (lower_all NoPure ForUse k operands) back_code
   head_code once k n (ToStop text) NoMore = Some (Halt text ∷ [])
-  head_code once k n (ToBegin way layout controls work) operands = transfer_code k way layout controls work operands
+  head_code once k n (ToBegin way layout controls work) operands = with_operands (lower_all NoPure ForUse k operands) (begin_code way layout controls (work_code k work))
+  head_code once k n (ToAuxiliary which controls) operands = with_operands (lower_all NoPure ForUse k operands) (auxiliary_code which controls)
   head_code once k n ToEnd NoMore = Some (Back ∷ [])
   head_code once k n head operands = None
 
 unfoldable pub statements_opened : Unit {0}
-unfolding behind_operands with_operands put_code put_label_code select_code jump_by_code sign_code unless_code guard_code loop_operands test_by loop_test loop_code back_by turn_code wants_no_value may_be_label passes_label branch_code call_code back_code item_code work_code begin_code transfer_code form_code head_code
+unfolding behind_operands with_operands put_code put_label_code select_code jump_by_code sign_code unless_code guard_code loop_operands test_by loop_test loop_code back_by turn_code wants_no_value may_be_label passes_label branch_code call_code back_code item_purpose item_code work_code begin_code auxiliary_code form_code head_code
 statements_opened = tt

@@ -1,17 +1,19 @@
 -- The code of a statement is its operands' steps and what closes them.
 use Rattle.std.specs.Prelude.{◌≡◌, ℕ, suc, ◌+◌, Bool, true, false, List, [], ◌∷◌, ◌++◌, length, Option, Some, None}
-use Rattle.std.proofs.Common.{refl, sym, ap, ◌∙◌, subst, true≢false}
+use Rattle.std.proofs.Common.{refl, sym, ap, subst, true≢false, ◌∙◌}
 use Rattle.f_tree.specs.Values.{Bytes}
-use Rattle.f_tree.specs.Terms.{Terms, NoMore, More}
+use Rattle.f_tree.specs.Terms.{Term, Terms, NoMore, More}
 use Rattle.f_tree.specs.Facts as head
-use Rattle.f_tree.specs.Facts.{Head, Form, Passes, On}
-use Rattle.f_tree.specs.Places.{arm_after}
-use Rattle.l_core.specs.Pures.{Pure, Pures, NoPure, AndPure}
-use Rattle.l_core.specs.Steps.{Step, Put, PutLabel, Unless, Jump, Select, JumpBy, CallSub, Back, BackBy, Halt, Text}
+use Rattle.f_tree.specs.Facts.{Direction, Layout, Controls, AuxiliaryKind, Item, Repeated, Turn, Work, Done, Before, Head, Form, Passes, On}
+use Rattle.f_tree.specs.Transfers.{next_of}
+use Rattle.f_tree.specs.Places.{terminal_of, arm_after}
+use Rattle.l_core.specs.Pures.{Pures, NoPure, AndPure, Pure}
+use Rattle.l_core.specs.Steps.{Starts, Takes, Finishes, Auxiliary, Step, Put, PutLabel, Unless, Jump, Select, JumpBy, CallSub, Back, BackBy, Halt, Acts, Text}
 use Rattle.lowering.specs.Expressions.{Purpose, ForUse, ForCall, ForLater, Lowered, plain, no_operand, lower_all}
-use Rattle.lowering.specs.Statements.{behind_operands, with_operands, put_code, put_label_code, select_code, jump_by_code, sign_code, unless_code, guard_code, loop_operands, test_by, loop_test, loop_code, passes_label, branch_code, call_code, back_code, form_code, head_code}
-use Rattle.lowering.specs.Units.{steps_of}
-use Rattle.lowering_laws.specs.Layer.{by_sign_steps, own_of, IsClosing, for_set, for_set_label, for_go, for_pick, for_go_assigned, for_go_by_sign, for_guard, for_arm, for_call, for_return, for_return_by, for_stop, for_end, IsCode, no_code, some_code}
+use Rattle.lowering.specs.Statements.{behind_operands, with_operands, put_code, put_label_code, select_code, jump_by_code, sign_code, unless_code, guard_code, loop_operands, test_by, loop_test, loop_code, passes_label, branch_code, call_code, back_code, item_purpose, item_code, work_code, begin_code, auxiliary_code, form_code, head_code}
+use Rattle.lowering.specs.Units.{loop_exit, steps_of}
+use Rattle.lowering_laws.specs.Midway.{InOrder, OfLoop}
+use Rattle.lowering_laws.specs.Layer.{ends_of, IsFlat, IsNextArm, IsLoop, by_sign_steps, IsClosing, for_set, for_set_label, for_go, for_pick, for_go_assigned, for_go_by_sign, for_guard, for_arm, for_test, for_call, for_return, for_return_by, for_stop, for_end, for_begin, for_item, for_finish, for_auxiliary, IsCode, no_code, some_code, IsModeOf, for_loop}
 use Rattle.lowering_laws.specs.Layout.{is_direct, is_direct_head, enters_arm}
 
 -- ## How long code is does not depend on how many steps a condition passes
@@ -82,9 +84,9 @@ behind_by l None code e = absurd (cc)
 behind_by l (Some more) code e = record { more = more; is = refl; all = (let all : l.steps ++ more ≡ code = cc in all) }
 
 module _ (u : Text) (k : ℕ) (o : Option ℕ) where
-  made : (head : Head) (ts : Terms) (purpose : Purpose) (closing code : List Step) → IsClosing u k o head ts (lower_all NoPure purpose k ts).value closing → (lower_all NoPure purpose k ts).steps ++ closing ≡ code →
+  made : (head : Head) (ts : Terms) (purpose : Purpose) (closing code : List Step) → IsModeOf (InOrder purpose) head → IsClosing u k o head ts (lower_all NoPure purpose k ts).value closing → (lower_all NoPure purpose k ts).steps ++ closing ≡ code →
       IsCode u k o (On head ts) code
-  made head ts purpose closing code closes all = subst (λ z. IsCode u k o (On head ts) z) all (some_code purpose closing closes)
+  made head ts purpose closing code modes closes all = subst (λ z. IsCode u k o (On head ts) z) all (some_code (InOrder purpose) modes closing closes)
 
   set_closes : (ts : Terms) (ps : Pures) (more : List Step) → put_code ps ≡ Some more → IsClosing u k o head.ToSet ts ps more
   unfolding put_code
@@ -133,6 +135,41 @@ module _ (u : Text) (k : ℕ) (o : Option ℕ) where
   return_closes ts (AndPure p NoPure) more e = subst (λ z. IsClosing u k o head.ToReturn ts (AndPure p NoPure) z) (let all : BackBy p ∷ [] ≡ more = cc in all) for_return_by
   return_closes ts (AndPure p (AndPure q ps)) more e = absurd (cc)
 
+-- ## Transfers
+
+module _ (u : Text) (k : ℕ) where
+  finish_stands : (items : List Step) → Some (Acts Finishes NoPure 0 ∷ []) ≡ Some items → IsCode u k None (On head.ToFinish NoMore) items
+  unfolding lower_all no_operand plain
+  finish_stands items e = subst (λ z. IsCode u k None (On head.ToFinish NoMore) z) (let all : Acts Finishes NoPure 0 ∷ [] ≡ items = cc in all) (some_code (InOrder ForUse) tt (Acts Finishes NoPure 0 ∷ []) for_finish)
+
+  item_stands : (t : Term) (others : Work) (x : Option (List Step)) → ((items : List Step) → x ≡ Some items → IsCode u k None (next_of others) items) → (items : List Step) → item_code k t x ≡ Some items → IsCode u k None (On (head.ToTransfer others) (More t NoMore)) items
+  unfolding item_code
+  item_stands t others None behind items e = absurd (cc)
+  item_stands t others (Some more) behind items e =
+      let l = lower_all NoPure (item_purpose t) k (More t NoMore) in
+      let all : l.steps ++ Acts Takes l.value (length more) ∷ more ≡ items = cc in
+      subst (λ z. IsCode u k None (On (head.ToTransfer others) (More t NoMore)) z) all (some_code (InOrder (item_purpose t)) tt (Acts Takes l.value (length more) ∷ more) (for_item (behind more refl)))
+
+  -- the code of a list of items
+  work_stands : (work : Work) (items : List Step) → work_code k work ≡ Some items → IsCode u k None (next_of work) items
+  unfolding next_of work_code
+  work_stands Done items e = finish_stands items e
+  work_stands (Before (Item t) others) items e = item_stands t others (work_code k others) (λ items' e'. work_stands others items' e') items e
+  work_stands (Before (Repeated inner control) others) items e = absurd (cc)
+  work_stands (Before (Turn inner p left by given) others) items e = absurd (cc)
+
+  begin_closes : (way : Direction) (layout : Layout) (controls : Controls) (work : Work) (x : Option (List Step)) → work_code k work ≡ x → (o : Option ℕ) (ts : Terms) (ps : Pures) (more : List Step) → begin_code way layout controls x ps ≡ Some more →
+      IsClosing u k o (head.ToBegin way layout controls work) ts ps more
+  unfolding begin_code
+  begin_closes way layout controls work None is o ts ps more e = absurd (cc)
+  begin_closes way layout controls work (Some items) is o ts ps more e =
+      subst (λ z. IsClosing u k o (head.ToBegin way layout controls work) ts ps z) (let all : Acts (Starts way layout controls) ps (length items) ∷ items ≡ more = cc in all) (for_begin (work_stands work items is))
+
+  auxiliary_closes : (which : AuxiliaryKind) (controls : Controls) (o : Option ℕ) (ts : Terms) (ps : Pures) (more : List Step) → auxiliary_code which controls ps ≡ Some more → IsClosing u k o (head.ToAuxiliary which controls) ts ps more
+  unfolding auxiliary_code
+  auxiliary_closes which controls o ts ps more e =
+      subst (λ z. IsClosing u k o (head.ToAuxiliary which controls) ts ps z) (let all : Acts (Auxiliary which controls) ps 0 ∷ [] ≡ more = cc in all) for_auxiliary
+
 -- a guarded statement and the condition before it
 record IsGuarded (l : Lowered Pures) (form : Option (List Step)) (code : List Step) : Type 0 where
   under : List Step
@@ -154,53 +191,57 @@ module _ (u : Text) (k : ℕ) (once : Bool) where
 
     direct_head : (o : Option ℕ) (n : ℕ) (h : Head) (ts : Terms) (code : List Step) → is_direct_head h ≡ true → head_code once k n h ts ≡ Some code → IsCode u k o (On h ts) code
     direct_head o n head.ToSet ts code direct e =
-        let b = behind_by (lower_all NoPure ForUse k ts) _ code e in made u k o head.ToSet ts ForUse b.more code (set_closes u k o ts (lower_all NoPure ForUse k ts).value b.more b.is) b.all
+        let b = behind_by (lower_all NoPure ForUse k ts) _ code e in made u k o head.ToSet ts ForUse b.more code tt (set_closes u k o ts (lower_all NoPure ForUse k ts).value b.more b.is) b.all
     direct_head o n (head.ToSetLabel label) ts code direct e =
-        let b = behind_by (lower_all NoPure ForUse k ts) _ code e in made u k o (head.ToSetLabel label) ts ForUse b.more code (set_label_closes u k o label ts (lower_all NoPure ForUse k ts).value b.more b.is) b.all
-    direct_head o n (head.ToGo label) NoMore code direct e = made u k o (head.ToGo label) NoMore ForUse (Jump label ∷ []) code for_go (let all : Jump label ∷ [] ≡ code = cc in all)
+        let b = behind_by (lower_all NoPure ForUse k ts) _ code e in made u k o (head.ToSetLabel label) ts ForUse b.more code tt (set_label_closes u k o label ts (lower_all NoPure ForUse k ts).value b.more b.is) b.all
+    direct_head o n (head.ToGo label) NoMore code direct e = made u k o (head.ToGo label) NoMore ForUse (Jump label ∷ []) code tt for_go (let all : Jump label ∷ [] ≡ code = cc in all)
     direct_head o n (head.ToGo label) (More t ts) code direct e = absurd (cc)
     direct_head o n (head.ToPick labels) ts code direct e =
-        let b = behind_by (lower_all NoPure ForUse k ts) _ code e in made u k o (head.ToPick labels) ts ForUse b.more code (pick_closes u k o labels ts (lower_all NoPure ForUse k ts).value b.more b.is) b.all
+        let b = behind_by (lower_all NoPure ForUse k ts) _ code e in made u k o (head.ToPick labels) ts ForUse b.more code tt (pick_closes u k o labels ts (lower_all NoPure ForUse k ts).value b.more b.is) b.all
     direct_head o n (head.ToGoAssigned labels) ts code direct e =
-        let b = behind_by (lower_all NoPure ForUse k ts) _ code e in made u k o (head.ToGoAssigned labels) ts ForUse b.more code (go_assigned_closes u k o labels ts (lower_all NoPure ForUse k ts).value b.more b.is) b.all
+        let b = behind_by (lower_all NoPure ForUse k ts) _ code e in made u k o (head.ToGoAssigned labels) ts ForUse b.more code tt (go_assigned_closes u k o labels ts (lower_all NoPure ForUse k ts).value b.more b.is) b.all
     direct_head o n (head.ToGoBySign below at above) ts code direct e =
         let b = behind_by (lower_all NoPure ForLater k ts) _ code e in
-        made u k o (head.ToGoBySign below at above) ts ForLater b.more code (go_by_sign_closes u k o below at above ts (lower_all NoPure ForLater k ts).value b.more b.is) b.all
+        made u k o (head.ToGoBySign below at above) ts ForLater b.more code tt (go_by_sign_closes u k o below at above ts (lower_all NoPure ForLater k ts).value b.more b.is) b.all
     direct_head o n (head.ToGuard form) ts code direct e =
         let g = guarded_by (lower_all NoPure ForUse k ts) (form_code once k 0 form) code e in
         let b = behind_by (lower_all NoPure ForUse k ts) _ code g.all in
-        made u k o (head.ToGuard form) ts ForUse b.more code (guard_closes u k o form g.under ts (lower_all NoPure ForUse k ts).value b.more (direct_code None 0 form g.under direct g.is) b.is) b.all
+        made u k o (head.ToGuard form) ts ForUse b.more code tt (guard_closes u k o form g.under ts (lower_all NoPure ForUse k ts).value b.more (direct_code None 0 form g.under direct g.is) b.is) b.all
     direct_head o n (head.ToCall name) ts code direct e =
-        let b = behind_by (lower_all NoPure ForCall k ts) _ code e in made u k o (head.ToCall name) ts ForCall b.more code (call_closes u k o name ts (lower_all NoPure ForCall k ts).value b.more b.is) b.all
+        let b = behind_by (lower_all NoPure ForCall k ts) _ code e in made u k o (head.ToCall name) ts ForCall b.more code tt (call_closes u k o name ts (lower_all NoPure ForCall k ts).value b.more b.is) b.all
     direct_head o n head.ToReturn ts code direct e =
-        let b = behind_by (lower_all NoPure ForUse k ts) _ code e in made u k o head.ToReturn ts ForUse b.more code (return_closes u k o ts (lower_all NoPure ForUse k ts).value b.more b.is) b.all
-    direct_head o n (head.ToStop text) NoMore code direct e = made u k o (head.ToStop text) NoMore ForUse (Halt text ∷ []) code for_stop (let all : Halt text ∷ [] ≡ code = cc in all)
+        let b = behind_by (lower_all NoPure ForUse k ts) _ code e in made u k o head.ToReturn ts ForUse b.more code tt (return_closes u k o ts (lower_all NoPure ForUse k ts).value b.more b.is) b.all
+    direct_head o n (head.ToStop text) NoMore code direct e = made u k o (head.ToStop text) NoMore ForUse (Halt text ∷ []) code tt for_stop (let all : Halt text ∷ [] ≡ code = cc in all)
     direct_head o n (head.ToStop text) (More t ts) code direct e = absurd (cc)
-    direct_head o n head.ToEnd NoMore code direct e = made u k o head.ToEnd NoMore ForUse (Back ∷ []) code for_end (let all : Back ∷ [] ≡ code = cc in all)
+    direct_head o n head.ToEnd NoMore code direct e = made u k o head.ToEnd NoMore ForUse (Back ∷ []) code tt for_end (let all : Back ∷ [] ≡ code = cc in all)
     direct_head o n head.ToEnd (More t ts) code direct e = absurd (cc)
     direct_head o n head.ToSetText ts code direct e = absurd (true≢false (sym direct))
     direct_head o n head.ToEnterArm ts code direct e = absurd (true≢false (sym direct))
     direct_head o n (head.ToLoop label) ts code direct e = absurd (true≢false (sym direct))
     direct_head o n (head.ToTestLoop label) ts code direct e = absurd (true≢false (sym direct))
-    direct_head o n (head.ToBegin way layout controls work) ts code direct e = absurd (true≢false (sym direct))
+    direct_head o n (head.ToBegin way layout controls work) ts code direct e =
+        let b = behind_by (lower_all NoPure ForUse k ts) _ code e in
+        made u k o (head.ToBegin way layout controls work) ts ForUse b.more code tt (begin_closes u k way layout controls work (work_code k work) refl o ts (lower_all NoPure ForUse k ts).value b.more b.is) b.all
     direct_head o n (head.ToTransfer rest) ts code direct e = absurd (true≢false (sym direct))
     direct_head o n (head.ToRepeat items rest) ts code direct e = absurd (true≢false (sym direct))
     direct_head o n (head.ToTurn items p left by given rest) ts code direct e = absurd (true≢false (sym direct))
     direct_head o n head.ToFinish ts code direct e = absurd (true≢false (sym direct))
-    direct_head o n (head.ToAuxiliary which controls) ts code direct e = absurd (true≢false (sym direct))
+    direct_head o n (head.ToAuxiliary which controls) ts code direct e =
+        let b = behind_by (lower_all NoPure ForUse k ts) _ code e in
+        made u k o (head.ToAuxiliary which controls) ts ForUse b.more code tt (auxiliary_closes u k which controls o ts (lower_all NoPure ForUse k ts).value b.more b.is) b.all
 
-  arm_closes : (i n : ℕ) (ts : Terms) (ps : Pures) (more : List Step) → ((j : ℕ) → arm_after u.facts.program i ≡ Some j → u.begins (suc i) + n ≡ own_of u j) → unless_code n [] ps ≡ Some more → IsClosing u k (Some i) head.ToEnterArm ts ps more
+  arm_closes : (i n : ℕ) (ts : Terms) (ps : Pures) (more : List Step) → IsFlat u i × ((j : ℕ) → arm_after u.facts.program i ≡ Some j → IsNextArm u i n j) → unless_code n [] ps ≡ Some more → IsClosing u k (Some i) head.ToEnterArm ts ps more
   unfolding unless_code
   arm_closes i n ts NoPure more room e = absurd (cc)
-  arm_closes i n ts (AndPure p NoPure) more room e = subst (λ z. IsClosing u k (Some i) head.ToEnterArm ts (AndPure p NoPure) z) (let all : Unless p n ∷ [] ≡ more = cc in all) (for_arm room)
+  arm_closes i n ts (AndPure p NoPure) more room e = subst (λ z. IsClosing u k (Some i) head.ToEnterArm ts (AndPure p NoPure) z) (let all : Unless p n ∷ [] ≡ more = cc in all) (for_arm room.0 room.1)
   arm_closes i n ts (AndPure p (AndPure q ps)) more room e = absurd (cc)
 
-  arm_head : (i n : ℕ) (h : Head) (ts : Terms) (code : List Step) → enters_arm (On h ts) ≡ true → ((j : ℕ) → arm_after u.facts.program i ≡ Some j → u.begins (suc i) + n ≡ own_of u j) → head_code once k n h ts ≡ Some code →
+  arm_head : (i n : ℕ) (h : Head) (ts : Terms) (code : List Step) → enters_arm (On h ts) ≡ true → IsFlat u i × ((j : ℕ) → arm_after u.facts.program i ≡ Some j → IsNextArm u i n j) → head_code once k n h ts ≡ Some code →
       IsCode u k (Some i) (On h ts) code
   unfolding enters_arm head_code with_operands
   arm_head i n head.ToEnterArm ts code enters room e =
       let b = behind_by (lower_all NoPure ForUse k ts) _ code e in
-      made u k (Some i) head.ToEnterArm ts ForUse b.more code (arm_closes i n ts (lower_all NoPure ForUse k ts).value b.more room b.is) b.all
+      made u k (Some i) head.ToEnterArm ts ForUse b.more code tt (arm_closes i n ts (lower_all NoPure ForUse k ts).value b.more room b.is) b.all
   arm_head i n head.ToSet ts code enters room e = absurd (true≢false (sym enters))
   arm_head i n head.ToSetText ts code enters room e = absurd (true≢false (sym enters))
   arm_head i n (head.ToSetLabel label) ts code enters room e = absurd (true≢false (sym enters))
@@ -222,7 +263,61 @@ module _ (u : Text) (k : ℕ) (once : Bool) where
   arm_head i n (head.ToAuxiliary which controls) ts code enters room e = absurd (true≢false (sym enters))
   arm_head i n head.ToEnd ts code enters room e = absurd (true≢false (sym enters))
 
-  pub arm_code : (i n : ℕ) (form : Form) (code : List Step) → enters_arm form ≡ true → ((j : ℕ) → arm_after u.facts.program i ≡ Some j → u.begins (suc i) + n ≡ own_of u j) → form_code once k n form ≡ Some code → IsCode u k (Some i) form code
+  pub arm_code : (i n : ℕ) (form : Form) (code : List Step) → enters_arm form ≡ true → IsFlat u i × ((j : ℕ) → arm_after u.facts.program i ≡ Some j → IsNextArm u i n j) → form_code once k n form ≡ Some code → IsCode u k (Some i) form code
   unfolding form_code enters_arm
   arm_code i n Passes code enters room e = absurd (true≢false (sym enters))
   arm_code i n (On h ts) code enters room e = arm_head i n h ts code enters room e
+
+  -- the condition of a DO WHILE
+  abbrev LoopRoom : ℕ → ℕ → Option ℕ → Type 0
+  LoopRoom i n label = (last : ℕ) → terminal_of u.facts.program i label ≡ Some last → IsLoop u i last × (ends_of u i + n ≡ loop_exit u.facts.program (record { first = i; last = last }))
+
+  test_closes : (i n : ℕ) (label : Option ℕ) (ts : Terms) (ps : Pures) (more : List Step) → LoopRoom i n label → unless_code n [] ps ≡ Some more → IsClosing u k (Some i) (head.ToTestLoop label) ts ps more
+  unfolding unless_code
+  test_closes i n label ts NoPure more room e = absurd (cc)
+  test_closes i n label ts (AndPure p NoPure) more room e = subst (λ z. IsClosing u k (Some i) (head.ToTestLoop label) ts (AndPure p NoPure) z) (let all : Unless p n ∷ [] ≡ more = cc in all) (for_test room)
+  test_closes i n label ts (AndPure p (AndPure q ps)) more room e = absurd (cc)
+
+  pub test_code : (i n : ℕ) (label : Option ℕ) (ts : Terms) (code : List Step) → LoopRoom i n label → form_code once k n (On (head.ToTestLoop label) ts) ≡ Some code → IsCode u k (Some i) (On (head.ToTestLoop label) ts) code
+  unfolding form_code head_code with_operands
+  test_code i n label ts code room e =
+      let b = behind_by (lower_all NoPure ForUse k ts) _ code e in
+      made u k (Some i) (head.ToTestLoop label) ts ForUse b.more code tt (test_closes i n label ts (lower_all NoPure ForUse k ts).value b.more room b.is) b.all
+
+  loop_closes : (i n : ℕ) (label : Option ℕ) (ts : Terms) (ps : Pures) (more : List Step) → once ≡ u.facts.program.onetrip → LoopRoom i n label → loop_code once n ps ≡ Some more → IsClosing u k (Some i) (head.ToLoop label) ts ps more
+  unfolding loop_code
+  loop_closes i n label ts NoPure more same room e = absurd (cc)
+  loop_closes i n label ts (AndPure x NoPure) more same room e = absurd (cc)
+  loop_closes i n label ts (AndPure x (AndPure first NoPure)) more same room e = absurd (cc)
+  loop_closes i n label ts (AndPure x (AndPure first (AndPure limit NoPure))) more same room e = absurd (cc)
+  loop_closes i n label ts (AndPure x (AndPure first (AndPure limit (AndPure by NoPure)))) more same room e =
+      subst (λ z. IsClosing u k (Some i) (head.ToLoop label) ts (AndPure x (AndPure first (AndPure limit (AndPure by NoPure)))) z)
+      (ap (λ o. Put x first ∷ loop_test o (test_by x limit by) n) (sym same) ∙ (let all : Put x first ∷ loop_test once (test_by x limit by) n ≡ more = cc in all)) (for_loop n room)
+  loop_closes i n label ts (AndPure x (AndPure first (AndPure limit (AndPure by (AndPure q ps))))) more same room e = absurd (cc)
+
+  pub do_code : (i n : ℕ) (label : Option ℕ) (ts : Terms) (code : List Step) → once ≡ u.facts.program.onetrip → LoopRoom i n label → form_code once k n (On (head.ToLoop label) ts) ≡ Some code → IsCode u k (Some i) (On (head.ToLoop label) ts) code
+  unfolding form_code head_code with_operands
+  do_code i n label ts code same room e =
+      let b = behind_by (loop_operands k ts) _ code e in
+      subst (λ z. IsCode u k (Some i) (On (head.ToLoop label) ts) z) b.all (some_code OfLoop refl b.more (loop_closes i n label ts (loop_operands k ts).value b.more same room b.is))
+
+-- a DO that is lowered has its four operands
+pub record HasFour (ps : Pures) : Type 0 where
+  pub x : Pure
+  pub first : Pure
+  pub limit : Pure
+  pub by : Pure
+  pub is : ps ≡ AndPure x (AndPure first (AndPure limit (AndPure by NoPure)))
+
+four_of : (once : Bool) (n : ℕ) (ps : Pures) (more : List Step) → loop_code once n ps ≡ Some more → HasFour ps
+unfolding loop_code
+four_of once n NoPure more e = absurd (cc)
+four_of once n (AndPure x NoPure) more e = absurd (cc)
+four_of once n (AndPure x (AndPure first NoPure)) more e = absurd (cc)
+four_of once n (AndPure x (AndPure first (AndPure limit NoPure))) more e = absurd (cc)
+four_of once n (AndPure x (AndPure first (AndPure limit (AndPure by NoPure)))) more e = record { x = x; first = first; limit = limit; by = by; is = refl }
+four_of once n (AndPure x (AndPure first (AndPure limit (AndPure by (AndPure q ps))))) more e = absurd (cc)
+
+pub loop_four : (once : Bool) (k n : ℕ) (label : Option ℕ) (ts : Terms) (code : List Step) → form_code once k n (On (head.ToLoop label) ts) ≡ Some code → HasFour (loop_operands k ts).value
+unfolding form_code head_code with_operands
+loop_four once k n label ts code e = let b = behind_by (loop_operands k ts) _ code e in four_of once n (loop_operands k ts).value b.more b.is

@@ -1,5 +1,5 @@
 -- Ways and what they cost.
-use Rattle.std.specs.Prelude.{◌≡◌, ℕ, zero, suc, ◌+◌, ◌-◌, ◌<◌, ◌≤◌, List, [], ◌∷◌, length, Option, Some, None, slice_get}
+use Rattle.std.specs.Prelude.{◌≡◌, ℕ, zero, suc, ◌+◌, ◌-◌, ◌<◌, ◌≤◌, List, [], ◌∷◌, Some, slice_get}
 use Rattle.std.proofs.Common.{refl, sym, ap, ◌∙◌, subst, arith}
 use Rattle.simulation.specs.Machine.{Event, Goes}
 use Rattle.simulation.specs.LocalSimulation.{Does, last, more}
@@ -8,7 +8,7 @@ use Rattle.f_tree.specs.Values.{Datum, IsLabel}
 use Rattle.f_tree.specs.World.{World, Ending}
 use Rattle.f_tree.specs.Facts.{Frame}
 use Rattle.l_core.specs.Pures.{Temporaries}
-use Rattle.l_core.specs.Steps.{Skip, Pass, Branch, Text}
+use Rattle.l_core.specs.Steps.{Skip, Again, Pass, Branch, Text}
 use Rattle.l_core.specs.Machine.{lowered, lowered_sorts, step, done, past, branching, jump, to_place, onward, to}
 use Rattle.l_core.specs.Costs.{cost, rest}
 use Rattle.lowering_laws.specs.Walks.{at_step, IsOrdinary, Keeps, stays, goes}
@@ -69,6 +69,13 @@ module _ (u : Text) (f : Frame) (h : ℕ) (w : World) (cs : List ℕ) where
     does : Does lowered (λ x. cost cs x.at) u (at_step f h p m) w count e
     few : count + rest cs (suc q) ≤ rest cs p
     apart : (b k : ℕ) → slice_get u.steps b ≡ Some (Branch k) → count + rest (without b cs) (suc q) ≤ rest (without b cs) p
+
+  -- a way, and what is behind it
+  record Walked (p : ℕ) (m : Temporaries) (q n : ℕ) (e : Event Ending lowered_sorts) : Type 0 where
+    count : ℕ
+    does : Does lowered (λ x. cost cs x.at) u (at_step f h p m) w count e
+    few : count + rest cs q ≤ rest cs p + n
+    apart : (b k : ℕ) → slice_get u.steps b ≡ Some (Branch k) → count + rest (without b cs) q ≤ rest (without b cs) p + n
 
   track_to : {p q : ℕ} {m m' : Temporaries} (e : Event Ending lowered_sorts) → Keeps u f h w p m q m' → IsOrdinary u q → step u (at_step f h q m') w ≡ e → Track p m q e
   track_to {p = p} e stays ordinary st = let one = rest_step cs p in record {
@@ -136,6 +143,118 @@ module _ (u : Text) (f : Frame) (h : ℕ) (w : World) (cs : List ℕ) where
             omega (arith, few, falls, one, down, one', same);
       }
 
+  -- a way, and what is behind it, with what both cost
+  walk : {p q : ℕ} {m m' : Temporaries} (n : ℕ) (e : Event Ending lowered_sorts) → Keeps u f h w p m q m' → Does lowered (λ x. cost cs x.at) u (at_step f h q m') w n e → Walked p m q n e
+  walk n e stays does = record { count = n; does = does; few = omega arith; apart = λ b k there'. omega arith }
+  walk {p = p} {q = q} n e (goes {p' = p'} ordinary first forward way) does =
+      let later = walk n e way does in
+      let one = rest_step cs p in
+      let falls = rest_falls cs (suc p) p' forward in
+      let few = later.few in
+      record {
+        count = cost cs p + later.count;
+        does = more first later.does refl;
+        few = omega (arith, one, falls, few);
+        apart = λ b k there'.
+            let one' = rest_step (without b cs) p in
+            let falls' = rest_falls (without b cs) (suc p) p' forward in
+            let few' = later.apart b k there' in
+            let same = cost_without b p cs (stands_apart b p k there' ordinary) in
+            omega (arith, one', falls', few', same);
+      }
+
+  -- a way, one step back, a way that ends before the first one began, and a step behind it: no step is taken twice
+  pub record WayBack (p : ℕ) (m : Temporaries) (q e : ℕ) (ev : Event Ending lowered_sorts) : Type 0 where
+    pub count : ℕ
+    pub does : Does lowered (λ x. cost cs x.at) u (at_step f h p m) w count ev
+    pub few : count ≤ rest cs 0
+    pub spare : (n : ℕ) → q < n → n < e → IsOrdinary u n → count + cost cs n ≤ rest cs 0
+
+  back_step : (p n q : ℕ) (m : Temporaries) → slice_get u.steps p ≡ Some (Again n) → p - n ≡ q → step u (at_step f h p m) w ≡ Goes (at_step f h q m) w
+  unfolding step done to
+  back_step p n q m there' is = ap (done u (at_step f h p m) w) there' ∙ ap (λ z. Goes (at_step f h z m) w) is
+
+  pub way_back_to : {p r s n q' q e : ℕ} {m m' : Temporaries} (ev : Event Ending lowered_sorts) → Begins p m r → Keeps u f h w r m s m → slice_get u.steps s ≡ Some (Again n) → s - n ≡ q' →
+      Keeps u f h w q' m q m' → IsOrdinary u q → step u (at_step f h q m') w ≡ ev → e ≤ r → q < e → WayBack p m q e ev
+  way_back_to {r = r} {s = s} {n = n} {q' = q'} {q = q} {e = e} {m = m} ev begins way there' is way' ordinary st below inside =
+      let later = track_to ev way' ordinary st in
+      let all = walk (cost cs s + later.count) ev way (more (back_step s n q' m there' is) later.does refl) in
+      by_begin begins all.count all.does
+      (let few = all.few in let one = rest_step cs s in let few' = later.few in let down = rest_falls cs (suc q) r (omega (arith, below, inside)) in let falls = rest_falls cs 0 q' (omega arith) in omega (arith, few, one, few', down, falls))
+      (λ n' behind under.
+      let few = all.few in let one = rest_step cs s in let few' = later.few in let down = rest_falls cs (suc n') r (omega (arith, below, under)) in let falls = rest_falls cs 0 q' (omega arith) in
+      let one' = rest_step cs n' in let down' = rest_falls cs (suc q) n' behind in omega (arith, few, one, few', down, falls, one', down'))
+      (λ b k branch.
+      let few = all.apart b k branch in let one = rest_step (without b cs) s in let few' = later.apart b k branch in let down = rest_falls (without b cs) (suc q) r (omega (arith, below, inside)) in
+      let falls = rest_falls (without b cs) 0 q' (omega arith) in let same = cost_without b s cs (stands_apart b s k branch (ordinary_by u s (Again n) there' tt)) in omega (arith, few, one, few', down, falls, same))
+      (λ b k branch n' behind under.
+      let few = all.apart b k branch in let one = rest_step (without b cs) s in let few' = later.apart b k branch in let down = rest_falls (without b cs) (suc n') r (omega (arith, below, under)) in
+      let falls = rest_falls (without b cs) 0 q' (omega arith) in let same = cost_without b s cs (stands_apart b s k branch (ordinary_by u s (Again n) there' tt)) in
+      let one' = rest_step (without b cs) n' in let down' = rest_falls (without b cs) (suc q) n' behind in omega (arith, few, one, few', down, falls, same, one', down'))
+    where
+      by_begin : {p r q e : ℕ} {m : Temporaries} {ev : Event Ending lowered_sorts} → Begins p m r → (count : ℕ) → Does lowered (λ x. cost cs x.at) u (at_step f h r m) w count ev → count ≤ rest cs 0 →
+          ((n : ℕ) → q < n → n < e → count + cost cs n ≤ rest cs 0) → ((b k : ℕ) → slice_get u.steps b ≡ Some (Branch k) → count ≤ rest (without b cs) 0) →
+          ((b k : ℕ) → slice_get u.steps b ≡ Some (Branch k) → (n : ℕ) → q < n → n < e → count + cost (without b cs) n ≤ rest (without b cs) 0) → WayBack p m q e ev
+      by_begin at_it count does few spare few' spare' = record { count = count; does = does; few = few; spare = λ n behind under ordinary. spare n behind under }
+      by_begin {p = p} (branched {k = k} there' first) count does few spare few' spare' =
+          let one = without_one p cs in
+          record {
+            count = cost cs p + count;
+            does = more first does refl;
+            few = (let le = few' p k there' in omega (arith, le, one));
+            spare = λ n behind under ordinary'.
+                let le = spare' p k there' n behind under in
+                let same = cost_without p n cs (stands_apart p n k there' ordinary') in
+                omega (arith, le, one, same);
+          }
+
+  -- a way, and more steps of which none is taken twice
+  pub record WayOn (p : ℕ) (m : Temporaries) (ev : Event Ending lowered_sorts) : Type 0 where
+    pub count : ℕ
+    pub does : Does lowered (λ x. cost cs x.at) u (at_step f h p m) w count ev
+    pub few : count ≤ rest cs 0
+
+  begin_on : {p r : ℕ} {m : Temporaries} {ev : Event Ending lowered_sorts} → Begins p m r → (count : ℕ) → Does lowered (λ x. cost cs x.at) u (at_step f h r m) w count ev → count ≤ rest cs 0 →
+      ((b k : ℕ) → slice_get u.steps b ≡ Some (Branch k) → count ≤ rest (without b cs) 0) → WayOn p m ev
+  begin_on at_it count does few few' = record { count = count; does = does; few = few }
+  begin_on {p = p} (branched {k = k} there' first) count does few few' =
+      let one = without_one p cs in
+      record { count = cost cs p + count; does = more first does refl; few = (let le = few' p k there' in omega (arith, le, one)) }
+
+  pub way_on : {p r q : ℕ} {m m' : Temporaries} (n : ℕ) (ev : Event Ending lowered_sorts) → Begins p m r → Keeps u f h w r m q m' → Does lowered (λ x. cost cs x.at) u (at_step f h q m') w n ev → n ≡ cost cs q + cost cs (suc q) →
+      IsOrdinary u q → IsOrdinary u (suc q) → WayOn p m ev
+  way_on {r = r} {q = q} n ev begins way does is ordinary ordinary' =
+      let all = walk n ev way does in
+      begin_on begins all.count all.does
+      (let few = all.few in let one = rest_step cs q in let two = rest_step cs (suc q) in let falls = rest_falls cs 0 r (omega arith) in omega (arith, few, one, two, falls, is))
+      (λ b k branch.
+      let few = all.apart b k branch in let one = rest_step (without b cs) q in let two = rest_step (without b cs) (suc q) in let falls = rest_falls (without b cs) 0 r (omega arith) in
+      let same = cost_without b q cs (stands_apart b q k branch ordinary) in let same' = cost_without b (suc q) cs (stands_apart b (suc q) k branch ordinary') in
+      omega (arith, few, one, two, falls, is, same, same'))
+
+  pub way_one : {p r q : ℕ} {m m' : Temporaries} (n : ℕ) (ev : Event Ending lowered_sorts) → Begins p m r → Keeps u f h w r m q m' → Does lowered (λ x. cost cs x.at) u (at_step f h q m') w n ev → n ≡ cost cs q → IsOrdinary u q → WayOn p m ev
+  way_one {r = r} {q = q} n ev begins way does is ordinary =
+      let all = walk n ev way does in
+      begin_on begins all.count all.does
+      (let few = all.few in let one = rest_step cs q in let falls = rest_falls cs 0 r (omega arith) in omega (arith, few, one, falls, is))
+      (λ b k branch.
+      let few = all.apart b k branch in let one = rest_step (without b cs) q in let falls = rest_falls (without b cs) 0 r (omega arith) in
+      let same = cost_without b q cs (stands_apart b q k branch ordinary) in omega (arith, few, one, falls, is, same))
+
+  -- two steps behind a way, and one before all of it
+  pub way_turn : {p r q t : ℕ} {m : Temporaries} (n : ℕ) (ev : Event Ending lowered_sorts) → Begins p m r → Keeps u f h w r m q m → Does lowered (λ x. cost cs x.at) u (at_step f h q m) w n ev → n ≡ cost cs q + (cost cs (suc q) + cost cs t) → t < r →
+      IsOrdinary u q → IsOrdinary u (suc q) → IsOrdinary u t → WayOn p m ev
+  way_turn {r = r} {q = q} {t = t} n ev begins way does is below ordinary ordinary' ordinary'' =
+      let all = walk n ev way does in
+      begin_on begins all.count all.does
+      (let few = all.few in let one = rest_step cs q in let two = rest_step cs (suc q) in let three = rest_step cs t in let down = rest_falls cs (suc t) r below in let falls = rest_falls cs 0 t (omega arith) in
+      omega (arith, few, one, two, three, down, falls, is))
+      (λ b k branch.
+      let few = all.apart b k branch in let one = rest_step (without b cs) q in let two = rest_step (without b cs) (suc q) in let three = rest_step (without b cs) t in
+      let down = rest_falls (without b cs) (suc t) r below in let falls = rest_falls (without b cs) 0 t (omega arith) in
+      let same = cost_without b q cs (stands_apart b q k branch ordinary) in let same' = cost_without b (suc q) cs (stands_apart b (suc q) k branch ordinary') in let same'' = cost_without b t cs (stands_apart b t k branch ordinary'') in
+      omega (arith, few, one, two, three, down, falls, is, same, same', same''))
+
   pass_step : (p : ℕ) (m : Temporaries) → slice_get u.steps p ≡ Some Pass → step u (at_step f h p m) w ≡ Goes (at_step f h (suc p) m) w
   unfolding step done onward to
   pass_step p m e = ap (done u (at_step f h p m) w) e
@@ -163,15 +282,28 @@ module _ (u : Text) (f : Frame) (h : ℕ) (w : World) (cs : List ℕ) where
   unfolding step done
   branch_step p r k m d there' holds is = ap (done u (at_step f h p m) w) there' ∙ ap (branching u (at_step f h p m) w) holds ∙ branches p r m d is
 
-  pub begins_by : {p q : ℕ} {m : Temporaries} → Arrives u m p q → (r : ℕ) × Begins p m r × Leads u r q
-  begins_by {p = p} (plainly leads) = (p, at_it, leads)
-  begins_by {p = p} {m = m} (by_branch {r = r} {k = k} d there' holds is leads) = (r, branched there' (branch_step p r k m d there' holds is), leads)
+  pub begins_by : {low p q : ℕ} {m : Temporaries} → Arrives u m low p q → (r : ℕ) × Begins p m r × Leads u r q × (low ≤ r)
+  begins_by {p = p} (plainly up leads) = (p, at_it, leads, up)
+  begins_by {p = p} {m = m} (by_branch {r = r} {k = k} d there' holds is up leads) = (r, branched there' (branch_step p r k m d there' holds is), leads, up)
 
 pub leads_on : {u : Text} {p q r : ℕ} → Leads u p q → Leads u q r → Leads u p r
 leads_on there after = after
 leads_on (by_pass e leads) after = by_pass e (leads_on leads after)
 leads_on (by_skip e leads) after = by_skip e (leads_on leads after)
 
-pub arrives_on : {u : Text} {m : Temporaries} {p q r : ℕ} → Arrives u m p q → Leads u q r → Arrives u m p r
-arrives_on (plainly leads) after = plainly (leads_on leads after)
-arrives_on (by_branch d there' holds is leads) after = by_branch d there' holds is (leads_on leads after)
+pub leads_up : {u : Text} {p q : ℕ} → Leads u p q → p ≤ q
+leads_up there = omega arith
+leads_up (by_pass e leads) = let more = leads_up leads in omega (arith, more)
+leads_up (by_skip e leads) = let more = leads_up leads in omega (arith, more)
+
+pub arrives_on : {u : Text} {m : Temporaries} {low p q r : ℕ} → Arrives u m low p q → Leads u q r → Arrives u m low p r
+arrives_on (plainly up leads) after = plainly up (leads_on leads after)
+arrives_on (by_branch d there' holds is up leads) after = by_branch d there' holds is up (leads_on leads after)
+
+pub arrives_low : {u : Text} {m : Temporaries} {low low' p q : ℕ} → low' ≤ low → Arrives u m low p q → Arrives u m low' p q
+arrives_low le (plainly up leads) = plainly (omega (arith, le, up)) leads
+arrives_low le (by_branch d there' holds is up leads) = by_branch d there' holds is (omega (arith, le, up)) leads
+
+pub arrives_up : {u : Text} {m : Temporaries} {low p q : ℕ} → Arrives u m low p q → low ≤ q
+arrives_up (plainly up leads) = let more = leads_up leads in omega (arith, up, more)
+arrives_up (by_branch d there' holds is up leads) = let more = leads_up leads in omega (arith, up, more)

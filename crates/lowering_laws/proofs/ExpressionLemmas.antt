@@ -1,5 +1,5 @@
 -- The steps of an expression, from their start and from each place in their midst, do what valuing the expression does.
-use Rattle.std.specs.Prelude.{◌≡◌, ℕ, zero, suc, ◌+◌, ◌<◌, ◌≤◌, Bool, true, false, not, ◌&&◌, ◌||◌, List, [], ◌∷◌, ◌++◌, length, Option, Some, None, slice_get}
+use Rattle.std.specs.Prelude.{◌≡◌, ℕ, zero, suc, ◌+◌, ◌<◌, ◌≤◌, Bool, true, false, ◌&&◌, ◌||◌, List, [], ◌∷◌, ◌++◌, length, Some, slice_get}
 use Rattle.std.proofs.Common.{refl, sym, ap, ◌∙◌, subst, arith, true≢false}
 use Rattle.simulation.specs.Machine.{Goes}
 use Rattle.f_tree.specs.Values as value
@@ -8,17 +8,17 @@ use Rattle.f_tree.specs.Values.{Bytes, Datum, IsLog, Checked, Gives, Fails, Act,
 use Rattle.f_tree.specs.Terms.{Operator, Both, Either, Complement, Term, Val, Fetch, At, All, Element, Alone, Part, Joined, Before, Between, Intrinsically, Refer, Bind, Bound, Terms, NoMore, More, refers, any_refers, valued_then}
 use Rattle.f_tree.specs.Facts.{Facts, Frame}
 use Rattle.f_tree.specs.Store.{Store}
-use Rattle.f_tree.specs.Valuing.{Red, Valued, Bad, Asks, then_by, at_once, prefixed, operated, on_logicals, Left, Decided, Wants, Wrong, left_of, right_after, whole, array_whole, bound_to, reduce, reduce_all}
+use Rattle.f_tree.specs.Valuing.{Valued, then_by, at_once, prefixed, operated, on_logicals, Left, Decided, Wants, Wrong, left_of, right_after, whole, array_whole, bound_to, reduce, reduce_all}
 use Rattle.f_tree.specs.World.{World}
-use Rattle.l_core.specs.Pures.{Pure, Constant, Temporary, Name, AllOf, Prefixed, Operated, Pures, NoPure, AndPure, Temporaries, with_kept, if_kept, where_wanted, meant, all_meant}
+use Rattle.l_core.specs.Pures.{Pure, Constant, Temporary, Name, AllOf, Operated, Pures, NoPure, AndPure, Temporaries, with_kept, if_kept, where_wanted, meant, all_meant}
 use Rattle.l_core.specs.Steps.{Step, Keep, Unless, Text}
 use Rattle.l_core.specs.Machine.{to, testing, done, step}
-use Rattle.lowering.specs.Expressions.{Purpose, ForUse, ForCall, ForLater, Lowered, plain, and_then, no_operand, ahead, Shape, AsFetch, AsElement, AsAlone, AsPart, AsJoined, AsBefore, AsBetween, AsFunction, AsReference, is_library, for_place, for_function, operand_purpose, pure_of, kept_steps, kept_value, kept_free, closing, closed_value, closed_free, shaped, takes_steps, any_takes, may_decide, wanted_where, guarded, lowered_between, argument, in_order, lower, lower_all}
-use Rattle.lowering_laws.specs.Walks.{Spans, nothing, at_step, IsOrdinary, Keeps, stays, goes, SameBelow, Lasts, AllLast, Comes, AllCome, Ends, CallsFor, Follows, Met}
+use Rattle.lowering.specs.Expressions.{Purpose, ForUse, ForCall, ForLater, Lowered, plain, and_then, no_operand, ahead, Shape, AsFetch, AsElement, AsAlone, AsPart, AsJoined, AsBefore, AsBetween, AsFunction, AsReference, is_library, for_place, for_function, operand_purpose, pure_of, kept_steps, kept_value, kept_free, closing, closed_value, closed_free, shaped, takes_steps, may_decide, wanted_where, guarded, lowered_between, argument, in_order, lower, lower_all}
+use Rattle.lowering_laws.specs.Walks.{Spans, nothing, at_step, IsOrdinary, Keeps, stays, goes, SameBelow, Lasts, AllLast, Comes, AllCome, Met}
 use Rattle.lowering_laws.specs.Midway.{formed, finish, Fits, of_fetch, of_element, of_alone, of_part, of_joined, of_before, of_between, of_function, of_reference, first_of, both_of, guard_of, IsMidway, at_start, at_end, in_operands, in_deciding, in_left, in_right, in_arguments, in_expansion, AreMidway, none_left, at_first, at_later}
-use Rattle.lowering_laws.proofs.WalkLemmas.{split, ordinary_by, spans_up, spans_length, spans_nothing, spans_one, spans_first, same_refl, same_trans, same_less, kept_above, kept_there, lasts_same, lasts_more, all_last_same, all_last_more, all_last_now, temporary_lasts, join, behind, with_less, then_met, then_at_once, without_steps, at_its_end}
+use Rattle.lowering_laws.proofs.WalkLemmas.{split, ordinary_by, spans_up, spans_length, spans_nothing, spans_one, spans_first, same_refl, same_trans, same_less, kept_above, kept_there, lasts_same, lasts_more, all_last_same, all_last_more, behind, with_less, then_met, then_at_once, without_steps, at_its_end}
 use Rattle.lowering_laws.proofs.ShapeLemmas.{and_false, no_reference, none_call, no_steps, free_grows, all_grow, lower_formed, reduce_formed}
-use Rattle.lowering_laws.proofs.ClosingLemmas.{Suits, suits, keeps_one, kept_comes, kept_step, value_met, closing_met}
+use Rattle.lowering_laws.proofs.ClosingLemmas.{suits, keeps_one, kept_comes, kept_step, value_met, closing_met}
 
 -- ## Residual operands
 

@@ -1,18 +1,18 @@
 -- A value is a label only where a label is written, and a procedure answers a label only if it was passed.
-use Rattle.std.specs.Prelude.{◌≡◌, ℕ, zero, suc, ℤ, pos, negsuc, nat_eq, Bool, true, false, ◌||◌, List, [], ◌∷◌, Option, Some, None, slice_get, bytes_eq, if◌then◌else◌}
+use Rattle.std.specs.Prelude.{◌≡◌, ℕ, zero, suc, ℤ, pos, negsuc, nat_eq, Bool, true, false, not, ◌||◌, List, [], ◌∷◌, Option, Some, None, slice_get, bytes_eq, if◌then◌else◌}
 use Rattle.std.proofs.Common.{refl, sym, ap, ◌∙◌, subst, arith, true≢false}
-use Rattle.std.proofs.lemmas.Bool.{eq-eqb}
+use Rattle.std.proofs.lemmas.Bool.{eqb-true, eq-eqb}
 use Rattle.f_tree.specs.declared.names.Class.{Class}
 use Rattle.f_tree.specs.Values as value
 use Rattle.f_tree.specs.Values.{Bytes, Spot, Datum, IsInt, IsLog, IsText, IsSpot, IsLabel, Checked, Gives, Fails, given_that, checked}
 use Rattle.f_tree.specs.Terms.{Function, Prefix, Operator, Wanted, AsSubroutine, AsFunction, Callee, Term, Val, Fetch, At, All, Element, Alone, Part, Joined, Before, Between, Intrinsically, Refer, Bind, Bound, Terms, NoMore, More, valued_then}
 use Rattle.f_tree.specs.Store.{Store, value_of_type, as_text, fetch_as, fetch_from, fetch_in, fetch}
-use Rattle.f_tree.specs.Facts.{Attribute, Bounds, Formal, Named, Alternate, ProgramUnit, Facts, Frame}
+use Rattle.f_tree.specs.Facts.{Attribute, Formal, Named, Alternate, ProgramUnit, Facts, Frame}
 use Rattle.f_tree.specs.Valuing.{Red, Valued, Bad, Asks, then_by, at_once, prefixed, operated, on_integers, on_logicals, on_texts, divided, Left, Decided, Wants, Wrong, left_of, right_after, applied, inverse_of, raised, extreme, remainder_of, with_sign_of, difference_over, character_of, total_length, if_bits, if_bit, stored_at, if_bound, if_there, named_as, whole, further, element_at, element, reaching, all_elements, array_whole, alone, cut, part, joined, pieces, fetched, bound_to, reduce, reduce_all}
-use Rattle.f_tree.specs.Association.{Passing, passing, passing_one, passing_more, made, sequence_of, Bindings, value_for, bound_as, agreed, bind_all, length_of, alternate_of}
+use Rattle.f_tree.specs.Association.{passing, passing_one, passing_more, made, sequence_of, Bindings, value_for, bound_as, agreed, bind_all, length_of, alternate_of}
 use Rattle.f_tree.specs.Step.{contains}
 use Rattle.lowering.specs.Statements.{wants_no_value, may_be_label, passes_label}
-use Rattle.lowering_laws.specs.Layer.{IsNoLabel, labels_in, IsAnswered}
+use Rattle.lowering_laws.specs.Layer.{IsNoLabel, labels_in, IsAnswered, may_be_other, passes_other, none_known}
 
 -- ## Values that are no labels
 
@@ -100,12 +100,6 @@ whole_none : (c : Facts) (f : Frame) (x : Bytes) → HoldsNone f → Never (whol
 unfolding whole
 whole_none c f x fine l e = by_class c f x (c.program.attribute x) (c.program.attribute x).class fine l e
 
-bound_to_none : (ds : List Datum) (i : ℕ) → AreNoLabels ds → Never (bound_to ds i)
-unfolding bound_to
-bound_to_none [] i fine l e = absurd (cc)
-bound_to_none (d ∷ ds) zero fine l e = fine.0 l (let is : d ≡ IsLabel l = cc in is)
-bound_to_none (d ∷ ds) (suc i) fine l e = bound_to_none ds i fine.1 l e
-
 -- ## Valuing what is no label
 
 -- what a function answers is no label
@@ -113,15 +107,13 @@ abbrev pub Suited : Wanted → Datum → Type 0
 Suited AsSubroutine d = Unit {0}
 Suited (AsFunction basic width) d = IsNoLabel d
 
-abbrev Fine : Red Datum Term → Type 0
-Fine (Valued d) = IsNoLabel d
-Fine (Bad act) = Unit {0}
-Fine (Asks callee ds rest) = (d : Datum) → Suited callee.want d → may_be_label (rest d) ≡ false
+abbrev IsOf : (ℕ → Bool) → Datum → Type 0
+IsOf known d = (l : ℕ) → d ≡ IsLabel l → known l ≡ true
 
-abbrev pub AllFine : Red (List Datum) Terms → Type 0
-AllFine (Valued ds) = AreNoLabels ds
-AllFine (Bad act) = Unit {0}
-AllFine (Asks callee ds rest) = (d : Datum) → Suited callee.want d → passes_label (rest d) ≡ false
+-- the labels among values are known
+abbrev pub AreOf : (ℕ → Bool) → List Datum → Type 0
+AreOf known [] = Unit {0}
+AreOf known (d ∷ ds) = IsOf known d × AreOf known ds
 
 neither : (a b : Bool) → (a || b) ≡ false → (a ≡ false) × (b ≡ false)
 neither false b e = (refl, e)
@@ -130,121 +122,194 @@ neither true b e = absurd (true≢false e)
 both_false : (a b : Bool) → a ≡ false → b ≡ false → (a || b) ≡ false
 both_false a b e e' = ap (λ z. z || b) e ∙ e'
 
-fine_once : (x : Checked Datum) → Never x → Fine (at_once x)
-unfolding at_once
-fine_once (Gives d) never = λ l e. never l (ap Gives e)
-fine_once (Fails act) never = tt
+not_false : (b : Bool) → not b ≡ false → b ≡ true
+not_false true e = refl
+not_false false e = absurd (true≢false e)
 
-then_fine : {A S : Type 0} (x : Red A S) (back : S → Term) (go : A → Red Datum Term) → ((r : S) → may_be_label (back r) ≡ false) → ((a : A) → Fine (go a)) → Fine (then_by x back go)
-unfolding then_by
-then_fine (Valued a) back go backs goes' = goes' a
-then_fine (Bad act) back go backs goes' = tt
-then_fine (Asks callee ds rest) back go backs goes' = λ d suited. backs (rest d)
+module _ (known : ℕ → Bool) where
+  abbrev IsKnown : Datum → Type 0
+  IsKnown d = IsOf known d
 
-all_then_fine : (x : Red (List Datum) Terms) (back : Terms → Term) (go : List Datum → Red Datum Term) → AllFine x → ((rs : Terms) → passes_label rs ≡ false → may_be_label (back rs) ≡ false) →
-    ((ds : List Datum) → AreNoLabels ds → Fine (go ds)) → Fine (then_by x back go)
-unfolding then_by
-all_then_fine (Valued ds) back go fine backs goes' = goes' ds fine
-all_then_fine (Bad act) back go fine backs goes' = tt
-all_then_fine (Asks callee ds rest) back go fine backs goes' = λ d suited. backs (rest d) (fine d suited)
+  abbrev AreKnown : List Datum → Type 0
+  AreKnown ds = AreOf known ds
 
-one_then_fine : (x : Red Datum Term) (back : Term → Term) → Fine x → ((r : Term) → may_be_label r ≡ false → may_be_label (back r) ≡ false) → Fine (then_by x back Valued)
-unfolding then_by
-one_then_fine (Valued d) back fine backs = fine
-one_then_fine (Bad act) back fine backs = tt
-one_then_fine (Asks callee ds rest) back fine backs = λ d suited. backs (rest d) (fine d suited)
+  never_known : (d : Datum) → IsNoLabel d → IsKnown d
+  never_known d none = λ l e. absurd (none l e)
 
-first_fine : (x : Red Datum Term) (back : Term → Terms) (go : Datum → Red (List Datum) Terms) → Fine x → ((r : Term) → may_be_label r ≡ false → passes_label (back r) ≡ false) →
-    ((d : Datum) → IsNoLabel d → AllFine (go d)) → AllFine (then_by x back go)
-unfolding then_by
-first_fine (Valued d) back go fine backs goes' = goes' d fine
-first_fine (Bad act) back go fine backs goes' = tt
-first_fine (Asks callee ds rest) back go fine backs goes' = λ d suited. backs (rest d) (fine d suited)
+  bound_to_known : (ds : List Datum) (i : ℕ) (d : Datum) → AreKnown ds → bound_to ds i ≡ Gives d → IsKnown d
+  unfolding bound_to
+  bound_to_known [] i d fine e = absurd (cc)
+  bound_to_known (d ∷ ds) zero d' fine e = let is : d ≡ d' = cc in subst IsKnown is fine.0
+  bound_to_known (d ∷ ds) (suc i) d' fine e = bound_to_known ds i d' fine.1 e
 
-later_fine : (x : Red (List Datum) Terms) (d : Datum) → AllFine x → IsNoLabel d → may_be_label (Val d) ≡ false → AllFine (then_by x (More (Val d)) (λ ds. Valued (d ∷ ds)))
-unfolding then_by passes_label
-later_fine (Valued ds) d fine none val = (none, fine)
-later_fine (Bad act) d fine none val = tt
-later_fine (Asks callee ds rest) d fine none val = λ d' suited. both_false (may_be_label (Val d)) (passes_label (rest d')) val (fine d' suited)
+  abbrev Fine : Red Datum Term → Type 0
+  Fine (Valued d) = IsKnown d
+  Fine (Bad act) = Unit {0}
+  Fine (Asks callee ds rest) = (d : Datum) → Suited callee.want d → may_be_other known (rest d) ≡ false
 
-pub val_none : (d : Datum) → may_be_label (Val d) ≡ false → IsNoLabel d
-unfolding may_be_label
-val_none (IsLabel l) e = absurd (true≢false e)
-val_none (IsInt z) e = λ l e'. absurd (cc)
-val_none (IsLog b) e = λ l e'. absurd (cc)
-val_none (IsText cs) e = λ l e'. absurd (cc)
-val_none (IsSpot p) e = λ l e'. absurd (cc)
-val_none (value.IsProc x) e = λ l e'. absurd (cc)
-val_none value.Nothing e = λ l e'. absurd (cc)
+  abbrev pub AllFine : Red (List Datum) Terms → Type 0
+  AllFine (Valued ds) = AreKnown ds
+  AllFine (Bad act) = Unit {0}
+  AllFine (Asks callee ds rest) = (d : Datum) → Suited callee.want d → passes_other known (rest d) ≡ false
 
-pub none_val : (d : Datum) → IsNoLabel d → may_be_label (Val d) ≡ false
-unfolding may_be_label
-none_val (IsLabel l) none = absurd (none l refl)
-none_val (IsInt z) none = refl
-none_val (IsLog b) none = refl
-none_val (IsText cs) none = refl
-none_val (IsSpot p) none = refl
-none_val (value.IsProc x) none = refl
-none_val value.Nothing none = refl
+  fine_once : (x : Checked Datum) → Never x → Fine (at_once x)
+  unfolding at_once
+  fine_once (Gives d) never = λ l e. absurd (never l (ap Gives e))
+  fine_once (Fails act) never = tt
 
-valued_none : (ds : List Datum) → AreNoLabels ds → passes_label (valued_then ds NoMore) ≡ false
-unfolding valued_then passes_label
-valued_none [] none = refl
-valued_none (d ∷ ds) none = both_false (may_be_label (Val d)) (passes_label (valued_then ds NoMore)) (none_val d none.0) (valued_none ds none.1)
+  fine_if : (x : Checked Datum) → ((d : Datum) → x ≡ Gives d → IsKnown d) → Fine (at_once x)
+  unfolding at_once
+  fine_if (Gives d) known' = known' d refl
+  fine_if (Fails act) known' = tt
 
-asked_fine : (callee : Callee) (want : Wanted) (ds : List Datum) → wants_no_value want ≡ false → (d : Datum) → Suited want d → may_be_label (Val d) ≡ false
-unfolding wants_no_value
-asked_fine callee AsSubroutine ds e d suited = absurd (true≢false e)
-asked_fine callee (AsFunction basic width) ds e d suited = none_val d suited
+  then_fine : {A S : Type 0} (x : Red A S) (back : S → Term) (go : A → Red Datum Term) → ((r : S) → may_be_other known (back r) ≡ false) → ((a : A) → Fine (go a)) → Fine (then_by x back go)
+  unfolding then_by
+  then_fine (Valued a) back go backs goes' = goes' a
+  then_fine (Bad act) back go backs goes' = tt
+  then_fine (Asks callee ds rest) back go backs goes' = λ d suited. backs (rest d)
 
-right_fine : (l : Left) (x : Red Datum Term) → ((d : Datum) → l ≡ Decided d → IsNoLabel d) → Fine x → Fine (right_after l x)
-unfolding right_after
-right_fine (Decided d) x decided fine = decided d refl
-right_fine Wants x decided fine = fine
-right_fine Wrong x decided fine = tt
+  all_then_fine : (x : Red (List Datum) Terms) (back : Terms → Term) (go : List Datum → Red Datum Term) → AllFine x → ((rs : Terms) → passes_other known rs ≡ false → may_be_other known (back rs) ≡ false) →
+      ((ds : List Datum) → AreKnown ds → Fine (go ds)) → Fine (then_by x back go)
+  unfolding then_by
+  all_then_fine (Valued ds) back go fine backs goes' = goes' ds fine
+  all_then_fine (Bad act) back go fine backs goes' = tt
+  all_then_fine (Asks callee ds rest) back go fine backs goes' = λ d suited. backs (rest d) (fine d suited)
 
-decided_none : (op : Operator) (a d : Datum) → left_of op a ≡ Decided d → IsNoLabel d
-unfolding left_of
-decided_none op a d e l e' = grind arith
+  one_then_fine : (x : Red Datum Term) (back : Term → Term) → Fine x → ((r : Term) → may_be_other known r ≡ false → may_be_other known (back r) ≡ false) → Fine (then_by x back Valued)
+  unfolding then_by
+  one_then_fine (Valued d) back fine backs = fine
+  one_then_fine (Bad act) back fine backs = tt
+  one_then_fine (Asks callee ds rest) back fine backs = λ d suited. backs (rest d) (fine d suited)
 
-module _ (c : Facts) (f : Frame) (s : Store) (holds : HoldsNone f) where
-  mutual
-    unfolding reduce reduce_all may_be_label passes_label
+  first_fine : (x : Red Datum Term) (back : Term → Terms) (go : Datum → Red (List Datum) Terms) → Fine x → ((r : Term) → may_be_other known r ≡ false → passes_other known (back r) ≡ false) →
+      ((d : Datum) → IsKnown d → AllFine (go d)) → AllFine (then_by x back go)
+  unfolding then_by
+  first_fine (Valued d) back go fine backs goes' = goes' d fine
+  first_fine (Bad act) back go fine backs goes' = tt
+  first_fine (Asks callee ds rest) back go fine backs goes' = λ d suited. backs (rest d) (fine d suited)
 
-    reduce_fine : (env : List Datum) (t : Term) → AreNoLabels env → may_be_label t ≡ false → Fine (reduce c f s env t)
-    reduce_fine env (Val d) argued e = val_none d e
-    reduce_fine env (Fetch t) argued e = then_fine (reduce c f s env t) Fetch (λ d. at_once (fetched s d)) (λ r. refl) (λ d. fine_once (fetched s d) (fetched_none s d))
-    reduce_fine env (At x) argued e = fine_once (whole c f x) (whole_none c f x holds)
-    reduce_fine env (All x) argued e = fine_once (array_whole c f x) (array_none c f x)
-    reduce_fine env (Element x ts) argued e = then_fine (reduce_all c f s env ts) (Element x) (λ ds. at_once (element c f x ds)) (λ r. refl) (λ ds. fine_once (element c f x ds) (element_none c f x ds))
-    reduce_fine env (Alone t) argued e = then_fine (reduce c f s env t) Alone (λ d. at_once (alone d)) (λ r. refl) (λ d. fine_once (alone d) (alone_none d))
-    reduce_fine env (Part x t from to) argued e =
-        then_fine (reduce c f s env t) (λ r. Part x r from to) _ (λ r. refl) (λ p.
-        then_fine (reduce c f s env from) (λ r. Part x (Val p) r to) _ (λ r. refl) (λ a.
-        then_fine (reduce c f s env to) (Part x (Val p) (Val a)) (λ b. at_once (part x p a b)) (λ r. refl) (λ b. fine_once (part x p a b) (part_none x p a b))))
-    reduce_fine env (Joined ts) argued e = then_fine (reduce_all c f s env ts) Joined (λ ds. at_once (joined (pieces s ds))) (λ r. refl) (λ ds. fine_once (joined (pieces s ds)) (joined_none (pieces s ds)))
-    reduce_fine env (Before op t) argued e = then_fine (reduce c f s env t) (Before op) (λ d. at_once (prefixed op d)) (λ r. refl) (λ d. fine_once (prefixed op d) (prefixed_none op d))
-    reduce_fine env (Between op t b) argued e =
-        then_fine (reduce c f s env t) (λ r. Between op r b) _ (λ r. refl) (λ a.
-        right_fine (left_of op a) _ (decided_none op a)
-        (then_fine (reduce c f s env b) (Between op (Val a)) (λ d. at_once (operated op a d)) (λ r. refl) (λ d. fine_once (operated op a d) (operated_none op a d))))
-    reduce_fine env (Intrinsically function ts) argued e =
-        then_fine (reduce_all c f s env ts) (Intrinsically function) (λ ds. at_once (applied function ds)) (λ r. refl) (λ ds. fine_once (applied function ds) (applied_none function ds))
-    reduce_fine env (Refer callee ts) argued e = then_fine (reduce_all c f s env ts) (Refer callee) (λ ds. Asks callee ds Val) (λ r. e) (λ ds. asked_fine callee callee.want ds e)
-    reduce_fine env (Bind ts t) argued e =
-        let parts = neither (passes_label ts) (may_be_label t) e in
-        all_then_fine (reduce_all c f s env ts) (λ rs. Bind rs t) _ (all_fine env ts argued parts.0) (λ rs none. both_false (passes_label rs) (may_be_label t) none parts.1)
-        (λ ds none.
-        one_then_fine (reduce c f s ds t) (Bind (valued_then ds NoMore)) (reduce_fine ds t none parts.1)
-        (λ r none'. both_false (passes_label (valued_then ds NoMore)) (may_be_label r) (valued_none ds none) none'))
-    reduce_fine env (Bound i) argued e = fine_once (bound_to env i) (bound_to_none env i argued)
+  later_fine : (x : Red (List Datum) Terms) (d : Datum) → AllFine x → IsKnown d → may_be_other known (Val d) ≡ false → AllFine (then_by x (More (Val d)) (λ ds. Valued (d ∷ ds)))
+  unfolding then_by passes_other
+  later_fine (Valued ds) d fine none val = (none, fine)
+  later_fine (Bad act) d fine none val = tt
+  later_fine (Asks callee ds rest) d fine none val = λ d' suited. both_false (may_be_other known (Val d)) (passes_other known (rest d')) val (fine d' suited)
 
-    pub all_fine : (env : List Datum) (ts : Terms) → AreNoLabels env → passes_label ts ≡ false → AllFine (reduce_all c f s env ts)
-    all_fine env NoMore argued e = tt
-    all_fine env (More t ts) argued e =
-        let parts = neither (may_be_label t) (passes_label ts) e in
-        first_fine (reduce c f s env t) (λ r. More r ts) _ (reduce_fine env t argued parts.0) (λ r none. both_false (may_be_label r) (passes_label ts) none parts.1)
-        (λ d none. later_fine (reduce_all c f s env ts) d (all_fine env ts argued parts.1) none (none_val d none))
+  val_none : (d : Datum) → may_be_other known (Val d) ≡ false → IsKnown d
+  unfolding may_be_other
+  val_none (IsLabel l) e = λ l' e'. ap known (let back : l' ≡ l = cc in back) ∙ not_false (known l) e
+  val_none (IsInt z) e = λ l e'. absurd (cc)
+  val_none (IsLog b) e = λ l e'. absurd (cc)
+  val_none (IsText cs) e = λ l e'. absurd (cc)
+  val_none (IsSpot p) e = λ l e'. absurd (cc)
+  val_none (value.IsProc x) e = λ l e'. absurd (cc)
+  val_none value.Nothing e = λ l e'. absurd (cc)
+
+  none_val : (d : Datum) → IsKnown d → may_be_other known (Val d) ≡ false
+  unfolding may_be_other
+  none_val (IsLabel l) none = ap not (none l refl)
+  none_val (IsInt z) none = refl
+  none_val (IsLog b) none = refl
+  none_val (IsText cs) none = refl
+  none_val (IsSpot p) none = refl
+  none_val (value.IsProc x) none = refl
+  none_val value.Nothing none = refl
+
+  valued_none : (ds : List Datum) → AreKnown ds → passes_other known (valued_then ds NoMore) ≡ false
+  unfolding valued_then passes_other
+  valued_none [] none = refl
+  valued_none (d ∷ ds) none = both_false (may_be_other known (Val d)) (passes_other known (valued_then ds NoMore)) (none_val d none.0) (valued_none ds none.1)
+
+  asked_fine : (callee : Callee) (want : Wanted) (ds : List Datum) → wants_no_value want ≡ false → (d : Datum) → Suited want d → may_be_other known (Val d) ≡ false
+  unfolding wants_no_value
+  asked_fine callee AsSubroutine ds e d suited = absurd (true≢false e)
+  asked_fine callee (AsFunction basic width) ds e d suited = none_val d (never_known d suited)
+
+  right_fine : (l : Left) (x : Red Datum Term) → ((d : Datum) → l ≡ Decided d → IsKnown d) → Fine x → Fine (right_after l x)
+  unfolding right_after
+  right_fine (Decided d) x decided fine = decided d refl
+  right_fine Wants x decided fine = fine
+  right_fine Wrong x decided fine = tt
+
+  decided_none : (op : Operator) (a d : Datum) → left_of op a ≡ Decided d → IsNoLabel d
+  unfolding left_of
+  decided_none op a d e l e' = grind arith
+
+  module _ (c : Facts) (f : Frame) (s : Store) (holds : HoldsNone f) where
+    mutual
+      unfolding reduce reduce_all may_be_other passes_other
+
+      reduce_fine : (env : List Datum) (t : Term) → AreKnown env → may_be_other known t ≡ false → Fine (reduce c f s env t)
+      reduce_fine env (Val d) argued e = val_none d e
+      reduce_fine env (Fetch t) argued e = then_fine (reduce c f s env t) Fetch (λ d. at_once (fetched s d)) (λ r. refl) (λ d. fine_once (fetched s d) (fetched_none s d))
+      reduce_fine env (At x) argued e = fine_once (whole c f x) (whole_none c f x holds)
+      reduce_fine env (All x) argued e = fine_once (array_whole c f x) (array_none c f x)
+      reduce_fine env (Element x ts) argued e = then_fine (reduce_all c f s env ts) (Element x) (λ ds. at_once (element c f x ds)) (λ r. refl) (λ ds. fine_once (element c f x ds) (element_none c f x ds))
+      reduce_fine env (Alone t) argued e = then_fine (reduce c f s env t) Alone (λ d. at_once (alone d)) (λ r. refl) (λ d. fine_once (alone d) (alone_none d))
+      reduce_fine env (Part x t from to) argued e =
+          then_fine (reduce c f s env t) (λ r. Part x r from to) _ (λ r. refl) (λ p.
+          then_fine (reduce c f s env from) (λ r. Part x (Val p) r to) _ (λ r. refl) (λ a.
+          then_fine (reduce c f s env to) (Part x (Val p) (Val a)) (λ b. at_once (part x p a b)) (λ r. refl) (λ b. fine_once (part x p a b) (part_none x p a b))))
+      reduce_fine env (Joined ts) argued e = then_fine (reduce_all c f s env ts) Joined (λ ds. at_once (joined (pieces s ds))) (λ r. refl) (λ ds. fine_once (joined (pieces s ds)) (joined_none (pieces s ds)))
+      reduce_fine env (Before op t) argued e = then_fine (reduce c f s env t) (Before op) (λ d. at_once (prefixed op d)) (λ r. refl) (λ d. fine_once (prefixed op d) (prefixed_none op d))
+      reduce_fine env (Between op t b) argued e =
+          then_fine (reduce c f s env t) (λ r. Between op r b) _ (λ r. refl) (λ a.
+          right_fine (left_of op a) _ (λ d e'. never_known d (decided_none op a d e'))
+          (then_fine (reduce c f s env b) (Between op (Val a)) (λ d. at_once (operated op a d)) (λ r. refl) (λ d. fine_once (operated op a d) (operated_none op a d))))
+      reduce_fine env (Intrinsically function ts) argued e =
+          then_fine (reduce_all c f s env ts) (Intrinsically function) (λ ds. at_once (applied function ds)) (λ r. refl) (λ ds. fine_once (applied function ds) (applied_none function ds))
+      reduce_fine env (Refer callee ts) argued e = then_fine (reduce_all c f s env ts) (Refer callee) (λ ds. Asks callee ds Val) (λ r. e) (λ ds. asked_fine callee callee.want ds e)
+      reduce_fine env (Bind ts t) argued e =
+          let parts = neither (passes_other known ts) (may_be_other known t) e in
+          all_then_fine (reduce_all c f s env ts) (λ rs. Bind rs t) _ (all_fine env ts argued parts.0) (λ rs none. both_false (passes_other known rs) (may_be_other known t) none parts.1)
+          (λ ds none.
+          one_then_fine (reduce c f s ds t) (Bind (valued_then ds NoMore)) (reduce_fine ds t none parts.1)
+          (λ r none'. both_false (passes_other known (valued_then ds NoMore)) (may_be_other known r) (valued_none ds none) none'))
+      reduce_fine env (Bound i) argued e = fine_if (bound_to env i) (λ d e'. bound_to_known env i d argued e')
+
+      pub all_fine : (env : List Datum) (ts : Terms) → AreKnown env → passes_other known ts ≡ false → AllFine (reduce_all c f s env ts)
+      all_fine env NoMore argued e = tt
+      all_fine env (More t ts) argued e =
+          let parts = neither (may_be_other known t) (passes_other known ts) e in
+          first_fine (reduce c f s env t) (λ r. More r ts) _ (reduce_fine env t argued parts.0) (λ r none. both_false (may_be_other known r) (passes_other known ts) none parts.1)
+          (λ d none. later_fine (reduce_all c f s env ts) d (all_fine env ts argued parts.1) none (none_val d none))
+
+-- ## Labels that are known
+
+none_of : (ds : List Datum) → AreOf none_known ds → AreNoLabels ds
+none_of [] all = tt
+none_of (d ∷ ds) all = (λ l e. true≢false (sym (all.0 l e)), none_of ds all.1)
+
+mutual
+  unfolding may_be_label passes_label may_be_other passes_other
+
+  other_is : (t : Term) → may_be_other none_known t ≡ may_be_label t
+  other_is (Val (IsLabel l)) = refl
+  other_is (Val (IsInt z)) = refl
+  other_is (Val (IsLog b)) = refl
+  other_is (Val (IsText cs)) = refl
+  other_is (Val (IsSpot p)) = refl
+  other_is (Val (value.IsProc x)) = refl
+  other_is (Val value.Nothing) = refl
+  other_is (Fetch t) = refl
+  other_is (At x) = refl
+  other_is (All x) = refl
+  other_is (Element x ts) = refl
+  other_is (Alone t) = refl
+  other_is (Part x t from to) = refl
+  other_is (Joined ts) = refl
+  other_is (Before op t) = refl
+  other_is (Between op t b) = refl
+  other_is (Intrinsically function ts) = refl
+  other_is (Refer callee ts) = refl
+  other_is (Bind ts t) = ap (λ b. b || may_be_other none_known t) (others_are ts) ∙ ap (λ b. passes_label ts || b) (other_is t)
+  other_is (Bound i) = refl
+
+  others_are : (ts : Terms) → passes_other none_known ts ≡ passes_label ts
+  others_are NoMore = refl
+  others_are (More t ts) = ap (λ b. b || passes_other none_known ts) (other_is t) ∙ ap (λ b. may_be_label t || b) (others_are ts)
+
+pub no_other : (ts : Terms) → passes_label ts ≡ false → passes_other none_known ts ≡ false
+no_other ts e = others_are ts ∙ e
 
 -- ## What is passed and what is bound
 
@@ -257,6 +322,24 @@ none_in (IsText cs ∷ ds) none = none_in ds none.1
 none_in (IsSpot p ∷ ds) none = none_in ds none.1
 none_in (value.IsProc x ∷ ds) none = none_in ds none.1
 none_in (value.Nothing ∷ ds) none = none_in ds none.1
+
+pub none_among : (ds : List Datum) → AreOf none_known ds → labels_in ds ≡ []
+none_among ds all = none_in ds (none_of ds all)
+
+eq_known : (known : ℕ → Bool) (k l : ℕ) (b more : Bool) → nat_eq k l ≡ b → known k ≡ true → (more ≡ true → known l ≡ true) → (b || more) ≡ true → known l ≡ true
+eq_known known k l true more e is later found = ap known (sym (eqb-true k l e)) ∙ is
+eq_known known k l false more e is later found = later found
+
+pub known_among : (known : ℕ → Bool) (ds : List Datum) (l : ℕ) → AreOf known ds → contains (labels_in ds) l ≡ true → known l ≡ true
+unfolding contains
+known_among known [] l all found = absurd (true≢false (sym found))
+known_among known (IsLabel k ∷ ds) l all found = eq_known known k l (nat_eq k l) (contains (labels_in ds) l) refl (all.0 k refl) (λ later. known_among known ds l all.1 later) found
+known_among known (IsInt z ∷ ds) l all found = known_among known ds l all.1 found
+known_among known (IsLog b ∷ ds) l all found = known_among known ds l all.1 found
+known_among known (IsText cs ∷ ds) l all found = known_among known ds l all.1 found
+known_among known (IsSpot p ∷ ds) l all found = known_among known ds l all.1 found
+known_among known (value.IsProc x ∷ ds) l all found = known_among known ds l all.1 found
+known_among known (value.Nothing ∷ ds) l all found = known_among known ds l all.1 found
 
 pub passing_labels : (ds : List Datum) (s : Store) → labels_in (passing s ds).actuals ≡ labels_in ds
 unfolding passing passing_one passing_more made sequence_of
@@ -364,7 +447,7 @@ nothing_passed (IsSpot p) is l e = absurd (cc)
 nothing_passed (value.IsProc x) is l e = absurd (cc)
 nothing_passed value.Nothing is l e = absurd (cc)
 
-contains_nth : (labels : List ℕ) (n l : ℕ) → slice_get labels n ≡ Some l → contains labels l ≡ true
+pub contains_nth : (labels : List ℕ) (n l : ℕ) → slice_get labels n ≡ Some l → contains labels l ≡ true
 unfolding contains
 contains_nth [] n l e = absurd (cc)
 contains_nth (k ∷ ks) zero l e = let same : k ≡ l = cc in ap (λ b. b || contains ks l) (eq-eqb k l same)

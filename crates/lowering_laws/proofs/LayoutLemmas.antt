@@ -1,23 +1,28 @@
 -- The code of each statement stands where `start_of` says, and the text of a unit is laid out.
 use Rattle.std.specs.Prelude.{◌≡◌, ℕ, zero, suc, ◌+◌, ◌-◌, ◌<◌, ◌≤◌, nat_eq, Bool, true, false, not, ◌&&◌, ◌||◌, List, [], ◌∷◌, ◌++◌, length, drop, filter, Option, Some, None, slice_get, option_map, if◌then◌else◌}
 use Rattle.std.proofs.Common.{refl, sym, ap, ◌∙◌, subst, arith, true≢false}
-use Rattle.std.proofs.lemmas.Bool.{eqb-true}
+use Rattle.std.proofs.lemmas.Bool.{eqb-true, eq-eqb}
 use Rattle.f_tree.specs.Values.{Bytes}
-use Rattle.f_tree.specs.Terms.{Terms, NoMore, More}
+use Rattle.f_tree.specs.Terms.{Terms, NoMore}
 use Rattle.f_tree.specs.Facts as head
 use Rattle.f_tree.specs.Facts.{Head, Form, Passes, On, Mark, Plain, Opens, Arm, Closes, LoopMark, Line, ProgramUnit, Facts}
-use Rattle.f_tree.specs.Places.{place_of_label, arm_from, arm_after}
-use Rattle.f_tree.specs.Nests.{Range, loop_of, range_by, ranges_from, ranges_of, is_within, open_at, goes_past}
-use Rattle.l_core.specs.Pures.{Pures}
-use Rattle.l_core.specs.Steps.{Step, Skip, Pass, CallSub, Branch, Back, Text}
-use Rattle.lowering.specs.Statements.{form_code, head_code}
-use Rattle.lowering.specs.Units.{free_at, all_named, is_named, pass_code, steps_of, ended_at, turn_sizes, skip_size, form_size, line_size, size_before, start_of, mark_at, own_start, form_size_at, own_end, block_end_from, block_end_of, arm_room, range_of, loop_room, room_of, turns_of, skip_code, line_code, both_codes, lines_code, lines_marks, text_with, lowered_unit}
-use Rattle.lowering_laws.specs.Walks.{Spans, nothing, further, IsOrdinary}
-use Rattle.lowering_laws.specs.Layer.{Leads, there, by_pass, by_skip, own_by, own_of, closing_from, block_ends, IsCode, no_code, Stands, no_step, IsFollowed, IsLaidOut}
-use Rattle.lowering_laws.specs.Layout.{is_direct, is_direct_head, enters_arm, takes_no_step, is_direct_as, are_direct, is_end, ends_behind, has_end}
-use Rattle.lowering_laws.proofs.WalkLemmas.{split, spans_length, spans_nothing, spans_one, ordinary_by}
-use Rattle.lowering_laws.proofs.PlaceLemmas.{code_stands, first_dropped}
-use Rattle.lowering_laws.proofs.CodeLemmas.{form_length, direct_code, arm_code}
+use Rattle.f_tree.specs.Places.{place_of_label, terminal_of, arm_from, arm_after}
+use Rattle.f_tree.specs.Nests.{Range, loop_of, ranges_of, open_at, goes_past, AreNested}
+use Rattle.f_tree.specs.Setting.{IsIn, first_in, later_in}
+use Rattle.fortran_laws.proofs.NestLaws.{range_of_loop, open_is_within}
+use Rattle.l_core.specs.Pures.{Pures, NoPure, AndPure}
+use Rattle.l_core.specs.Steps.{Step, Skip, Again, AgainIf, Pass, CallSub, Back, Text}
+use Rattle.lowering.specs.Statements.{test_by, back_by, turn_code, form_code, head_code, loop_operands}
+use Rattle.lowering.specs.Units.{loop_lowered, free_at, is_counted, turn_size, turns_up_to, loop_exit, way_back, turn_of, all_named, is_named, pass_code, steps_of, ended_at, turn_sizes, skip_size, form_size, line_size, size_before, start_of, mark_at, own_start, form_size_at, own_end, block_end_from, block_end_of, arm_room, range_of, loop_room, room_of, turns_of, skip_code, line_code, both_codes, lines_code, lines_marks, text_with, lowered_unit, loop_at_line, free_of}
+use Rattle.lowering_laws.specs.Walks.{Spans, nothing, further}
+use Rattle.lowering_laws.specs.Layer.{Leads, there, by_pass, by_skip, own_by, own_of, AllBefore, TurnsStand, no_turn, turn_then, AllEnd, NoneEnds, IsBehind, IsChain, SameOpen, IsFlat, IsNextArm, IsLoop, closing_from, block_ends, IsCode, no_code, Stands, no_step, IsFollowed, IsLaidOut}
+use Rattle.lowering_laws.specs.Layout.{is_direct, is_direct_head, enters_arm, begins_loop, LoopsFit, takes_no_step, is_direct_as, are_direct, is_end, ends_behind, has_end}
+use Rattle.lowering_laws.proofs.WalkLemmas.{split, spans_length, spans_nothing, spans_one, IsNoBranch, ordinary_by, choose_true, choose_false}
+use Rattle.lowering_laws.proofs.PlaceLemmas.{code_stands, first_dropped, lowered_is}
+use Rattle.lowering.specs.Expressions.{Lowered}
+use Rattle.lowering_laws.proofs.OperandLemmas.{loop_grows}
+use Rattle.lowering_laws.proofs.CodeLemmas.{form_length, direct_code, arm_code, test_code, do_code, HasFour, loop_four}
+use Rattle.lowering_laws.proofs.RangeLemmas.{from_filter, in_back, are_nested, loop_ends, loop_quiet, quiet_ended, open_at_end, still_open, next_open, range_open, parts_open, chain_at, ended_end, past_goes, is_start, is_start_head, branches_fit, entries_fit, block_quiet, arms_alike, LoopsArePlain, assigned_reaches}
 
 -- ## Lists of steps
 
@@ -28,10 +33,6 @@ nothing_behind (x ∷ xs) = ap (λ ys. x ∷ ys) (nothing_behind xs)
 joined_behind : (xs ys zs : List Step) → xs ++ (ys ++ zs) ≡ (xs ++ ys) ++ zs
 joined_behind [] ys zs = refl
 joined_behind (x ∷ xs) ys zs = ap (λ z. x ∷ z) (joined_behind xs ys zs)
-
--- the parts of a statement's code, where no loop ends behind it
-none_behind : (xs ys zs : List Step) → ((xs ++ ys) ++ zs) ++ [] ≡ xs ++ (ys ++ zs)
-none_behind xs ys zs = nothing_behind ((xs ++ ys) ++ zs) ∙ sym (joined_behind xs ys zs)
 
 length_both : (xs ys : List Step) → length (xs ++ ys) ≡ length xs + length ys
 length_both [] ys = let e : length ys ≡ 0 + length ys = omega arith in e
@@ -102,6 +103,11 @@ own_same n (Some line) = own_marked n line.mark
 
 -- ## Blocks
 
+record IsArmLine (all : List Line) (j : ℕ) : Type 0 where
+  line : Line
+  there : slice_get all j ≡ Some line
+  marked : line.mark ≡ Plain → ⊥
+
 apart_by : (b : Bool) (d : ℕ) → nat_eq (suc d) 0 ≡ b → b ≡ false
 apart_by false d e = refl
 apart_by true d e = let same : suc d ≡ 0 = eqb-true (suc d) 0 e in absurd (omega (arith, same))
@@ -129,6 +135,37 @@ arm_up : (i depth : ℕ) (lines : List Line) (j : ℕ) → arm_from i depth line
 unfolding arm_from
 arm_up i depth [] j e = absurd (cc)
 arm_up i depth (line ∷ lines) j e = arm_up_by i depth line.mark lines j (λ d e'. arm_up (suc i) d lines j e') e
+
+-- the next arm begins with a statement of the block
+arm_there_by : (all : List Line) (i depth : ℕ) (mark : Mark) (line : Line) (lines : List Line) (j : ℕ) → line.mark ≡ mark → slice_get all i ≡ Some line →
+    ((d : ℕ) → arm_from (suc i) d lines ≡ Some j → IsArmLine all j) →
+    elim mark [
+      | Plain ↦ arm_from (suc i) depth lines
+      | Opens ↦ arm_from (suc i) (suc depth) lines
+      | Arm ↦ if nat_eq depth 0 then Some i else arm_from (suc i) depth lines
+      | Closes ↦ elim depth [ zero ↦ Some i | suc d ↦ arm_from (suc i) d lines ]
+    ] ≡ Some j → IsArmLine all j
+arm_there_by all i depth Plain line lines j marked there' more e = more depth e
+arm_there_by all i depth Opens line lines j marked there' more e = more (suc depth) e
+arm_there_by all i zero Arm line lines j marked there' more e =
+    let same : i ≡ j = cc in
+    subst (IsArmLine all) same (record { line = line; there = there'; marked = λ plain. absurd (let bad : Arm ≡ Plain = sym marked ∙ plain in cc) })
+arm_there_by all i (suc depth) Arm line lines j marked there' more e = more (suc depth) (ap (λ b. if b then Some i else arm_from (suc i) (suc depth) lines) (sym (zero_apart depth)) ∙ e)
+arm_there_by all i zero Closes line lines j marked there' more e =
+    let same : i ≡ j = cc in
+    subst (IsArmLine all) same (record { line = line; there = there'; marked = λ plain. absurd (let bad : Closes ≡ Plain = sym marked ∙ plain in cc) })
+arm_there_by all i (suc depth) Closes line lines j marked there' more e = more depth e
+
+arm_there : (all : List Line) (i depth : ℕ) (lines : List Line) (j : ℕ) → lines ≡ drop i all → arm_from i depth lines ≡ Some j → IsArmLine all j
+unfolding arm_from
+arm_there all i depth [] j at e = absurd (cc)
+arm_there all i depth (line ∷ lines) j at e =
+    let here = first_dropped all i line lines at in
+    arm_there_by all i depth line.mark line lines j refl here.0 (λ d e'. arm_there all (suc i) d lines j here.1 e') e
+
+arm_line : (p : ProgramUnit) (i j : ℕ) → arm_after p i ≡ Some j → IsArmLine p.lines j
+unfolding arm_after
+arm_line p i j e = arm_there p.lines (suc i) 0 (drop (suc i) p.lines) j refl e
 
 -- the next arm of a block, or its end
 data NextArm (all : List Line) : Option ℕ → ℕ → Type 0 where
@@ -248,23 +285,112 @@ block_no_loop : (form : Form) → OneOf (enters_arm form) (is_direct form) → l
 block_no_loop form (the_one e) = arm_no_loop form e
 block_no_loop form (the_other e) = direct_no_loop form e
 
-no_loop : (mark : Mark) (form : Form) → is_direct_as mark form ≡ true → loop_of form ≡ None
+no_loop : (mark : Mark) (form : Form) → (mark ≡ Plain → ⊥) → is_direct_as mark form ≡ true → loop_of form ≡ None
 unfolding is_direct_as
-no_loop Plain form e = direct_no_loop form e
-no_loop Opens form e = block_no_loop form (one_of (enters_arm form) (is_direct form) e)
-no_loop Arm form e = block_no_loop form (one_of (enters_arm form) (is_direct form) e)
-no_loop Closes form e = end_no_loop form e
+no_loop Plain form marked e = absurd (marked refl)
+no_loop Opens form marked e = block_no_loop form (one_of (enters_arm form) (is_direct form) e)
+no_loop Arm form marked e = block_no_loop form (one_of (enters_arm form) (is_direct form) e)
+no_loop Closes form marked e = end_no_loop form e
 
-no_ranges : (p : ProgramUnit) (i : ℕ) (lines : List Line) → are_direct lines ≡ true → ranges_from p i lines ≡ []
-unfolding are_direct ranges_from range_by
-no_ranges p i [] direct = refl
-no_ranges p i (line ∷ lines) direct =
-    let parts = both_true (is_direct_as line.mark line.form) (are_direct lines) direct in
-    ap (λ rs. rs ++ range_by p i (loop_of line.form)) (no_ranges p (suc i) lines parts.1) ∙ ap (range_by p i) (no_loop line.mark line.form parts.0)
+-- such a statement begins in the midst of no list
+mutual
+  unfolding is_direct is_direct_head is_start is_start_head
 
-none_ended : (p : ProgramUnit) → are_direct p.lines ≡ true → (i : ℕ) → ended_at p i ≡ []
-unfolding ended_at open_at ranges_of
-none_ended p direct i = ap (λ rs. filter (λ r. not (goes_past i r)) (filter (is_within i) rs)) (no_ranges p 0 p.lines direct)
+  direct_start : (form : Form) → is_direct form ≡ true → is_start form ≡ true
+  direct_start Passes direct = refl
+  direct_start (On h ts) direct = direct_start_head h direct
+
+  direct_start_head : (h : Head) → is_direct_head h ≡ true → is_start_head h ≡ true
+  direct_start_head head.ToSet direct = refl
+  direct_start_head head.ToSetText direct = refl
+  direct_start_head (head.ToSetLabel label) direct = refl
+  direct_start_head (head.ToGo label) direct = refl
+  direct_start_head (head.ToPick labels) direct = refl
+  direct_start_head (head.ToGoAssigned labels) direct = refl
+  direct_start_head (head.ToGoBySign below at above) direct = refl
+  direct_start_head (head.ToGuard form) direct = direct_start form direct
+  direct_start_head head.ToEnterArm direct = refl
+  direct_start_head (head.ToLoop label) direct = refl
+  direct_start_head (head.ToTestLoop label) direct = refl
+  direct_start_head (head.ToCall name) direct = refl
+  direct_start_head head.ToReturn direct = refl
+  direct_start_head (head.ToStop text) direct = refl
+  direct_start_head (head.ToBegin way layout controls work) direct = refl
+  direct_start_head (head.ToTransfer rest) direct = absurd (true≢false (sym direct))
+  direct_start_head (head.ToRepeat items rest) direct = absurd (true≢false (sym direct))
+  direct_start_head (head.ToTurn items q left by given rest) direct = absurd (true≢false (sym direct))
+  direct_start_head head.ToFinish direct = absurd (true≢false (sym direct))
+  direct_start_head (head.ToAuxiliary which controls) direct = refl
+  direct_start_head head.ToEnd direct = refl
+
+arm_start : (form : Form) → enters_arm form ≡ true → is_start form ≡ true
+unfolding enters_arm is_start is_start_head
+arm_start form enters = grind arith
+
+loop_start : (form : Form) → begins_loop form ≡ true → is_start form ≡ true
+unfolding begins_loop is_start is_start_head
+loop_start form begins = grind arith
+
+arm_or_direct : (form : Form) → OneOf (enters_arm form) (is_direct form) → is_start form ≡ true
+arm_or_direct form (the_one e) = arm_start form e
+arm_or_direct form (the_other e) = direct_start form e
+
+loop_or_direct : (form : Form) → OneOf (begins_loop form) (is_direct form) → is_start form ≡ true
+loop_or_direct form (the_one e) = loop_start form e
+loop_or_direct form (the_other e) = direct_start form e
+
+marked_start : (mark : Mark) (form : Form) → is_direct_as mark form ≡ true → is_start form ≡ true
+unfolding is_direct_as takes_no_step is_start
+marked_start Plain form e = loop_or_direct form (one_of (begins_loop form) (is_direct form) e)
+marked_start Opens form e = arm_or_direct form (one_of (enters_arm form) (is_direct form) e)
+marked_start Arm form e = arm_or_direct form (one_of (enters_arm form) (is_direct form) e)
+marked_start Closes Passes e = refl
+marked_start Closes (On h ts) e = absurd (true≢false (sym e))
+
+-- a loop is a DO WHILE or a counted DO, and begins no arm
+data LoopForm (form : Form) (label : Option ℕ) : Type 0 where
+  by_test : (operands : Terms) → form ≡ On (head.ToTestLoop label) operands → LoopForm form label
+  by_count : (operands : Terms) → form ≡ On (head.ToLoop label) operands → LoopForm form label
+
+record IsLoopLine (line : Line) (label : Option ℕ) : Type 0 where
+  marked : line.mark ≡ Plain
+  kind : LoopForm line.form label
+
+kind_of_loop : (form : Form) (label : Option ℕ) → begins_loop form ≡ true → loop_of form ≡ Some label → LoopForm form label
+unfolding begins_loop loop_of
+kind_of_loop Passes label begins e = absurd (true≢false (sym begins))
+kind_of_loop (On (head.ToTestLoop label') ts) label begins e = let same : label' ≡ label = cc in by_test ts (ap (λ z. On (head.ToTestLoop z) ts) same)
+kind_of_loop (On head.ToSet ts) label begins e = absurd (true≢false (sym begins))
+kind_of_loop (On head.ToSetText ts) label begins e = absurd (true≢false (sym begins))
+kind_of_loop (On (head.ToSetLabel l) ts) label begins e = absurd (true≢false (sym begins))
+kind_of_loop (On (head.ToGo l) ts) label begins e = absurd (true≢false (sym begins))
+kind_of_loop (On (head.ToPick ls) ts) label begins e = absurd (true≢false (sym begins))
+kind_of_loop (On (head.ToGoAssigned ls) ts) label begins e = absurd (true≢false (sym begins))
+kind_of_loop (On (head.ToGoBySign x y z) ts) label begins e = absurd (true≢false (sym begins))
+kind_of_loop (On (head.ToGuard form) ts) label begins e = absurd (true≢false (sym begins))
+kind_of_loop (On head.ToEnterArm ts) label begins e = absurd (true≢false (sym begins))
+kind_of_loop (On (head.ToLoop label') ts) label begins e = let same : label' ≡ label = cc in by_count ts (ap (λ z. On (head.ToLoop z) ts) same)
+kind_of_loop (On (head.ToCall name) ts) label begins e = absurd (true≢false (sym begins))
+kind_of_loop (On head.ToReturn ts) label begins e = absurd (true≢false (sym begins))
+kind_of_loop (On (head.ToStop text) ts) label begins e = absurd (true≢false (sym begins))
+kind_of_loop (On (head.ToBegin way layout controls work) ts) label begins e = absurd (true≢false (sym begins))
+kind_of_loop (On (head.ToTransfer rest) ts) label begins e = absurd (true≢false (sym begins))
+kind_of_loop (On (head.ToRepeat items rest) ts) label begins e = absurd (true≢false (sym begins))
+kind_of_loop (On (head.ToTurn items q left by given rest) ts) label begins e = absurd (true≢false (sym begins))
+kind_of_loop (On head.ToFinish ts) label begins e = absurd (true≢false (sym begins))
+kind_of_loop (On (head.ToAuxiliary which controls) ts) label begins e = absurd (true≢false (sym begins))
+kind_of_loop (On head.ToEnd ts) label begins e = absurd (true≢false (sym begins))
+
+loop_line_by : (line : Line) (label : Option ℕ) → line.mark ≡ Plain → OneOf (begins_loop line.form) (is_direct line.form) → loop_of line.form ≡ Some label → IsLoopLine line label
+loop_line_by line label marked (the_one begins) e = record { marked = marked; kind = kind_of_loop line.form label begins e }
+loop_line_by line label marked (the_other direct) e = absurd (let bad : None ≡ Some label = sym (direct_no_loop line.form direct) ∙ e in cc)
+
+loop_line : (line : Line) (label : Option ℕ) (mark : Mark) → line.mark ≡ mark → is_direct_as mark line.form ≡ true → loop_of line.form ≡ Some label → IsLoopLine line label
+unfolding is_direct_as
+loop_line line label Plain marked ok e = loop_line_by line label marked (one_of (begins_loop line.form) (is_direct line.form) ok) e
+loop_line line label Opens marked ok e = absurd (let bad : None ≡ Some label = sym (no_loop Opens line.form (λ m. absurd (cc)) ok) ∙ e in cc)
+loop_line line label Arm marked ok e = absurd (let bad : None ≡ Some label = sym (no_loop Arm line.form (λ m. absurd (cc)) ok) ∙ e in cc)
+loop_line line label Closes marked ok e = absurd (let bad : None ≡ Some label = sym (no_loop Closes line.form (λ m. absurd (cc)) ok) ∙ e in cc)
 
 direct_at : (lines : List Line) (n : ℕ) (line : Line) → are_direct lines ≡ true → slice_get lines n ≡ Some line → is_direct_as line.mark line.form ≡ true
 unfolding are_direct
@@ -276,7 +402,7 @@ direct_at (x ∷ lines) (suc n) line direct is = direct_at lines n line (both_tr
 
 -- ## Where the code of a statement stands
 
-module _ (p : ProgramUnit) (quiet : (i : ℕ) → ended_at p i ≡ []) where
+module _ (p : ProgramUnit) (turned : (i from : ℕ) → length (turns_of p from (ended_at p i)) ≡ turn_sizes p (ended_at p i)) where
   abbrev passing_step : Line → List Step
   passing_step line = pass_code (is_named (all_named p.lines) line.label) line.form
 
@@ -284,20 +410,14 @@ module _ (p : ProgramUnit) (quiet : (i : ℕ) → ended_at p i ≡ []) where
   record LineParts (i : ℕ) (line : Line) (code : List Step) : Type 0 where
     own : List Step
     is : form_code p.onetrip (free_at p i) (room_of p i line) line.form ≡ Some own
-    all : skip_code p i line.mark ++ (own ++ passing_step line) ≡ code
-
-  no_turns : (i : ℕ) (line : Line) (own : List Step) →
-      ((skip_code p i line.mark ++ own) ++ passing_step line) ++ turns_of p (own_end p i) (ended_at p i) ≡ skip_code p i line.mark ++ (own ++ passing_step line)
-  unfolding turns_of
-  no_turns i line own =
-      ap (λ rs. ((skip_code p i line.mark ++ own) ++ passing_step line) ++ turns_of p (own_end p i) rs) (quiet i) ∙ none_behind (skip_code p i line.mark) own (passing_step line)
+    all : (skip_code p i line.mark ++ (own ++ passing_step line)) ++ turns_of p (own_end p i) (ended_at p i) ≡ code
 
   parts_by : (i : ℕ) (line : Line) (code : List Step) (x : Option (List Step)) → form_code p.onetrip (free_at p i) (room_of p i line) line.form ≡ x →
       option_map (λ own. ((skip_code p i line.mark ++ own) ++ passing_step line) ++ turns_of p (own_end p i) (ended_at p i)) x ≡ Some code → LineParts i line code
   parts_by i line code None is e = absurd (cc)
   parts_by i line code (Some own) is e =
       let all : ((skip_code p i line.mark ++ own) ++ passing_step line) ++ turns_of p (own_end p i) (ended_at p i) ≡ code = cc in
-      record { own = own; is = is; all = sym (no_turns i line own) ∙ all }
+      record { own = own; is = is; all = ap (λ z. z ++ turns_of p (own_end p i) (ended_at p i)) (joined_behind (skip_code p i line.mark) own (passing_step line)) ∙ all }
 
   line_parts : (i : ℕ) (line : Line) (code : List Step) → line_code p i line ≡ Some code → LineParts i line code
   unfolding line_code
@@ -310,10 +430,6 @@ module _ (p : ProgramUnit) (quiet : (i : ℕ) → ended_at p i ≡ []) where
   skip_length i Arm = refl
   skip_length i Closes = refl
 
-  turns_length : (i : ℕ) → turn_sizes p (ended_at p i) ≡ 0
-  unfolding turn_sizes
-  turns_length i = ap (turn_sizes p) (quiet i)
-
   own_length : (i : ℕ) (line : Line) (own : List Step) → form_code p.onetrip (free_at p i) (room_of p i line) line.form ≡ Some own → length own + length (passing_step line) ≡ form_size p i line
   unfolding form_size steps_of
   own_length i line own is = ap (λ z. z + length (passing_step line)) (ap (λ x. length (steps_of x)) (sym is) ∙ form_length p.onetrip (free_at p i) (room_of p i line) line.form)
@@ -322,13 +438,14 @@ module _ (p : ProgramUnit) (quiet : (i : ℕ) → ended_at p i ≡ []) where
   unfolding line_size
   line_length i line code e =
       let parts = line_parts i line code e in
+      let all = length_both (skip_code p i line.mark ++ (parts.own ++ passing_step line)) (turns_of p (own_end p i) (ended_at p i)) in
       let whole = length_both (skip_code p i line.mark) (parts.own ++ passing_step line) in
       let both = length_both parts.own (passing_step line) in
       let size = own_length i line parts.own parts.is in
       let skip = skip_length i line.mark in
-      let turns = turns_length i in
-      let sum : length (skip_code p i line.mark) + length (parts.own ++ passing_step line) ≡ skip_size line.mark + form_size p i line + turn_sizes p (ended_at p i) = omega (arith, both, size, skip, turns) in
-      ap length (sym parts.all) ∙ whole ∙ sum
+      let turns = turned i (own_end p i) in
+      let sum : length (skip_code p i line.mark ++ (parts.own ++ passing_step line)) + length (turns_of p (own_end p i) (ended_at p i)) ≡ skip_size line.mark + form_size p i line + turn_sizes p (ended_at p i) = omega (arith, whole, both, size, skip, turns) in
+      ap length (sym parts.all) ∙ all ∙ sum
 
   -- a statement whose code stands from a position
   record Placed (u : Text) (i at : ℕ) (line : Line) : Type 0 where
@@ -373,16 +490,37 @@ module _ (p : ProgramUnit) (quiet : (i : ℕ) → ended_at p i ≡ []) where
   unfolding start_of
   start_next i line is = size_next p 0 i i p.lines line (let e : i ≡ 0 + i = omega arith in e) is
 
-  -- where the own steps of a statement end, the next one begins
-  ends_next : (i : ℕ) (line : Line) → slice_get p.lines i ≡ Some line → own_end p i ≡ start_of p (suc i)
-  unfolding own_end own_start form_size_at line_size mark_at
-  ends_next i line is =
-      let next = start_next i line is in
-      let turns = turns_length i in
+  -- where the own steps of a statement end, and the steps of the loops that end there
+  ends_is : (i : ℕ) (line : Line) → slice_get p.lines i ≡ Some line → own_end p i ≡ start_of p i + skip_size line.mark + form_size p i line
+  unfolding own_end own_start form_size_at mark_at
+  ends_is i line is =
       let size : form_size_at p i (slice_get p.lines i) ≡ form_size p i line = ap (form_size_at p i) is in
       let mark : mark_at (slice_get p.lines i) ≡ skip_size line.mark = ap mark_at is in
-      let sum : start_of p i + mark_at (slice_get p.lines i) + form_size_at p i (slice_get p.lines i) ≡ start_of p i + (skip_size line.mark + form_size p i line + turn_sizes p (ended_at p i)) = omega (arith, size, mark, turns) in
+      let sum : start_of p i + mark_at (slice_get p.lines i) + form_size_at p i (slice_get p.lines i) ≡ start_of p i + skip_size line.mark + form_size p i line = omega (arith, size, mark) in
+      sum
+
+  ends_next : (i : ℕ) (line : Line) → slice_get p.lines i ≡ Some line → own_end p i + turn_sizes p (ended_at p i) ≡ start_of p (suc i)
+  unfolding line_size
+  ends_next i line is =
+      let next = start_next i line is in
+      let end = ends_is i line is in
+      let sum : own_end p i + turn_sizes p (ended_at p i) ≡ start_of p i + (skip_size line.mark + form_size p i line + turn_sizes p (ended_at p i)) = omega (arith, end) in
       sum ∙ sym next
+
+  ends_none : (i : ℕ) → slice_get p.lines i ≡ None → own_end p i ≡ start_of p i
+  unfolding own_end own_start form_size_at mark_at
+  ends_none i is =
+      let size : form_size_at p i (slice_get p.lines i) ≡ 0 = ap (form_size_at p i) is in
+      let mark : mark_at (slice_get p.lines i) ≡ 0 = ap mark_at is in
+      let sum : start_of p i + mark_at (slice_get p.lines i) + form_size_at p i (slice_get p.lines i) ≡ start_of p i = omega (arith, size, mark) in
+      sum
+
+  ends_before_by : (i : ℕ) (x : Option Line) → slice_get p.lines i ≡ x → own_end p i ≤ start_of p (suc i)
+  ends_before_by i None is = let end = ends_none i is in let up = start_up p i (suc i) (omega arith) in omega (arith, end, up)
+  ends_before_by i (Some line) is = let end = ends_next i line is in omega (arith, end)
+
+  ends_before : (i : ℕ) → own_end p i ≤ start_of p (suc i)
+  ends_before i = ends_before_by i (slice_get p.lines i) refl
 
 -- ## The text
 
@@ -395,48 +533,287 @@ text_of c steps = record {
   marks = lines_marks c.program 0 c.program.lines;
 }
 
-module _ (c : Facts) (steps : List Step) (lowered : lines_code c.program 0 c.program.lines ≡ Some steps) (direct : are_direct c.program.lines ≡ true) where
+-- ## The steps behind terminal statements
+
+test_not_counted : (line : Line) (x : Option Line) (label : Option ℕ) (ts : Terms) → x ≡ Some line → line.form ≡ On (head.ToTestLoop label) ts → is_counted x ≡ false
+unfolding is_counted
+test_not_counted line x label ts is form = ap is_counted is ∙ ap (λ (z : Form). elim z [ Passes ↦ false | On h operands ↦ elim h [ head.ToLoop l ↦ true | _ ↦ false ] ]) form
+
+one_turn : (p : ProgramUnit) (q : ℕ) (r : Range) → is_counted (slice_get p.lines r.first) ≡ false → length (turn_of p q r) ≡ turn_size p r
+unfolding turn_of turn_size
+one_turn p q r e =
+    ap length (choose_false (is_counted (slice_get p.lines r.first)) _ (Again (way_back p r q) ∷ []) e) ∙ sym (choose_false (is_counted (slice_get p.lines r.first)) 2 1 e)
+
+turns_long : (p : ProgramUnit) → ((r : Range) → IsIn r (ranges_of p) → (q : ℕ) → length (turn_of p q r) ≡ turn_size p r) → (rs : List Range) → ((r : Range) → IsIn r rs → IsIn r (ranges_of p)) → (q : ℕ) →
+    length (turns_of p q rs) ≡ turn_sizes p rs
+unfolding turns_of turn_sizes
+turns_long p each [] among q = refl
+turns_long p each (r ∷ rs) among q =
+    let both = length_both (turn_of p q r) (turns_of p (q + turn_size p r) rs) in
+    let one = each r (among r first_in) q in
+    let more = turns_long p each rs (λ x in'. among x (later_in in')) (q + turn_size p r) in
+    let sum : length (turn_of p q r) + length (turns_of p (q + turn_size p r) rs) ≡ turn_size p r + turn_sizes p rs = omega (arith, one, more) in
+    both ∙ sum
+
+ended_among : (p : ProgramUnit) (i : ℕ) (r : Range) → IsIn r (ended_at p i) → IsIn r (ranges_of p)
+unfolding ended_at
+ended_among p i r among = (open_is_within p i r (from_filter (λ q. not (goes_past i q)) (open_at p i) r among)).of_unit
+
+ranges_in_order : (p : ProgramUnit) (i : ℕ) (r : Range) (done rs : List Range) → IsChain p (done ++ r ∷ rs) → (q : Range) → IsIn q done → r.first < q.first
+ranges_in_order p i r [] rs chain q among = elim among [ ]
+ranges_in_order p i r (x ∷ done) rs chain _ first_in = (open_is_within p x.first r (subst (IsIn r) (sym chain.0) (in_back done (r ∷ rs) r first_in))).behind
+ranges_in_order p i r (x ∷ done) rs chain q (later_in among) = ranges_in_order p i r done rs chain.1 q among
+
+turns_to : (p : ProgramUnit) (r : Range) (done rs : List Range) → ((q : Range) → IsIn q done → r.first < q.first) → turns_up_to p r.first (done ++ r ∷ rs) ≡ turn_sizes p done + turn_size p r
+unfolding turns_up_to turn_sizes
+turns_to p r [] rs order =
+    let one : turn_size p r ≡ 0 + turn_size p r = omega arith in
+    choose_true (nat_eq r.first r.first) (turn_size p r) _ (eq-eqb r.first r.first refl) ∙ one
+turns_to p r (x ∷ done) rs order =
+    let more = turns_to p r done rs (λ q among. order q (later_in among)) in
+    let apart = order x first_in in
+    let sum : turn_size p x + turns_up_to p r.first (done ++ r ∷ rs) ≡ turn_size p x + turn_sizes p done + turn_size p r = omega (arith, more) in
+    choose_false (nat_eq x.first r.first) (turn_size p x) (turn_size p x + turns_up_to p r.first (done ++ r ∷ rs)) (other x.first r.first (nat_eq x.first r.first) refl (λ e. absurd (omega (arith, apart, e)))) ∙ sum
+  where
+    other : (a b : ℕ) (t : Bool) → nat_eq a b ≡ t → (a ≡ b → ⊥) → t ≡ false
+    other a b true e apart = absurd (apart (eqb-true a b e))
+    other a b false e apart = refl
+
+exit_is : (p : ProgramUnit) (i : ℕ) (r : Range) (done rs : List Range) → r.last ≡ i → ended_at p i ≡ done ++ r ∷ rs → ((q : Range) → IsIn q done → r.first < q.first) → loop_exit p r ≡ own_end p i + (turn_sizes p done + turn_size p r)
+unfolding loop_exit
+exit_is p i r done rs last all order =
+    ap (λ n. own_end p n + turns_up_to p r.first (ended_at p n)) last ∙ ap (λ z. own_end p i + turns_up_to p r.first z) all ∙ ap (λ z. own_end p i + z) (turns_to p r done rs order)
+
+sizes_both : (p : ProgramUnit) (xs : List Range) (r : Range) → turn_sizes p (xs ++ r ∷ []) ≡ turn_sizes p xs + turn_size p r
+unfolding turn_sizes
+sizes_both p [] r = omega arith
+sizes_both p (x ∷ xs) r = let more = sizes_both p xs r in let sum : turn_size p x + turn_sizes p (xs ++ r ∷ []) ≡ turn_size p x + turn_sizes p xs + turn_size p r = omega (arith, more) in sum
+
+ranges_joined : (xs : List Range) (r : Range) (ys : List Range) → xs ++ r ∷ ys ≡ (xs ++ r ∷ []) ++ ys
+ranges_joined [] r ys = refl
+ranges_joined (x ∷ xs) r ys = ap (λ z. x ∷ z) (ranges_joined xs r ys)
+
+all_end_at : (i : ℕ) (r : Range) (rs : List Range) → AllEnd i rs → IsIn r rs → r.last ≡ i
+all_end_at i r [] all among = elim among [ ]
+all_end_at i r (_ ∷ rs) all first_in = all.0
+all_end_at i r (x ∷ rs) all (later_in among) = all_end_at i r rs all.1 among
+
+module _ (u : Text) (i : ℕ) (chain : IsChain u.facts.program (open_at u.facts.program i)) (open' : open_at u.facts.program i ≡ ended_at u.facts.program i ++ filter (goes_past i) (open_at u.facts.program i))
+    (end : AllEnd i (ended_at u.facts.program i)) (long : (r : Range) → IsIn r (ended_at u.facts.program i) → (q : ℕ) → length (turn_of u.facts.program q r) ≡ turn_size u.facts.program r) where
+  -- the steps behind a terminal statement stand, those of one loop after those of the other
+  turns_stand : (done rs : List Range) (q : ℕ) → ended_at u.facts.program i ≡ done ++ rs → q ≡ own_end u.facts.program i + turn_sizes u.facts.program done → Spans u q (turns_of u.facts.program q rs) (u.begins (suc i)) → TurnsStand u i q rs
+  unfolding turns_of
+  turns_stand done [] q all at spans = no_turn (sym (spans_nothing u spans))
+  turns_stand done (r ∷ rs) q all at spans =
+      let parts = split u (turn_of u.facts.program q r) spans in
+      let among : IsIn r (ended_at u.facts.program i) = subst (IsIn r) (sym all) (in_back done (r ∷ rs) r first_in) in
+      let size = long r among q in
+      let short = spans_length u parts.1 in
+      let next : parts.0 ≡ q + turn_size u.facts.program r = short ∙ ap (λ z. q + z) size in
+      let order = ranges_in_order u.facts.program i r done (rs ++ filter (goes_past i) (open_at u.facts.program i)) (subst (IsChain u.facts.program) (open' ∙ ap (λ z. z ++ filter (goes_past i) (open_at u.facts.program i)) all ∙ behind_back done (r ∷ rs) (filter (goes_past i) (open_at u.facts.program i))) chain) in
+      let exit = exit_is u.facts.program i r done rs (all_end_at i r (ended_at u.facts.program i) end among) all order in
+      let more = sizes_both u.facts.program done r in
+      turn_then (subst (Spans u q (turn_of u.facts.program q r)) next parts.1) (omega (arith, exit, at))
+      (turns_stand (done ++ r ∷ []) rs (q + turn_size u.facts.program r) (all ∙ ranges_joined done r rs) (omega (arith, at, more)) (subst (λ z. Spans u z (turns_of u.facts.program (q + turn_size u.facts.program r) rs) (u.begins (suc i))) next parts.2))
+    where
+      behind_back : (xs ys zs : List Range) → (xs ++ ys) ++ zs ≡ xs ++ (ys ++ zs)
+      behind_back [] ys zs = refl
+      behind_back (x ∷ xs) ys zs = ap (λ z. x ∷ z) (behind_back xs ys zs)
+
+-- behind a loop that ends with a statement, the other ones that end there are to be turned still
+exit_by : (u : Text) (i : ℕ) (r : Range) (q : ℕ) (ended past : List Range) → IsIn r ended → TurnsStand u i q ended → AllEnd i ended → NoneEnds i past → open_at u.facts.program (suc i) ≡ past → IsChain u.facts.program (ended ++ past) →
+    IsBehind u i (loop_exit u.facts.program r) (open_at u.facts.program r.first)
+exit_by u i r q [] past among turns ends goes next chain = elim among [ ]
+exit_by u i _ q (r ∷ ended) past first_in (turn_then spans exit turns) ends goes next chain =
+    record { ended = ended; past = past; all = chain.0; turns = subst (λ z. TurnsStand u i z ended) exit turns; ends = ends.1; goes = goes; next = next }
+exit_by u i r q (x ∷ ended) past (later_in among) (turn_then spans exit turns) ends goes next chain = exit_by u i r (q + turn_size u.facts.program x) ended past among turns ends.1 goes next chain.1
+
+in_one : (i : ℕ) (r : Range) (ended past : List Range) → IsIn r (ended ++ past) → r.last ≡ i → NoneEnds i past → IsIn r ended
+in_one i r [] past among last goes = absurd (not_past_end past among goes)
+  where
+    not_past_end : (rs : List Range) → IsIn r rs → NoneEnds i rs → ⊥
+    not_past_end [] among' none = elim among' [ ]
+    not_past_end (_ ∷ rs) first_in none = none.0 last
+    not_past_end (x ∷ rs) (later_in among') none = not_past_end rs among' none.1
+in_one i r (_ ∷ ended) past first_in last goes = first_in
+in_one i r (x ∷ ended) past (later_in among) last goes = later_in (in_one i r ended past among last goes)
+
+-- each statement of a unit that is lowered is
+record IsCoded (p : ProgramUnit) (i : ℕ) (line : Line) : Type 0 where
+  own : List Step
+  is : form_code p.onetrip (free_at p i) (room_of p i line) line.form ≡ Some own
+
+mapped_some : (x : Option (List Step)) (f : List Step → List Step) (code : List Step) → option_map f x ≡ Some code → (own : List Step) × (x ≡ Some own)
+mapped_some None f code e = absurd (cc)
+mapped_some (Some own) f code e = (own, refl)
+
+both_some : (one more : Option (List Step)) (steps : List Step) → both_codes one more ≡ Some steps → ((code : List Step) × (one ≡ Some code)) × ((later : List Step) × (more ≡ Some later))
+unfolding both_codes
+both_some None more steps e = absurd (cc)
+both_some (Some code) None steps e = absurd (cc)
+both_some (Some code) (Some later) steps e = ((code, refl), (later, refl))
+
+line_coded : (p : ProgramUnit) (i : ℕ) (line : Line) (code : List Step) → line_code p i line ≡ Some code → IsCoded p i line
+unfolding line_code
+line_coded p i line code e = let found = mapped_some (form_code p.onetrip (free_at p i) (room_of p i line) line.form) _ code e in record { own = found.0; is = found.1 }
+
+coded_at : (p : ProgramUnit) (k i n : ℕ) (lines : List Line) (steps : List Step) (line : Line) → i ≡ n + k → lines_code p k lines ≡ Some steps → slice_get lines n ≡ Some line → IsCoded p i line
+unfolding lines_code
+coded_at p k i n [] steps line at e is = absurd (cc)
+coded_at p k i zero (x ∷ lines) steps line at e is =
+    let both = both_some (line_code p k x) (lines_code p (suc k) lines) steps e in
+    let same : x ≡ line = cc in
+    let place : i ≡ k = omega (arith, at) in
+    subst (λ z. IsCoded p z line) (sym place) (subst (IsCoded p k) same (line_coded p k x both.0.0 both.0.1))
+coded_at p k i (suc n) (x ∷ lines) steps line at e is =
+    let both = both_some (line_code p k x) (lines_code p (suc k) lines) steps e in
+    coded_at p (suc k) i n lines both.1.0 line (omega (arith, at)) both.1.1 is
+
+count_is_counted : (line : Line) (x : Option Line) (label : Option ℕ) (ts : Terms) → x ≡ Some line → line.form ≡ On (head.ToLoop label) ts → is_counted x ≡ true
+unfolding is_counted
+count_is_counted line x label ts is form = ap is_counted is ∙ ap (λ (z : Form). elim z [ Passes ↦ false | On h operands ↦ elim h [ head.ToLoop l ↦ true | _ ↦ false ] ]) form
+
+two_steps : (once : Bool) (n : ℕ) (ps : Pures) → HasFour ps → length (turn_code once n ps) ≡ 2
+unfolding turn_code
+two_steps once n ps four = ap (λ z. length (turn_code once n z)) four.is
+
+two_turn : (p : ProgramUnit) (q : ℕ) (r : Range) → is_counted (slice_get p.lines r.first) ≡ true → HasFour (loop_lowered p (free_at p r.first) r).value → length (turn_of p q r) ≡ turn_size p r
+unfolding turn_of turn_size
+two_turn p q r e four =
+    ap length (choose_true (is_counted (slice_get p.lines r.first)) (turn_code p.onetrip (way_back p r (q + 1)) (loop_lowered p (free_at p r.first) r).value) _ e)
+    ∙ two_steps p.onetrip (way_back p r (q + 1)) (loop_lowered p (free_at p r.first) r).value four ∙ sym (choose_true (is_counted (slice_get p.lines r.first)) 2 1 e)
+
+-- a loop that is open keeps temporaries below those that are free
+head_grows : (k : ℕ) (h : Head) (ts : Terms) → k ≤ (elim h as (λ z. Lowered Pures) [ head.ToLoop label ↦ loop_operands k ts | _ ↦ loop_operands k NoMore ]).free
+head_grows k (head.ToLoop label) ts = loop_grows k ts
+head_grows k (head.ToTestLoop label) ts = loop_grows k NoMore
+head_grows k head.ToSet ts = loop_grows k NoMore
+head_grows k head.ToSetText ts = loop_grows k NoMore
+head_grows k (head.ToSetLabel l) ts = loop_grows k NoMore
+head_grows k (head.ToGo l) ts = loop_grows k NoMore
+head_grows k (head.ToPick ls) ts = loop_grows k NoMore
+head_grows k (head.ToGoAssigned ls) ts = loop_grows k NoMore
+head_grows k (head.ToGoBySign x y z) ts = loop_grows k NoMore
+head_grows k (head.ToGuard form) ts = loop_grows k NoMore
+head_grows k head.ToEnterArm ts = loop_grows k NoMore
+head_grows k (head.ToCall name) ts = loop_grows k NoMore
+head_grows k head.ToReturn ts = loop_grows k NoMore
+head_grows k (head.ToStop text) ts = loop_grows k NoMore
+head_grows k (head.ToBegin way layout controls work) ts = loop_grows k NoMore
+head_grows k (head.ToTransfer rest) ts = loop_grows k NoMore
+head_grows k (head.ToRepeat items rest) ts = loop_grows k NoMore
+head_grows k (head.ToTurn items q left by given rest) ts = loop_grows k NoMore
+head_grows k head.ToFinish ts = loop_grows k NoMore
+head_grows k (head.ToAuxiliary which controls) ts = loop_grows k NoMore
+head_grows k head.ToEnd ts = loop_grows k NoMore
+
+form_grows : (k : ℕ) (form : Form) → k ≤ (elim form as (λ z. Lowered Pures) [ Passes ↦ loop_operands k NoMore | On h operands ↦ elim h [ head.ToLoop label ↦ loop_operands k operands | _ ↦ loop_operands k NoMore ] ]).free
+form_grows k Passes = loop_grows k NoMore
+form_grows k (On h ts) = head_grows k h ts
+
+line_grows : (k : ℕ) (x : Option Line) → k ≤ (loop_at_line k x).free
+unfolding loop_at_line
+line_grows k None = loop_grows k NoMore
+line_grows k (Some line) = form_grows k line.form
+
+range_grows : (p : ProgramUnit) (k : ℕ) (r : Range) → k ≤ (loop_lowered p k r).free
+unfolding loop_lowered
+range_grows p k r = line_grows k (slice_get p.lines r.first)
+
+kept_below : (p : ProgramUnit) (rs : List Range) (r : Range) → IsChain p rs → IsIn r rs → (loop_lowered p (free_at p r.first) r).free ≤ free_of p rs
+unfolding free_of free_at
+kept_below p [] r chain among = elim among [ ]
+kept_below p (_ ∷ outer) r chain first_in =
+    let same : (loop_lowered p (free_of p (open_at p r.first)) r).free ≡ (loop_lowered p (free_of p outer) r).free = ap (λ z. (loop_lowered p (free_of p z) r).free) chain.0 in
+    omega (arith, same)
+kept_below p (x ∷ outer) r chain (later_in among) =
+    let below = kept_below p outer r chain.1 among in
+    let grows = range_grows p (free_of p outer) x in
+    omega (arith, below, grows)
+
+kept_at : (p : ProgramUnit) (i : ℕ) (r : Range) → IsChain p (open_at p i) → IsIn r (open_at p i) → (loop_lowered p (free_at p r.first) r).free ≤ free_at p i
+unfolding free_at
+kept_at p i r chain among = kept_below p (open_at p i) r chain among
+
+module _ (c : Facts) (steps : List Step) (lowered : lines_code c.program 0 c.program.lines ≡ Some steps) (direct : are_direct c.program.lines ≡ true) (fits : LoopsFit c.program) where
   program : ProgramUnit
   program = c.program
 
-  at_line : (i : ℕ) (line : Line) → slice_get c.program.lines i ≡ Some line → Placed c.program (none_ended c.program direct) (text_of c steps) i (start_of c.program i) line
+  nested : AreNested c.program
+  nested = are_nested c.program fits
+
+  -- each loop stands at a plain statement
+  loop_line_at : (i : ℕ) (line : Line) (label : Option ℕ) → slice_get c.program.lines i ≡ Some line → loop_of line.form ≡ Some label → IsLoopLine line label
+  loop_line_at i line label is loops = loop_line line label line.mark refl (direct_at c.program.lines i line direct is) loops
+
+  -- a DO that is lowered has its four operands
+  four_at : (i : ℕ) (line : Line) (label : Option ℕ) (ts : Terms) → slice_get c.program.lines i ≡ Some line → line.form ≡ On (head.ToLoop label) ts → HasFour (loop_operands (free_at c.program i) ts).value
+  four_at i line label ts is form =
+      let coded = coded_at c.program 0 i i c.program.lines steps line (omega arith) lowered is in
+      loop_four c.program.onetrip (free_at c.program i) (room_of c.program i line) label ts coded.own (ap (form_code c.program.onetrip (free_at c.program i) (room_of c.program i line)) (sym form) ∙ coded.is)
+
+  turn_by : (r : Range) (line : Line) (label : Option ℕ) → slice_get c.program.lines r.first ≡ Some line → LoopForm line.form label → (q : ℕ) → length (turn_of c.program q r) ≡ turn_size c.program r
+  turn_by r line label is (by_test ts form) q = one_turn c.program q r (test_not_counted line (slice_get c.program.lines r.first) label ts is form)
+  turn_by r line label is (by_count ts form) q =
+      two_turn c.program q r (count_is_counted line (slice_get c.program.lines r.first) label ts is form)
+      (subst (λ (z : Lowered Pures). HasFour z.value) (sym (lowered_is c.program (free_at c.program r.first) r line label ts is form)) (four_at r.first line label ts is form))
+
+  turn_long : (r : Range) → IsIn r (ranges_of c.program) → (q : ℕ) → length (turn_of c.program q r) ≡ turn_size c.program r
+  turn_long r among q =
+      let loop' = range_of_loop c.program r among in
+      turn_by r loop'.line loop'.label loop'.there (loop_line_at r.first loop'.line loop'.label loop'.there loop'.loops).kind q
+
+  turned : (i from : ℕ) → length (turns_of c.program from (ended_at c.program i)) ≡ turn_sizes c.program (ended_at c.program i)
+  turned i from = turns_long c.program turn_long (ended_at c.program i) (λ r among. ended_among c.program i r among) from
+
+  at_line : (i : ℕ) (line : Line) → slice_get c.program.lines i ≡ Some line → Placed c.program turned (text_of c steps) i (start_of c.program i) line
   unfolding start_of
   at_line i line is =
-      placed c.program (none_ended c.program direct) (text_of c steps) c.program.lines 0 0 steps lowered refl i line is i (size_before c.program 0 c.program.lines i) (let e : i ≡ 0 + i = omega arith in e)
+      placed c.program turned (text_of c steps) c.program.lines 0 0 steps lowered refl i line is i (size_before c.program 0 c.program.lines i) (let e : i ≡ 0 + i = omega arith in e)
       (let e : size_before c.program 0 c.program.lines i ≡ 0 + size_before c.program 0 c.program.lines i = omega arith in e)
 
+  -- where no loop ends, the next statement begins
+  ends_here : (i : ℕ) (line : Line) → slice_get c.program.lines i ≡ Some line → ended_at c.program i ≡ [] → own_end c.program i ≡ start_of c.program (suc i)
+  unfolding turn_sizes
+  ends_here i line is none =
+      let next = ends_next c.program turned i line is in
+      let turns : turn_sizes c.program (ended_at c.program i) ≡ 0 = ap (turn_sizes c.program) none in
+      let sum : own_end c.program i ≡ own_end c.program i + turn_sizes c.program (ended_at c.program i) = omega (arith, turns) in
+      sum ∙ next
+
+  flat : (i : ℕ) (line : Line) → slice_get c.program.lines i ≡ Some line → (line.mark ≡ Plain → ⊥) → IsFlat (text_of c steps) i
+  flat i line is marked = record {
+    same = still_open c.program nested i line is (no_loop line.mark line.form marked (direct_at c.program.lines i line direct is)) (block_quiet c.program fits i line is marked);
+    end = ends_here i line is (quiet_ended c.program nested i (block_quiet c.program fits i line is marked));
+  }
+
   -- the condition of an arm passes its steps
-  room_reaches : (i : ℕ) (line : Line) → slice_get c.program.lines i ≡ Some line → (j : ℕ) → arm_after c.program i ≡ Some j → start_of c.program (suc i) + arm_room c.program i (arm_after c.program i) ≡ own_of (text_of c steps) j
+  room_reaches : (i : ℕ) (line : Line) → slice_get c.program.lines i ≡ Some line → (j : ℕ) → arm_after c.program i ≡ Some j → own_end c.program i + arm_room c.program i (arm_after c.program i) ≡ own_of (text_of c steps) j
   unfolding arm_room own_start
   room_reaches i line is j arm =
       let room : arm_room c.program i (arm_after c.program i) ≡ start_of c.program j + mark_at (slice_get c.program.lines j) - own_end c.program i = ap (arm_room c.program i) arm in
-      let next = ends_next c.program (none_ended c.program direct) i line is in
+      let next = ends_before c.program turned i in
       let up = start_up c.program (suc i) j (after_up c.program i j arm) in
       let own = own_same (start_of c.program j) (slice_get c.program.lines j) in
-      let sum : start_of c.program (suc i) + arm_room c.program i (arm_after c.program i) ≡ start_of c.program j + mark_at (slice_get c.program.lines j) = omega (arith, room, next, up) in
+      let sum : own_end c.program i + arm_room c.program i (arm_after c.program i) ≡ start_of c.program j + mark_at (slice_get c.program.lines j) = omega (arith, room, next, up) in
       sum ∙ own
 
+  next_arm_is : (i n : ℕ) (line : Line) → slice_get c.program.lines i ≡ Some line → (line.mark ≡ Plain → ⊥) → (line.mark ≡ Closes → ⊥) → n ≡ arm_room c.program i (arm_after c.program i) → (j : ℕ) → arm_after c.program i ≡ Some j → IsNextArm (text_of c steps) i n j
+  next_arm_is i n line is marked open' room j arm =
+      let next = arm_line c.program i j arm in
+      record { way = ap (λ z. own_end c.program i + z) room ∙ room_reaches i line is j arm; same = arms_alike c.program fits i line is marked open' j arm; flat = flat j next.line next.there next.marked }
+
   -- a statement's own code
-  arm_form : (i n : ℕ) (line : Line) (own : List Step) → slice_get c.program.lines i ≡ Some line → n ≡ arm_room c.program i (arm_after c.program i) → OneOf (enters_arm line.form) (is_direct line.form) →
+  arm_form : (i n : ℕ) (line : Line) (own : List Step) → slice_get c.program.lines i ≡ Some line → (line.mark ≡ Plain → ⊥) → (line.mark ≡ Closes → ⊥) → n ≡ arm_room c.program i (arm_after c.program i) → OneOf (enters_arm line.form) (is_direct line.form) →
       form_code c.program.onetrip (free_at c.program i) n line.form ≡ Some own → IsCode (text_of c steps) (free_at c.program i) (Some i) line.form own
-  arm_form i n line own is room (the_one enters) e =
-      arm_code (text_of c steps) (free_at c.program i) c.program.onetrip i n line.form own enters (λ j arm. ap (λ z. start_of c.program (suc i) + z) room ∙ room_reaches i line is j arm) e
-  arm_form i n line own is room (the_other is_direct') e = direct_code (text_of c steps) (free_at c.program i) c.program.onetrip (Some i) n line.form own is_direct' e
+  arm_form i n line own is marked open' room (the_one enters) e =
+      arm_code (text_of c steps) (free_at c.program i) c.program.onetrip i n line.form own enters (flat i line is marked, next_arm_is i n line is marked open' room) e
+  arm_form i n line own is marked open' room (the_other is_direct') e = direct_code (text_of c steps) (free_at c.program i) c.program.onetrip (Some i) n line.form own is_direct' e
 
   end_form : (i n : ℕ) (form : Form) (own : List Step) → takes_no_step form ≡ true → form_code c.program.onetrip (free_at c.program i) n form ≡ Some own → IsCode (text_of c steps) (free_at c.program i) (Some i) form own
   unfolding takes_no_step is_direct
   end_form i n Passes own none e = direct_code (text_of c steps) (free_at c.program i) c.program.onetrip (Some i) n Passes own refl e
   end_form i n (On h ts) own none e = absurd (true≢false (sym none))
-
-  own_code : (i : ℕ) (line : Line) (own : List Step) (mark : Mark) → line.mark ≡ mark → slice_get c.program.lines i ≡ Some line → is_direct_as mark line.form ≡ true →
-      form_code c.program.onetrip (free_at c.program i) (room_of c.program i line) line.form ≡ Some own → IsCode (text_of c steps) (free_at c.program i) (Some i) line.form own
-  unfolding is_direct_as room_of
-  own_code i line own Plain e is ok code = direct_code (text_of c steps) (free_at c.program i) c.program.onetrip (Some i) (room_of c.program i line) line.form own ok code
-  own_code i line own Opens e is ok code =
-      arm_form i (room_of c.program i line) line own is (ap (λ (m : Mark). elim m [ Opens ↦ arm_room c.program i (arm_after c.program i) | Arm ↦ arm_room c.program i (arm_after c.program i) | _ ↦ loop_room c.program i (range_of (open_at c.program (suc i)) i) ]) e) (one_of (enters_arm line.form) (is_direct line.form) ok) code
-  own_code i line own Arm e is ok code =
-      arm_form i (room_of c.program i line) line own is (ap (λ (m : Mark). elim m [ Opens ↦ arm_room c.program i (arm_after c.program i) | Arm ↦ arm_room c.program i (arm_after c.program i) | _ ↦ loop_room c.program i (range_of (open_at c.program (suc i)) i) ]) e) (one_of (enters_arm line.form) (is_direct line.form) ok) code
-  own_code i line own Closes e is ok code = end_form i (room_of c.program i line) line.form own ok code
 
   -- a statement that takes no step may have one for its label
   none_on : (b : Bool) (h : Head) (ts : Terms) → pass_code b (On h ts) ≡ []
@@ -461,35 +838,194 @@ module _ (c : Facts) (steps : List Step) (lowered : lines_code c.program 0 c.pro
     is : form_code c.program.onetrip (free_at c.program i) (room_of c.program i line) line.form ≡ Some own
     from : ℕ
     skips : Spans (text_of c steps) (start_of c.program i) (skip_code c.program i line.mark) from
-    rest : Spans (text_of c steps) from (own ++ pass_code (is_named (all_named c.program.lines) line.label) line.form) (start_of c.program (suc i))
+    rest : Spans (text_of c steps) from (own ++ pass_code (is_named (all_named c.program.lines) line.label) line.form) (own_end c.program i)
+    turns : Spans (text_of c steps) (own_end c.program i) (turns_of c.program (own_end c.program i) (ended_at c.program i)) (start_of c.program (suc i))
     at_own : from ≡ own_of (text_of c steps) i
 
   line_stands : (i : ℕ) (line : Line) → slice_get c.program.lines i ≡ Some line → LineStands i line
   line_stands i line is =
       let at = at_line i line is in
-      let parts = line_parts c.program (none_ended c.program direct) i line at.code at.is in
+      let parts = line_parts c.program turned i line at.code at.is in
       let whole = (spans_by (text_of c steps) (start_of c.program i) at.code at.behind at.there').0 in
-      let long = line_length c.program (none_ended c.program direct) i line at.code at.is in
-      let next = start_next c.program (none_ended c.program direct) i line is in
+      let long = line_length c.program turned i line at.code at.is in
+      let next = start_next c.program turned i line is in
       let end : start_of c.program i + length at.code ≡ start_of c.program (suc i) = ap (λ z. start_of c.program i + z) long ∙ sym next in
       let all = subst (λ z. Spans (text_of c steps) (start_of c.program i) z (start_of c.program (suc i))) (sym parts.all) (subst (λ z. Spans (text_of c steps) (start_of c.program i) at.code z) end whole) in
-      let two = split (text_of c steps) (skip_code c.program i line.mark) all in
+      let front = skip_code c.program i line.mark ++ (parts.own ++ pass_code (is_named (all_named c.program.lines) line.label) line.form) in
+      let both = split (text_of c steps) front all in
+      let two = split (text_of c steps) (skip_code c.program i line.mark) both.1 in
       let short = spans_length (text_of c steps) two.1 in
+      let far = spans_length (text_of c steps) both.1 in
+      let sum = length_both (skip_code c.program i line.mark) (parts.own ++ pass_code (is_named (all_named c.program.lines) line.label) line.form) in
+      let own_sum = length_both parts.own (pass_code (is_named (all_named c.program.lines) line.label) line.form) in
+      let size = own_length c.program turned i line parts.own parts.is in
+      let skip = skip_length c.program turned i line.mark in
+      let ends = ends_is c.program turned i line is in
+      let end' : both.0 ≡ own_end c.program i = omega (arith, far, sum, own_sum, size, skip, ends) in
       record {
         own = parts.own;
         is = parts.is;
         from = two.0;
         skips = two.1;
-        rest = two.2;
-        at_own = short ∙ ap (λ z. start_of c.program i + z) (skip_length c.program (none_ended c.program direct) i line.mark) ∙ own_marked (start_of c.program i) line.mark ∙ ap (own_by (start_of c.program i)) (sym is);
+        rest = subst (λ z. Spans (text_of c steps) two.0 (parts.own ++ pass_code (is_named (all_named c.program.lines) line.label) line.form) z) end' two.2;
+        turns = subst (λ z. Spans (text_of c steps) z (turns_of c.program (own_end c.program i) (ended_at c.program i)) (start_of c.program (suc i))) end' both.2;
+        at_own = short ∙ ap (λ z. start_of c.program i + z) (skip_length c.program turned i line.mark) ∙ own_marked (start_of c.program i) line.mark ∙ ap (own_by (start_of c.program i)) (sym is);
       }
 
-  stands : (i : ℕ) (line : Line) → slice_get c.program.lines i ≡ Some line → Stands (text_of c steps) (free_at c.program i) (Some i) line.form (own_of (text_of c steps) i) (start_of c.program (suc i))
+  -- behind a statement that begins no loop
+  behind : (i : ℕ) (line : Line) → slice_get c.program.lines i ≡ Some line → loop_of line.form ≡ None → IsBehind (text_of c steps) i (own_end c.program i) (open_at c.program i)
+  unfolding turn_sizes
+  behind i line is quiet = record {
+    ended = ended_at c.program i;
+    past = filter (goes_past i) (open_at c.program i);
+    all = parts_open c.program nested i;
+    turns =
+        turns_stand (text_of c steps) i (chain_at c.program nested i) (parts_open c.program nested i) (ended_end c.program nested i) (λ r among. turn_long r (ended_among c.program i r among)) [] (ended_at c.program i) (own_end c.program i) refl
+        (let e : own_end c.program i ≡ own_end c.program i + 0 = omega arith in e) (line_stands i line is).turns;
+    ends = ended_end c.program nested i;
+    goes = past_goes c.program nested i;
+    next = next_open c.program nested i line is quiet;
+  }
+
+  -- the range of a loop
+  loop_is : (i : ℕ) (line : Line) (label : Option ℕ) (last : ℕ) → slice_get c.program.lines i ≡ Some line → loop_of line.form ≡ Some label → terminal_of c.program i label ≡ Some last → IsLoop (text_of c steps) i last
+  loop_is i line label last is loops ends =
+      let end = loop_ends c.program nested i line label last is loops ends in
+      let at = behind last end.line end.there end.quiet in
+      let among = in_one last (record { first = i; last = last }) at.ended at.past (subst (IsIn (record { first = i; last = last })) at.all (open_at_end c.program nested i line label last is loops ends)) refl at.goes in
+      record {
+        open' = range_open c.program nested i line label last is loops ends;
+        end = ends_here i line is (quiet_ended c.program nested i (loop_quiet c.program nested i line label is loops));
+        exit = exit_by (text_of c steps) last (record { first = i; last = last }) (own_end c.program last) at.ended at.past among at.turns at.ends at.goes at.next (subst (IsChain c.program) at.all (chain_at c.program nested last));
+      }
+
+  own_up : (i : ℕ) → start_of c.program i ≤ own_end c.program i
+  unfolding own_end own_start
+  own_up i = let e : start_of c.program i ≤ start_of c.program i + mark_at (slice_get c.program.lines i) + form_size_at c.program i (slice_get c.program.lines i) = omega arith in e
+
+  exit_up : (r : Range) → own_end c.program r.last ≤ loop_exit c.program r
+  unfolding loop_exit
+  exit_up r = let e : own_end c.program r.last ≤ own_end c.program r.last + turns_up_to c.program r.first (ended_at c.program r.last) = omega arith in e
+
+  found_range : (i last : ℕ) (rs : List Range) → range_of (record { first = i; last = last } ∷ rs) i ≡ Some (record { first = i; last = last })
+  unfolding range_of
+  found_range i last rs = choose_true (nat_eq i i) (Some (record { first = i; last = last })) (range_of rs i) (eq-eqb i i refl)
+
+  loop_reaches : (i : ℕ) (line : Line) (label : Option ℕ) (last : ℕ) → slice_get c.program.lines i ≡ Some line → loop_of line.form ≡ Some label → terminal_of c.program i label ≡ Some last →
+      own_end c.program i + loop_room c.program i (range_of (open_at c.program (suc i)) i) ≡ loop_exit c.program (record { first = i; last = last })
+  unfolding loop_room
+  loop_reaches i line label last is loops ends =
+      let r : Range = record { first = i; last = last } in
+      let room : loop_room c.program i (range_of (open_at c.program (suc i)) i) ≡ loop_exit c.program r - own_end c.program i =
+      ap (λ z. loop_room c.program i (range_of z i)) (range_open c.program nested i line label last is loops ends) ∙ ap (loop_room c.program i) (found_range i last (open_at c.program i)) in
+      let next = ends_before c.program turned i in
+      let after = (loop_ends c.program nested i line label last is loops ends).behind in
+      let up = start_up c.program (suc i) last (omega (arith, after)) in
+      let own = own_up last in
+      let out = exit_up r in
+      omega (arith, room, next, up, own, out)
+
+  plain_room : (i : ℕ) (line : Line) → line.mark ≡ Plain → room_of c.program i line ≡ loop_room c.program i (range_of (open_at c.program (suc i)) i)
+  unfolding room_of
+  plain_room i line e = ap (λ (m : Mark). elim m [ Opens ↦ arm_room c.program i (arm_after c.program i) | Arm ↦ arm_room c.program i (arm_after c.program i) | _ ↦ loop_room c.program i (range_of (open_at c.program (suc i)) i) ]) e
+
+  form_loops : (form : Form) (label : Option ℕ) → LoopForm form label → loop_of form ≡ Some label
+  unfolding loop_of
+  form_loops form label (by_test ts is) = ap loop_of is
+  form_loops form label (by_count ts is) = ap loop_of is
+
+  label_of_loop : (form : Form) → begins_loop form ≡ true → (label : Option ℕ) × LoopForm form label
+  unfolding begins_loop
+  label_of_loop Passes e = absurd (true≢false (sym e))
+  label_of_loop (On (head.ToTestLoop label) ts) e = (label, by_test ts refl)
+  label_of_loop (On head.ToSet ts) e = absurd (true≢false (sym e))
+  label_of_loop (On head.ToSetText ts) e = absurd (true≢false (sym e))
+  label_of_loop (On (head.ToSetLabel l) ts) e = absurd (true≢false (sym e))
+  label_of_loop (On (head.ToGo l) ts) e = absurd (true≢false (sym e))
+  label_of_loop (On (head.ToPick ls) ts) e = absurd (true≢false (sym e))
+  label_of_loop (On (head.ToGoAssigned ls) ts) e = absurd (true≢false (sym e))
+  label_of_loop (On (head.ToGoBySign x y z) ts) e = absurd (true≢false (sym e))
+  label_of_loop (On (head.ToGuard form) ts) e = absurd (true≢false (sym e))
+  label_of_loop (On head.ToEnterArm ts) e = absurd (true≢false (sym e))
+  label_of_loop (On (head.ToLoop label) ts) e = (label, by_count ts refl)
+  label_of_loop (On (head.ToCall name) ts) e = absurd (true≢false (sym e))
+  label_of_loop (On head.ToReturn ts) e = absurd (true≢false (sym e))
+  label_of_loop (On (head.ToStop text) ts) e = absurd (true≢false (sym e))
+  label_of_loop (On (head.ToBegin way layout controls work) ts) e = absurd (true≢false (sym e))
+  label_of_loop (On (head.ToTransfer rest) ts) e = absurd (true≢false (sym e))
+  label_of_loop (On (head.ToRepeat items rest) ts) e = absurd (true≢false (sym e))
+  label_of_loop (On (head.ToTurn items q left by given rest) ts) e = absurd (true≢false (sym e))
+  label_of_loop (On head.ToFinish ts) e = absurd (true≢false (sym e))
+  label_of_loop (On (head.ToAuxiliary which controls) ts) e = absurd (true≢false (sym e))
+  label_of_loop (On head.ToEnd ts) e = absurd (true≢false (sym e))
+
+  begun_form : (i : ℕ) (line : Line) (own : List Step) (label : Option ℕ) → LoopForm line.form label →
+      ((last : ℕ) → terminal_of c.program i label ≡ Some last → IsLoop (text_of c steps) i last × (own_end c.program i + room_of c.program i line ≡ loop_exit c.program (record { first = i; last = last }))) →
+      form_code c.program.onetrip (free_at c.program i) (room_of c.program i line) line.form ≡ Some own → IsCode (text_of c steps) (free_at c.program i) (Some i) line.form own
+  begun_form i line own label (by_test ts form) room e =
+      subst (λ z. IsCode (text_of c steps) (free_at c.program i) (Some i) z own) (sym form)
+      (test_code (text_of c steps) (free_at c.program i) c.program.onetrip i (room_of c.program i line) label ts own room (ap (form_code c.program.onetrip (free_at c.program i) (room_of c.program i line)) (sym form) ∙ e))
+  begun_form i line own label (by_count ts form) room e =
+      subst (λ z. IsCode (text_of c steps) (free_at c.program i) (Some i) z own) (sym form)
+      (do_code (text_of c steps) (free_at c.program i) c.program.onetrip i (room_of c.program i line) label ts own refl room (ap (form_code c.program.onetrip (free_at c.program i) (room_of c.program i line)) (sym form) ∙ e))
+
+  plain_form : (i : ℕ) (line : Line) (own : List Step) → line.mark ≡ Plain → slice_get c.program.lines i ≡ Some line → OneOf (begins_loop line.form) (is_direct line.form) →
+      form_code c.program.onetrip (free_at c.program i) (room_of c.program i line) line.form ≡ Some own → IsCode (text_of c steps) (free_at c.program i) (Some i) line.form own
+  plain_form i line own marked is (the_other is_direct') e = direct_code (text_of c steps) (free_at c.program i) c.program.onetrip (Some i) (room_of c.program i line) line.form own is_direct' e
+  plain_form i line own marked is (the_one begins) e =
+      let found = label_of_loop line.form begins in
+      let loops = form_loops line.form found.0 found.1 in
+      begun_form i line own found.0 found.1
+      (λ last ends. (loop_is i line found.0 last is loops ends, ap (λ z. own_end c.program i + z) (plain_room i line marked) ∙ loop_reaches i line found.0 last is loops ends)) e
+
+  own_code : (i : ℕ) (line : Line) (own : List Step) (mark : Mark) → line.mark ≡ mark → slice_get c.program.lines i ≡ Some line → is_direct_as mark line.form ≡ true →
+      form_code c.program.onetrip (free_at c.program i) (room_of c.program i line) line.form ≡ Some own → IsCode (text_of c steps) (free_at c.program i) (Some i) line.form own
+  unfolding is_direct_as room_of
+  own_code i line own Plain e is ok code = plain_form i line own e is (one_of (begins_loop line.form) (is_direct line.form) ok) code
+  own_code i line own Opens e is ok code =
+      arm_form i (room_of c.program i line) line own is (λ m. absurd (let bad : Opens ≡ Plain = sym e ∙ m in cc)) (λ m. absurd (let bad : Opens ≡ Closes = sym e ∙ m in cc)) (ap (λ (m : Mark). elim m [ Opens ↦ arm_room c.program i (arm_after c.program i) | Arm ↦ arm_room c.program i (arm_after c.program i) | _ ↦ loop_room c.program i (range_of (open_at c.program (suc i)) i) ]) e) (one_of (enters_arm line.form) (is_direct line.form) ok) code
+  own_code i line own Arm e is ok code =
+      arm_form i (room_of c.program i line) line own is (λ m. absurd (let bad : Arm ≡ Plain = sym e ∙ m in cc)) (λ m. absurd (let bad : Arm ≡ Closes = sym e ∙ m in cc)) (ap (λ (m : Mark). elim m [ Opens ↦ arm_room c.program i (arm_after c.program i) | Arm ↦ arm_room c.program i (arm_after c.program i) | _ ↦ loop_room c.program i (range_of (open_at c.program (suc i)) i) ]) e) (one_of (enters_arm line.form) (is_direct line.form) ok) code
+  own_code i line own Closes e is ok code = end_form i (room_of c.program i line) line.form own ok code
+
+  stands : (i : ℕ) (line : Line) → slice_get c.program.lines i ≡ Some line → Stands (text_of c steps) (free_at c.program i) (Some i) line.form (own_of (text_of c steps) i) (own_end c.program i)
   stands i line is =
       let at = line_stands i line is in
       let code = own_code i line at.own line.mark refl is (direct_at c.program.lines i line direct is) at.is in
-      subst (λ z. Stands (text_of c steps) (free_at c.program i) (Some i) line.form z (start_of c.program (suc i))) at.at_own
-      (form_stands i at.from (start_of c.program (suc i)) (is_named (all_named c.program.lines) line.label) line.form at.own code at.rest)
+      subst (λ z. Stands (text_of c steps) (free_at c.program i) (Some i) line.form z (own_end c.program i)) at.at_own
+      (form_stands i at.from (own_end c.program i) (is_named (all_named c.program.lines) line.label) line.form at.own code at.rest)
+
+  -- the loops at the end of a block
+  same_end_by : (fuel i e : ℕ) (line : Line) (found : Option ℕ) → slice_get c.program.lines i ≡ Some line → line.mark ≡ Arm → arm_after c.program i ≡ found → NextArm c.program.lines found e →
+      ((j : ℕ) (next : Line) → arm_after c.program i ≡ Some j → slice_get c.program.lines j ≡ Some next → next.mark ≡ Arm → closing_from (suc j) 0 (drop (suc j) c.program.lines) ≡ Some e → SameOpen c.program e j) → SameOpen c.program e i
+  same_end_by fuel i _ line _ is marked arm (at_end {e = e} next there' closes') later =
+      arms_alike c.program fits i line is (λ m. absurd (let bad : Arm ≡ Plain = sym marked ∙ m in cc)) (λ m. absurd (let bad : Arm ≡ Closes = sym marked ∙ m in cc)) e arm
+  same_end_by fuel i e line _ is marked arm (at_arm {j = j} next there' marked' closing) later =
+      later j next arm there' marked' closing
+      ∙ arms_alike c.program fits i line is (λ m. absurd (let bad : Arm ≡ Plain = sym marked ∙ m in cc)) (λ m. absurd (let bad : Arm ≡ Closes = sym marked ∙ m in cc)) j arm
+
+  same_end : (fuel i e : ℕ) (line : Line) → length c.program.lines ≤ fuel + i → slice_get c.program.lines i ≡ Some line → line.mark ≡ Arm → block_ends c.program i ≡ Some e → SameOpen c.program e i
+  same_end zero i e line le is marked closing =
+      absurd (let none : closing_from (suc i) 0 (drop (suc i) c.program.lines) ≡ None = ap (closing_from (suc i) 0) (drop_past c.program.lines (suc i) (omega (arith, le))) in let bad : None ≡ Some e = sym none ∙ closing in cc)
+  same_end (suc fuel) i e line le is marked closing =
+      same_end_by fuel i e line (arm_after c.program i) is marked refl (after_next c.program i e (next_arm c.program.lines (suc i) 0 (drop (suc i) c.program.lines) e refl closing))
+      (λ j next arm there' marked' closing'. let up = after_up c.program i j arm in same_end fuel j e next (omega (arith, le, up)) there' marked' closing')
+
+  -- the loops that are open at a statement begin before it
+  all_before : (i : ℕ) (rs : List Range) → ((r : Range) → IsIn r rs → r.first < i) → AllBefore (text_of c steps) (start_of c.program i) rs
+  all_before i [] under = tt
+  all_before i (r ∷ rs) under =
+      (let low = under r first_in in let next = ends_before c.program turned r.first in let up = start_up c.program (suc r.first) i low in omega (arith, next, up), all_before i rs (λ q among. under q (later_in among)))
+
+  before : (i : ℕ) → AllBefore (text_of c steps) (start_of c.program i) (open_at c.program i)
+  before i = all_before i (open_at c.program i) (λ r among. (open_is_within c.program i r among).behind)
+
+  own_is : (i : ℕ) → own_start c.program i ≡ own_of (text_of c steps) i
+  unfolding own_start
+  own_is i = own_same (start_of c.program i) (slice_get c.program.lines i)
+
+  loops_plain : LoopsArePlain c.program
+  loops_plain i line label is loops = (loop_line_at i line label is loops).marked
 
   -- the way to the end of a block
   arm_size : (i : ℕ) (line : Line) → line.mark ≡ Arm → suc (start_of c.program i) ≤ start_of c.program i + line_size c.program i line
@@ -521,7 +1057,7 @@ module _ (c : Facts) (steps : List Step) (lowered : lines_code c.program 0 c.pro
       let one = spans_one (text_of c steps) (skip_span i at.from line marked at.skips) in
       let end : start_of c.program (block_end_of c.program i) ≡ start_of c.program e = ap (start_of c.program) (block_end_is i e ends) in
       let own = own_start_is i line is marked in
-      let next = start_next c.program (none_ended c.program direct) i line is in
+      let next = start_next c.program turned i line is in
       let size = arm_size i line marked in
       let up = start_up c.program (suc i) e (closing_up (suc i) 0 (drop (suc i) c.program.lines) e ends) in
       let to' : suc (start_of c.program i) + (start_of c.program (block_end_of c.program i) - own_start c.program i) ≡ start_of c.program e = omega (arith, end, own, next, size, up) in
@@ -562,65 +1098,106 @@ unfolding pass_code
 end_passes true form is = ap (pass_code true) is
 end_passes false form is = refl
 
-module _ (p : ProgramUnit) (quiet : (i : ℕ) → ended_at p i ≡ []) where
-  record EndsBack (steps : List Step) : Type 0 where
-    front : List Step
-    all : front ++ Back ∷ [] ≡ steps
+-- the last step is no CALL and no branch behind one
+record EndsWell (steps : List Step) : Type 0 where
+  front : List Step
+  last : Step
+  all : front ++ last ∷ [] ≡ steps
+  no_branch : IsNoBranch last
+  no_call : (k : ℕ) (name : Bytes) (ps : Pures) → CallSub k name ps ≡ last → ⊥
 
-  line_ends : (i : ℕ) (line : Line) (code : List Step) → line_code p i line ≡ Some code → is_end line.form ≡ true → EndsBack code
+ends_more : (xs : List Step) (ys : List Step) (last : Step) → IsNoBranch last → ((k : ℕ) (name : Bytes) (ps : Pures) → CallSub k name ps ≡ last → ⊥) → EndsWell (xs ++ (ys ++ last ∷ []))
+ends_more xs ys last no_branch no_call = record { front = xs ++ ys; last = last; all = sym (joined_behind xs ys (last ∷ [])); no_branch = no_branch; no_call = no_call }
+
+ends_same : (xs : List Step) → EndsWell xs → EndsWell (xs ++ [])
+ends_same xs ends = subst EndsWell (sym (nothing_behind xs)) ends
+
+turn_ends : (once : Bool) (n : ℕ) (ps : Pures) (xs : List Step) → EndsWell xs → EndsWell (xs ++ turn_code once n ps)
+unfolding turn_code back_by
+turn_ends once n NoPure xs ends = ends_same xs ends
+turn_ends once n (AndPure x NoPure) xs ends = ends_same xs ends
+turn_ends once n (AndPure x (AndPure first NoPure)) xs ends = ends_same xs ends
+turn_ends once n (AndPure x (AndPure first (AndPure limit NoPure))) xs ends = ends_same xs ends
+turn_ends true n (AndPure x (AndPure first (AndPure limit (AndPure by NoPure)))) xs ends = ends_more xs (_ ∷ []) (AgainIf (test_by x limit by) n) tt (λ k name ps e. absurd (cc))
+turn_ends false n (AndPure x (AndPure first (AndPure limit (AndPure by NoPure)))) xs ends = ends_more xs (_ ∷ []) (Again n) tt (λ k name ps e. absurd (cc))
+turn_ends once n (AndPure x (AndPure first (AndPure limit (AndPure by (AndPure q ps))))) xs ends = ends_same xs ends
+
+turn_ends_by : (b : Bool) (turn : List Step) (n : ℕ) (xs : List Step) → EndsWell (xs ++ turn) → EndsWell (xs ++ (if b then turn else Again n ∷ []))
+turn_ends_by true turn n xs ends = ends
+turn_ends_by false turn n xs ends = ends_more xs [] (Again n) tt (λ k name ps e. absurd (cc))
+
+turns_end : (p : ProgramUnit) (q : ℕ) (rs : List Range) (xs : List Step) → EndsWell xs → EndsWell (xs ++ turns_of p q rs)
+unfolding turns_of turn_of
+turns_end p q [] xs ends = ends_same xs ends
+turns_end p q (r ∷ rs) xs ends =
+    subst EndsWell (sym (joined_behind xs (turn_of p q r) (turns_of p (q + turn_size p r) rs)))
+    (turns_end p (q + turn_size p r) rs (xs ++ turn_of p q r)
+    (turn_ends_by (is_counted (slice_get p.lines r.first)) (turn_code p.onetrip (way_back p r (q + 1)) (loop_lowered p (free_at p r.first) r).value) (way_back p r q) xs
+    (turn_ends p.onetrip (way_back p r (q + 1)) (loop_lowered p (free_at p r.first) r).value xs ends)))
+
+module _ (p : ProgramUnit) (turned : (i from : ℕ) → length (turns_of p from (ended_at p i)) ≡ turn_sizes p (ended_at p i)) where
+  line_ends : (i : ℕ) (line : Line) (code : List Step) → line_code p i line ≡ Some code → is_end line.form ≡ true → EndsWell code
   line_ends i line code e end =
-      let parts = line_parts p quiet i line code e in
+      let parts = line_parts p turned i line code e in
       let is = end_is line.form end in
       let own = end_code p.onetrip (free_at p i) (room_of p i line) line.form parts.own is parts.is in
       let none = end_passes (is_named (all_named p.lines) line.label) line.form is in
-      record {
-        front = skip_code p i line.mark;
-        all = ap (λ z. skip_code p i line.mark ++ z) (own ∙ sym (nothing_behind parts.own) ∙ ap (λ z. parts.own ++ z) (sym none)) ∙ parts.all;
-      }
+      let front = skip_code p i line.mark ++ (parts.own ++ passing_step p turned line) in
+      let back : skip_code p i line.mark ++ (Back ∷ []) ≡ front = ap (λ z. skip_code p i line.mark ++ z) (own ∙ sym (nothing_behind parts.own) ∙ ap (λ z. parts.own ++ z) (sym none)) in
+      subst EndsWell parts.all (turns_end p (own_end p i) (ended_at p i) front (record { front = skip_code p i line.mark; last = Back; all = back; no_branch = tt; no_call = λ k name ps e'. absurd (cc) }))
 
-  lines_end : (lines : List Line) (i : ℕ) (line : Line) (steps : List Step) → lines_code p i (line ∷ lines) ≡ Some steps → ends_behind line.form lines ≡ true → EndsBack steps
+  lines_end : (lines : List Line) (i : ℕ) (line : Line) (steps : List Step) → lines_code p i (line ∷ lines) ≡ Some steps → ends_behind line.form lines ≡ true → EndsWell steps
   unfolding lines_code ends_behind
   lines_end [] i line steps e end =
-      let both = both_by p quiet (line_code p i line) (Some []) steps e in
+      let both = both_by p turned (line_code p i line) (Some []) steps e in
       let nothing' : both.later ≡ [] = (let later = both.later_is in cc) in
       let last = line_ends i line both.first both.first_is end in
-      record { front = last.front; all = last.all ∙ sym (nothing_behind both.first) ∙ ap (λ z. both.first ++ z) (sym nothing') ∙ both.all }
+      subst EndsWell both.all (subst (λ z. EndsWell (both.first ++ z)) (sym nothing') (ends_same both.first last))
   lines_end (next ∷ lines) i line steps e end =
-      let both = both_by p quiet (line_code p i line) (lines_code p (suc i) (next ∷ lines)) steps e in
+      let both = both_by p turned (line_code p i line) (lines_code p (suc i) (next ∷ lines)) steps e in
       let last = lines_end lines (suc i) next both.later both.later_is end in
-      record { front = both.first ++ last.front; all = sym (joined_behind both.first last.front (Back ∷ [])) ∙ ap (λ z. both.first ++ z) last.all ∙ both.all }
+      record { front = both.first ++ last.front; last = last.last; all = sym (joined_behind both.first last.front (last.last ∷ [])) ∙ ap (λ z. both.first ++ z) last.all ∙ both.all; no_branch = last.no_branch; no_call = last.no_call }
 
-  unit_ends : (lines : List Line) (steps : List Step) → lines_code p 0 lines ≡ Some steps → has_end lines ≡ true → EndsBack steps
+  unit_ends : (lines : List Line) (steps : List Step) → lines_code p 0 lines ≡ Some steps → has_end lines ≡ true → EndsWell steps
   unfolding has_end
   unit_ends [] steps e end = absurd (true≢false (sym end))
   unit_ends (line ∷ lines) steps e end = lines_end lines 0 line steps e end
 
-followed_by : (u : Text) (front : List Step) → front ++ Back ∷ [] ≡ u.steps → (q k : ℕ) (name : Bytes) (ps : Pures) → slice_get u.steps q ≡ Some (CallSub k name ps) → IsFollowed u q
-followed_by u front all q k name ps e =
-    let last : slice_get u.steps (length front) ≡ Some Back = ap (λ z. slice_get z (length front)) (sym all) ∙ last_step front Back in
+followed_by : (u : Text) (ends : EndsWell u.steps) (q k : ℕ) (name : Bytes) (ps : Pures) → slice_get u.steps q ≡ Some (CallSub k name ps) → IsFollowed u q
+followed_by u ends q k name ps e =
+    let last : slice_get u.steps (length ends.front) ≡ Some ends.last = ap (λ z. slice_get z (length ends.front)) (sym ends.all) ∙ last_step ends.front ends.last in
     record {
-      at = length front;
-      step = Back;
-      behind = before_last front q Back (CallSub k name ps) (ap (λ z. slice_get z q) all ∙ e) (λ same. absurd (cc));
+      at = length ends.front;
+      step = ends.last;
+      behind = before_last ends.front q ends.last (CallSub k name ps) (ap (λ z. slice_get z q) ends.all ∙ e) (ends.no_call k name ps);
       is = last;
-      ordinary = ordinary_by u (length front) Back last tt;
+      ordinary = ordinary_by u (length ends.front) ends.last last ends.no_branch;
     }
 
-laid_out_by : (c : Facts) (x : Option (List Step)) (u : Text) → lines_code c.program 0 c.program.lines ≡ x → text_with c x ≡ Some u → are_direct c.program.lines ≡ true → has_end c.program.lines ≡ true → IsLaidOut u
+laid_out_by : (c : Facts) (x : Option (List Step)) (u : Text) → lines_code c.program 0 c.program.lines ≡ x → text_with c x ≡ Some u → are_direct c.program.lines ≡ true → has_end c.program.lines ≡ true → LoopsFit c.program → IsLaidOut u
 unfolding text_with
-laid_out_by c None u lowered e direct end = absurd (cc)
-laid_out_by c (Some steps) u lowered e direct end =
+laid_out_by c None u lowered e direct end fits = absurd (cc)
+laid_out_by c (Some steps) u lowered e direct end fits =
     let same : text_of c steps ≡ u = cc in
-    let last = unit_ends c.program (none_ended c.program direct) c.program.lines steps lowered end in
+    let last = unit_ends c.program (turned c steps lowered direct fits) c.program.lines steps lowered end in
     subst IsLaidOut same (record {
-      free = free_at c.program;
-      stands = stands c steps lowered direct;
-      skips = skips_to_end c steps lowered direct;
-      closes = λ i line is marked. closes_by c steps lowered direct line.mark line.form marked (direct_at c.program.lines i line direct is);
+      stands = stands c steps lowered direct fits;
+      skips = λ i e' line is marked ends. (skips_to_end c steps lowered direct fits i e' line is marked ends, same_end c steps lowered direct fits (length c.program.lines) i e' line (omega arith) is marked ends);
+      closes = λ i line is marked. closes_by c steps lowered direct fits line.mark line.form marked (direct_at c.program.lines i line direct is);
+      flat = flat c steps lowered direct fits;
       labels = λ label i e'. ap (option_map (start_of c.program)) e';
-      followed = followed_by (text_of c steps) last.front last.all;
+      followed = followed_by (text_of c steps) last;
+      rises = own_up c steps lowered direct fits;
+      own = own_is c steps lowered direct fits;
+      kept = λ i r among. kept_at c.program i r (chain_at c.program (are_nested c.program fits) i) among;
+      behind = behind c steps lowered direct fits;
+      chain = chain_at c.program (are_nested c.program fits);
+      before = before c steps lowered direct fits;
+      entries = entries_fit c.program fits;
+      branches = λ i line is. branches_fit c.program fits i line is (marked_start line.mark line.form (direct_at c.program.lines i line direct is));
+      assigned = assigned_reaches c.program (loops_plain c steps lowered direct fits);
     })
 
-pub laid_out : (c : Facts) (u : Text) → lowered_unit c ≡ Some u → are_direct c.program.lines ≡ true → has_end c.program.lines ≡ true → IsLaidOut u
+pub laid_out : (c : Facts) (u : Text) → lowered_unit c ≡ Some u → are_direct c.program.lines ≡ true → has_end c.program.lines ≡ true → LoopsFit c.program → IsLaidOut u
 unfolding lowered_unit
-laid_out c u e direct end = laid_out_by c (lines_code c.program 0 c.program.lines) u refl e direct end
+laid_out c u e direct end fits = laid_out_by c (lines_code c.program 0 c.program.lines) u refl e direct end fits

@@ -3,11 +3,18 @@ mod ShapeLemmas
 mod ClosingLemmas
 mod ExpressionLemmas
 mod ExampleLemmas
+mod OperandLemmas
 mod CostLemmas
 mod PlaceLemmas
 mod LabelLemmas
 mod CallLemmas
+mod CourseLemmas
+mod TransferLemmas
 mod StatementLemmas
-mod LocalLemmas
+mod DoLemmas
+pub mod LocalLemmas
 mod CodeLemmas
-mod LayoutLemmas
+mod TurnLemmas
+mod LoopLemmas
+mod RangeLemmas
+pub mod LayoutLemmas

@@ -1,16 +1,14 @@
 -- Forms over operands: their lowering and their valuing, each by the operands; expressions that take no steps; temporaries that grow.
-use Rattle.std.specs.Prelude.{◌≡◌, ℕ, suc, ◌<◌, ◌≤◌, Bool, true, false, ◌&&◌, ◌||◌, List, [], ◌∷◌, ◌++◌, Option, Some, None, slice_get}
-use Rattle.std.proofs.Common.{refl, sym, ap, ◌∙◌, subst, arith, true≢false}
-use Rattle.simulation.specs.Machine.{Goes}
-use Rattle.f_tree.specs.Values.{Bytes, Datum, Checked, Gives, Fails, Act, given_that}
-use Rattle.f_tree.specs.Terms.{Operator, Add, Subtract, Multiply, Divide, IsLess, IsLessOrEqual, IsEqual, IsNotEqual, IsGreater, IsGreaterOrEqual, Both, Either, Same, Different, Function, Callee, Term, Val, Fetch, At, All, Element, Alone, Part, Joined, Before, Between, Intrinsically, Refer, Bind, Bound, Terms, NoMore, More, refers, any_refers}
+use Rattle.std.specs.Prelude.{◌≡◌, ℕ, ◌≤◌, Bool, true, false, ◌&&◌, ◌||◌, List, [], ◌∷◌, ◌++◌}
+use Rattle.std.proofs.Common.{refl, sym, ap, ◌∙◌, arith, true≢false}
+use Rattle.f_tree.specs.Values.{Bytes, Datum, Checked, Gives, Fails}
+use Rattle.f_tree.specs.Terms.{Operator, Add, Subtract, Multiply, Divide, IsLess, IsLessOrEqual, IsEqual, IsNotEqual, IsGreater, IsGreaterOrEqual, Both, Either, Same, Different, Function, Term, Val, Fetch, At, All, Element, Alone, Part, Joined, Before, Between, Intrinsically, Refer, Bind, Bound, Terms, NoMore, More, refers, any_refers}
 use Rattle.f_tree.specs.Facts.{Facts, Frame}
 use Rattle.f_tree.specs.Store.{Store}
 use Rattle.f_tree.specs.Valuing.{Red, Valued, Bad, Asks, then_by, at_once, prefixed, operated, Left, Decided, Wants, Wrong, left_of, right_after, applied, element, alone, part, pieces, joined, fetched, bound_to, whole, array_whole, reduce, reduce_all}
-use Rattle.f_tree.specs.World.{World}
-use Rattle.l_core.specs.Pures.{Pure, Constant, Temporary, Load, Pures, NoPure, AndPure, Temporaries, where_wanted, meant, all_meant}
-use Rattle.l_core.specs.Steps.{Step, Text}
-use Rattle.lowering.specs.Expressions.{Purpose, ForUse, ForCall, ForLater, Lowered, plain, and_then, no_operand, ahead, Shape, AsFetch, AsElement, AsAlone, AsPart, AsJoined, AsBefore, AsBetween, AsFunction, AsReference, is_library, for_place, for_function, operand_purpose, pure_of, kept_steps, kept_free, function_steps, function_free, closing, closed_free, shaped, is_kept, shape_takes, takes_steps, any_takes, may_decide, guarded, lowered_between, in_order, lower, lower_all}
+use Rattle.l_core.specs.Pures.{Pure, Temporary, Pures, NoPure}
+use Rattle.l_core.specs.Steps.{Step}
+use Rattle.lowering.specs.Expressions.{Purpose, ForUse, ForCall, ForLater, Lowered, plain, and_then, no_operand, ahead, Shape, AsFetch, AsElement, AsAlone, AsPart, AsJoined, AsBefore, AsBetween, AsFunction, AsReference, is_library, for_place, for_function, operand_purpose, kept_steps, kept_free, function_steps, function_free, closing, closed_free, shaped, is_kept, shape_takes, takes_steps, any_takes, may_decide, guarded, lowered_between, in_order, lower, lower_all}
 use Rattle.lowering_laws.proofs.WalkLemmas.{IsAtOnce}
 use Rattle.lowering_laws.specs.Midway.{formed, finish, Fits, of_fetch, of_element, of_alone, of_part, of_joined, of_before, of_between, of_function, of_reference}
 

@@ -1,5 +1,5 @@
 -- Each step of a unit is followed by the steps of its text.
-use Rattle.std.specs.Prelude.{◌≡◌, ℕ, zero, suc, ◌+◌, ◌<◌, ◌≤◌, ℤ, pos, int_lt, Bool, true, false, not, ◌&&◌, List, [], ◌∷◌, ◌++◌, length, Option, Some, None, slice_get, bytes_eq, if◌then◌else◌}
+use Rattle.std.specs.Prelude.{◌≡◌, ℕ, zero, suc, ◌+◌, ◌≤◌, ℤ, pos, int_lt, Bool, true, false, not, ◌&&◌, List, [], ◌∷◌, length, Option, Some, None, slice_get, bytes_eq, negsuc, if◌then◌else◌}
 use Rattle.std.specs.Ordering.{int_eq}
 use Rattle.std.proofs.Common.{refl, sym, ap, ◌∙◌, subst, arith}
 use Rattle.simulation.specs.Machine.{Goes, Ends, Breaks}
@@ -7,25 +7,28 @@ use Rattle.f_tree.specs.Values as value
 use Rattle.f_tree.specs.Values.{Bytes, Spot, Datum, IsLog, IsSpot, Nothing, BadAssignedLabel, Checked, Gives, Fails, given_that}
 use Rattle.f_tree.specs.Terms.{IsLess, IsEqual, AsSubroutine, Terms}
 use Rattle.f_tree.specs.Store.{Store, Whole, Label, Number, Truth, define, define_label, label_at, fetch}
-use Rattle.f_tree.specs.Facts.{ToSet, ToSetLabel, ToGo, ToPick, ToGoAssigned, ToGoBySign, ToGuard, ToEnterArm, ToCall, ToReturn, ToStop, ToEnd, Head, Form, Passes, On, UnitKind, MainProgram, SubroutineUnit, FunctionUnit, BlockDataUnit, Frame}
+use Rattle.f_tree.specs.Facts.{ToSet, ToSetLabel, ToGo, ToPick, ToGoAssigned, ToGoBySign, ToGuard, ToEnterArm, ToTestLoop, ToCall, ToReturn, ToStop, ToBegin, ToTransfer, ToFinish, ToAuxiliary, ToEnd, Head, Form, Passes, On, Line, UnitKind, MainProgram, SubroutineUnit, FunctionUnit, BlockDataUnit, Frame, ToLoop}
 use Rattle.f_tree.specs.Valuing.{operated, on_integers, left_of}
 use Rattle.f_tree.specs.World as fortran
-use Rattle.f_tree.specs.World.{World, Happening, proceeding}
+use Rattle.f_tree.specs.World.{World, Round, While, Happening, proceeding}
+use Rattle.f_tree.specs.Nests.{loop_of, open_at}
 use Rattle.f_tree.specs.Association.{answer, alternate_of, result_from, result_given, cut_to}
-use Rattle.f_tree.specs.Places.{place_of_label, arm_after, gone_to}
-use Rattle.f_tree.specs.Step.{onward, go, onward_with, guarded, arm_entered, nth_label, is_allowed, enters_block, name_of, gone_by, by_sign, deed, stop_ending}
+use Rattle.f_tree.specs.Places.{place_of_label, terminal_of, arm_after, passed, gone_to}
+use Rattle.f_tree.specs.Step.{onward, go, onward_with, guarded, arm_entered, loop_tested, nth_label, contains, is_allowed, enters_block, name_of, gone_by, by_sign, deed, stop_ending}
 use Rattle.f_tree.specs.Step as source
 use Rattle.l_core.specs.Pures.{Pure, Constant, Operated, Pures, NoPure, AndPure, Temporaries, where_wanted, meant, all_meant}
-use Rattle.l_core.specs.Steps.{Step, Put, PutLabel, Unless, Jump, Select, JumpBy, CallSub, Back, BackBy, Halt, Text}
-use Rattle.l_core.specs.Machine.{Doing, step, done, storing, put_at, put_label_at, testing, to, jump, selecting, label_held, jumping, calling, answering, answering_by, resting}
+use Rattle.l_core.specs.Steps.{Acting, Starts, Takes, Finishes, Auxiliary, Step, Put, PutLabel, Unless, Jump, Select, JumpBy, CallSub, Back, BackBy, Halt, Acts, Text}
+use Rattle.l_core.specs.Machine.{Doing, step, done, storing, put_at, put_label_at, testing, to, jump, selecting, label_held, jumping, calling, answering, answering_by, resting, course_of, coursing, acting}
 use Rattle.l_core.specs.Machine as target
 use Rattle.lowering_laws.specs.Walks.{Spans, at_step, IsOrdinary, Keeps, stays, goes}
-use Rattle.lowering_laws.specs.Layer.{IsNoLabel, labels_in, IsAnswered, Found, KnowsLabels, IsCalled, Leads, there, plainly, own_of, IsClosing, for_set, for_set_label, for_go, for_pick, for_go_assigned, for_go_by_sign, for_guard, for_arm, for_call, for_return, for_return_by, for_stop, for_end, by_sign_steps, IsCode, Stands, IsLaidOut}
+use Rattle.lowering_laws.specs.Layer.{IsNoLabel, labels_in, IsAnswered, Found, KnowsLabels, IsCalled, IsFollowed, Leads, there, Arrives, plainly, ends_of, AllBefore, AreRounds, Reaches, BranchesWell, HeadBranches, BranchesNow, HasTransfer, IsFlat, IsNextArm, IsLoop, IsClosing, for_set, for_set_label, for_go, for_pick, for_go_assigned, for_go_by_sign, for_guard, for_arm, for_test, for_call, for_return, for_return_by, for_stop, for_end, for_begin, for_item, for_finish, for_auxiliary, by_sign_steps, IsCode, Stands, IsLaidOut, IsPart, is_whole, is_under, for_loop}
 use Rattle.lowering_laws.proofs.WalkLemmas.{IsNoBranch, ordinary_by, spans_one, spans_first, spans_length}
 use Rattle.lowering.specs.Statements.{passes_label}
-use Rattle.lowering_laws.proofs.LabelLemmas.{fetch_none, answered_none, alternate_answered}
+use Rattle.lowering.specs.Units.{free_at, loop_exit}
+use Rattle.lowering_laws.proofs.LabelLemmas.{fetch_none, contains_nth, answered_none, alternate_answered}
 use Rattle.lowering_laws.proofs.CallLemmas.{call_alike, called_back}
-use Rattle.lowering_laws.proofs.PlaceLemmas.{code_stands, Alike, at_form, leads_to_end, comes_to, arrives, next_arm_at, passes_on, goes_to_label}
+use Rattle.lowering_laws.proofs.TransferLemmas.{begin_alike, item_alike, finish_alike, auxiliary_alike}
+use Rattle.lowering_laws.proofs.PlaceLemmas.{code_stands, Alike, part_quiet, now_branches, at_form, leads_to_end, comes_to, arrives, next_arm_at, passes_behind, passes_on, goes_to_label}
 
 -- ## Values of operands
 
@@ -47,17 +50,17 @@ two_values : (c : _) (f : Frame) (m : Temporaries) (s : Store) (p q : Pure) (ds 
 unfolding all_meant
 two_values c f m s p q ds is = two_by c f m s p q ds (meant c f m s p) (meant c f m s q) refl refl is
 
-record OneValue (c : _) (f : Frame) (m : Temporaries) (s : Store) (p : Pure) (ds : List Datum) : Type 0 where
-  first : Datum
-  first_is : meant c f m s p ≡ Gives first
-  are : ds ≡ first ∷ []
+pub record OneValue (c : _) (f : Frame) (m : Temporaries) (s : Store) (p : Pure) (ds : List Datum) : Type 0 where
+  pub first : Datum
+  pub first_is : meant c f m s p ≡ Gives first
+  pub are : ds ≡ first ∷ []
 
 one_by : (c : _) (f : Frame) (m : Temporaries) (s : Store) (p : Pure) (ds : List Datum) (x : Checked Datum) → meant c f m s p ≡ x → given_that x (λ d. given_that (Gives []) (λ es. Gives (d ∷ es))) ≡ Gives ds → OneValue c f m s p ds
 unfolding given_that
 one_by c f m s p ds (Gives a) e is = record { first = a; first_is = e; are = (let all : ds ≡ a ∷ [] = cc in all) }
 one_by c f m s p ds (Fails act) e is = absurd (cc)
 
-one_value : (c : _) (f : Frame) (m : Temporaries) (s : Store) (p : Pure) (ds : List Datum) → all_meant c f m s (AndPure p NoPure) ≡ Gives ds → OneValue c f m s p ds
+pub one_value : (c : _) (f : Frame) (m : Temporaries) (s : Store) (p : Pure) (ds : List Datum) → all_meant c f m s (AndPure p NoPure) ≡ Gives ds → OneValue c f m s p ds
 unfolding all_meant
 one_value c f m s p ds is = one_by c f m s p ds (meant c f m s p) refl is
 
@@ -67,78 +70,93 @@ no_value c f m s ds is = (let none : ds ≡ [] = cc in none)
 
 -- ## What a statement does once its operands are valued
 
+-- the label that a number picks is one of the list
+nth_contained : (labels : List ℕ) (z : ℤ) (label : ℕ) → nth_label labels z ≡ Some label → contains labels label ≡ true
+unfolding nth_label
+nth_contained labels (pos zero) label e = absurd (cc)
+nth_contained labels (pos (suc n)) label e = contains_nth labels n label e
+nth_contained labels (negsuc n) label e = absurd (cc)
+
+pub whole_form : (form : Form) (j : ℕ) (head : Head) (ts : Terms) → IsPart form (Some j) head ts → form ≡ On head ts
+whole_form form j head ts (is_whole e) = e
+
 -- behind a way the text does what FORTRAN does
 pub record Led (u : Text) (f : Frame) (h : ℕ) (w : World) (μ : Found) (q : ℕ) (m : Temporaries) (ev : Happening) : Type 0 where
   pub upto : ℕ
   pub kept : Temporaries
   pub way : Keeps u f h w q m upto kept
   pub ordinary : IsOrdinary u upto
-  pub alike : Alike u μ upto ev (step u (at_step f h upto kept) w)
+  pub alike : Alike u μ (IsFollowed u upto) ev (step u (at_step f h upto kept) w)
 
-module _ (u : Text) (laid : IsLaidOut u) (f : Frame) (h : ℕ) (μ : Found) (w : World) (i q : ℕ) (m : Temporaries) (now : fortran.Now) (same : w.transfer ≡ μ.transfer) (called : IsCalled u.facts.program.kind f μ) where
-  source_view : fortran.View
-  source_view = record { frame = f; at = i; now = now; loops = [] }
+module _ (u : Text) (laid : IsLaidOut u) (f : Frame) (h : ℕ) (μ : Found) (w : World) (i q : ℕ) (m : Temporaries) (now : fortran.Now) (same : w.transfer ≡ μ.transfer) (called : IsCalled u.facts.program.kind f μ)
+    (rounds : List Round) (stand : AreRounds u f m (open_at u.facts.program i) rounds) (line : Line) (place : slice_get u.facts.program.lines i ≡ Some line) (low : u.begins i ≤ q) where
+  -- the statement is done
+  done_with : (w' : World) → w'.transfer ≡ μ.transfer → (p : ℕ) → q ≤ p → p ≡ ends_of u i → loop_of line.form ≡ None →
+      Alike u μ (IsFollowed u q) (proceeding (passed u.facts.program f rounds i) w') (Goes (at_step f h p m) w')
+  done_with w' same' p up end quiet = passes_on u laid f h μ w' m same' called (IsFollowed u q) rounds i p line place quiet stand (plainly (omega (arith, low, up)) (subst (λ z. Leads u p z) end there))
 
-  stored_alike : (x : Checked Store) → suc q ≡ u.begins (suc i) → Alike u μ q (onward_with u.facts (record { frame = f; at = i; now = now; loops = [] }) w x) (storing (at_step f h q m) w x)
+  to_label : (label : ℕ) → Reaches u.facts.program i label → Alike u μ (IsFollowed u q) (proceeding (gone_to u.facts.program f rounds label) w) (jump u label (at_step f h q m) w)
+  to_label label reaches = goes_to_label u laid f h μ w m same called (IsFollowed u q) rounds i label q stand reaches
+
+  stored_alike : (x : Checked Store) → loop_of line.form ≡ None → suc q ≡ ends_of u i → Alike u μ (IsFollowed u q) (onward_with u.facts (record { frame = f; at = i; now = now; loops = rounds }) w x) (storing (at_step f h q m) w x)
   unfolding onward_with storing onward target.onward to
-  stored_alike (Gives s) end =
-      passes_on u laid f h μ (record w { store = s }) m same called q i (suc q) (plainly (subst (λ z. Leads u (suc q) z) end there))
-  stored_alike (Fails act) end = tt
+  stored_alike (Gives s) quiet end = done_with (record w { store = s }) same (suc q) (omega arith) end quiet
+  stored_alike (Fails act) quiet end = tt
 
-  set_alike : (d r : Datum) → suc q ≡ u.begins (suc i) → Alike u μ q (deed u.facts (record { frame = f; at = i; now = now; loops = [] }) w ToSet (d ∷ r ∷ [])) (storing (at_step f h q m) w (put_at w.store r d))
+  set_alike : (d r : Datum) → loop_of line.form ≡ None → suc q ≡ ends_of u i → Alike u μ (IsFollowed u q) (deed u.facts (record { frame = f; at = i; now = now; loops = rounds }) w ToSet (d ∷ r ∷ [])) (storing (at_step f h q m) w (put_at w.store r d))
   unfolding deed put_at
-  set_alike d (IsSpot p) end = stored_alike (define w.store p d) end
-  set_alike d (value.IsInt z) end = tt
-  set_alike d (value.IsLog b) end = tt
-  set_alike d (value.IsText cs) end = tt
-  set_alike d (value.IsProc x) end = tt
-  set_alike d (value.IsLabel l) end = tt
-  set_alike d value.Nothing end = tt
+  set_alike d (IsSpot p) quiet end = stored_alike (define w.store p d) quiet end
+  set_alike d (value.IsInt z) quiet end = tt
+  set_alike d (value.IsLog b) quiet end = tt
+  set_alike d (value.IsText cs) quiet end = tt
+  set_alike d (value.IsProc x) quiet end = tt
+  set_alike d (value.IsLabel l) quiet end = tt
+  set_alike d value.Nothing quiet end = tt
 
   -- a label that is assigned
-  set_label_alike : (label : ℕ) (r : Datum) → suc q ≡ u.begins (suc i) → Alike u μ q (deed u.facts (record { frame = f; at = i; now = now; loops = [] }) w (ToSetLabel label) (r ∷ [])) (storing (at_step f h q m) w (put_label_at u w.store label r))
+  set_label_alike : (label : ℕ) (r : Datum) → loop_of line.form ≡ None → suc q ≡ ends_of u i → Alike u μ (IsFollowed u q) (deed u.facts (record { frame = f; at = i; now = now; loops = rounds }) w (ToSetLabel label) (r ∷ [])) (storing (at_step f h q m) w (put_label_at u w.store label r))
   unfolding deed put_label_at
-  set_label_alike label (IsSpot p) end = stored_alike (define_label w.store p (name_of u.facts.program) label) end
-  set_label_alike label (value.IsInt z) end = tt
-  set_label_alike label (value.IsLog b) end = tt
-  set_label_alike label (value.IsText cs) end = tt
-  set_label_alike label (value.IsProc x) end = tt
-  set_label_alike label (value.IsLabel l) end = tt
-  set_label_alike label value.Nothing end = tt
+  set_label_alike label (IsSpot p) quiet end = stored_alike (define_label w.store p (name_of u.facts.program) label) quiet end
+  set_label_alike label (value.IsInt z) quiet end = tt
+  set_label_alike label (value.IsLog b) quiet end = tt
+  set_label_alike label (value.IsText cs) quiet end = tt
+  set_label_alike label (value.IsProc x) quiet end = tt
+  set_label_alike label (value.IsLabel l) quiet end = tt
+  set_label_alike label value.Nothing quiet end = tt
 
   -- to the label that a number picks, or on
-  picked_alike : (x : Option ℕ) → suc q ≡ u.begins (suc i) → Alike u μ q (source.picked u.facts (record { frame = f; at = i; now = now; loops = [] }) w x) (target.picked u (at_step f h q m) w x)
+  picked_alike : (x : Option ℕ) → loop_of line.form ≡ None → ((label : ℕ) → x ≡ Some label → Reaches u.facts.program i label) → suc q ≡ ends_of u i → Alike u μ (IsFollowed u q) (source.picked u.facts (record { frame = f; at = i; now = now; loops = rounds }) w x) (target.picked u (at_step f h q m) w x)
   unfolding source.picked target.picked onward target.onward to go
-  picked_alike None end = passes_on u laid f h μ w m same called q i (suc q) (plainly (subst (λ z. Leads u (suc q) z) end there))
-  picked_alike (Some label) end = goes_to_label u laid f h μ w m same called q label q
+  picked_alike None quiet reach end = done_with w same (suc q) (omega arith) end quiet
+  picked_alike (Some label) quiet reach end = to_label label (reach label refl)
 
-  pick_alike : (labels : List ℕ) (d : Datum) → suc q ≡ u.begins (suc i) → Alike u μ q (deed u.facts (record { frame = f; at = i; now = now; loops = [] }) w (ToPick labels) (d ∷ [])) (selecting u labels (at_step f h q m) w (Gives d))
+  pick_alike : (labels : List ℕ) (d : Datum) → loop_of line.form ≡ None → ((label : ℕ) → contains labels label ≡ true → Reaches u.facts.program i label) → suc q ≡ ends_of u i → Alike u μ (IsFollowed u q) (deed u.facts (record { frame = f; at = i; now = now; loops = rounds }) w (ToPick labels) (d ∷ [])) (selecting u labels (at_step f h q m) w (Gives d))
   unfolding deed selecting
-  pick_alike labels (value.IsInt z) end = picked_alike (nth_label labels z) end
-  pick_alike labels (IsSpot p) end = tt
-  pick_alike labels (value.IsLog b) end = tt
-  pick_alike labels (value.IsText cs) end = tt
-  pick_alike labels (value.IsProc x) end = tt
-  pick_alike labels (value.IsLabel l) end = tt
-  pick_alike labels value.Nothing end = tt
+  pick_alike labels (value.IsInt z) quiet reach end = picked_alike (nth_label labels z) quiet (λ label e. reach label (nth_contained labels z label e)) end
+  pick_alike labels (IsSpot p) quiet reach end = tt
+  pick_alike labels (value.IsLog b) quiet reach end = tt
+  pick_alike labels (value.IsText cs) quiet reach end = tt
+  pick_alike labels (value.IsProc x) quiet reach end = tt
+  pick_alike labels (value.IsLabel l) quiet reach end = tt
+  pick_alike labels value.Nothing quiet reach end = tt
 
   -- to the label that a place holds: where FORTRAN says so, it is of this unit and allowed
-  chosen_alike : (own inside : Bool) (label : ℕ) →
-      Alike u μ q (if own && not inside then go u.facts (record { frame = f; at = i; now = now; loops = [] }) w label else Breaks BadAssignedLabel) (if own then jump u label (at_step f h q m) w else Breaks BadAssignedLabel)
+  chosen_alike : (own inside : Bool) (label : ℕ) → (inside ≡ false → Reaches u.facts.program i label) →
+      Alike u μ (IsFollowed u q) (if own && not inside then go u.facts (record { frame = f; at = i; now = now; loops = rounds }) w label else Breaks BadAssignedLabel) (if own then jump u label (at_step f h q m) w else Breaks BadAssignedLabel)
   unfolding go
-  chosen_alike true true label = tt
-  chosen_alike true false label = goes_to_label u laid f h μ w m same called q label q
-  chosen_alike false inside label = tt
+  chosen_alike true true label reach = tt
+  chosen_alike true false label reach = to_label label (reach refl)
+  chosen_alike false inside label reach = tt
 
-  held_alike : (labels : List ℕ) (x : Checked Whole) → Alike u μ q (gone_by u.facts (record { frame = f; at = i; now = now; loops = [] }) w labels x) (jumping u labels (at_step f h q m) w x)
+  held_alike : (labels : List ℕ) (x : Checked Whole) → Alike u μ (IsFollowed u q) (gone_by u.facts (record { frame = f; at = i; now = now; loops = rounds }) w labels x) (jumping u labels (at_step f h q m) w x)
   unfolding gone_by jumping
   held_alike labels (Gives (Label owner l)) =
-      chosen_alike (bytes_eq owner (name_of u.facts.program) && is_allowed labels l) (enters_block u.facts.program i (place_of_label u.facts.program l)) l
+      chosen_alike (bytes_eq owner (name_of u.facts.program) && is_allowed labels l) (enters_block u.facts.program i (place_of_label u.facts.program l)) l (laid.assigned i l)
   held_alike labels (Gives (Number z)) = tt
   held_alike labels (Gives (Truth b)) = tt
   held_alike labels (Fails act) = tt
 
-  assigned_alike : (labels : List ℕ) (d : Datum) → Alike u μ q (deed u.facts (record { frame = f; at = i; now = now; loops = [] }) w (ToGoAssigned labels) (d ∷ [])) (jumping u labels (at_step f h q m) w (label_held w.store d))
+  assigned_alike : (labels : List ℕ) (d : Datum) → Alike u μ (IsFollowed u q) (deed u.facts (record { frame = f; at = i; now = now; loops = rounds }) w (ToGoAssigned labels) (d ∷ [])) (jumping u labels (at_step f h q m) w (label_held w.store d))
   unfolding deed label_held
   assigned_alike labels (IsSpot p) = held_alike labels (label_at w.store p)
   assigned_alike labels (value.IsInt z) = tt
@@ -149,60 +167,99 @@ module _ (u : Text) (laid : IsLaidOut u) (f : Frame) (h : ℕ) (μ : Found) (w :
   assigned_alike labels value.Nothing = tt
 
   -- what a logical IF guards
-  under_alike : (k : ℕ) (form : Form) → Stands u k None form (suc q) (u.begins (suc i)) → Alike u μ q (guarded u.facts (record { frame = f; at = i; now = now; loops = [] }) w form true) (Goes (at_step f h (suc q) m) w)
+  under_alike : (k : ℕ) (form : Form) → free_at u.facts.program i ≡ k → loop_of line.form ≡ None → BranchesWell u.facts.program i form → Stands u k None form (suc q) (ends_of u i) →
+      Alike u μ (IsFollowed u q) (guarded u.facts (record { frame = f; at = i; now = now; loops = rounds }) w form true) (Goes (at_step f h (suc q) m) w)
   unfolding guarded onward
-  under_alike k Passes stands = passes_on u laid f h μ w m same called q i (suc q) (plainly (leads_to_end u laid f h μ w m same called q k None i (suc q) Passes stands refl))
-  under_alike k (On head ts) stands = comes_to u laid f h μ w m same called q i (suc q) head ts (at_form u laid f h μ w m same called q k None i (suc q) (suc q) (λ j e. absurd (cc)) (On head ts) stands (plainly there) head ts refl)
+  under_alike k Passes enough quiet well stands =
+      passes_on u laid f h μ w m same called (IsFollowed u q) rounds i (suc q) line place quiet stand (plainly (omega (arith, low)) (leads_to_end u laid f h μ w m same called (IsFollowed u q) k None (suc q) (ends_of u i) Passes stands refl))
+  under_alike k (On head ts) enough quiet well stands =
+      comes_to u laid f h μ w m same called (IsFollowed u q) rounds i (suc q) head ts well stand
+      (at_form u f m k None i (suc q) (suc q) enough (λ j e. absurd (cc)) line place (omega (arith, low)) (On head ts) (λ head' ts' e. is_under quiet)
+      (now_branches u.facts.program i head ts well) stands (plainly (omega arith) there) head ts refl)
 
-  past_alike : (form : Form) (under : List Step) → Spans u (suc q) under (u.begins (suc i)) →
-      Alike u μ q (guarded u.facts (record { frame = f; at = i; now = now; loops = [] }) w form false) (Goes (at_step f h (suc q + length under) m) w)
+  past_alike : (form : Form) (under : List Step) → loop_of line.form ≡ None → Spans u (suc q) under (ends_of u i) →
+      Alike u μ (IsFollowed u q) (guarded u.facts (record { frame = f; at = i; now = now; loops = rounds }) w form false) (Goes (at_step f h (suc q + length under) m) w)
   unfolding guarded onward
-  past_alike form under spans = passes_on u laid f h μ w m same called q i (suc q + length under) (plainly (subst (λ z. Leads u (suc q + length under) z) (sym (spans_length u spans)) there))
+  past_alike form under quiet spans = done_with w same (suc q + length under) (omega arith) (sym (spans_length u spans)) quiet
 
-  guard_alike : (k : ℕ) (form : Form) (under : List Step) (d : Datum) → IsCode u k None form under → Spans u (suc q) under (u.begins (suc i)) →
-      Alike u μ q (deed u.facts (record { frame = f; at = i; now = now; loops = [] }) w (ToGuard form) (d ∷ [])) (testing (suc q) (suc q + length under) (at_step f h q m) w (Gives d))
+  guard_alike : (k : ℕ) (form : Form) (under : List Step) (d : Datum) → free_at u.facts.program i ≡ k → loop_of line.form ≡ None → BranchesWell u.facts.program i form → IsCode u k None form under → Spans u (suc q) under (ends_of u i) →
+      Alike u μ (IsFollowed u q) (deed u.facts (record { frame = f; at = i; now = now; loops = rounds }) w (ToGuard form) (d ∷ [])) (testing (suc q) (suc q + length under) (at_step f h q m) w (Gives d))
   unfolding deed testing to
-  guard_alike k form under (IsLog true) code spans = under_alike k form (code_stands u k None form under (suc q) (u.begins (suc i)) code spans)
-  guard_alike k form under (IsLog false) code spans = past_alike form under spans
-  guard_alike k form under (value.IsInt z) code spans = tt
-  guard_alike k form under (value.IsText cs) code spans = tt
-  guard_alike k form under (value.IsSpot p) code spans = tt
-  guard_alike k form under (value.IsProc x) code spans = tt
-  guard_alike k form under (value.IsLabel l) code spans = tt
-  guard_alike k form under value.Nothing code spans = tt
+  guard_alike k form under (IsLog true) enough quiet well code spans = under_alike k form enough quiet well (code_stands u k None form under (suc q) (ends_of u i) code spans)
+  guard_alike k form under (IsLog false) enough quiet well code spans = past_alike form under quiet spans
+  guard_alike k form under (value.IsInt z) enough quiet well code spans = tt
+  guard_alike k form under (value.IsText cs) enough quiet well code spans = tt
+  guard_alike k form under (value.IsSpot p) enough quiet well code spans = tt
+  guard_alike k form under (value.IsProc x) enough quiet well code spans = tt
+  guard_alike k form under (value.IsLabel l) enough quiet well code spans = tt
+  guard_alike k form under value.Nothing enough quiet well code spans = tt
 
   -- the condition of an arm
-  entered_alike : (n : ℕ) (d : Datum) → suc q ≡ u.begins (suc i) → ((j : ℕ) → arm_after u.facts.program i ≡ Some j → u.begins (suc i) + n ≡ own_of u j) →
-      Alike u μ q (deed u.facts (record { frame = f; at = i; now = now; loops = [] }) w ToEnterArm (d ∷ [])) (testing (suc q) (suc q + n) (at_step f h q m) w (Gives d))
+  entered_alike : (n : ℕ) (d : Datum) → suc q ≡ ends_of u i → IsFlat u i → ((j : ℕ) → arm_after u.facts.program i ≡ Some j → IsNextArm u i n j) →
+      Alike u μ (IsFollowed u q) (deed u.facts (record { frame = f; at = i; now = now; loops = rounds }) w ToEnterArm (d ∷ [])) (testing (suc q) (suc q + n) (at_step f h q m) w (Gives d))
   unfolding deed testing to arm_entered
-  entered_alike n (IsLog true) end room = arrives u laid f h μ w m same called q (suc i) (suc q) (plainly (subst (λ z. Leads u (suc q) z) end there))
-  entered_alike n (IsLog false) end room =
-      next_arm_at u laid f h μ w m same called q i (suc q + n) now (arm_after u.facts.program i) (λ j e. ap (λ z. z + n) end ∙ room j e)
-  entered_alike n (value.IsInt z) end room = tt
-  entered_alike n (value.IsText cs) end room = tt
-  entered_alike n (value.IsSpot p) end room = tt
-  entered_alike n (value.IsProc x) end room = tt
-  entered_alike n (value.IsLabel l) end room = tt
-  entered_alike n value.Nothing end room = tt
+  entered_alike n (IsLog true) end flat next =
+      arrives u laid f h μ w m same called (IsFollowed u q) rounds (u.begins i) (suc i) (suc q) (subst (λ z. AreRounds u f m z rounds) (sym flat.same) stand) (subst (AllBefore u (u.begins i)) (sym flat.same) (laid.before i))
+      (plainly (omega (arith, low)) (subst (λ z. Leads u (suc q) z) (end ∙ flat.end) there))
+  entered_alike n (IsLog false) end flat next = next_arm_at u laid f h μ w m same called (IsFollowed u q) rounds i n (suc q + n) now (arm_after u.facts.program i) stand (ap (λ z. z + n) end) next
+  entered_alike n (value.IsInt z) end flat next = tt
+  entered_alike n (value.IsText cs) end flat next = tt
+  entered_alike n (value.IsSpot p) end flat next = tt
+  entered_alike n (value.IsProc x) end flat next = tt
+  entered_alike n (value.IsLabel l) end flat next = tt
+  entered_alike n value.Nothing end flat next = tt
 
-  given_alike : (x : Checked Datum) → ((d : Datum) → x ≡ Gives d → IsNoLabel d) → Alike u μ q (result_given f w x) (answering (result_given f w x))
+  -- the condition of a DO WHILE: into its range, or behind it
+  abbrev TestStands : Option ℕ → ℕ → Type 0
+  TestStands label n = (last : ℕ) → terminal_of u.facts.program i label ≡ Some last → IsLoop u i last × (ends_of u i + n ≡ loop_exit u.facts.program (record { first = i; last = last }))
+
+  tested_by : (o : Type 0) (label : Option ℕ) (ts : Terms) (n : ℕ) (b : Bool) (x : Option ℕ) → terminal_of u.facts.program i label ≡ x → suc q ≡ ends_of u i → line.form ≡ On (ToTestLoop label) ts → TestStands label n →
+      Alike u μ o (loop_tested u.facts (record { frame = f; at = i; now = now; loops = rounds }) w x b) (Goes (at_step f h (if b then suc q else suc q + n) m) w)
+  unfolding loop_tested
+  tested_by o label ts n b None e end is stands = tt
+  tested_by o label ts n true (Some last) e end is stands =
+      let loop' = stands last e in
+      let round : Round = record { first = i; last = last; kind = While } in
+      arrives u laid f h μ w m same called o (round ∷ rounds) (u.begins (suc i)) (suc i) (suc q)
+      (subst (λ z. AreRounds u f m z (round ∷ rounds)) (sym loop'.0.open')
+      (record { first = refl; last = refl; runs = record { line = line; label = label; operands = ts; there = place; is = is; ends = e } }, stand))
+      (laid.before (suc i))
+      (subst (λ z. Arrives u m z (suc q) (u.begins (suc i))) (end ∙ loop'.0.end) (plainly (omega arith) (subst (λ z. Leads u (suc q) z) (end ∙ loop'.0.end) there)))
+  tested_by o label ts n false (Some last) e end is stands =
+      let loop' = stands last e in
+      passes_behind u laid f h μ w m same called o (open_at u.facts.program i) rounds (u.begins i) last (loop_exit u.facts.program (record { first = i; last = last })) (suc q + n) loop'.0.exit (laid.chain i) stand (laid.before i)
+      (plainly (omega (arith, low)) (subst (λ z. Leads u (suc q + n) z) (ap (λ z. z + n) end ∙ loop'.1) there))
+
+  pub test_alike : (o : Type 0) (label : Option ℕ) (ts : Terms) (n : ℕ) (d : Datum) → suc q ≡ ends_of u i → line.form ≡ On (ToTestLoop label) ts → TestStands label n →
+      Alike u μ o (deed u.facts (record { frame = f; at = i; now = now; loops = rounds }) w (ToTestLoop label) (d ∷ [])) (testing (suc q) (suc q + n) (at_step f h q m) w (Gives d))
+  unfolding deed testing to
+  test_alike o label ts n (IsLog true) end is stands = tested_by o label ts n true (terminal_of u.facts.program i label) refl end is stands
+  test_alike o label ts n (IsLog false) end is stands = tested_by o label ts n false (terminal_of u.facts.program i label) refl end is stands
+  test_alike o label ts n (value.IsInt z) end is stands = tt
+  test_alike o label ts n (value.IsText cs) end is stands = tt
+  test_alike o label ts n (value.IsSpot p) end is stands = tt
+  test_alike o label ts n (value.IsProc x) end is stands = tt
+  test_alike o label ts n (value.IsLabel l) end is stands = tt
+  test_alike o label ts n value.Nothing end is stands = tt
+
+  given_alike : (x : Checked Datum) → ((d : Datum) → x ≡ Gives d → IsNoLabel d) → Alike u μ (IsFollowed u q) (result_given f w x) (answering (result_given f w x))
   unfolding result_given answering cut_to
   given_alike (Gives d) none = (refl, same, answered_none μ.labels d (none d refl))
   given_alike (Fails act) none = tt
 
-  result_alike : (x : Option Spot) → Alike u μ q (result_from f w x) (answering (result_from f w x))
+  result_alike : (x : Option Spot) → Alike u μ (IsFollowed u q) (result_from f w x) (answering (result_from f w x))
   unfolding result_from answering
   result_alike None = tt
   result_alike (Some p) = given_alike (fetch w.store p) (λ d e l is. fetch_none w.store p l (e ∙ ap Gives is))
 
-  answer_alike : (kind : UnitKind) (d : Datum) → KnowsLabels kind f μ.labels → IsAnswered f.alternates d → Alike u μ q (answer kind (record { frame = f; at = i; now = now; loops = [] }) w d) (answering (answer kind (resting f) w d))
+  answer_alike : (kind : UnitKind) (d : Datum) → KnowsLabels kind f μ.labels → IsAnswered f.alternates d → Alike u μ (IsFollowed u q) (answer kind (record { frame = f; at = i; now = now; loops = rounds }) w d) (answering (answer kind (resting f) w d))
   unfolding answer answering resting
   answer_alike MainProgram d knows is = (refl, same, tt)
   answer_alike SubroutineUnit d knows is = (refl, same, subst (λ labels. IsAnswered labels d) knows is)
   answer_alike FunctionUnit d knows is = result_alike f.result
   answer_alike BlockDataUnit d knows is = tt
 
-  answered_alike : (d : Datum) → Alike u μ q (deed u.facts (record { frame = f; at = i; now = now; loops = [] }) w ToReturn (d ∷ [])) (answering_by u (at_step f h q m) w (Gives d))
+  answered_alike : (d : Datum) → Alike u μ (IsFollowed u q) (deed u.facts (record { frame = f; at = i; now = now; loops = rounds }) w ToReturn (d ∷ [])) (answering_by u (at_step f h q m) w (Gives d))
   unfolding deed answering_by
   answered_alike (value.IsInt z) = answer_alike u.facts.program.kind (alternate_of f.alternates z) called.labels (alternate_answered f.alternates z)
   answered_alike (IsSpot p) = tt
@@ -218,15 +275,15 @@ module _ (u : Text) (laid : IsLaidOut u) (f : Frame) (h : ℕ) (μ : Found) (w :
 
   -- what a statement comes to, by the step that stands here
   here : (head : Head) (ds ds' : List Datum) (st : Step) (e : Doing) → slice_get u.steps q ≡ Some st → IsNoBranch st → ds ≡ ds' → done u (at_step f h q m) w (Some st) ≡ e →
-      Alike u μ q (deed u.facts (record { frame = f; at = i; now = now; loops = [] }) w head ds') e → Led u f h w μ q m (deed u.facts (record { frame = f; at = i; now = now; loops = [] }) w head ds)
+      Alike u μ (IsFollowed u q) (deed u.facts (record { frame = f; at = i; now = now; loops = rounds }) w head ds') e → Led u f h w μ q m (deed u.facts (record { frame = f; at = i; now = now; loops = rounds }) w head ds)
   here head ds ds' st e there' no_branch are is alike = record {
     upto = q;
     kept = m;
     way = stays;
     ordinary = ordinary_by u q st there' no_branch;
     alike =
-        subst (λ z. Alike u μ q (deed u.facts (record { frame = f; at = i; now = now; loops = [] }) w head z) (step u (at_step f h q m) w)) (sym are)
-        (subst (λ x. Alike u μ q (deed u.facts (record { frame = f; at = i; now = now; loops = [] }) w head ds') x) (sym (step_at st there' ∙ is)) alike);
+        subst (λ z. Alike u μ (IsFollowed u q) (deed u.facts (record { frame = f; at = i; now = now; loops = rounds }) w head z) (step u (at_step f h q m) w)) (sym are)
+        (subst (λ x. Alike u μ (IsFollowed u q) (deed u.facts (record { frame = f; at = i; now = now; loops = rounds }) w head ds') x) (sym (step_at st there' ∙ is)) alike);
   }
 
   -- ## An arithmetic IF
@@ -237,10 +294,10 @@ module _ (u : Text) (laid : IsLaidOut u) (f : Frame) (h : ℕ) (μ : Found) (w :
   unless_to p n r true e is = ap (done u (at_step f h r m) w) e ∙ ap (testing (suc r) (suc r + n) (at_step f h r m) w) is
   unless_to p n r false e is = ap (done u (at_step f h r m) w) e ∙ ap (testing (suc r) (suc r + n) (at_step f h r m) w) is
 
-  jump_alike : (r label : ℕ) → slice_get u.steps r ≡ Some (Jump label) → Alike u μ r (go u.facts (record { frame = f; at = i; now = now; loops = [] }) w label) (step u (at_step f h r m) w)
+  jump_alike : (r label : ℕ) → Reaches u.facts.program i label → slice_get u.steps r ≡ Some (Jump label) → Alike u μ (IsFollowed u r) (go u.facts (record { frame = f; at = i; now = now; loops = rounds }) w label) (step u (at_step f h r m) w)
   unfolding step done go
-  jump_alike r label e =
-      subst (λ x. Alike u μ r (proceeding (gone_to u.facts.program f [] label) w) x) (sym (ap (done u (at_step f h r m) w) e)) (goes_to_label u laid f h μ w m same called r label r)
+  jump_alike r label reaches e =
+      subst (λ x. Alike u μ (IsFollowed u r) (proceeding (gone_to u.facts.program f rounds label) w) x) (sym (ap (done u (at_step f h r m) w) e)) (goes_to_label u laid f h μ w m same called (IsFollowed u r) rounds i label r stand reaches)
 
   below_meant : (p : Pure) (z : ℤ) → meant u.facts f m w.store p ≡ Gives (value.IsInt z) →
       meant u.facts f m w.store (Operated IsLess p (Constant (value.IsInt (pos 0)))) ≡ Gives (IsLog (int_lt z (pos 0)))
@@ -252,13 +309,13 @@ module _ (u : Text) (laid : IsLaidOut u) (f : Frame) (h : ℕ) (μ : Found) (w :
   unfolding meant given_that where_wanted left_of operated on_integers
   at_meant p z e = ap (λ x. given_that x (λ a. where_wanted (left_of IsEqual a) (given_that (Gives (value.IsInt (pos 0))) (operated IsEqual a)))) e
 
-  sign_led : (below at above r : ℕ) (p : Pure) (z : ℤ) → Spans u q (by_sign_steps below at above p) r → meant u.facts f m w.store p ≡ Gives (value.IsInt z) → (x y : Bool) → int_lt z (pos 0) ≡ x → int_eq z (pos 0) ≡ y →
-      Led u f h w μ q m (go u.facts (record { frame = f; at = i; now = now; loops = [] }) w (if x then below else if y then at else above))
-  sign_led below at above r p z spans is true y e e' =
+  sign_led : (below at above r : ℕ) (p : Pure) (z : ℤ) → Reaches u.facts.program i below × Reaches u.facts.program i at × Reaches u.facts.program i above → Spans u q (by_sign_steps below at above p) r → meant u.facts f m w.store p ≡ Gives (value.IsInt z) → (x y : Bool) → int_lt z (pos 0) ≡ x → int_eq z (pos 0) ≡ y →
+      Led u f h w μ q m (go u.facts (record { frame = f; at = i; now = now; loops = rounds }) w (if x then below else if y then at else above))
+  sign_led below at above r p z reach spans is true y e e' =
       let one = spans_first u spans in
       let two = spans_first u one.1 in
-      record { upto = suc q; kept = m; way = goes (ordinary_by u q _ one.0 tt) (unless_to _ 1 q true one.0 (below_meant p z is ∙ ap (λ b. Gives (IsLog b)) e)) (omega arith) stays; ordinary = ordinary_by u (suc q) (Jump below) two.0 tt; alike = jump_alike (suc q) below two.0 }
-  sign_led below at above r p z spans is false true e e' =
+      record { upto = suc q; kept = m; way = goes (ordinary_by u q _ one.0 tt) (unless_to _ 1 q true one.0 (below_meant p z is ∙ ap (λ b. Gives (IsLog b)) e)) (omega arith) stays; ordinary = ordinary_by u (suc q) (Jump below) two.0 tt; alike = jump_alike (suc q) below reach.0 two.0 }
+  sign_led below at above r p z reach spans is false true e e' =
       let one = spans_first u spans in
       let two = spans_first u one.1 in
       let three = spans_first u two.1 in
@@ -270,9 +327,9 @@ module _ (u : Text) (laid : IsLaidOut u) (f : Frame) (h : ℕ) (μ : Found) (w :
         kept = m;
         way = goes (ordinary_by u q _ one.0 tt) first (omega arith) (goes (ordinary_by u (suc (suc q)) _ three.0 tt) (unless_to _ 1 (suc (suc q)) true three.0 (at_meant p z is ∙ ap (λ b. Gives (IsLog b)) e')) (omega arith) stays);
         ordinary = ordinary_by u (suc (suc (suc q))) (Jump at) four.0 tt;
-        alike = jump_alike (suc (suc (suc q))) at four.0;
+        alike = jump_alike (suc (suc (suc q))) at reach.1 four.0;
       }
-  sign_led below at above r p z spans is false false e e' =
+  sign_led below at above r p z reach spans is false false e e' =
       let one = spans_first u spans in
       let two = spans_first u one.1 in
       let three = spans_first u two.1 in
@@ -287,62 +344,71 @@ module _ (u : Text) (laid : IsLaidOut u) (f : Frame) (h : ℕ) (μ : Found) (w :
         kept = m;
         way = goes (ordinary_by u q _ one.0 tt) first (omega arith) (goes (ordinary_by u (suc (suc q)) _ three.0 tt) second (omega arith) stays);
         ordinary = ordinary_by u (suc (suc (suc (suc q)))) (Jump above) five.0 tt;
-        alike = jump_alike (suc (suc (suc (suc q)))) above five.0;
+        alike = jump_alike (suc (suc (suc (suc q)))) above reach.2 five.0;
       }
 
-  signed_led : (below at above r : ℕ) (p : Pure) (d : Datum) → Spans u q (by_sign_steps below at above p) r → meant u.facts f m w.store p ≡ Gives d →
-      Led u f h w μ q m (deed u.facts (record { frame = f; at = i; now = now; loops = [] }) w (ToGoBySign below at above) (d ∷ []))
+  signed_led : (below at above r : ℕ) (p : Pure) (d : Datum) → Reaches u.facts.program i below × Reaches u.facts.program i at × Reaches u.facts.program i above → Spans u q (by_sign_steps below at above p) r → meant u.facts f m w.store p ≡ Gives d →
+      Led u f h w μ q m (deed u.facts (record { frame = f; at = i; now = now; loops = rounds }) w (ToGoBySign below at above) (d ∷ []))
   unfolding deed by_sign
-  signed_led below at above r p (value.IsInt z) spans is = sign_led below at above r p z spans is (int_lt z (pos 0)) (int_eq z (pos 0)) refl refl
-  signed_led below at above r p (IsSpot s) spans is = let one = spans_first u spans in record { upto = q; kept = m; way = stays; ordinary = ordinary_by u q _ one.0 tt; alike = tt }
-  signed_led below at above r p (value.IsLog b) spans is = let one = spans_first u spans in record { upto = q; kept = m; way = stays; ordinary = ordinary_by u q _ one.0 tt; alike = tt }
-  signed_led below at above r p (value.IsText cs) spans is = let one = spans_first u spans in record { upto = q; kept = m; way = stays; ordinary = ordinary_by u q _ one.0 tt; alike = tt }
-  signed_led below at above r p (value.IsProc x) spans is = let one = spans_first u spans in record { upto = q; kept = m; way = stays; ordinary = ordinary_by u q _ one.0 tt; alike = tt }
-  signed_led below at above r p (value.IsLabel l) spans is = let one = spans_first u spans in record { upto = q; kept = m; way = stays; ordinary = ordinary_by u q _ one.0 tt; alike = tt }
-  signed_led below at above r p value.Nothing spans is = let one = spans_first u spans in record { upto = q; kept = m; way = stays; ordinary = ordinary_by u q _ one.0 tt; alike = tt }
+  signed_led below at above r p (value.IsInt z) reach spans is = sign_led below at above r p z reach spans is (int_lt z (pos 0)) (int_eq z (pos 0)) refl refl
+  signed_led below at above r p (IsSpot s) reach spans is = let one = spans_first u spans in record { upto = q; kept = m; way = stays; ordinary = ordinary_by u q _ one.0 tt; alike = tt }
+  signed_led below at above r p (value.IsLog b) reach spans is = let one = spans_first u spans in record { upto = q; kept = m; way = stays; ordinary = ordinary_by u q _ one.0 tt; alike = tt }
+  signed_led below at above r p (value.IsText cs) reach spans is = let one = spans_first u spans in record { upto = q; kept = m; way = stays; ordinary = ordinary_by u q _ one.0 tt; alike = tt }
+  signed_led below at above r p (value.IsProc x) reach spans is = let one = spans_first u spans in record { upto = q; kept = m; way = stays; ordinary = ordinary_by u q _ one.0 tt; alike = tt }
+  signed_led below at above r p (value.IsLabel l) reach spans is = let one = spans_first u spans in record { upto = q; kept = m; way = stays; ordinary = ordinary_by u q _ one.0 tt; alike = tt }
+  signed_led below at above r p value.Nothing reach spans is = let one = spans_first u spans in record { upto = q; kept = m; way = stays; ordinary = ordinary_by u q _ one.0 tt; alike = tt }
 
   -- ## All forms
 
-  pub deed_alike : (k : ℕ) (x : Option ℕ) → ((j : ℕ) → x ≡ Some j → j ≡ i) → (head : Head) (ts : Terms) (ps : Pures) (closing : List Step) (ds : List Datum) → IsClosing u k x head ts ps closing → Spans u q closing (u.begins (suc i)) → all_meant u.facts f m w.store ps ≡ Gives ds →
-      ((name : Bytes) → head ≡ ToCall name → passes_label ts ≡ false → labels_in ds ≡ []) → Led u f h w μ q m (deed u.facts (record { frame = f; at = i; now = now; loops = [] }) w head ds)
-  unfolding deed done go given_that
-  deed_alike k x whole _ ts _ _ ds (for_set {p = p} {place = place}) spans is none =
+  pub deed_alike : (k : ℕ) (x : Option ℕ) → ((j : ℕ) → x ≡ Some j → j ≡ i) → (head : Head) (ts left : Terms) (ps : Pures) (closing : List Step) (ds : List Datum) → ((label : Option ℕ) → head ≡ ToLoop label → ⊥) → free_at u.facts.program i ≡ k → IsPart line.form x head ts → HeadBranches u.facts.program i head left → IsClosing u k x head ts ps closing → Spans u q closing (ends_of u i) → all_meant u.facts f m w.store ps ≡ Gives ds →
+      ((name : Bytes) → head ≡ ToCall name → passes_label ts ≡ false → labels_in ds ≡ []) → ((name : Bytes) → head ≡ ToCall name → (l : ℕ) → contains (labels_in ds) l ≡ true → Reaches u.facts.program i l) → Led u f h w μ q m (deed u.facts (record { frame = f; at = i; now = now; loops = rounds }) w head ds)
+  unfolding deed done go given_that loop_of acting
+  deed_alike k x whole _ ts left _ _ ds no_do enough part well (for_set {p = p} {place = place}) spans is none reach =
       let v = two_values u.facts f m w.store p place ds is in
       let one = spans_one u spans in
       here ToSet ds (v.first ∷ v.second ∷ []) (Put place p) (storing (at_step f h q m) w (put_at w.store v.second v.first)) one.0 tt v.are
       (ap (λ x. storing (at_step f h q m) w (given_that x (λ d. given_that (meant u.facts f m w.store place) (λ r. put_at w.store r d)))) v.first_is
-      ∙ ap (λ x. storing (at_step f h q m) w (given_that x (λ r. put_at w.store r v.first))) v.second_is) (set_alike v.first v.second (sym one.1))
-  deed_alike k x whole _ ts _ _ ds (for_set_label {label = label} {place = place}) spans is none =
+      ∙ ap (λ x. storing (at_step f h q m) w (given_that x (λ r. put_at w.store r v.first))) v.second_is) (set_alike v.first v.second (part_quiet line.form x ToSet ts part refl) (sym one.1))
+  deed_alike k x whole _ ts left _ _ ds no_do enough part well (for_set_label {label = label} {place = place}) spans is none reach =
       let v = one_value u.facts f m w.store place ds is in
       let one = spans_one u spans in
       here (ToSetLabel label) ds (v.first ∷ []) (PutLabel place label) (storing (at_step f h q m) w (put_label_at u w.store label v.first)) one.0 tt v.are
-      (ap (λ x. storing (at_step f h q m) w (given_that x (put_label_at u w.store label))) v.first_is) (set_label_alike label v.first (sym one.1))
-  deed_alike k x whole _ ts _ _ ds (for_go {label = label}) spans is none =
-      here (ToGo label) ds [] (Jump label) (jump u label (at_step f h q m) w) (spans_one u spans).0 tt (no_value u.facts f m w.store ds is) refl (goes_to_label u laid f h μ w m same called q label q)
-  deed_alike k x whole _ ts _ _ ds (for_pick {labels = labels} {p = p}) spans is none =
+      (ap (λ x. storing (at_step f h q m) w (given_that x (put_label_at u w.store label))) v.first_is) (set_label_alike label v.first (part_quiet line.form x (ToSetLabel label) ts part refl) (sym one.1))
+  deed_alike k x whole _ ts left _ _ ds no_do enough part well (for_go {label = label}) spans is none reach =
+      here (ToGo label) ds [] (Jump label) (jump u label (at_step f h q m) w) (spans_one u spans).0 tt (no_value u.facts f m w.store ds is) refl (to_label label well)
+  deed_alike k x whole _ ts left _ _ ds no_do enough part well (for_pick {labels = labels} {p = p}) spans is none reach =
       let v = one_value u.facts f m w.store p ds is in
       let one = spans_one u spans in
-      here (ToPick labels) ds (v.first ∷ []) (Select p labels) (selecting u labels (at_step f h q m) w (Gives v.first)) one.0 tt v.are (ap (selecting u labels (at_step f h q m) w) v.first_is) (pick_alike labels v.first (sym one.1))
-  deed_alike k x whole _ ts _ _ ds (for_go_assigned {labels = labels} {place = place}) spans is none =
+      here (ToPick labels) ds (v.first ∷ []) (Select p labels) (selecting u labels (at_step f h q m) w (Gives v.first)) one.0 tt v.are (ap (selecting u labels (at_step f h q m) w) v.first_is) (pick_alike labels v.first (part_quiet line.form x (ToPick labels) ts part refl) well (sym one.1))
+  deed_alike k x whole _ ts left _ _ ds no_do enough part well (for_go_assigned {labels = labels} {place = place}) spans is none reach =
       let v = one_value u.facts f m w.store place ds is in
       here (ToGoAssigned labels) ds (v.first ∷ []) (JumpBy place labels) (jumping u labels (at_step f h q m) w (label_held w.store v.first)) (spans_one u spans).0 tt v.are
       (ap (λ x. jumping u labels (at_step f h q m) w (given_that x (label_held w.store))) v.first_is) (assigned_alike labels v.first)
-  deed_alike k x whole _ ts _ _ ds (for_go_by_sign {below = below} {at = at} {above = above} {p = p}) spans is none =
+  deed_alike k x whole _ ts left _ _ ds no_do enough part well (for_go_by_sign {below = below} {at = at} {above = above} {p = p}) spans is none reach =
       let v = one_value u.facts f m w.store p ds is in
-      subst (λ z. Led u f h w μ q m (deed u.facts (record { frame = f; at = i; now = now; loops = [] }) w (ToGoBySign below at above) z)) (sym v.are) (signed_led below at above (u.begins (suc i)) p v.first spans v.first_is)
-  deed_alike k x whole _ ts _ _ ds (for_guard {form = form} {p = p} {under = under} code) spans is none =
+      subst (λ z. Led u f h w μ q m (deed u.facts (record { frame = f; at = i; now = now; loops = rounds }) w (ToGoBySign below at above) z)) (sym v.are) (signed_led below at above (ends_of u i) p v.first well spans v.first_is)
+  deed_alike k x whole _ ts left _ _ ds no_do enough part well (for_guard {form = form} {p = p} {under = under} code) spans is none reach =
       let v = one_value u.facts f m w.store p ds is in
       let first = spans_first u spans in
       here (ToGuard form) ds (v.first ∷ []) (Unless p (length under)) (testing (suc q) (suc q + length under) (at_step f h q m) w (Gives v.first)) first.0 tt v.are
-      (ap (testing (suc q) (suc q + length under) (at_step f h q m) w) v.first_is) (guard_alike k form under v.first code first.1)
-  deed_alike k x whole _ ts _ _ ds (for_arm {i = j} {n = n} {p = p} room) spans is none =
+      (ap (testing (suc q) (suc q + length under) (at_step f h q m) w) v.first_is) (guard_alike k form under v.first enough (part_quiet line.form x (ToGuard form) ts part refl) well code first.1)
+  deed_alike k x whole _ ts left _ _ ds no_do enough part well (for_arm {i = j} {n = n} {p = p} flat next) spans is none reach =
       let v = one_value u.facts f m w.store p ds is in
       let one = spans_one u spans in
       let same_place : j ≡ i = whole j refl in
       here ToEnterArm ds (v.first ∷ []) (Unless p n) (testing (suc q) (suc q + n) (at_step f h q m) w (Gives v.first)) one.0 tt v.are
       (ap (testing (suc q) (suc q + n) (at_step f h q m) w) v.first_is)
-      (entered_alike n v.first (sym one.1) (subst (λ z. (l : ℕ) → arm_after u.facts.program z ≡ Some l → u.begins (suc z) + n ≡ own_of u l) same_place room))
-  deed_alike k x whole _ ts ps _ ds (for_call {name = name}) spans is none =
+      (entered_alike n v.first (sym one.1) (subst (IsFlat u) same_place flat) (subst (λ z. (l : ℕ) → arm_after u.facts.program z ≡ Some l → IsNextArm u z n l) same_place next))
+  deed_alike k x whole _ ts left _ _ ds no_do enough part well (for_test {i = j} {n = n} {label = label} {p = p} stands) spans is none reach =
+      let v = one_value u.facts f m w.store p ds is in
+      let one = spans_one u spans in
+      let same_place : j ≡ i = whole j refl in
+      here (ToTestLoop label) ds (v.first ∷ []) (Unless p n) (testing (suc q) (suc q + n) (at_step f h q m) w (Gives v.first)) one.0 tt v.are
+      (ap (testing (suc q) (suc q + n) (at_step f h q m) w) v.first_is)
+      (test_alike (IsFollowed u q) label ts n v.first (sym one.1) (whole_form line.form j (ToTestLoop label) ts part)
+      (subst (λ z. (last : ℕ) → terminal_of u.facts.program z label ≡ Some last → IsLoop u z last × (ends_of u z + n ≡ loop_exit u.facts.program (record { first = z; last = last }))) same_place stands))
+  deed_alike k x whole _ ts left _ _ ds no_do enough part well (for_loop {label = label} n stands) spans is none reach = absurd (no_do label refl)
+  deed_alike k x whole _ ts left ps _ ds no_do enough part well (for_call {name = name}) spans is none reach =
       let first = spans_first u spans in
       record {
         upto = q;
@@ -350,16 +416,77 @@ module _ (u : Text) (laid : IsLaidOut u) (f : Frame) (h : ℕ) (μ : Found) (w :
         way = stays;
         ordinary = ordinary_by u q (CallSub k name ps) first.0 tt;
         alike =
-            call_alike u f h μ w same i q m (laid.followed q k name ps first.0) (record { name = name; want = AsSubroutine }) ds fortran.Returning now
-            (called_back u laid f (length w.store) μ called i q k m name ps (passes_label ts) (labels_in ds) spans (none name refl)) (step u (at_step f h q m) w)
+            call_alike u f h μ w i q m rounds (IsFollowed u q) (laid.followed q k name ps first.0) (record { name = name; want = AsSubroutine }) ds fortran.Returning now
+            (λ s r t r' given.
+            called_back u laid f (length w.store) μ called i q k m rounds line place (part_quiet line.form x (ToCall name) ts part refl) stand (omega (arith, enough)) low name ps (passes_label ts) (labels_in ds) spans (none name refl) (reach name refl) s r t r'
+            (given.0, given.1, given.2 ∙ same, given.3)) (step u (at_step f h q m) w)
             (step_at (CallSub k name ps) first.0 ∙ ap (calling u (at_step f h q m) w (record { name = name; want = AsSubroutine })) is);
       }
-  deed_alike k x whole _ ts _ _ ds for_return spans is none =
+  deed_alike k x whole _ ts left _ _ ds no_do enough part well for_return spans is none reach =
       here ToReturn ds [] Back (answering (answer u.facts.program.kind (resting f) w Nothing)) (spans_one u spans).0 tt (no_value u.facts f m w.store ds is) refl (answer_alike u.facts.program.kind Nothing called.labels tt)
-  deed_alike k x whole _ ts _ _ ds (for_return_by {p = p}) spans is none =
+  deed_alike k x whole _ ts left _ _ ds no_do enough part well (for_return_by {p = p}) spans is none reach =
       let v = one_value u.facts f m w.store p ds is in
       here ToReturn ds (v.first ∷ []) (BackBy p) (answering_by u (at_step f h q m) w (Gives v.first)) (spans_one u spans).0 tt v.are (ap (answering_by u (at_step f h q m) w) v.first_is) (answered_alike v.first)
-  deed_alike k x whole _ ts _ _ ds (for_stop {text = text}) spans is none =
+  deed_alike k x whole _ ts left _ _ ds no_do enough part well (for_stop {text = text}) spans is none reach =
       here (ToStop text) ds [] (Halt text) (Ends (stop_ending text) (at_step f h q m) w) (spans_one u spans).0 tt (no_value u.facts f m w.store ds is) refl (record { view = at_step f h q m; is = refl; frame = refl })
-  deed_alike k x whole _ ts _ _ ds for_end spans is none =
+  deed_alike k x whole _ ts left ps _ ds no_do enough part well (for_begin {way = way} {layout = layout} {controls = controls} {work = work} {items = items} code) spans is none reach =
+      let first = spans_first u spans in
+      let act = Starts way layout controls in
+      here (ToBegin way layout controls work) ds ds (Acts act ps (length items)) (coursing u (length items) (at_step f h q m) (course_of u w act ds)) first.0 tt refl (ap (acting u (length items) (at_step f h q m) w act) is)
+      (begin_alike u laid f h μ i q m now called rounds stand line place low (part_quiet line.form x (ToBegin way layout controls work) ts part refl) (IsFollowed u q) k enough w same way layout controls work items ds well code first.1)
+  deed_alike k x whole _ ts left ps _ ds no_do enough part well (for_auxiliary {which = which} {controls = controls}) spans is none reach =
+      let one = spans_one u spans in
+      let act = Auxiliary which controls in
+      here (ToAuxiliary which controls) ds ds (Acts act ps 0) (coursing u 0 (at_step f h q m) (course_of u w act ds)) one.0 tt refl (ap (acting u 0 (at_step f h q m) w act) is)
+      (auxiliary_alike u laid f h μ i q m now called rounds stand line place low (part_quiet line.form x (ToAuxiliary which controls) ts part refl) (IsFollowed u q) w same which controls ds well (sym one.1))
+  deed_alike k x whole _ ts left _ _ ds no_do enough part well (for_item code) spans is none reach = absurd well
+  deed_alike k x whole _ ts left _ _ ds no_do enough part well for_finish spans is none reach = absurd well
+  deed_alike k x whole _ ts left _ _ ds no_do enough part well for_end spans is none reach =
       here ToEnd ds [] Back (answering (answer u.facts.program.kind (resting f) w Nothing)) (spans_one u spans).0 tt (no_value u.facts f m w.store ds is) refl (answer_alike u.facts.program.kind Nothing called.labels tt)
+
+-- the same, also in the midst of a list
+module _ (u : Text) (laid : IsLaidOut u) (f : Frame) (h : ℕ) (μ : Found) (w : World) (i q : ℕ) (m : Temporaries) (now : fortran.Now) (called : IsCalled u.facts.program.kind f μ)
+    (rounds : List Round) (stand : AreRounds u f m (open_at u.facts.program i) rounds) (line : Line) (place : slice_get u.facts.program.lines i ≡ Some line) (low : u.begins i ≤ q) where
+  item_led : (act : Acting) (n : ℕ) (ps : Pures) (head : Head) (ds : List Datum) → slice_get u.steps q ≡ Some (Acts act ps n) → all_meant u.facts f m w.store ps ≡ Gives ds →
+      Alike u μ (IsFollowed u q) (deed u.facts (record { frame = f; at = i; now = now; loops = rounds }) w head ds) (coursing u n (at_step f h q m) (course_of u w act ds)) →
+      Led u f h w μ q m (deed u.facts (record { frame = f; at = i; now = now; loops = rounds }) w head ds)
+  unfolding step done acting
+  item_led act n ps head ds there' is alike = record {
+    upto = q;
+    kept = m;
+    way = stays;
+    ordinary = ordinary_by u q (Acts act ps n) there' tt;
+    alike =
+        subst (λ x. Alike u μ (IsFollowed u q) (deed u.facts (record { frame = f; at = i; now = now; loops = rounds }) w head ds) x)
+        (sym (ap (done u (at_step f h q m) w) there' ∙ ap (acting u n (at_step f h q m) w act) is)) alike;
+  }
+
+  pub deed_met : (k : ℕ) (x : Option ℕ) → ((j : ℕ) → x ≡ Some j → j ≡ i) → (head : Head) → HasTransfer u.facts.program μ i head w.transfer → (ts left : Terms) (ps : Pures) (closing : List Step) (ds : List Datum) → ((label : Option ℕ) → head ≡ ToLoop label → ⊥) →
+      free_at u.facts.program i ≡ k → IsPart line.form x head ts → BranchesNow u.facts.program i head left → IsClosing u k x head ts ps closing → Spans u q closing (ends_of u i) → all_meant u.facts f m w.store ps ≡ Gives ds →
+      ((name : Bytes) → head ≡ ToCall name → passes_label ts ≡ false → labels_in ds ≡ []) → ((name : Bytes) → head ≡ ToCall name → (l : ℕ) → contains (labels_in ds) l ≡ true → Reaches u.facts.program i l) →
+      Led u f h w μ q m (deed u.facts (record { frame = f; at = i; now = now; loops = rounds }) w head ds)
+  unfolding loop_of
+  deed_met k x whole _ has ts left ps _ ds no_do enough part well (for_item {left = others} {items = items} code) spans is none reach =
+      let first = spans_first u spans in
+      item_led Takes (length items) ps (ToTransfer others) ds first.0 is
+      (item_alike u laid f h μ i q m now called rounds stand line place low (part_quiet line.form x (ToTransfer others) ts part refl) (IsFollowed u q) k enough w has others items ds code first.1)
+  deed_met k x whole _ has ts left ps _ ds no_do enough part well for_finish spans is none reach =
+      let one = spans_one u spans in
+      item_led Finishes 0 NoPure ToFinish ds one.0 is (finish_alike u laid f h μ i q m now called rounds stand line place low (part_quiet line.form x ToFinish ts part refl) (IsFollowed u q) w has ds (sym one.1))
+  deed_met k x whole _ has ts left _ _ ds no_do enough part well for_set spans is none reach = deed_alike u laid f h μ w i q m now has called rounds stand line place low k x whole _ ts left _ _ ds no_do enough part well for_set spans is none reach
+  deed_met k x whole _ has ts left _ _ ds no_do enough part well for_set_label spans is none reach = deed_alike u laid f h μ w i q m now has called rounds stand line place low k x whole _ ts left _ _ ds no_do enough part well for_set_label spans is none reach
+  deed_met k x whole _ has ts left _ _ ds no_do enough part well for_go spans is none reach = deed_alike u laid f h μ w i q m now has called rounds stand line place low k x whole _ ts left _ _ ds no_do enough part well for_go spans is none reach
+  deed_met k x whole _ has ts left _ _ ds no_do enough part well for_pick spans is none reach = deed_alike u laid f h μ w i q m now has called rounds stand line place low k x whole _ ts left _ _ ds no_do enough part well for_pick spans is none reach
+  deed_met k x whole _ has ts left _ _ ds no_do enough part well for_go_assigned spans is none reach = deed_alike u laid f h μ w i q m now has called rounds stand line place low k x whole _ ts left _ _ ds no_do enough part well for_go_assigned spans is none reach
+  deed_met k x whole _ has ts left _ _ ds no_do enough part well for_go_by_sign spans is none reach = deed_alike u laid f h μ w i q m now has called rounds stand line place low k x whole _ ts left _ _ ds no_do enough part well for_go_by_sign spans is none reach
+  deed_met k x whole _ has ts left _ _ ds no_do enough part well (for_guard code) spans is none reach = deed_alike u laid f h μ w i q m now has called rounds stand line place low k x whole _ ts left _ _ ds no_do enough part well (for_guard code) spans is none reach
+  deed_met k x whole _ has ts left _ _ ds no_do enough part well (for_arm flat next) spans is none reach = deed_alike u laid f h μ w i q m now has called rounds stand line place low k x whole _ ts left _ _ ds no_do enough part well (for_arm flat next) spans is none reach
+  deed_met k x whole _ has ts left _ _ ds no_do enough part well (for_test stands) spans is none reach = deed_alike u laid f h μ w i q m now has called rounds stand line place low k x whole _ ts left _ _ ds no_do enough part well (for_test stands) spans is none reach
+  deed_met k x whole _ has ts left ps _ ds no_do enough part well (for_loop {label = label} n stands) spans is none reach = absurd (no_do label refl)
+  deed_met k x whole _ has ts left _ _ ds no_do enough part well for_call spans is none reach = deed_alike u laid f h μ w i q m now has called rounds stand line place low k x whole _ ts left _ _ ds no_do enough part well for_call spans is none reach
+  deed_met k x whole _ has ts left _ _ ds no_do enough part well for_return spans is none reach = deed_alike u laid f h μ w i q m now has called rounds stand line place low k x whole _ ts left _ _ ds no_do enough part well for_return spans is none reach
+  deed_met k x whole _ has ts left _ _ ds no_do enough part well for_return_by spans is none reach = deed_alike u laid f h μ w i q m now has called rounds stand line place low k x whole _ ts left _ _ ds no_do enough part well for_return_by spans is none reach
+  deed_met k x whole _ has ts left _ _ ds no_do enough part well for_stop spans is none reach = deed_alike u laid f h μ w i q m now has called rounds stand line place low k x whole _ ts left _ _ ds no_do enough part well for_stop spans is none reach
+  deed_met k x whole _ has ts left _ _ ds no_do enough part well for_end spans is none reach = deed_alike u laid f h μ w i q m now has called rounds stand line place low k x whole _ ts left _ _ ds no_do enough part well for_end spans is none reach
+  deed_met k x whole _ has ts left _ _ ds no_do enough part well (for_begin code) spans is none reach = deed_alike u laid f h μ w i q m now has called rounds stand line place low k x whole _ ts left _ _ ds no_do enough part well (for_begin code) spans is none reach
+  deed_met k x whole _ has ts left _ _ ds no_do enough part well for_auxiliary spans is none reach = deed_alike u laid f h μ w i q m now has called rounds stand line place low k x whole _ ts left _ _ ds no_do enough part well for_auxiliary spans is none reach

@@ -1,19 +1,15 @@
 -- Ways over lowered steps: joined, split, and what valuing in order asks of them.
-use Rattle.std.specs.Prelude.{◌≡◌, ℕ, suc, ◌+◌, length, ◌<◌, ◌≤◌, nat_eq, Bool, true, false, List, [], ◌∷◌, ◌++◌, Option, Some, None, slice_get, if◌then◌else◌}
+use Rattle.std.specs.Prelude.{◌≡◌, ℕ, suc, ◌+◌, length, ◌<◌, ◌≤◌, nat_eq, Bool, true, false, List, [], ◌∷◌, ◌++◌, Option, Some, slice_get, if◌then◌else◌}
 use Rattle.std.proofs.Common.{refl, sym, ap, ◌∙◌, subst, arith, true≢false}
 use Rattle.std.proofs.lemmas.Bool.{eqb-true, eq-eqb}
-use Rattle.simulation.specs.Machine.{Goes}
-use Rattle.f_tree.specs.Values.{Datum, Checked, Gives, Fails, Act, given_that}
-use Rattle.f_tree.specs.Terms.{Callee}
+use Rattle.f_tree.specs.Values.{Datum, Checked, Gives, Fails, given_that}
 use Rattle.f_tree.specs.Facts.{Facts, Frame}
 use Rattle.f_tree.specs.Store.{Store}
 use Rattle.f_tree.specs.Valuing.{Red, Valued, Bad, Asks, then_by, at_once}
 use Rattle.f_tree.specs.World.{World}
 use Rattle.l_core.specs.Pures.{Pure, Temporary, Pures, NoPure, AndPure, Temporaries, with_kept, if_kept, meant, all_meant}
 use Rattle.l_core.specs.Steps.{Step, Branch, Text}
-use Rattle.l_core.specs.Machine.{step}
-use Rattle.lowering.specs.Expressions.{Purpose, ForLater}
-use Rattle.lowering_laws.specs.Walks.{Spans, nothing, further, at_step, IsOrdinary, Keeps, stays, goes, SameBelow, Lasts, AllLast, Comes, AllCome, Ends, CallsFor, Follows, Met}
+use Rattle.lowering_laws.specs.Walks.{Spans, nothing, further, IsOrdinary, Keeps, stays, goes, SameBelow, Lasts, AllLast, Follows, Met}
 
 -- valuing comes to no call
 unfoldable pub IsAtOnce : {A T : Type 0} → Red A T → Type 0
@@ -69,11 +65,11 @@ kept_other : (b : Bool) (k j : ℕ) (x y : Option Datum) → k ≤ j → nat_eq 
 kept_other true k j x y le e apart = absurd (apart (eqb-true j k e))
 kept_other false k j x y le e apart = refl
 
-choose_false : {A : Type 0} (b : Bool) (x y : A) → b ≡ false → (if b then x else y) ≡ y
+pub choose_false : {A : Type 0} (b : Bool) (x y : A) → b ≡ false → (if b then x else y) ≡ y
 choose_false true x y e = absurd (true≢false e)
 choose_false false x y e = refl
 
-choose_true : {A : Type 0} (b : Bool) (x y : A) → b ≡ true → (if b then x else y) ≡ x
+pub choose_true : {A : Type 0} (b : Bool) (x y : A) → b ≡ true → (if b then x else y) ≡ x
 choose_true true x y e = refl
 choose_true false x y e = absurd (true≢false (sym e))
 

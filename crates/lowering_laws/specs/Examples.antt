@@ -1,14 +1,14 @@
 -- Program units whose lowering is computed.
-use Rattle.std.specs.Prelude.{◌≡◌, ℕ, pos, false, List, [], ◌∷◌, Option, Some, None, option_map}
+use Rattle.std.specs.Prelude.{ℕ, pos, false, List, [], ◌∷◌, Option, Some, None, option_map}
 use Rattle.f_tree.specs.declared.names.Basic.TheVariants.{Integer}
 use Rattle.f_tree.specs.declared.names.Class.TheVariants as class
 use Rattle.f_tree.specs.Values.{Bytes, IsInt}
-use Rattle.f_tree.specs.Terms.{Add, IsLess, IsLessOrEqual, Both, AsFunction, Callee, Term, Val, Fetch, At, Between, Refer, Terms, NoMore, More, terms_opened}
-use Rattle.f_tree.specs.Facts.{MainProgram, ToSet, ToGo, ToGuard, ToEnterArm, ToLoop, ToEnd, Form, Passes, On, Mark, Plain, Opens, Arm, Closes, NoLoop, Line, Attribute, ProgramUnit, Facts}
+use Rattle.f_tree.specs.Terms.{Add, IsLess, IsLessOrEqual, Both, AsFunction, Term, Val, Fetch, At, Alone, Between, Refer, NoMore, More, terms_opened}
+use Rattle.f_tree.specs.Facts.{Input, Output, Listed, UnitWord, Controls, Item, Done, Before, MainProgram, ToSet, ToGo, ToGuard, ToEnterArm, ToLoop, ToTestLoop, ToBegin, ToEnd, Form, Passes, On, Mark, Plain, Opens, Arm, Closes, NoLoop, Line, Attribute, Facts}
 use Rattle.f_tree.specs.Places.{place_of_label, places_opened}
 use Rattle.f_tree.specs.Nests.{nests_opened}
-use Rattle.l_core.specs.Pures.{Pure, Constant, Temporary, Load, Name, Operated, NoPure, AndPure}
-use Rattle.l_core.specs.Steps.{Text, Step, Keep, Put, Unless, Skip, Again, Jump, Pass, CallFor, Back}
+use Rattle.l_core.specs.Pures.{Pure, Constant, Temporary, Load, Name, FirstOf, Operated, NoPure, AndPure}
+use Rattle.l_core.specs.Steps.{Starts, Takes, Finishes, Text, Step, Keep, Put, Unless, Skip, Again, Jump, Pass, CallFor, Back, Acts}
 use Rattle.lowering.specs.Expressions.{expressions_opened}
 use Rattle.lowering.specs.Statements.{statements_opened}
 use Rattle.lowering.specs.Units.{start_of, lines_marks, lowered_unit, units_opened}
@@ -74,6 +74,15 @@ loop_steps =
     ∷ Back
     ∷ []
 
+abbrev pub loop_text : Text
+loop_text = record {
+  facts = unit_of a_loop;
+  steps = loop_steps;
+  begins = start_of (unit_of a_loop).program;
+  position = λ label. option_map (start_of (unit_of a_loop).program) (place_of_label (unit_of a_loop).program label);
+  marks = lines_marks (unit_of a_loop).program 0 a_loop;
+}
+
 -- S = S + F(I); IF (A .LT. B) S = A
 abbrev pub a_sum : List Line
 a_sum =
@@ -128,6 +137,83 @@ block_steps =
     ∷ Pass
     ∷ Back
     ∷ []
+
+-- two loops that share their end, with a branch out of both: DO 10 WHILE (A .LT. B); DO 10 WHILE (A .LT. F(A)); IF (L) GO TO 20; and
+-- 10 A = A + B; 20 CONTINUE
+abbrev pub a_search : List Line
+a_search =
+    line None Plain (On (ToTestLoop (Some 10)) (More (Between IsLess (variable 65) (variable 66)) NoMore))
+    ∷ line None Plain (On (ToTestLoop (Some 10)) (More (Between IsLess (variable 65) (f_of 65)) NoMore))
+    ∷ line None Plain (On (ToGuard (On (ToGo 20) NoMore)) (More (variable 76) NoMore))
+    ∷ line (Some 10) Plain (On ToSet (More (Between Add (variable 65) (variable 66)) (More (At (letter 65)) NoMore)))
+    ∷ line (Some 20) Plain Passes
+    ∷ line None Plain (On ToEnd NoMore)
+    ∷ []
+
+abbrev pub search_steps : List Step
+search_steps =
+    Unless (Operated IsLess (Load (name 65)) (Load (name 66))) 8
+    ∷ Keep 0 (Load (name 65))
+    ∷ CallFor 1 (record { name = letter 70; want = AsFunction Integer 4 }) (AndPure (name 65) NoPure)
+    ∷ Unless (Operated IsLess (Temporary 0) (Temporary 1)) 4
+    ∷ Unless (Load (name 76)) 1
+    ∷ Jump 20
+    ∷ Put (name 65) (Operated Add (Load (name 65)) (Load (name 66)))
+    ∷ Again 6
+    ∷ Again 8
+    ∷ Pass
+    ∷ Back
+    ∷ []
+
+abbrev pub search_text : Text
+search_text = record {
+  facts = unit_of a_search;
+  steps = search_steps;
+  begins = start_of (unit_of a_search).program;
+  position = λ label. option_map (start_of (unit_of a_search).program) (place_of_label (unit_of a_search).program label);
+  marks = lines_marks (unit_of a_search).program 0 a_search;
+}
+
+-- READ (5, *, END = 20) S; PRINT *, S, S + F(I); and 20 CONTINUE
+abbrev pub reading : Controls
+reading = record { words = UnitWord ∷ []; on_error = None; on_end = Some 20 }
+
+abbrev pub printing : Controls
+printing = record { words = UnitWord ∷ []; on_error = None; on_end = None }
+
+abbrev pub a_list : List Line
+a_list =
+    line None Plain (On (ToBegin Input Listed reading (Before (Item (Alone (At (letter 83)))) Done)) (More (Val (IsInt (pos 5))) NoMore))
+    ∷ line None Plain (On (ToBegin Output Listed printing (Before (Item (variable 83)) (Before (Item (Between Add (variable 83) (f_of 73))) Done))) (More (Val (IsInt (pos 6))) NoMore))
+    ∷ line (Some 20) Plain Passes
+    ∷ line None Plain (On ToEnd NoMore)
+    ∷ []
+
+-- a variable is handed on where it stands, the value of the sum in a temporary
+abbrev pub list_steps : List Step
+list_steps =
+    Acts (Starts Input Listed reading) (AndPure (Constant (IsInt (pos 5))) NoPure) 2
+    ∷ Acts Takes (AndPure (FirstOf (name 83)) NoPure) 1
+    ∷ Acts Finishes NoPure 0
+    ∷ Acts (Starts Output Listed printing) (AndPure (Constant (IsInt (pos 6))) NoPure) 6
+    ∷ Acts Takes (AndPure (Load (name 83)) NoPure) 5
+    ∷ Keep 0 (Load (name 83))
+    ∷ CallFor 1 (record { name = letter 70; want = AsFunction Integer 4 }) (AndPure (name 73) NoPure)
+    ∷ Keep 0 (Operated Add (Temporary 0) (Temporary 1))
+    ∷ Acts Takes (AndPure (Temporary 0) NoPure) 1
+    ∷ Acts Finishes NoPure 0
+    ∷ Pass
+    ∷ Back
+    ∷ []
+
+abbrev pub list_text : Text
+list_text = record {
+  facts = unit_of a_list;
+  steps = list_steps;
+  begins = start_of (unit_of a_list).program;
+  position = λ label. option_map (start_of (unit_of a_list).program) (place_of_label (unit_of a_list).program label);
+  marks = lines_marks (unit_of a_list).program 0 a_list;
+}
 
 unfoldable pub example_opened : Unit {0}
 unfolding terms_opened places_opened nests_opened expressions_opened statements_opened units_opened

@@ -1,22 +1,27 @@
 -- A program unit and its lowered text as a pair of local simulation: the two share one store, and where the unit is at a statement, or in the
--- midst of valuing its operands, the text is at the steps that are left of it. So far of units without DO loops and transfers.
-use Rattle.std.specs.Prelude.{◌≡◌, ℕ, pos, true, false, zero, suc, ◌+◌, ◌<◌, ◌≤◌, List, [], ◌∷◌, ◌++◌, length, drop, Option, Some, None, slice_get}
+-- midst of valuing its operands or of a list of items, the text is at the steps that are left of it.
+use Rattle.std.specs.Prelude.{◌≡◌, ℕ, pos, true, false, zero, suc, ◌+◌, ◌-◌, ◌<◌, ◌≤◌, Bool, not, ◌||◌, List, [], ◌∷◌, ◌++◌, length, drop, filter, Option, Some, None, slice_get, ℤ, ◌-ℤ◌, int_div}
 use Rattle.simulation.specs.LocalSimulation.{Kit, Pairing, Couple, Local}
-use Rattle.f_tree.specs.Values.{Bytes, Datum, IsInt, IsLabel}
-use Rattle.f_tree.specs.Terms.{IsLess, IsEqual, Wanted, AsSubroutine, AsFunction, Terms}
-use Rattle.f_tree.specs.Facts.{ToSet, ToSetLabel, ToGo, ToPick, ToGoAssigned, ToGoBySign, ToGuard, ToEnterArm, ToCall, ToReturn, ToStop, ToEnd, Head, Form, Passes, On, Mark, Opens, Arm, Closes, Line, ProgramUnit, UnitKind, SubroutineUnit, Frame}
-use Rattle.f_tree.specs.Places.{place_of_label, arm_after}
+use Rattle.f_tree.specs.Values.{Bytes, Datum, IsInt, IsLabel, Spot, IsSpot}
+use Rattle.f_tree.specs.Terms.{IsLess, IsEqual, Wanted, AsSubroutine, AsFunction, Term, Val, Refer, Bind, Terms, NoMore, More}
+use Rattle.f_tree.specs.Facts.{Direction, Layout, Controls, AuxiliaryKind, Work, ToSet, ToSetLabel, ToGo, ToPick, ToGoAssigned, ToGoBySign, ToGuard, ToEnterArm, ToTestLoop, ToCall, ToReturn, ToStop, ToBegin, ToTransfer, ToRepeat, ToTurn, ToFinish, ToAuxiliary, ToEnd, Head, Form, Passes, On, Plain, Opens, Arm, Closes, Line, EntryPoint, ProgramUnit, UnitKind, SubroutineUnit, Frame, ToLoop}
+use Rattle.f_tree.specs.Places.{place_of_label, terminal_of, arm_after}
+use Rattle.std.specs.Ordering.{int_eq}
+use Rattle.f_tree.specs.Setting.{IsIn}
+use Rattle.f_tree.specs.Nests.{Range, loop_of, is_within, open_at}
 use Rattle.f_tree.specs.World as fortran
-use Rattle.f_tree.specs.World.{World, Transfer, Called, Passed}
-use Rattle.f_tree.specs.Step.{contains, fortran as fortran_language}
+use Rattle.f_tree.specs.World.{World, Transfer, Round, RoundKind, While, Counted, Called, Passed}
+use Rattle.f_tree.specs.Association.{entry_of}
+use Rattle.f_tree.specs.Transfers.{next_of}
+use Rattle.f_tree.specs.Step.{contains, enters_block, fortran as fortran_language, turns_of}
 use Rattle.l_core.specs.Pures.{Pure, Constant, Operated, Pures, NoPure, AndPure, Temporaries}
-use Rattle.l_core.specs.Steps.{Step, Put, PutLabel, Unless, Skip, Jump, Select, JumpBy, Pass, CallSub, Branch, Back, BackBy, Halt, Text}
+use Rattle.l_core.specs.Steps.{Starts, Takes, Finishes, Auxiliary, Step, Put, PutLabel, Unless, Skip, Again, Jump, Select, JumpBy, Pass, CallSub, Branch, Back, BackBy, Halt, Acts, Text}
 use Rattle.l_core.specs.Machine.{View, lowered}
 use Rattle.l_core.specs.Costs.{cost, rest}
-use Rattle.lowering.specs.Expressions.{Purpose, lower_all}
-use Rattle.lowering.specs.Statements.{passes_label, branch_code}
+use Rattle.lowering.specs.Statements.{wants_no_value, passes_label, branch_code, loop_operands, test_by, loop_test}
+use Rattle.lowering.specs.Units.{free_at, own_start, own_end, loop_exit, turn_size, turn_of, loop_lowered}
 use Rattle.lowering_laws.specs.Walks.{Spans, at_step, IsOrdinary}
-use Rattle.lowering_laws.specs.Midway.{AreMidway}
+use Rattle.lowering_laws.specs.Midway.{Mode, InOrder, OfLoop, lowered_as, AreIn, LoopLast}
 
 -- ## What a procedure finds
 
@@ -78,10 +83,174 @@ abbrev pub BranchesTo : Text → ℕ → Datum → ℕ → Type 0
 BranchesTo u p (IsLabel l) r = u.position l ≡ Some r
 BranchesTo u p d r = r ≡ suc p
 
--- the same from where the text stands, which may be behind a CALL
-pub data Arrives (u : Text) (m : Temporaries) : ℕ → ℕ → Type 0 where
-  plainly : {p q : ℕ} → Leads u p q → Arrives u m p q
-  by_branch : {p q r k : ℕ} (d : Datum) → slice_get u.steps p ≡ Some (Branch k) → m k ≡ Some d → BranchesTo u p d r → Leads u r q → Arrives u m p q
+-- the same from where the text stands, which may be behind a CALL; all but a branch there stands from a position on
+pub data Arrives (u : Text) (m : Temporaries) (low : ℕ) : ℕ → ℕ → Type 0 where
+  plainly : {p q : ℕ} → low ≤ p → Leads u p q → Arrives u m low p q
+  by_branch : {p q r k : ℕ} (d : Datum) → slice_get u.steps p ≡ Some (Branch k) → m k ≡ Some d → BranchesTo u p d r → low ≤ r → Leads u r q → Arrives u m low p q
+
+-- ## Loops
+
+-- where the own steps of a statement end
+abbrev pub ends_of : Text → ℕ → ℕ
+ends_of u i = own_end u.facts.program i
+
+-- each of these loops begins before a position
+abbrev pub AllBefore : Text → ℕ → List Range → Type 0
+AllBefore u p [] = Unit {0}
+AllBefore u p (r ∷ rs) = (ends_of u r.first ≤ p) × AllBefore u p rs
+
+-- the steps behind a terminal statement, those of one loop after those of the other, up to where the next statement begins
+pub data TurnsStand (u : Text) (i : ℕ) : ℕ → List Range → Type 0 where
+  no_turn : {q : ℕ} → q ≡ u.begins (suc i) → TurnsStand u i q []
+  turn_then : {q : ℕ} {r : Range} {rs : List Range} → Spans u q (turn_of u.facts.program q r) (q + turn_size u.facts.program r) → q + turn_size u.facts.program r ≡ loop_exit u.facts.program r →
+      TurnsStand u i (q + turn_size u.facts.program r) rs → TurnsStand u i q (r ∷ rs)
+
+abbrev pub AllEnd : ℕ → List Range → Type 0
+AllEnd i [] = Unit {0}
+AllEnd i (r ∷ rs) = (r.last ≡ i) × AllEnd i rs
+
+abbrev pub NoneEnds : ℕ → List Range → Type 0
+NoneEnds i [] = Unit {0}
+NoneEnds i (r ∷ rs) = (r.last ≡ i → ⊥) × NoneEnds i rs
+
+-- a position behind a statement, with the loops that are still to be turned or left there: those that end with it, and those that go on
+pub record IsBehind (u : Text) (i p : ℕ) (open' : List Range) : Type 0 where
+  pub ended : List Range
+  pub past : List Range
+  pub all : open' ≡ ended ++ past
+  pub turns : TurnsStand u i p ended
+  pub ends : AllEnd i ended
+  pub goes : NoneEnds i past
+  pub next : open_at u.facts.program (suc i) ≡ past
+
+-- each loop stands in those that are open at its DO
+abbrev pub IsChain : ProgramUnit → List Range → Type 0
+IsChain u [] = Unit {0}
+IsChain u (r ∷ outer) = (open_at u r.first ≡ outer) × IsChain u outer
+
+-- a DO WHILE, and its terminal statement
+pub record IsTested (u : ProgramUnit) (r : Range) : Type 0 where
+  pub line : Line
+  pub label : Option ℕ
+  pub operands : Terms
+  pub there : slice_get u.lines r.first ≡ Some line
+  pub is : line.form ≡ On (ToTestLoop label) operands
+  pub ends : terminal_of u r.first label ≡ Some r.last
+
+-- a counted DO: its variable, limit and step are had in the temporaries that it keeps, and one turn more is left than what is between the
+-- value that it gave the variable and the limit has of steps
+pub record IsCounted (u : Text) (f : Frame) (m : Temporaries) (r : Range) (p : Spot) (left : ℕ) (by given : ℤ) : Type 0 where
+  pub line : Line
+  pub label : Option ℕ
+  pub operands : Terms
+  pub there : slice_get u.facts.program.lines r.first ≡ Some line
+  pub is : line.form ≡ On (ToLoop label) operands
+  pub ends : terminal_of u.facts.program r.first label ≡ Some r.last
+  pub first : Datum
+  pub limit : ℤ
+  pub lasts : LoopLast u.facts f (loop_operands (free_at u.facts.program r.first) operands).free m (loop_operands (free_at u.facts.program r.first) operands).value (IsSpot p ∷ first ∷ IsInt limit ∷ IsInt by ∷ [])
+  pub steps_left : left ≡ suc (turns_of (int_div (limit -ℤ given) by))
+  pub some_step : int_eq by (pos 0) ≡ false
+
+-- a loop that runs, beside its range
+abbrev pub Runs : Text → Frame → Temporaries → Range → RoundKind → Type 0
+Runs u f m r While = IsTested u.facts.program r
+Runs u f m r (Counted p left by given) = IsCounted u f m r p left by given
+
+pub record IsRound (u : Text) (f : Frame) (m : Temporaries) (r : Range) (round : Round) : Type 0 where
+  pub first : round.first ≡ r.first
+  pub last : round.last ≡ r.last
+  pub runs : Runs u f m r round.kind
+
+abbrev pub AreRounds : Text → Frame → Temporaries → List Range → List Round → Type 0
+AreRounds u f m [] [] = Unit {0}
+AreRounds u f m (r ∷ rs) (round ∷ rounds) = IsRound u f m r round × AreRounds u f m rs rounds
+AreRounds u f m [] (round ∷ rounds) = ⊥
+AreRounds u f m (r ∷ rs) [] = ⊥
+
+-- ## Branches
+
+-- a branch from a statement to a label goes into no range from outside
+abbrev pub Reaches : ProgramUnit → ℕ → ℕ → Type 0
+Reaches u i label = (j : ℕ) → place_of_label u label ≡ Some j → open_at u j ≡ filter (is_within j) (open_at u i)
+
+-- may the value of an operand be a label that is none of these
+unfoldable mutual
+  pub may_be_other : (ℕ → Bool) → Term → Bool
+  may_be_other known (Val (IsLabel l)) = not (known l)
+  may_be_other known (Refer callee ts) = wants_no_value callee.want
+  may_be_other known (Bind ts t) = passes_other known ts || may_be_other known t
+  may_be_other known t = false
+
+  pub passes_other : (ℕ → Bool) → Terms → Bool
+  passes_other known NoMore = false
+  passes_other known (More t ts) = may_be_other known t || passes_other known ts
+
+-- the operands of a CALL are no labels but such as may be branched to
+pub data IsSafe (u : ProgramUnit) (i : ℕ) (ts : Terms) : Type 0 where
+  by_all : ((label : ℕ) → Reaches u i label) → IsSafe u i ts
+  by_those : (known : ℕ → Bool) → passes_other known ts ≡ false → ((label : ℕ) → known label ≡ true → Reaches u i label) → IsSafe u i ts
+
+-- so do the labels of ERR and END, where they are written (12.7)
+abbrev pub LabelReaches : ProgramUnit → ℕ → Option ℕ → Type 0
+LabelReaches u i None = Unit {0}
+LabelReaches u i (Some label) = Reaches u i label
+
+abbrev pub ControlsReach : ProgramUnit → ℕ → Controls → Type 0
+ControlsReach u i controls = LabelReaches u i controls.on_error × LabelReaches u i controls.on_end
+
+-- the branches of a statement go into no range from outside; no statement begins in the midst of a list of items
+abbrev mutual
+  pub BranchesWell : ProgramUnit → ℕ → Form → Type 0
+  BranchesWell u i Passes = Unit {0}
+  BranchesWell u i (On head ts) = HeadBranches u i head ts
+
+  pub HeadBranches : ProgramUnit → ℕ → Head → Terms → Type 0
+  HeadBranches u i (ToGo label) ts = Reaches u i label
+  HeadBranches u i (ToPick labels) ts = (label : ℕ) → contains labels label ≡ true → Reaches u i label
+  HeadBranches u i (ToGoBySign below at above) ts = Reaches u i below × Reaches u i at × Reaches u i above
+  HeadBranches u i (ToGuard form) ts = BranchesWell u i form
+  HeadBranches u i (ToCall name) ts = IsSafe u i ts
+  HeadBranches u i (ToBegin way layout controls work) ts = ControlsReach u i controls
+  HeadBranches u i (ToAuxiliary which controls) ts = ControlsReach u i controls
+  HeadBranches u i (ToTransfer more) ts = ⊥
+  HeadBranches u i (ToRepeat items more) ts = ⊥
+  HeadBranches u i (ToTurn items p left by given more) ts = ⊥
+  HeadBranches u i ToFinish ts = ⊥
+  HeadBranches u i head ts = Unit {0}
+
+-- in the midst of a list the labels are those of the transfer in progress
+abbrev pub BranchesNow : ProgramUnit → ℕ → Head → Terms → Type 0
+BranchesNow u i (ToTransfer more) ts = Unit {0}
+BranchesNow u i (ToRepeat items more) ts = Unit {0}
+BranchesNow u i (ToTurn items p left by given more) ts = Unit {0}
+BranchesNow u i ToFinish ts = Unit {0}
+BranchesNow u i head ts = HeadBranches u i head ts
+
+-- a transfer of this statement, whose labels may be branched to
+abbrev pub IsOwn : ProgramUnit → ℕ → Option Transfer → Type 0
+IsOwn u i None = Unit {0}
+IsOwn u i (Some t) = ControlsReach u i t.controls
+
+-- The transfer in progress is the one that the procedure found; in the midst of a list it is one of its own, begun where it found none.
+abbrev pub HasTransfer : ProgramUnit → Found → ℕ → Head → Option Transfer → Type 0
+HasTransfer u μ i (ToTransfer more) x = (μ.transfer ≡ None) × IsOwn u i x
+HasTransfer u μ i (ToRepeat items more) x = (μ.transfer ≡ None) × IsOwn u i x
+HasTransfer u μ i (ToTurn items p left by given more) x = (μ.transfer ≡ None) × IsOwn u i x
+HasTransfer u μ i ToFinish x = (μ.transfer ≡ None) × IsOwn u i x
+HasTransfer u μ i head x = x ≡ μ.transfer
+
+abbrev pub FormTransfer : ProgramUnit → Found → ℕ → Form → Option Transfer → Type 0
+FormTransfer u μ i Passes x = x ≡ μ.transfer
+FormTransfer u μ i (On head operands) x = HasTransfer u μ i head x
+
+abbrev pub TransferNow : ProgramUnit → Found → ℕ → fortran.Now → Option Transfer → Type 0
+TransferNow u μ i (fortran.Doing form) x = FormTransfer u μ i form x
+TransferNow u μ i now x = x ≡ μ.transfer
+
+unfoldable pub others_opened : Unit {0}
+unfolding may_be_other passes_other
+others_opened = tt
 
 -- ## Statements
 
@@ -110,6 +279,33 @@ closing_from i depth (line ∷ lines) = elim line.mark [
 abbrev pub block_ends : ProgramUnit → ℕ → Option ℕ
 block_ends u i = closing_from (suc i) 0 (drop (suc i) u.lines)
 
+-- the loops that are open at a statement are those that are open at another
+abbrev pub SameOpen : ProgramUnit → ℕ → ℕ → Type 0
+SameOpen u i j = open_at u i ≡ open_at u j
+
+-- a statement where no loop begins or ends
+pub record IsFlat (u : Text) (i : ℕ) : Type 0 where
+  pub same : SameOpen u.facts.program (suc i) i
+  pub end : ends_of u i ≡ u.begins (suc i)
+
+-- where the condition before an arm does not hold, control goes to the next arm, or to the end of the block
+pub record IsNextArm (u : Text) (i n j : ℕ) : Type 0 where
+  pub way : ends_of u i + n ≡ own_of u j
+  pub same : SameOpen u.facts.program j i
+  pub flat : IsFlat u j
+
+-- the range of a loop stands behind its statement
+pub record IsLoop (u : Text) (i last : ℕ) : Type 0 where
+  pub open' : open_at u.facts.program (suc i) ≡ record { first = i; last = last } ∷ open_at u.facts.program i
+  pub end : ends_of u i ≡ u.begins (suc i)
+  pub exit : IsBehind u last (loop_exit u.facts.program (record { first = i; last = last })) (open_at u.facts.program i)
+
+-- a DO has its own way to lower its operands
+abbrev pub IsModeOf : Mode → Head → Type 0
+IsModeOf mode (ToLoop label) = mode ≡ OfLoop
+IsModeOf (InOrder purpose) head = Unit {0}
+IsModeOf OfLoop head = ⊥
+
 -- What stands behind the operands of a statement, and the whole code of one that a logical IF guards, given the first free temporary and the
 -- place of the statement; none where a logical IF guards it.
 mutual
@@ -121,24 +317,38 @@ mutual
     for_go_assigned : {o : Option ℕ} {ts : Terms} {labels : List ℕ} {place : Pure} → IsClosing u k o (ToGoAssigned labels) ts (AndPure place NoPure) (JumpBy place labels ∷ [])
     for_go_by_sign : {o : Option ℕ} {ts : Terms} {below at above : ℕ} {p : Pure} → IsClosing u k o (ToGoBySign below at above) ts (AndPure p NoPure) (by_sign_steps below at above p)
     for_guard : {o : Option ℕ} {ts : Terms} {form : Form} {p : Pure} {under : List Step} → IsCode u k None form under → IsClosing u k o (ToGuard form) ts (AndPure p NoPure) (Unless p (length under) ∷ under)
-    -- where the condition does not hold, control goes to the next arm, or to the end of the block
-    for_arm : {i n : ℕ} {ts : Terms} {p : Pure} → ((j : ℕ) → arm_after u.facts.program i ≡ Some j → u.begins (suc i) + n ≡ own_of u j) → IsClosing u k (Some i) ToEnterArm ts (AndPure p NoPure) (Unless p n ∷ [])
+    for_arm : {i n : ℕ} {ts : Terms} {p : Pure} → IsFlat u i → ((j : ℕ) → arm_after u.facts.program i ≡ Some j → IsNextArm u i n j) →
+        IsClosing u k (Some i) ToEnterArm ts (AndPure p NoPure) (Unless p n ∷ [])
+    -- where the condition does not hold, control goes behind the loop
+    for_test : {i n : ℕ} {label : Option ℕ} {ts : Terms} {p : Pure} →
+        ((last : ℕ) → terminal_of u.facts.program i label ≡ Some last → IsLoop u i last × (ends_of u i + n ≡ loop_exit u.facts.program (record { first = i; last = last }))) →
+        IsClosing u k (Some i) (ToTestLoop label) ts (AndPure p NoPure) (Unless p n ∷ [])
+    -- the variable gets its first value, and is tested where the range may be left out
+    for_loop : {i : ℕ} {label : Option ℕ} {ts : Terms} {x first limit by : Pure} (n : ℕ) →
+        ((last : ℕ) → terminal_of u.facts.program i label ≡ Some last → IsLoop u i last × (ends_of u i + n ≡ loop_exit u.facts.program (record { first = i; last = last }))) →
+        IsClosing u k (Some i) (ToLoop label) ts (AndPure x (AndPure first (AndPure limit (AndPure by NoPure)))) (Put x first ∷ loop_test u.facts.program.onetrip (test_by x limit by) n)
     for_call : {o : Option ℕ} {ts : Terms} {ps : Pures} {name : Bytes} → IsClosing u k o (ToCall name) ts ps (CallSub k name ps ∷ branch_code (passes_label ts) k)
     for_return : {o : Option ℕ} {ts : Terms} → IsClosing u k o ToReturn ts NoPure (Back ∷ [])
     for_return_by : {o : Option ℕ} {ts : Terms} {p : Pure} → IsClosing u k o ToReturn ts (AndPure p NoPure) (BackBy p ∷ [])
     for_stop : {o : Option ℕ} {ts : Terms} {text : Bytes} → IsClosing u k o (ToStop text) ts NoPure (Halt text ∷ [])
     for_end : {o : Option ℕ} {ts : Terms} → IsClosing u k o ToEnd ts NoPure (Back ∷ [])
+    -- behind the start of a transfer, and behind an item, stands what is left of the list
+    for_begin : {o : Option ℕ} {ts : Terms} {way : Direction} {layout : Layout} {controls : Controls} {work : Work} {ps : Pures} {items : List Step} → IsCode u k None (next_of work) items →
+        IsClosing u k o (ToBegin way layout controls work) ts ps (Acts (Starts way layout controls) ps (length items) ∷ items)
+    for_item : {o : Option ℕ} {ts : Terms} {left : Work} {ps : Pures} {items : List Step} → IsCode u k None (next_of left) items → IsClosing u k o (ToTransfer left) ts ps (Acts Takes ps (length items) ∷ items)
+    for_finish : {o : Option ℕ} {ts : Terms} → IsClosing u k o ToFinish ts NoPure (Acts Finishes NoPure 0 ∷ [])
+    for_auxiliary : {o : Option ℕ} {ts : Terms} {which : AuxiliaryKind} {controls : Controls} {ps : Pures} → IsClosing u k o (ToAuxiliary which controls) ts ps (Acts (Auxiliary which controls) ps 0 ∷ [])
 
   pub data IsCode (u : Text) (k : ℕ) : Option ℕ → Form → List Step → Type 0 where
     no_code : {o : Option ℕ} → IsCode u k o Passes []
-    some_code : {o : Option ℕ} {head : Head} {ts : Terms} (purpose : Purpose) (closing : List Step) → IsClosing u k o head ts (lower_all NoPure purpose k ts).value closing →
-        IsCode u k o (On head ts) ((lower_all NoPure purpose k ts).steps ++ closing)
+    some_code : {o : Option ℕ} {head : Head} {ts : Terms} (mode : Mode) → IsModeOf mode head → (closing : List Step) → IsClosing u k o head ts (lowered_as mode k ts).value closing →
+        IsCode u k o (On head ts) ((lowered_as mode k ts).steps ++ closing)
 
 -- a form whose code stands from a position up to another: its operands, and what is behind them
 pub data Stands (u : Text) (k : ℕ) (o : Option ℕ) : Form → ℕ → ℕ → Type 0 where
   no_step : {p q : ℕ} → Leads u p q → Stands u k o Passes p q
-  some_steps : {head : Head} {ts : Terms} {p q : ℕ} (purpose : Purpose) (closing : List Step) →
-      IsClosing u k o head ts (lower_all NoPure purpose k ts).value closing → Spans u p ((lower_all NoPure purpose k ts).steps ++ closing) q → Stands u k o (On head ts) p q
+  some_steps : {head : Head} {ts : Terms} {p q : ℕ} (mode : Mode) → IsModeOf mode head → (closing : List Step) →
+      IsClosing u k o head ts (lowered_as mode k ts).value closing → Spans u p ((lowered_as mode k ts).steps ++ closing) q → Stands u k o (On head ts) p q
 
 -- a step that is no branch behind a CALL stands behind a position
 pub record IsFollowed (u : Text) (p : ℕ) : Type 0 where
@@ -148,17 +358,43 @@ pub record IsFollowed (u : Text) (p : ℕ) : Type 0 where
   pub is : slice_get u.steps at ≡ Some step
   pub ordinary : IsOrdinary u at
 
--- Where the text of a unit stands: each statement from where it begins to where the next one begins, labels where their statements begin,
--- and before an ELSE IF or ELSE the way to the end of the block.
+-- such a step before another position
+pub record IsFollowedBelow (u : Text) (p e : ℕ) : Type 0 where
+  pub is : IsFollowed u p
+  pub below : is.at < e
+
+-- Where the text of a unit stands: the own steps of each statement, behind them those of the loops that end there, labels where their
+-- statements begin, and before an ELSE IF or ELSE the way to the end of the block.
 pub record IsLaidOut (u : Text) : Type 0 where
-  -- the first free temporary of a statement
-  pub free : ℕ → ℕ
-  pub stands : (i : ℕ) (line : Line) → slice_get u.facts.program.lines i ≡ Some line → Stands u (free i) (Some i) line.form (own_of u i) (u.begins (suc i))
-  pub skips : (i e : ℕ) (line : Line) → slice_get u.facts.program.lines i ≡ Some line → line.mark ≡ Arm → block_ends u.facts.program i ≡ Some e → Leads u (u.begins i) (u.begins e)
+  pub stands : (i : ℕ) (line : Line) → slice_get u.facts.program.lines i ≡ Some line → Stands u (free_at u.facts.program i) (Some i) line.form (own_of u i) (ends_of u i)
+  pub skips : (i e : ℕ) (line : Line) → slice_get u.facts.program.lines i ≡ Some line → line.mark ≡ Arm → block_ends u.facts.program i ≡ Some e →
+      Leads u (u.begins i) (u.begins e) × SameOpen u.facts.program e i
   -- END IF takes no step
   pub closes : (i : ℕ) (line : Line) → slice_get u.facts.program.lines i ≡ Some line → line.mark ≡ Closes → line.form ≡ Passes
+  -- no loop begins or ends at a statement of an IF block
+  pub flat : (i : ℕ) (line : Line) → slice_get u.facts.program.lines i ≡ Some line → (line.mark ≡ Plain → ⊥) → IsFlat u i
   pub labels : (label i : ℕ) → place_of_label u.facts.program label ≡ Some i → u.position label ≡ Some (u.begins i)
   pub followed : (p k : ℕ) (name : Bytes) (ps : Pures) → slice_get u.steps p ≡ Some (CallSub k name ps) → IsFollowed u p
+  pub rises : (i : ℕ) → u.begins i ≤ ends_of u i
+  pub own : (i : ℕ) → own_start u.facts.program i ≡ own_of u i
+  -- behind a statement that begins no loop stand the steps of those that end there
+  pub behind : (i : ℕ) (line : Line) → slice_get u.facts.program.lines i ≡ Some line → loop_of line.form ≡ None → IsBehind u i (ends_of u i) (open_at u.facts.program i)
+  pub chain : (i : ℕ) → IsChain u.facts.program (open_at u.facts.program i)
+  pub before : (i : ℕ) → AllBefore u (u.begins i) (open_at u.facts.program i)
+  -- a loop that is open keeps temporaries below those that are free
+  pub kept : (i : ℕ) (r : Range) → IsIn r (open_at u.facts.program i) → (loop_lowered u.facts.program (free_at u.facts.program r.first) r).free ≤ free_at u.facts.program i
+  pub entries : (name : Called) (e : EntryPoint) → entry_of u.facts.program.kind u.facts.program.entries name ≡ Some e → open_at u.facts.program e.start ≡ []
+  pub branches : (i : ℕ) (line : Line) → slice_get u.facts.program.lines i ≡ Some line → BranchesWell u.facts.program i line.form
+  pub assigned : (i label : ℕ) → enters_block u.facts.program i (place_of_label u.facts.program label) ≡ false → Reaches u.facts.program i label
+
+-- a statement, or what stands under its condition or in its list
+pub data IsPart (form : Form) : Option ℕ → Head → Terms → Type 0 where
+  is_whole : {o : Option ℕ} {head : Head} {ts : Terms} → form ≡ On head ts → IsPart form o head ts
+  is_under : {head : Head} {ts : Terms} → loop_of form ≡ None → IsPart form None head ts
+
+-- no label is known
+abbrev pub none_known : ℕ → Bool
+none_known label = false
 
 -- in the midst of a statement's operands
 pub record IsAt (u : Text) (f : Frame) (i : ℕ) (form : Form) (p : ℕ) (m : Temporaries) : Type 0 where
@@ -166,32 +402,55 @@ pub record IsAt (u : Text) (f : Frame) (i : ℕ) (form : Form) (p : ℕ) (m : Te
   pub operands : Terms
   pub left : Terms
   pub is : form ≡ On head left
-  pub purpose : Purpose
+  pub mode : Mode
+  pub modes : IsModeOf mode head
   pub closing : List Step
   pub free : ℕ
+  pub enough : free_at u.facts.program i ≡ free
   pub place : Option ℕ
   pub at_place : (j : ℕ) → place ≡ Some j → j ≡ i
+  pub line : Line
+  pub there : slice_get u.facts.program.lines i ≡ Some line
   pub from : ℕ
   pub upto : ℕ
-  pub arrives : Arrives u m p from
-  pub midway : AreMidway u f NoPure [] purpose free operands left from m upto
-  pub closes : IsClosing u free place head operands (lower_all NoPure purpose free operands).value closing
-  pub behind : Spans u upto closing (u.begins (suc i))
+  pub low : u.begins i ≤ from
+  pub arrives : Arrives u m 0 p from
+  pub midway : AreIn u f mode free operands left from m upto
+  pub closes : IsClosing u free place head operands (lowered_as mode free operands).value closing
+  pub behind : Spans u upto closing (ends_of u i)
   -- the operands that are left of a CALL without a label have none either
-  pub without : (name : Bytes) → head ≡ ToCall name → passes_label operands ≡ false → passes_label left ≡ false
+  pub without : (name : Bytes) → head ≡ ToCall name → passes_label operands ≡ false → passes_other none_known left ≡ false
+  pub part : IsPart line.form place head operands
+  pub branches : BranchesNow u.facts.program i head left
+
+-- from the end of a range the text goes back to the condition of its DO WHILE
+pub record GoesBack (u : Text) (m : Temporaries) (low p q : ℕ) : Type 0 where
+  pub from : ℕ
+  pub count : ℕ
+  pub arrives : Arrives u m low p from
+  pub there : slice_get u.steps from ≡ Some (Again count)
+  pub is : from - count ≡ q
+
+-- what comes next, the loops that are open, and where the text stands
+pub data IsPlaced (u : Text) (f : Frame) (open' : List Range) (i : ℕ) : fortran.Now → ℕ → Temporaries → Type 0 where
+  is_doing : {form : Form} {p : ℕ} {m : Temporaries} → open' ≡ open_at u.facts.program i → IsAt u f i form p m → IsPlaced u f open' i (fortran.Doing form) p m
+  is_testing : {label : Option ℕ} {operands : Terms} {p : ℕ} {m : Temporaries} → open' ≡ open_at u.facts.program i → (line : Line) → slice_get u.facts.program.lines i ≡ Some line → line.form ≡ On (ToTestLoop label) operands →
+      GoesBack u m (ends_of u i) p (own_of u i) → IsPlaced u f open' i (fortran.Doing (On (ToTestLoop label) operands)) p m
+  -- behind the terminal statement of a counted DO
+  is_turning : {p : ℕ} {m : Temporaries} (r : Range) (outer : List Range) (from : ℕ) → open' ≡ r ∷ outer → open_at u.facts.program r.first ≡ outer → Arrives u m (ends_of u r.first) p from →
+      Spans u from (turn_of u.facts.program from r) (from + turn_size u.facts.program r) → from + turn_size u.facts.program r ≡ loop_exit u.facts.program r → IsPlaced u f open' i fortran.Turning p m
 
 pub record IsMatched (u : Text) (μ : Found) (v : fortran.View) (s : World) (x : View) (t : World) : Type 0 where
   pub same : s ≡ t
-  pub transfer : s.transfer ≡ μ.transfer
+  pub transfer : TransferNow u.facts.program μ v.at v.now s.transfer
   pub called : IsCalled u.facts.program.kind v.frame μ
-  pub no_loops : v.loops ≡ []
-  pub form : Form
-  pub doing : v.now ≡ fortran.Doing form
   pub position : ℕ
   pub kept : Temporaries
   pub height : ℕ
   pub seen : x ≡ at_step v.frame height position kept
-  pub placed : IsAt u v.frame v.at form position kept
+  pub open' : List Range
+  pub rounds : AreRounds u v.frame kept open' v.loops
+  pub placed : IsPlaced u v.frame open' v.at v.now position kept
 
 abbrev pub lower_pairing : Text → Pairing lower_kit
 lower_pairing u = record {

@@ -1,15 +1,16 @@
 -- Where the steps of an expression stand in the midst of their work: what the expression has become by the answers so far, beside the
 -- position in the code of the whole.
-use Rattle.std.specs.Prelude.{◌≡◌, ℕ, suc, ◌&&◌, ◌||◌, Bool, true, false, List, [], ◌∷◌, ◌++◌, length}
-use Rattle.f_tree.specs.Values.{Bytes, Datum, Nothing, NoMeaning}
+use Rattle.std.specs.Prelude.{◌≡◌, ℕ, suc, true, false, List, [], ◌∷◌, ◌++◌, length}
+use Rattle.f_tree.specs.Values.{Bytes, Datum, Nothing, NoMeaning, Gives}
 use Rattle.f_tree.specs.Terms.{Operator, Term, Val, Fetch, Element, Alone, Part, Joined, Before, Between, Intrinsically, Refer, Bind, Terms, NoMore, More, any_refers, valued_then}
 use Rattle.f_tree.specs.Store.{Store}
 use Rattle.f_tree.specs.Facts.{Facts, Frame}
-use Rattle.f_tree.specs.Valuing.{Red, Valued, Bad, Asks, at_once, prefixed, operated, Wants, left_of, applied, element, alone, part, pieces, joined, fetched}
-use Rattle.l_core.specs.Pures.{Pure, Pures, NoPure, AndPure, Temporaries}
+use Rattle.f_tree.specs.Valuing.{Red, Bad, Asks, at_once, prefixed, operated, Wants, left_of, applied, element, alone, part, pieces, joined, fetched}
+use Rattle.l_core.specs.Pures.{Pure, Pures, NoPure, AndPure, Temporaries, all_meant}
 use Rattle.l_core.specs.Steps.{Step, Keep, Unless, Text}
-use Rattle.lowering.specs.Expressions.{Purpose, ForUse, ForCall, ForLater, Lowered, ahead, Shape, AsFetch, AsElement, AsAlone, AsPart, AsJoined, AsBefore, AsBetween, AsFunction, AsReference, operand_purpose, closing, takes_steps, may_decide, wanted_where, lower, lower_all}
-use Rattle.lowering_laws.specs.Walks.{Spans, Lasts, AllLast}
+use Rattle.lowering.specs.Expressions.{Purpose, ForUse, ForLater, Lowered, ahead, Shape, AsFetch, AsElement, AsAlone, AsPart, AsJoined, AsBefore, AsBetween, AsFunction, AsReference, operand_purpose, closing, takes_steps, may_decide, wanted_where, lower, lower_all, and_then}
+use Rattle.lowering.specs.Statements.{loop_operands}
+use Rattle.lowering_laws.specs.Walks.{Spans, Lasts, AllLast, SameBelow}
 
 -- a form with its operands
 abbrev pub formed : Shape → Terms → Term
@@ -110,3 +111,46 @@ mutual
         Lasts u.facts f (first_of env purpose k t ts).free m (first_of env purpose k t ts).value d →
         AreMidway u f env es purpose (first_of env purpose k t ts).free ts rs p m q →
         AreMidway u f env es purpose k (More t ts) (More (Val d) rs) p m q
+
+-- ## Operands of a DO
+
+-- behind the variable: the first value, and the limit and the step, which last while the loop is open
+abbrev pub first_value : ℕ → Term → Terms → Lowered Pure
+first_value n first bounds = lower NoPure (ahead ForUse (any_refers bounds)) n first
+
+abbrev pub tail_of : ℕ → Term → Terms → Lowered Pures
+tail_of n first bounds = and_then (first_value n first bounds) (λ n'. lower_all NoPure ForLater n' bounds)
+
+pub data AreInTail (u : Text) (f : Frame) (n : ℕ) : Term → Terms → Terms → ℕ → Temporaries → ℕ → Type 0 where
+  in_first : {first r : Term} {bounds : Terms} {p : ℕ} {m : Temporaries} {q q' : ℕ} → IsMidway u f NoPure [] (ahead ForUse (any_refers bounds)) n first r p m q →
+      Spans u q (lower_all NoPure ForLater (first_value n first bounds).free bounds).steps q' → AreInTail u f n first bounds (More r bounds) p m q'
+  in_bounds : {first : Term} {bounds rs : Terms} {p : ℕ} {m : Temporaries} {q : ℕ} (e : Datum) → Lasts u.facts f (first_value n first bounds).free m (first_value n first bounds).value e →
+      AreMidway u f NoPure [] ForLater (first_value n first bounds).free bounds rs p m q → AreInTail u f n first bounds (More (Val e) rs) p m q
+
+pub data AreInLoop (u : Text) (f : Frame) (k : ℕ) : Terms → Terms → ℕ → Temporaries → ℕ → Type 0 where
+  in_variable : {x r first : Term} {bounds : Terms} {p : ℕ} {m : Temporaries} {q q' : ℕ} → IsMidway u f NoPure [] ForLater k x r p m q → Spans u q (tail_of (lower NoPure ForLater k x).free first bounds).steps q' →
+      AreInLoop u f k (More x (More first bounds)) (More r (More first bounds)) p m q'
+  in_tail : {x first : Term} {bounds rs : Terms} {p : ℕ} {m : Temporaries} {q : ℕ} (d : Datum) → Lasts u.facts f (lower NoPure ForLater k x).free m (lower NoPure ForLater k x).value d →
+      AreInTail u f (lower NoPure ForLater k x).free first bounds rs p m q → AreInLoop u f k (More x (More first bounds)) (More (Val d) rs) p m q
+
+-- how the operands of a statement are lowered: all for one purpose, or as those of a DO
+pub data Mode : Type 0 where
+  InOrder : Purpose → Mode
+  OfLoop : Mode
+
+abbrev pub lowered_as : Mode → ℕ → Terms → Lowered Pures
+lowered_as (InOrder purpose) k ts = lower_all NoPure purpose k ts
+lowered_as OfLoop k ts = loop_operands k ts
+
+abbrev pub AreIn : Text → Frame → Mode → ℕ → Terms → Terms → ℕ → Temporaries → ℕ → Type 0
+AreIn u f (InOrder purpose) k ts rs p m q = AreMidway u f NoPure [] purpose k ts rs p m q
+AreIn u f OfLoop k ts rs p m q = AreInLoop u f k ts rs p m q
+
+-- the variable of a DO, its limit and its step last
+abbrev pub LoopLast : Facts → Frame → ℕ → Temporaries → Pures → List Datum → Type 0
+LoopLast c f k m (AndPure x (AndPure first bounds)) (d ∷ e ∷ es) = Lasts c f k m x d × AllLast c f k m bounds es
+LoopLast c f k m ps ds = ⊥
+
+pub record LoopComes (c : Facts) (f : Frame) (s : Store) (k : ℕ) (m : Temporaries) (ps : Pures) (ds : List Datum) : Type 0 where
+  pub now : (m' : Temporaries) → SameBelow k m m' → all_meant c f m' s ps ≡ Gives ds
+  pub last : LoopLast c f k m ps ds

@@ -1,7 +1,7 @@
 -- How lowered steps are followed from one to the next: code that stands in a unit, ways that only keep values, values that last.
-use Rattle.std.specs.Prelude.{◌≡◌, ℕ, suc, ◌<◌, ◌≤◌, List, [], ◌∷◌, Option, Some, slice_get}
+use Rattle.std.specs.Prelude.{◌≡◌, ℕ, suc, ◌<◌, ◌≤◌, List, [], ◌∷◌, Some, slice_get}
 use Rattle.simulation.specs.Machine.{Goes}
-use Rattle.f_tree.specs.Values.{Datum, Gives, Act}
+use Rattle.f_tree.specs.Values.{Datum, Gives}
 use Rattle.f_tree.specs.Terms.{Callee}
 use Rattle.f_tree.specs.Store.{Store}
 use Rattle.f_tree.specs.Facts.{Facts, Frame}

@@ -3,7 +3,8 @@
 ghost use Rattle.std.specs.Prelude.{◌≡◌, Some};
 ghost use Rattle.lowering.specs.Units.{lowered_unit};
 ghost use Rattle.lowering_laws.specs.Layer.{IsLaidOut};
-ghost use Rattle.lowering_laws.specs.Examples.{a_loop, loop_steps, a_block, block_steps, a_sum, sum_text, unit_of, lowered_steps};
+ghost use Rattle.lowering_laws.specs.Examples.{a_loop, loop_steps, loop_text, a_block, block_steps, a_sum, sum_text, a_search, search_text, a_list, list_text, unit_of, lowered_steps};
+ghost use Rattle.lowering_laws.specs.Layout.{LoopsFit};
 
 /// A DO loop whose range adds up the values of a function, and a block of three arms with a guarded reference and a branch.
 pub fn examples_are_lowered()
@@ -15,4 +16,22 @@ pub fn examples_are_lowered()
 pub fn example_is_laid_out()
     ensures lowered { lowered_unit (unit_of a_sum) ≡ Some sum_text }
     ensures laid { IsLaidOut sum_text }
+{}
+
+/// A DO, and two DO WHILE loops that share their terminal statement, with a branch out of both, meet what the law asks of the loops of a unit,
+/// and their texts are laid out so.
+pub fn loops_are_laid_out()
+    ensures counted_lowered { lowered_unit (unit_of a_loop) ≡ Some loop_text }
+    ensures counted_fits { LoopsFit (unit_of a_loop).program }
+    ensures counted_laid { IsLaidOut loop_text }
+    ensures lowered { lowered_unit (unit_of a_search) ≡ Some search_text }
+    ensures fits { LoopsFit (unit_of a_search).program }
+    ensures laid { IsLaidOut search_text }
+{}
+
+/// A READ with END=, and a PRINT of a variable, which is handed on where it stands, and of a sum with a reference, which is kept; their text
+/// is laid out as the law of statements asks.
+pub fn transfers_are_laid_out()
+    ensures lowered { lowered_unit (unit_of a_list) ≡ Some list_text }
+    ensures laid { IsLaidOut list_text }
 {}

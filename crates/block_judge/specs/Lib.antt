@@ -1,0 +1,5 @@
+pub mod Arms
+pub mod Ranges
+pub mod Blocks
+pub mod BlockSteps
+pub mod Sharing

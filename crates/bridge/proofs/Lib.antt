@@ -1,0 +1,5 @@
+pub mod LinkedUnits
+pub mod Beginning
+pub mod Standing
+pub mod Together
+pub mod ExampleStands

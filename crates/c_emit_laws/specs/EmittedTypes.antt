@@ -1,0 +1,22 @@
+-- The type that a lowered value is given is the type of its datum. ANSI X3.9-1978, sections 4 and 6.
+use Rattle.std.specs.Prelude.{◌≡◌, ℕ, Some}
+use Rattle.f_tree.specs.declared.names.Basic.{Basic}
+use Rattle.f_tree.specs.Values.{Bytes, Spot, Datum, IsSpot, Gives}
+use Rattle.f_tree.specs.Store.{Store}
+use Rattle.f_tree.specs.Facts.{Frame}
+use Rattle.f_tree.specs.Valuing.{whole}
+use Rattle.l_core.specs.Pures.{Pure, Temporaries, meant}
+use Rattle.c_emit.specs.Numbers.{Writing}
+use Rattle.c_emit.specs.Types.{HasType, type_of}
+
+-- what the temporaries hold before a step is of the types that are said
+abbrev pub AreTyped : Writing → ℕ → Temporaries → Type 0
+AreTyped w n temporaries = (k : ℕ) (d : Datum) (basic : Basic) → temporaries k ≡ Some d → w.kind n k ≡ Some basic → HasType basic d
+
+-- a place has the type of its name
+abbrev pub PlacesAreTyped : Writing → Frame → Type 0
+PlacesAreTyped w frame = (x : Bytes) (p : Spot) → whole w.facts frame x ≡ Gives (IsSpot p) → p.basic ≡ (w.facts.program.attribute x).basic
+
+abbrev pub TypesAreRight : Type 0
+TypesAreRight = (w : Writing) (n : ℕ) (frame : Frame) (temporaries : Temporaries) (s : Store) (p : Pure) (d : Datum) (basic : Basic) → PlacesAreTyped w frame → AreTyped w n temporaries →
+    type_of w n p ≡ Some basic → meant w.facts frame temporaries s p ≡ Gives d → HasType basic d

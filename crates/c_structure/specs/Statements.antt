@@ -1,0 +1,164 @@
+-- Structured C statements whose flat form is a given list of items: a test that passes the items behind it is an `if`, with an `else` where it is said
+-- that the last of them passes the other arm; a loop that is said to begin at an item is a `for`; labels stand where it is said that they do. None for
+-- items that have no statement of their own. C89, 3.6.
+use Rattle.std.specs.Prelude.{ℕ, zero, suc, ◌+◌, ◌-◌, pos, nat_eq, nat_le, Bool, false, ◌&&◌, List, [], ◌∷◌, ◌++◌, length, take, drop, Option, Some, None, is_none, option_map, slice_get, if◌then◌else◌}
+use Rattle.c_tree.specs.declared.expression.CExpr.{CExpr}
+use Rattle.c_tree.specs.declared.expression.BinaryOp.TheVariants as op
+use Rattle.c_tree.specs.declared.expression.UnaryOp.TheVariants as prefix
+use Rattle.c_tree.specs.declared.statement.CNext.{CNext}
+use Rattle.c_tree.specs.declared.statement.CNext.TheVariants as next
+use Rattle.c_tree.specs.declared.statement.CStmt.{CStmt}
+use Rattle.c_tree.specs.declared.statement.CStmt.TheVariants as stmt
+use Rattle.c_tree.specs.Access.{ToNumber, ToPointer}
+use Rattle.c_tree.specs.Terms.{Term, Constant, Variable, Array, Prefixed, Between, Element}
+use Rattle.c_tree.specs.Flat.{Flat, Assign, Branch, Jump, Invoke, Return, Nothing, Ignored, Direct}
+use Rattle.c_structure.specs.Expressions.{Names, expr_for, exprs_for, strings_in, strings_in_all}
+
+-- what is known besides the items: names, the label before the item at a position, whether an item is the jump at the end of an arm, and how many items
+-- the turn of a loop has whose variable is first set by an item
+pub record Outline : Type 0 where
+  pub names : Names
+  pub label : ℕ → Option (List ℕ)
+  pub ends_arm : ℕ → Bool
+  pub loop : ℕ → Option ℕ
+
+unfoldable pub set_by : Option CExpr → Option CExpr → Option CStmt
+set_by (Some a) (Some b) = Some (stmt.Set a b)
+set_by _ _ = None
+
+unfoldable pub call_by : List ℕ → Option (List CExpr) → Option CStmt
+call_by name arguments = option_map (λ es. stmt.Call (record { through = false; name = name; arguments = es })) arguments
+
+-- the statement of one item
+unfoldable pub statement_of : Outline → Flat → Option CStmt
+statement_of o (Assign t u) = set_by (expr_for o.names t) (expr_for o.names u)
+statement_of o (Jump position) = option_map stmt.Goto (o.label position)
+statement_of o (Invoke Ignored (Direct k) arguments) = call_by (o.names.routine k) (exprs_for o.names arguments)
+statement_of o (Return None) = Some (stmt.Return None)
+statement_of o (Return (Some t)) = option_map (λ e. stmt.Return (Some e)) (expr_for o.names t)
+statement_of o Nothing = Some stmt.Empty
+statement_of o item = None
+
+-- the numbers of the strings in items, from the left
+unfoldable pub strings_of_item : Names → Flat → List ℕ
+strings_of_item names (Assign t u) = strings_in names t ++ strings_in names u
+strings_of_item names (Branch test on off) = strings_in names test
+strings_of_item names (Invoke Ignored (Direct k) arguments) = strings_in_all names arguments
+strings_of_item names (Return (Some t)) = strings_in names t
+strings_of_item names item = []
+
+unfoldable pub strings_of_items : Names → List Flat → List ℕ
+strings_of_items names [] = []
+strings_of_items names (item ∷ later) = strings_of_item names item ++ strings_of_items names later
+
+unfoldable pub with_label : Option (List ℕ) → CStmt → CStmt
+with_label None s = s
+with_label (Some name) s = stmt.Label name s
+
+unfoldable pub before : Option CStmt → Option (List CStmt) → Option (List CStmt)
+before (Some s) (Some ss) = Some (s ∷ ss)
+before _ _ = None
+
+unfoldable pub if_by : Option CExpr → Option (List CStmt) → Option CStmt
+if_by (Some test) (Some first) = Some (stmt.If test first None)
+if_by _ _ = None
+
+unfoldable pub if_else_by : Option CExpr → Option (List CStmt) → Option (List CStmt) → Option CStmt
+if_else_by (Some test) (Some first) (Some second) = Some (stmt.If test first (Some second))
+if_else_by _ _ _ = None
+
+-- where the jump at the end of an arm goes
+unfoldable pub end_of_arm : Option Flat → Option ℕ
+end_of_arm (Some (Jump position)) = Some position
+end_of_arm item = None
+
+-- how the items behind are written, from a position on
+abbrev pub Writer : Type 0
+Writer = ℕ → List Flat → Option (List CStmt)
+
+-- a test that passes so many items
+unfoldable pub if_for : Outline → Writer → ℕ → Option CExpr → ℕ → List Flat → Option (List CStmt)
+if_for o write n test m later = before (option_map (with_label (o.label n)) (if_by test (write (suc n) (take m later)))) (write (suc n + m) (drop m later))
+
+-- and has another arm of so many behind them
+unfoldable pub if_else_for : Outline → Writer → ℕ → Option CExpr → ℕ → ℕ → List Flat → Option (List CStmt)
+if_else_for o write n test m k later =
+    before (option_map (with_label (o.label n)) (if_else_by test (write (suc n) (take m later)) (write (suc n + suc m) (take k (drop (suc m) later)))))
+    (write (suc n + suc m + k) (drop k (drop (suc m) later)))
+
+-- the other arm reaches to the position to which the first one jumps at its end
+unfoldable pub arms_for : Outline → Writer → ℕ → Option CExpr → ℕ → Option ℕ → List Flat → Option (List CStmt)
+arms_for o write n test m None later = None
+arms_for o write n test m (Some end) later =
+    if nat_le (suc n + suc m) end && nat_le (end - (suc n + suc m)) (length (drop (suc m) later)) then if_else_for o write n test m (end - (suc n + suc m)) later else None
+
+unfoldable pub branch_for : Outline → Writer → ℕ → Option CExpr → ℕ → List Flat → Option (List CStmt)
+branch_for o write n test zero later = if_for o write n test 0 later
+branch_for o write n test (suc m) later =
+    if o.ends_arm (suc n + m) then arms_for o write n test m (end_of_arm (slice_get later m)) later else if_for o write n test (suc m) later
+
+-- an item, and those behind it
+unfoldable pub item_for : Outline → Writer → ℕ → Flat → List Flat → Option (List CStmt)
+item_for o write n (Branch test on off) later =
+    if nat_eq on (suc n) && (nat_le (suc n) off && nat_le (off - suc n) (length later)) then branch_for o write n (expr_for o.names test) (off - suc n) later else None
+item_for o write n item later = before (option_map (with_label (o.label n)) (statement_of o item)) (write (suc n) later)
+
+-- ## Loops
+
+-- the same variable, in an object of its own, in an array or where a parameter points
+unfoldable pub same_place : Term → Term → Bool
+same_place (Variable j ToNumber) (Variable k ToNumber) = nat_eq j k
+same_place (Element (Array j ToNumber) (Constant (pos a))) (Element (Array k ToNumber) (Constant (pos b))) = nat_eq j k && nat_eq a b
+same_place (Prefixed prefix.Deref (Variable j (ToPointer ToNumber))) (Prefixed prefix.Deref (Variable k (ToPointer ToNumber))) = nat_eq j k
+same_place _ _ = false
+
+unfoldable pub added_by : Option CExpr → Option CExpr → Option CNext
+added_by (Some variable) (Some amount) = Some (next.Add variable amount)
+added_by _ _ = None
+
+-- what is done behind each turn: the variable grows by 1, or by an amount
+unfoldable pub next_by : Names → Term → Term → Option CNext
+next_by names variable (Constant (pos (suc zero))) = option_map next.Up (expr_for names variable)
+next_by names variable amount = added_by (expr_for names variable) (expr_for names amount)
+
+unfoldable pub next_for : Names → Term → Option Flat → Option CNext
+next_for names variable (Some (Assign t (Between op.Add u amount))) = if same_place variable t && same_place variable u then next_by names variable amount else None
+next_for names variable item = None
+
+unfoldable pub for_by : Option CExpr → Option CExpr → Option CExpr → Option CNext → Option (List CStmt) → Option CStmt
+for_by (Some variable) (Some first) (Some test) (Some next) (Some turn) = Some (stmt.For variable first test next turn)
+for_by _ _ _ _ _ = None
+
+unfoldable pub goes_back : ℕ → Option Flat → Bool
+goes_back n (Some (Jump position)) = nat_eq position n
+goes_back n item = false
+
+-- a test at once behind the first item, so many items of a turn, one more, and the jump back; no label stands but in the turn
+unfoldable pub is_loop : Outline → ℕ → ℕ → ℕ → ℕ → List Flat → Bool
+is_loop o n size on off later =
+    nat_eq on (suc (suc n)) && (nat_eq off (suc (suc n) + suc (suc size)) && (nat_le (suc (suc size)) (length later) && (goes_back (suc n) (slice_get later (suc size))
+    && (is_none (o.label (suc n)) && (is_none (o.label (suc (suc n) + size)) && is_none (o.label (suc (suc (suc n) + size))))))))
+
+unfoldable pub loop_for : Outline → Writer → ℕ → ℕ → Flat → List Flat → Option (List CStmt)
+loop_for o write n size (Assign variable first) (Branch test on off ∷ later) =
+    if is_loop o n size on off later then
+    before
+    (option_map (with_label (o.label n))
+    (for_by (expr_for o.names variable) (expr_for o.names first) (expr_for o.names test) (next_for o.names variable (slice_get later size)) (write (suc (suc n)) (take size later))))
+    (write (suc (suc n) + suc (suc size)) (drop (suc (suc size)) later))
+    else None
+loop_for o write n size item later = None
+
+unfoldable pub part_for : Outline → Writer → Option ℕ → ℕ → Flat → List Flat → Option (List CStmt)
+part_for o write None n item later = item_for o write n item later
+part_for o write (Some size) n item later = loop_for o write n size item later
+
+-- the statements of the items from a position on, given as many turns as there are items at least
+unfoldable pub statements_for : Outline → ℕ → ℕ → List Flat → Option (List CStmt)
+statements_for o turns n [] = Some []
+statements_for o zero n (item ∷ later) = None
+statements_for o (suc turns) n (item ∷ later) = part_for o (statements_for o turns) (o.loop n) n item later
+
+unfoldable pub statements_opened : Unit {0}
+unfolding set_by call_by statement_of strings_of_item strings_of_items with_label before if_by if_else_by end_of_arm if_for if_else_for arms_for branch_for item_for same_place added_by next_by next_for for_by goes_back is_loop loop_for part_for statements_for
+statements_opened = tt

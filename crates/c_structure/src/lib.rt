@@ -1,0 +1,2 @@
+//! C statements for a list of flat items: definitions alone.
+#![tactic(auto)]

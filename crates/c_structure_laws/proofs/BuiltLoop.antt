@@ -1,0 +1,10 @@
+-- The example is built as it says.
+use Rattle.std.specs.Prelude.{◌≡◌, Some}
+use Rattle.std.proofs.Common.{refl}
+use Rattle.c_structure.specs.Expressions.{expressions_opened}
+use Rattle.c_structure.specs.Statements.{statements_for, statements_opened}
+use Rattle.c_structure_laws.specs.Example.{its_outline, its_items, its_statements}
+
+pub loop_is_built : statements_for its_outline 7 0 its_items ≡ Some its_statements
+unfolding expressions_opened statements_opened
+loop_is_built = refl

@@ -1,0 +1,665 @@
+-- The statements that are built have the items that they are built for.
+use Rattle.std.specs.Prelude.{◌≡◌, ℕ, zero, suc, ◌+◌, ◌-◌, ◌≤◌, pos, nat_eq, nat_le, Bool, true, false, ◌&&◌, List, [], ◌∷◌, ◌++◌, length, map, take, drop, Option, Some, None, is_none, option_map, slice_get, if◌then◌else◌}
+use Rattle.std.proofs.Common.{refl, sym, ap, ◌∙◌, subst, arith}
+use Rattle.std.proofs.lemmas.Bool.{eqb-true, leb-true}
+use Rattle.std.proofs.lemmas.List.{append-nil, append_assoc, length-append, length-take-le, take-append-drop}
+use Rattle.c_tree.specs.declared.expression.CExpr.{CExpr}
+use Rattle.c_tree.specs.declared.expression.BinaryOp.TheVariants as op
+use Rattle.c_tree.specs.declared.expression.UnaryOp.TheVariants as prefix
+use Rattle.c_tree.specs.declared.statement.CNext.{CNext}
+use Rattle.c_tree.specs.declared.statement.CNext.TheVariants as next
+use Rattle.c_tree.specs.declared.statement.CStmt.{CStmt}
+use Rattle.c_tree.specs.declared.statement.CStmt.TheVariants as stmt
+use Rattle.c_tree.specs.Access.{ToNumber, ToPointer}
+use Rattle.c_tree.specs.Terms.{Term, Constant, Variable, Array, Routine, Prefixed, Between, Element}
+use Rattle.c_tree.specs.Flat.{Flat, Assign, Branch, Select, Jump, Invoke, Return, ReturnAnswer, Nothing, Lost, Ignored, Kept, Returned, Direct, Through, Nowhere}
+use Rattle.c_tree.specs.Drafts.{Scope, Draft, bare, drafted, joined}
+use Rattle.c_tree.specs.LinkedExpressions.{linked, name_of, linked_all, Calling, called, linked_call}
+use Rattle.c_tree.specs.FlatForm as code
+use Rattle.c_tree.specs.FlatForm.{LabelAt, Labels, Body, sequence, one, marked, if_only, if_else, jump_to, next_item, tested, for_loop, body, body_of_all}
+use Rattle.c_laws.proofs.TreeEquations.{body-Label, body-If, body-IfElse, body-For}
+use Rattle.c_structure.specs.Expressions.{Names, expr_for, exprs_for, string_at, strings_in, strings_in_all}
+use Rattle.c_structure.specs.Statements.{Outline, set_by, call_by, statement_of, strings_of_item, strings_of_items, with_label, before, if_by, if_else_by, end_of_arm, Writer, if_for, if_else_for, arms_for, branch_for, item_for, same_place, added_by, next_by, next_for, for_by, goes_back, is_loop, loop_for, part_for, statements_for}
+use Rattle.c_structure_laws.specs.Fitting.{KnowsArray, Knows, KnowsAll, KnowsItem, KnowsItems, AreNumbered, AreBytesOf, IsDrawn, mark_at, marks_from, Fits, AreLabels, StatementsAreTheirs}
+use Rattle.c_structure_laws.proofs.DrawnExpressions.{bytes_both, numbered_left, behind_both, drawn_bare, drawn_name, drawn_by, drawn_both, some_same, mapped_by, expr_drawn, exprs_drawn}
+
+plus_one : (n : ℕ) → n + 1 ≡ suc n
+plus_one n = omega arith
+
+-- ## Lists of items
+
+marks_append : (label : ℕ → Option (List ℕ)) (n m : ℕ) (xs ys : List Flat) → m ≡ n + length xs → marks_from label n (xs ++ ys) ≡ marks_from label n xs ++ marks_from label m ys
+marks_append label n m [] ys at = let same : m ≡ n = omega (arith, at) in ap (λ k. marks_from label k ys) (sym same)
+marks_append label n m (x ∷ xs) ys at =
+    ap (λ zs. mark_at n (label n) ++ zs) (marks_append label (suc n) m xs ys (omega (arith, at)))
+    ∙ sym (append_assoc (mark_at n (label n)) (marks_from label (suc n) xs) (marks_from label m ys))
+
+knows_take : (scope : Scope) (names : Names) (m : ℕ) (xs : List Flat) → KnowsItems scope names xs → KnowsItems scope names (take m xs)
+knows_take scope names zero xs knows = tt
+knows_take scope names (suc m) [] knows = tt
+knows_take scope names (suc m) (x ∷ xs) knows = (knows.0, knows_take scope names m xs knows.1)
+
+knows_drop : (scope : Scope) (names : Names) (m : ℕ) (xs : List Flat) → KnowsItems scope names xs → KnowsItems scope names (drop m xs)
+knows_drop scope names zero xs knows = knows
+knows_drop scope names (suc m) [] knows = tt
+knows_drop scope names (suc m) (x ∷ xs) knows = knows_drop scope names m xs knows.1
+
+strings_append : (names : Names) (xs ys : List Flat) → strings_of_items names (xs ++ ys) ≡ strings_of_items names xs ++ strings_of_items names ys
+unfolding strings_of_items
+strings_append names [] ys = refl
+strings_append names (x ∷ xs) ys = ap (λ zs. strings_of_item names x ++ zs) (strings_append names xs ys) ∙ sym (append_assoc (strings_of_item names x) (strings_of_items names xs) (strings_of_items names ys))
+
+-- an item in its place among the others
+around : (m : ℕ) (xs : List Flat) (item : Flat) → slice_get xs m ≡ Some item → xs ≡ take m xs ++ item ∷ drop (suc m) xs
+around zero [] item at = absurd (cc)
+around zero (x ∷ xs) item at = ap (λ y. y ∷ xs) (some_same x item at)
+around (suc m) [] item at = absurd (cc)
+around (suc m) (x ∷ xs) item at = ap (λ ys. x ∷ ys) (around m xs item at)
+
+-- ## Parts of a body
+
+module _ (o : Outline) (scope : Scope) (labels : Labels) (are : AreLabels o labels) where
+  -- nothing fits no items
+  nothing_fits : (n : ℕ) → Fits o scope labels n [] (body_of_all [])
+  unfolding strings_of_items
+  nothing_fits n = record { size = refl; strings = refl; marks = refl; drawn = λ first are. refl }
+
+  -- what fits some items and what fits those behind them
+  both_fit : (n m : ℕ) (xs ys : List Flat) (b c : Body) → m ≡ n + length xs → Fits o scope labels n xs b → Fits o scope labels m ys c → Fits o scope labels n (xs ++ ys) (sequence b c)
+  both_fit n m xs ys b c at one other =
+      let size = one.size in
+      let there : n + b.size ≡ m = omega (arith, at, size) in
+      record {
+        size = (λ i. one.size i + other.size i) ∙ sym (length-append xs ys);
+        strings = bytes_both o.names b.items.strings c.items.strings (strings_of_items o.names xs) (strings_of_items o.names ys) one.strings other.strings ∙ sym (ap (map o.names.string) (strings_append o.names xs ys));
+        marks = (λ i. one.marks i ++ c.labels (there i)) ∙ ap (λ zs. marks_from o.label n xs ++ zs) other.marks ∙ sym (marks_append o.label n m xs ys at);
+        drawn = λ first are'.
+            let both = subst (AreNumbered first) (strings_append o.names xs ys) are' in
+            (λ i. one.drawn first (numbered_left first (strings_of_items o.names xs) (strings_of_items o.names ys) both) i ++ c.items.drawn scope (first + length b.items.strings) labels (there i))
+            ∙ ap (λ zs. xs ++ zs) (other.drawn (first + length b.items.strings) (behind_both o.names first b.items.strings (strings_of_items o.names xs) (strings_of_items o.names ys) one.strings both));
+      }
+
+  -- a statement that fits an item and those behind it, its own label aside
+  record FitsUnlabelled (n : ℕ) (item : Flat) (inner : List Flat) (b : Body) : Type 0 where
+    size : b.size ≡ suc (length inner)
+    strings : AreBytesOf o.names b.items.strings (strings_of_items o.names (item ∷ inner))
+    marks : b.labels n ≡ marks_from o.label (suc n) inner
+    drawn : (first : ℕ) → AreNumbered first (strings_of_items o.names (item ∷ inner)) → b.items.drawn scope first labels n ≡ item ∷ inner
+
+  labelled_by : (found : Option (List ℕ)) (n : ℕ) (item : Flat) (inner : List Flat) (s : CStmt) → o.label n ≡ found → FitsUnlabelled n item inner (body s) → Fits o scope labels n (item ∷ inner) (body (with_label found s))
+  unfolding with_label
+  labelled_by None n item inner s none is = record {
+    size = is.size;
+    strings = is.strings;
+    marks = is.marks ∙ ap (λ l. mark_at n l ++ marks_from o.label (suc n) inner) (sym none);
+    drawn = is.drawn;
+  }
+  labelled_by (Some name) n item inner s some is =
+      subst (Fits o scope labels n (item ∷ inner)) (sym (body-Label name s)) (record {
+        size = is.size;
+        strings = is.strings;
+        marks = ap (λ zs. record { name = name; position = n } ∷ zs) is.marks ∙ ap (λ l. mark_at n l ++ marks_from o.label (suc n) inner) (sym some);
+        drawn = is.drawn;
+      })
+
+  -- ## One item
+
+  alone : (item : Flat) → strings_of_item o.names item ++ [] ≡ strings_of_items o.names (item ∷ [])
+  unfolding strings_of_items
+  alone item = refl
+
+  one_fits : (n : ℕ) (item : Flat) (draft : Draft Flat) → IsDrawn o.names scope (strings_of_item o.names item) draft item → FitsUnlabelled n item [] (one draft)
+  one_fits n item draft is = record {
+    size = refl;
+    strings = is.strings ∙ ap (map o.names.string) (sym (append-nil (strings_of_item o.names item)) ∙ alone item);
+    marks = refl;
+    drawn = λ first are'. ap (λ f. f ∷ []) (is.drawn first (numbered_left first (strings_of_item o.names item) [] (subst (AreNumbered first) (sym (alone item)) are')));
+  }
+
+  record AreSet (x y : Option CExpr) (s : CStmt) : Type 0 where
+    target : CExpr
+    value : CExpr
+    target_is : x ≡ Some target
+    value_is : y ≡ Some value
+    is : stmt.Set target value ≡ s
+
+  set_of : (x y : Option CExpr) (s : CStmt) → set_by x y ≡ Some s → AreSet x y s
+  unfolding set_by
+  set_of (Some a) (Some b) s h = record { target = a; value = b; target_is = refl; value_is = refl; is = cc }
+  set_of (Some a) None s h = absurd (cc)
+  set_of None y s h = absurd (cc)
+
+  set_fits : (n : ℕ) (t u : Term) (s : CStmt) → set_by (expr_for o.names t) (expr_for o.names u) ≡ Some s → Knows scope o.names t × Knows scope o.names u → FitsUnlabelled n (Assign t u) [] (body s)
+  unfolding strings_of_item
+  set_fits n t u s h knows =
+      let m = set_of (expr_for o.names t) (expr_for o.names u) s h in
+      subst (λ z. FitsUnlabelled n (Assign t u) [] (body z)) m.is
+      (one_fits n (Assign t u) (joined Assign (linked m.target) (linked m.value))
+      (drawn_both o.names scope (strings_in o.names t) (strings_in o.names u) Assign (linked m.target) (linked m.value) t u (expr_drawn scope o.names t m.target m.target_is knows.0) (expr_drawn scope o.names u m.value m.value_is knows.1)))
+
+  goto_fits : (n position : ℕ) (s : CStmt) → option_map stmt.Goto (o.label position) ≡ Some s → FitsUnlabelled n (Jump position) [] (body s)
+  unfolding strings_of_items strings_of_item
+  goto_fits n position s h =
+      let m = mapped_by stmt.Goto (o.label position) s h in
+      let found = are.found position m.one m.one_is in
+      subst (λ z. FitsUnlabelled n (Jump position) [] (body z)) m.is
+      (record { size = refl; strings = refl; marks = refl; drawn = λ first are'. ap (λ r. jump_to r ∷ []) found })
+
+  call_fits : (n k : ℕ) (arguments : List Term) (s : CStmt) → call_by (o.names.routine k) (exprs_for o.names arguments) ≡ Some s → (scope (o.names.routine k) ≡ Routine k) × KnowsAll scope o.names arguments
+      → FitsUnlabelled n (Invoke Ignored (Direct k) arguments) [] (body s)
+  unfolding call_by strings_of_item
+  call_fits n k arguments s h knows =
+      let m = mapped_by (λ es. stmt.Call (record { through = false; name = o.names.routine k; arguments = es })) (exprs_for o.names arguments) s h in
+      let make : Term → List Term → Calling = λ term later. record { callee = called false term; arguments = later } in
+      subst (λ z. FitsUnlabelled n (Invoke Ignored (Direct k) arguments) [] (body z)) m.is
+      (one_fits n (Invoke Ignored (Direct k) arguments) (drafted (code.invoked Ignored) (linked_call (record { through = false; name = o.names.routine k; arguments = m.one })))
+      (drawn_by o.names scope (strings_in_all o.names arguments) (code.invoked Ignored) (linked_call (record { through = false; name = o.names.routine k; arguments = m.one })) (make (Routine k) arguments)
+      (drawn_both o.names scope [] (strings_in_all o.names arguments) make (name_of (o.names.routine k)) (linked_all m.one) (Routine k) arguments (drawn_name o.names scope (o.names.routine k) (Routine k) knows.0) (exprs_drawn scope o.names arguments m.one m.one_is knows.1))))
+
+  return_fits : (n : ℕ) (t : Term) (s : CStmt) → option_map (λ e. stmt.Return (Some e)) (expr_for o.names t) ≡ Some s → Knows scope o.names t → FitsUnlabelled n (Return (Some t)) [] (body s)
+  unfolding strings_of_item
+  return_fits n t s h knows =
+      let m = mapped_by (λ e. stmt.Return (Some e)) (expr_for o.names t) s h in
+      subst (λ z. FitsUnlabelled n (Return (Some t)) [] (body z)) m.is
+      (one_fits n (Return (Some t)) (code.returned (Some m.one)) (drawn_by o.names scope (strings_in o.names t) (λ term. Return (Some term)) (linked m.one) t (expr_drawn scope o.names t m.one m.one_is knows)))
+
+  statement_fits : (n : ℕ) (item : Flat) (s : CStmt) → statement_of o item ≡ Some s → KnowsItem scope o.names item → FitsUnlabelled n item [] (body s)
+  unfolding statement_of strings_of_item
+  statement_fits n (Assign t u) s h knows = set_fits n t u s h knows
+  statement_fits n (Jump position) s h knows = goto_fits n position s h
+  statement_fits n (Invoke Ignored (Direct k) arguments) s h knows = call_fits n k arguments s h knows
+  statement_fits n (Return None) s h knows = subst (λ z. FitsUnlabelled n (Return None) [] (body z)) (some_same (stmt.Return None) s h) (one_fits n (Return None) (bare (Return None)) (drawn_bare o.names scope (Return None)))
+  statement_fits n (Return (Some t)) s h knows = return_fits n t s h knows
+  statement_fits n Nothing s h knows = subst (λ z. FitsUnlabelled n Nothing [] (body z)) (some_same stmt.Empty s h) (one_fits n Nothing (bare Nothing) (drawn_bare o.names scope Nothing))
+  statement_fits n (Branch test on off) s h knows = absurd (cc)
+  statement_fits n (Select t cases otherwise) s h knows = absurd (cc)
+  statement_fits n (Invoke Ignored (Through t) arguments) s h knows = absurd (cc)
+  statement_fits n (Invoke Ignored Nowhere arguments) s h knows = absurd (cc)
+  statement_fits n (Invoke (Kept t) callee arguments) s h knows = absurd (cc)
+  statement_fits n (Invoke Returned callee arguments) s h knows = absurd (cc)
+  statement_fits n ReturnAnswer s h knows = absurd (cc)
+  statement_fits n Lost s h knows = absurd (cc)
+
+  -- ## Statements behind one another
+
+  record AreBefore (x : Option CStmt) (xs : Option (List CStmt)) (ss : List CStmt) : Type 0 where
+    first : CStmt
+    later : List CStmt
+    first_is : x ≡ Some first
+    later_is : xs ≡ Some later
+    is : first ∷ later ≡ ss
+
+  before_by : (x : Option CStmt) (xs : Option (List CStmt)) (ss : List CStmt) → before x xs ≡ Some ss → AreBefore x xs ss
+  unfolding before
+  before_by (Some s) (Some later) ss h = record { first = s; later = later; first_is = refl; later_is = refl; is = cc }
+  before_by (Some s) None ss h = absurd (cc)
+  before_by None xs ss h = absurd (cc)
+
+  -- a labelled statement for an item with those that belong to it, and what is behind
+  first_fits : (n m : ℕ) (item : Flat) (inner later : List Flat) (x : Option CStmt) (xs : Option (List CStmt)) (ss : List CStmt) → m ≡ suc n + length inner → before (option_map (with_label (o.label n)) x) xs ≡ Some ss
+      → ((s : CStmt) → x ≡ Some s → FitsUnlabelled n item inner (body s)) → ((rest : List CStmt) → xs ≡ Some rest → Fits o scope labels m later (body_of_all rest)) → Fits o scope labels n (item ∷ (inner ++ later)) (body_of_all ss)
+  first_fits n m item inner later x xs ss at h one others =
+      let b = before_by (option_map (with_label (o.label n)) x) xs ss h in
+      let s = mapped_by (with_label (o.label n)) x b.first b.first_is in
+      let labelled = labelled_by (o.label n) n item inner s.one refl (one s.one s.one_is) in
+      subst (λ zs. Fits o scope labels n (item ∷ (inner ++ later)) (body_of_all zs)) b.is
+      (subst (λ z. Fits o scope labels n (item ∷ (inner ++ later)) (sequence (body z) (body_of_all b.later))) s.is
+      (both_fit n m (item ∷ inner) later (body (with_label (o.label n) s.one)) (body_of_all b.later) (omega (arith, at)) labelled (others b.later b.later_is)))
+
+  -- ## A test
+
+  WriterFits : Writer → Type 0
+  WriterFits write = (n : ℕ) (items : List Flat) (ss : List CStmt) → write n items ≡ Some ss → KnowsItems scope o.names items → Fits o scope labels n items (body_of_all ss)
+
+  if_only_fits : (n m : ℕ) (t : Term) (e : CExpr) (inner : List Flat) (first : List CStmt) → IsDrawn o.names scope (strings_in o.names t) (linked e) t → length inner ≡ m → Fits o scope labels (suc n) inner (body_of_all first)
+      → FitsUnlabelled n (Branch t (suc n) (suc n + m)) inner (body (stmt.If e first None))
+  unfolding strings_of_items strings_of_item
+  if_only_fits n m t e inner first test long fits =
+      let size = fits.size in
+      let off : n + 1 + (body_of_all first).size ≡ suc n + m = omega (arith, size, long) in
+      subst (FitsUnlabelled n (Branch t (suc n) (suc n + m)) inner) (sym (body-If e first)) (record {
+        size = (let whole : 1 + (body_of_all first).size ≡ suc (length inner) = omega (arith, size) in whole);
+        strings = bytes_both o.names (linked e).strings (body_of_all first).items.strings (strings_in o.names t) (strings_of_items o.names inner) test.strings fits.strings;
+        marks = ap (body_of_all first).labels (plus_one n) ∙ fits.marks;
+        drawn = λ k are'. (λ i. Branch (test.drawn k (numbered_left k (strings_in o.names t) (strings_of_items o.names inner) are') i) (plus_one n i) (off i)
+            ∷ (body_of_all first).items.drawn scope (k + length (linked e).strings) labels (plus_one n i))
+            ∙ ap (λ zs. Branch t (suc n) (suc n + m) ∷ zs)
+            (fits.drawn (k + length (linked e).strings) (behind_both o.names k (linked e).strings (strings_in o.names t) (strings_of_items o.names inner) test.strings are'));
+      })
+
+  record AreIf (x : Option CExpr) (xs : Option (List CStmt)) (s : CStmt) : Type 0 where
+    test : CExpr
+    first : List CStmt
+    test_is : x ≡ Some test
+    first_is : xs ≡ Some first
+    is : stmt.If test first None ≡ s
+
+  if_of : (x : Option CExpr) (xs : Option (List CStmt)) (s : CStmt) → if_by x xs ≡ Some s → AreIf x xs s
+  unfolding if_by
+  if_of (Some test) (Some first) s h = record { test = test; first = first; test_is = refl; first_is = refl; is = cc }
+  if_of (Some test) None s h = absurd (cc)
+  if_of None xs s h = absurd (cc)
+
+  if_fits : (write : Writer) → WriterFits write → (n m : ℕ) (t : Term) (later : List Flat) (ss : List CStmt) → m ≤ length later → if_for o write n (expr_for o.names t) m later ≡ Some ss → Knows scope o.names t → KnowsItems scope o.names later
+      → Fits o scope labels n (Branch t (suc n) (suc n + m) ∷ later) (body_of_all ss)
+  unfolding WriterFits if_for
+  if_fits write fit n m t later ss room h test knows =
+      let long : length (take m later) ≡ m = length-take-le m later room in
+      subst (λ zs. Fits o scope labels n (Branch t (suc n) (suc n + m) ∷ zs) (body_of_all ss)) (take-append-drop m later)
+      (first_fits n (suc n + m) (Branch t (suc n) (suc n + m)) (take m later) (drop m later) (if_by (expr_for o.names t) (write (suc n) (take m later))) (write (suc n + m) (drop m later)) ss (omega (arith, long)) h
+      (λ s is.
+      let a = if_of (expr_for o.names t) (write (suc n) (take m later)) s is in
+      subst (λ z. FitsUnlabelled n (Branch t (suc n) (suc n + m)) (take m later) (body z)) a.is
+      (if_only_fits n m t a.test (take m later) a.first (expr_drawn scope o.names t a.test a.test_is test) long (fit (suc n) (take m later) a.first a.first_is (knows_take scope o.names m later knows))))
+      (λ rest is. fit (suc n + m) (drop m later) rest is (knows_drop scope o.names m later knows)))
+
+  -- ## Two arms
+
+  if_else_fits : (n m k : ℕ) (t : Term) (e : CExpr) (one other : List Flat) (first second : List CStmt) → IsDrawn o.names scope (strings_in o.names t) (linked e) t → length one ≡ m → length other ≡ k → o.label (suc n + m) ≡ None
+      → Fits o scope labels (suc n) one (body_of_all first) → Fits o scope labels (suc n + suc m) other (body_of_all second)
+      → FitsUnlabelled n (Branch t (suc n) (suc n + suc m)) (one ++ Jump (suc n + suc m + k) ∷ other) (body (stmt.If e first (Some second)))
+  unfolding strings_of_items strings_of_item
+  if_else_fits n m k t e one other first second test long long' none fits fits' =
+      let ks = strings_in o.names t in
+      let js = strings_of_items o.names one in
+      let is = strings_of_items o.names other in
+      let all : ks ++ strings_of_items o.names (one ++ Jump (suc n + suc m + k) ∷ other) ≡ (ks ++ js) ++ is =
+      ap (λ zs. ks ++ zs) (strings_append o.names one (Jump (suc n + suc m + k) ∷ other)) ∙ sym (append_assoc ks js is) in
+      let two = bytes_both o.names (linked e).strings (body_of_all first).items.strings ks js test.strings fits.strings in
+      let size = fits.size in
+      let size' = fits'.size in
+      let off : n + 2 + (body_of_all first).size ≡ suc n + suc m = omega (arith, size, long) in
+      let end : n + 2 + (body_of_all first).size + (body_of_all second).size ≡ suc n + suc m + k = omega (arith, size, long, size', long') in
+      let behind : suc (suc n + m) ≡ suc n + suc m = omega arith in
+      subst (FitsUnlabelled n (Branch t (suc n) (suc n + suc m)) (one ++ Jump (suc n + suc m + k) ∷ other)) (sym (body-IfElse e first second)) (record {
+        size = (let whole : 2 + (body_of_all first).size + (body_of_all second).size ≡ suc (length one + suc (length other)) = omega (arith, size, size') in
+            whole ∙ ap suc (sym (length-append one (Jump (suc n + suc m + k) ∷ other))));
+        strings = bytes_both o.names ((linked e).strings ++ (body_of_all first).items.strings) (body_of_all second).items.strings (ks ++ js) is two fits'.strings ∙ sym (ap (map o.names.string) all);
+        marks = (λ i. (body_of_all first).labels (plus_one n i) ++ (body_of_all second).labels (off i)) ∙ (λ i. fits.marks i ++ fits'.marks i)
+            ∙ ap (λ p. marks_from o.label (suc n) one ++ marks_from o.label p other) (sym behind)
+            ∙ ap (λ l. marks_from o.label (suc n) one ++ (mark_at (suc n + m) l ++ marks_from o.label (suc (suc n + m)) other)) (sym none)
+            ∙ sym (marks_append o.label (suc n) (suc n + m) one (Jump (suc n + suc m + k) ∷ other) (omega (arith, long)));
+        drawn = λ j are'.
+            let whole = subst (AreNumbered j) all are' in
+            let left = numbered_left j (ks ++ js) is whole in
+            (λ i. Branch (test.drawn j (numbered_left j ks js left) i) (plus_one n i) (off i) ∷ ((body_of_all first).items.drawn scope (j + length (linked e).strings) labels (plus_one n i)
+            ++ Jump (end i) ∷ (body_of_all second).items.drawn scope (j + length ((linked e).strings ++ (body_of_all first).items.strings)) labels (off i)))
+            ∙ (λ i. Branch t (suc n) (suc n + suc m) ∷ (fits.drawn (j + length (linked e).strings) (behind_both o.names j (linked e).strings ks js test.strings left) i
+            ++ Jump (suc n + suc m + k) ∷ fits'.drawn (j + length ((linked e).strings ++ (body_of_all first).items.strings)) (behind_both o.names j ((linked e).strings ++ (body_of_all first).items.strings) (ks ++ js) is two whole) i));
+      })
+
+  record AreArms (x : Option CExpr) (xs ys : Option (List CStmt)) (s : CStmt) : Type 0 where
+    test : CExpr
+    first : List CStmt
+    second : List CStmt
+    test_is : x ≡ Some test
+    first_is : xs ≡ Some first
+    second_is : ys ≡ Some second
+    is : stmt.If test first (Some second) ≡ s
+
+  arms_of : (x : Option CExpr) (xs ys : Option (List CStmt)) (s : CStmt) → if_else_by x xs ys ≡ Some s → AreArms x xs ys s
+  unfolding if_else_by
+  arms_of (Some test) (Some first) (Some second) s h = record { test = test; first = first; second = second; test_is = refl; first_is = refl; second_is = refl; is = cc }
+  arms_of (Some test) (Some first) None s h = absurd (cc)
+  arms_of (Some test) None ys s h = absurd (cc)
+  arms_of None xs ys s h = absurd (cc)
+
+  both_arms_fit : (write : Writer) → WriterFits write → (n m k : ℕ) (t : Term) (later : List Flat) (ss : List CStmt) → suc m ≤ length later → k ≤ length (drop (suc m) later) → slice_get later m ≡ Some (Jump (suc n + suc m + k)) → o.ends_arm (suc n + m) ≡ true
+      → if_else_for o write n (expr_for o.names t) m k later ≡ Some ss → Knows scope o.names t → KnowsItems scope o.names later → Fits o scope labels n (Branch t (suc n) (suc n + suc m) ∷ later) (body_of_all ss)
+  unfolding WriterFits if_else_for
+  both_arms_fit write fit n m k t later ss room room' at ends h test knows =
+      let jump = Jump (suc n + suc m + k) in
+      let one = take m later in
+      let behind = drop (suc m) later in
+      let other = take k behind in
+      let rest = drop k behind in
+      let long : length one ≡ m = length-take-le m later (omega (arith, room)) in
+      let long' : length other ≡ k = length-take-le k behind room' in
+      let inner : length (one ++ jump ∷ other) ≡ m + suc k = length-append one (jump ∷ other) ∙ (λ i. long i + suc (long' i)) in
+      let whole : (one ++ jump ∷ other) ++ rest ≡ later =
+      append_assoc one (jump ∷ other) rest ∙ ap (λ zs. one ++ jump ∷ zs) (take-append-drop k behind) ∙ sym (around m later jump at) in
+      subst (λ zs. Fits o scope labels n (Branch t (suc n) (suc n + suc m) ∷ zs) (body_of_all ss)) whole
+      (first_fits n (suc n + suc m + k) (Branch t (suc n) (suc n + suc m)) (one ++ jump ∷ other) rest
+      (if_else_by (expr_for o.names t) (write (suc n) one) (write (suc n + suc m) other)) (write (suc n + suc m + k) rest) ss (omega (arith, inner)) h
+      (λ s is.
+      let a = arms_of (expr_for o.names t) (write (suc n) one) (write (suc n + suc m) other) s is in
+      subst (λ z. FitsUnlabelled n (Branch t (suc n) (suc n + suc m)) (one ++ jump ∷ other) (body z)) a.is
+      (if_else_fits n m k t a.test one other a.first a.second (expr_drawn scope o.names t a.test a.test_is test) long long' (are.none (suc n + m) ends)
+      (fit (suc n) one a.first a.first_is (knows_take scope o.names m later knows))
+      (fit (suc n + suc m) other a.second a.second_is (knows_take scope o.names k behind (knows_drop scope o.names (suc m) later knows)))))
+      (λ others is. fit (suc n + suc m + k) rest others is (knows_drop scope o.names k behind (knows_drop scope o.names (suc m) later knows))))
+
+  -- ## Any item
+
+  left_true : (a b : Bool) → a && b ≡ true → a ≡ true
+  left_true true b h = refl
+  left_true false b h = absurd (cc)
+
+  right_true : (a b : Bool) → a && b ≡ true → b ≡ true
+  right_true true b h = h
+  right_true false b h = absurd (cc)
+
+  arms_fit : (write : Writer) → WriterFits write → (n m : ℕ) (t : Term) (later : List Flat) (ss : List CStmt) → suc m ≤ length later → o.ends_arm (suc n + m) ≡ true → Knows scope o.names t → KnowsItems scope o.names later
+      → (found : Option Flat) → slice_get later m ≡ found → arms_for o write n (expr_for o.names t) m (end_of_arm found) later ≡ Some ss → Fits o scope labels n (Branch t (suc n) (suc n + suc m) ∷ later) (body_of_all ss)
+  unfolding arms_for end_of_arm
+  arms_fit write fit n m t later ss room ends test knows (Some (Jump end)) at h =
+      by (nat_le (suc n + suc m) end && nat_le (end - (suc n + suc m)) (length (drop (suc m) later))) refl h
+    where
+      by : (b : Bool) → nat_le (suc n + suc m) end && nat_le (end - (suc n + suc m)) (length (drop (suc m) later)) ≡ b
+          → (if b then if_else_for o write n (expr_for o.names t) m (end - (suc n + suc m)) later else None) ≡ Some ss → Fits o scope labels n (Branch t (suc n) (suc n + suc m) ∷ later) (body_of_all ss)
+      by true so g =
+          let forward = leb-true (suc n + suc m) end (left_true (nat_le (suc n + suc m) end) (nat_le (end - (suc n + suc m)) (length (drop (suc m) later))) so) in
+          let within = leb-true (end - (suc n + suc m)) (length (drop (suc m) later)) (right_true (nat_le (suc n + suc m) end) (nat_le (end - (suc n + suc m)) (length (drop (suc m) later))) so) in
+          let there : suc n + suc m + (end - (suc n + suc m)) ≡ end = omega (arith, forward) in
+          both_arms_fit write fit n m (end - (suc n + suc m)) t later ss room within (at ∙ ap (λ p. Some (Jump p)) (sym there)) ends g test knows
+      by false so g = absurd (cc)
+  arms_fit write fit n m t later ss room ends test knows None at h = absurd (cc)
+  arms_fit write fit n m t later ss room ends test knows (Some (Assign a b)) at h = absurd (cc)
+  arms_fit write fit n m t later ss room ends test knows (Some (Branch a on off)) at h = absurd (cc)
+  arms_fit write fit n m t later ss room ends test knows (Some (Select a cases otherwise)) at h = absurd (cc)
+  arms_fit write fit n m t later ss room ends test knows (Some (Invoke how callee arguments)) at h = absurd (cc)
+  arms_fit write fit n m t later ss room ends test knows (Some (Return value)) at h = absurd (cc)
+  arms_fit write fit n m t later ss room ends test knows (Some ReturnAnswer) at h = absurd (cc)
+  arms_fit write fit n m t later ss room ends test knows (Some Nothing) at h = absurd (cc)
+  arms_fit write fit n m t later ss room ends test knows (Some Lost) at h = absurd (cc)
+
+  branch_fits : (write : Writer) → WriterFits write → (n m : ℕ) (t : Term) (later : List Flat) (ss : List CStmt) → m ≤ length later → branch_for o write n (expr_for o.names t) m later ≡ Some ss → Knows scope o.names t → KnowsItems scope o.names later
+      → Fits o scope labels n (Branch t (suc n) (suc n + m) ∷ later) (body_of_all ss)
+  unfolding branch_for
+  branch_fits write fit n zero t later ss room h test knows = if_fits write fit n 0 t later ss room h test knows
+  branch_fits write fit n (suc m) t later ss room h test knows = by (o.ends_arm (suc n + m)) refl h
+    where
+      by : (b : Bool) → o.ends_arm (suc n + m) ≡ b → (if b then arms_for o write n (expr_for o.names t) m (end_of_arm (slice_get later m)) later else if_for o write n (expr_for o.names t) (suc m) later) ≡ Some ss
+          → Fits o scope labels n (Branch t (suc n) (suc n + suc m) ∷ later) (body_of_all ss)
+      by true ends g = arms_fit write fit n m t later ss room ends test knows (slice_get later m) refl g
+      by false ends g = if_fits write fit n (suc m) t later ss room g test knows
+
+  single_fits : (write : Writer) → WriterFits write → (n : ℕ) (item : Flat) (later : List Flat) (ss : List CStmt) → before (option_map (with_label (o.label n)) (statement_of o item)) (write (suc n) later) ≡ Some ss → KnowsItem scope o.names item
+      → KnowsItems scope o.names later → Fits o scope labels n (item ∷ later) (body_of_all ss)
+  unfolding WriterFits
+  single_fits write fit n item later ss h known knows =
+      first_fits n (suc n) item [] later (statement_of o item) (write (suc n) later) ss (omega arith) h (λ s is. statement_fits n item s is known) (λ rest is. fit (suc n) later rest is knows)
+
+  test_fits : (write : Writer) → WriterFits write → (n on off : ℕ) (t : Term) (later : List Flat) (ss : List CStmt)
+      → (if nat_eq on (suc n) && (nat_le (suc n) off && nat_le (off - suc n) (length later)) then branch_for o write n (expr_for o.names t) (off - suc n) later else None) ≡ Some ss → Knows scope o.names t → KnowsItems scope o.names later
+      → Fits o scope labels n (Branch t on off ∷ later) (body_of_all ss)
+  test_fits write fit n on off t later ss h test knows = by (nat_eq on (suc n) && (nat_le (suc n) off && nat_le (off - suc n) (length later))) refl h
+    where
+      by : (b : Bool) → nat_eq on (suc n) && (nat_le (suc n) off && nat_le (off - suc n) (length later)) ≡ b → (if b then branch_for o write n (expr_for o.names t) (off - suc n) later else None) ≡ Some ss
+          → Fits o scope labels n (Branch t on off ∷ later) (body_of_all ss)
+      by true so g =
+          let next : on ≡ suc n = eqb-true on (suc n) (left_true (nat_eq on (suc n)) (nat_le (suc n) off && nat_le (off - suc n) (length later)) so) in
+          let more = right_true (nat_eq on (suc n)) (nat_le (suc n) off && nat_le (off - suc n) (length later)) so in
+          let forward = leb-true (suc n) off (left_true (nat_le (suc n) off) (nat_le (off - suc n) (length later)) more) in
+          let within = leb-true (off - suc n) (length later) (right_true (nat_le (suc n) off) (nat_le (off - suc n) (length later)) more) in
+          let there : suc n + (off - suc n) ≡ off = omega (arith, forward) in
+          subst (λ p. Fits o scope labels n (Branch t p off ∷ later) (body_of_all ss)) (sym next)
+          (subst (λ p. Fits o scope labels n (Branch t (suc n) p ∷ later) (body_of_all ss)) there (branch_fits write fit n (off - suc n) t later ss within g test knows))
+      by false so g = absurd (cc)
+
+  item_fits : (write : Writer) → WriterFits write → (n : ℕ) (item : Flat) (later : List Flat) (ss : List CStmt) → item_for o write n item later ≡ Some ss → KnowsItem scope o.names item → KnowsItems scope o.names later
+      → Fits o scope labels n (item ∷ later) (body_of_all ss)
+  unfolding item_for
+  item_fits write fit n (Branch t on off) later ss h known knows = test_fits write fit n on off t later ss h known knows
+  item_fits write fit n (Assign t u) later ss h known knows = single_fits write fit n (Assign t u) later ss h known knows
+  item_fits write fit n (Select t cases otherwise) later ss h known knows = single_fits write fit n (Select t cases otherwise) later ss h known knows
+  item_fits write fit n (Jump position) later ss h known knows = single_fits write fit n (Jump position) later ss h known knows
+  item_fits write fit n (Invoke how callee arguments) later ss h known knows = single_fits write fit n (Invoke how callee arguments) later ss h known knows
+  item_fits write fit n (Return value) later ss h known knows = single_fits write fit n (Return value) later ss h known knows
+  item_fits write fit n ReturnAnswer later ss h known knows = single_fits write fit n ReturnAnswer later ss h known knows
+  item_fits write fit n Nothing later ss h known knows = single_fits write fit n Nothing later ss h known knows
+  item_fits write fit n Lost later ss h known knows = single_fits write fit n Lost later ss h known knows
+
+  -- ## Loops
+
+  place_is : (v t : Term) → same_place v t ≡ true → v ≡ t
+  unfolding same_place
+  place_is (Variable j ToNumber) (Variable k ToNumber) h = ap (λ n. Variable n ToNumber) (eqb-true j k h)
+  place_is (Element (Array j ToNumber) (Constant (pos a))) (Element (Array k ToNumber) (Constant (pos b))) h =
+      let one = eqb-true j k (left_true (nat_eq j k) (nat_eq a b) h) in
+      let other = eqb-true a b (right_true (nat_eq j k) (nat_eq a b) h) in
+      (λ i. Element (Array (one i) ToNumber) (Constant (pos (other i))))
+  place_is (Prefixed prefix.Deref (Variable j (ToPointer ToNumber))) (Prefixed prefix.Deref (Variable k (ToPointer ToNumber))) h = ap (λ n. Prefixed prefix.Deref (Variable n (ToPointer ToNumber))) (eqb-true j k h)
+  place_is v t h = absurd (cc)
+
+  no_string_at : (found : Option (List ℕ)) (name : List ℕ) (k : ℕ) → KnowsArray scope name found k ToNumber → string_at found k ≡ []
+  unfolding string_at
+  no_string_at None name k knows = refl
+  no_string_at (Some bytes) name k knows = absurd (cc)
+
+  place_has_none : (v t : Term) → same_place v t ≡ true → Knows scope o.names v → strings_in o.names v ≡ []
+  unfolding same_place strings_in
+  place_has_none (Variable j ToNumber) (Variable k ToNumber) h knows = refl
+  place_has_none (Element (Array j ToNumber) (Constant (pos a))) (Element (Array k ToNumber) (Constant (pos b))) h knows = ap (λ zs. zs ++ []) (no_string_at (o.names.string j) (o.names.object j) j knows.0)
+  place_has_none (Prefixed prefix.Deref (Variable j (ToPointer ToNumber))) (Prefixed prefix.Deref (Variable k (ToPointer ToNumber))) h knows = refl
+  place_has_none v t h knows = absurd (cc)
+
+  -- what is done behind each turn, with the item that it is
+  record IsNext (variable : Term) (item : Flat) (n : CNext) : Type 0 where
+    drawn : IsDrawn o.names scope (strings_of_item o.names item) (next_item n) item
+
+  up_is : (v : Term) (n : CNext) → option_map next.Up (expr_for o.names v) ≡ Some n → Knows scope o.names v → strings_in o.names v ≡ [] → IsNext v (Assign v (Between op.Add v (Constant (pos 1)))) n
+  unfolding strings_of_item strings_in
+  up_is v n h knows none =
+      let m = mapped_by next.Up (expr_for o.names v) n h in
+      let item : Term → Flat = λ term. Assign term (Between op.Add term (Constant (pos 1))) in
+      let bare : strings_in o.names v ≡ strings_in o.names v ++ (strings_in o.names v ++ []) = none ∙ sym (λ i. none i ++ (none i ++ [])) in
+      subst (IsNext v (item v)) m.is
+      (record { drawn = subst (λ ks. IsDrawn o.names scope ks (drafted item (linked m.one)) (item v)) bare (drawn_by o.names scope (strings_in o.names v) item (linked m.one) v (expr_drawn scope o.names v m.one m.one_is knows)) })
+
+  record AreAdded (x y : Option CExpr) (n : CNext) : Type 0 where
+    variable : CExpr
+    amount : CExpr
+    variable_is : x ≡ Some variable
+    amount_is : y ≡ Some amount
+    is : next.Add variable amount ≡ n
+
+  added_of : (x y : Option CExpr) (n : CNext) → added_by x y ≡ Some n → AreAdded x y n
+  unfolding added_by
+  added_of (Some a) (Some b) n h = record { variable = a; amount = b; variable_is = refl; amount_is = refl; is = cc }
+  added_of (Some a) None n h = absurd (cc)
+  added_of None y n h = absurd (cc)
+
+  add_is : (v amount : Term) (n : CNext) → added_by (expr_for o.names v) (expr_for o.names amount) ≡ Some n → Knows scope o.names v → Knows scope o.names amount → strings_in o.names v ≡ []
+      → IsNext v (Assign v (Between op.Add v amount)) n
+  unfolding strings_of_item strings_in
+  add_is v amount n h knows knows' none =
+      let m = added_of (expr_for o.names v) (expr_for o.names amount) n h in
+      let item : Term → Term → Flat = λ term more. Assign term (Between op.Add term more) in
+      let ks = strings_in o.names v in
+      let js = strings_in o.names amount in
+      let bare : ks ++ js ≡ ks ++ (ks ++ js) = (λ i. none i ++ js) ∙ sym (λ i. none i ++ (none i ++ js)) in
+      subst (IsNext v (item v amount)) m.is
+      (record {
+        drawn = subst (λ zs. IsDrawn o.names scope zs (joined item (linked m.variable) (linked m.amount)) (item v amount)) bare
+            (drawn_both o.names scope ks js item (linked m.variable) (linked m.amount) v amount (expr_drawn scope o.names v m.variable m.variable_is knows) (expr_drawn scope o.names amount m.amount m.amount_is knows'));
+      })
+
+  next_is : (v amount : Term) (n : CNext) → next_by o.names v amount ≡ Some n → Knows scope o.names v → Knows scope o.names amount → strings_in o.names v ≡ [] → IsNext v (Assign v (Between op.Add v amount)) n
+  unfolding next_by
+  next_is v (Constant (pos (suc zero))) n h knows knows' none = up_is v n h knows none
+  next_is v amount n h knows knows' none = add_is v amount n h knows knows' none
+
+  -- the item behind the turn
+  record NextItem (v : Term) (found : Option Flat) (n : CNext) : Type 0 where
+    item : Flat
+    at : found ≡ Some item
+    next : IsNext v item n
+
+  next_found : (v : Term) (found : Option Flat) (n : CNext) → next_for o.names v found ≡ Some n → Knows scope o.names v → ((item : Flat) → found ≡ Some item → KnowsItem scope o.names item) → NextItem v found n
+  unfolding next_for
+  next_found v (Some (Assign t (Between op.Add u amount))) n h knows knows' = by (same_place v t && same_place v u) refl h
+    where
+      by : (b : Bool) → same_place v t && same_place v u ≡ b → (if b then next_by o.names v amount else None) ≡ Some n → NextItem v (Some (Assign t (Between op.Add u amount))) n
+      by true so g =
+          let one = place_is v t (left_true (same_place v t) (same_place v u) so) in
+          let other = place_is v u (right_true (same_place v t) (same_place v u) so) in
+          let none = place_has_none v t (left_true (same_place v t) (same_place v u) so) knows in
+          let known = knows' (Assign t (Between op.Add u amount)) refl in
+          record {
+            item = Assign t (Between op.Add u amount);
+            at = refl;
+            next = subst (λ w. IsNext v (Assign w (Between op.Add u amount)) n) one (subst (λ w. IsNext v (Assign v (Between op.Add w amount)) n) other (next_is v amount n g knows known.1.1 none));
+          }
+      by false so g = absurd (cc)
+  next_found v found n h knows knows' = absurd (cc)
+
+  for_fits : (n size : ℕ) (v first test : Term) (item : Flat) (turn : List Flat) (a b c : CExpr) (nx : CNext) (ss : List CStmt) → length turn ≡ size → IsDrawn o.names scope (strings_in o.names v) (linked a) v
+      → IsDrawn o.names scope (strings_in o.names first) (linked b) first → IsDrawn o.names scope (strings_in o.names test) (linked c) test → IsNext v item nx → Fits o scope labels (suc (suc n)) turn (body_of_all ss)
+      → o.label (suc n) ≡ None → o.label (suc (suc n) + size) ≡ None → o.label (suc (suc (suc n) + size)) ≡ None
+      → FitsUnlabelled n (Assign v first) (Branch test (suc (suc n)) (suc (suc n) + suc (suc size)) ∷ (turn ++ item ∷ Jump (suc n) ∷ [])) (body (stmt.For a b c nx ss))
+  unfolding strings_of_items strings_of_item
+  for_fits n size v first test item turn a b c nx ss long da db dc dn fits bare bare' bare'' =
+      let whole = body_of_all ss in
+      let sized = fits.size in
+      let behind = item ∷ Jump (suc n) ∷ [] in
+      let ks = strings_in o.names v ++ strings_in o.names first in
+      let js = strings_in o.names test in
+      let hs = strings_of_items o.names turn in
+      let gs = strings_of_item o.names item in
+      let start = (linked a).strings ++ (linked b).strings in
+      let all : ks ++ (js ++ strings_of_items o.names (turn ++ behind)) ≡ ks ++ ((js ++ hs) ++ gs) =
+      ap (λ zs. ks ++ (js ++ zs)) (strings_append o.names turn behind ∙ ap (λ zs. hs ++ zs) (append-nil gs)) ∙ ap (λ zs. ks ++ zs) (sym (append_assoc js hs gs)) in
+      let first_bytes = bytes_both o.names (linked a).strings (linked b).strings (strings_in o.names v) (strings_in o.names first) da.strings db.strings in
+      let two_bytes = bytes_both o.names (linked c).strings whole.items.strings js hs dc.strings fits.strings in
+      let on : n + 1 + 1 ≡ suc (suc n) = omega arith in
+      let back : n + 1 ≡ suc n = omega arith in
+      let off : n + 1 + 3 + whole.size ≡ suc (suc n) + suc (suc size) = omega (arith, sized, long) in
+      let two : n + 2 ≡ suc (suc n) = omega arith in
+      subst (FitsUnlabelled n (Assign v first) (Branch test (suc (suc n)) (suc (suc n) + suc (suc size)) ∷ (turn ++ behind))) (sym (body-For a b c nx ss)) (record {
+        size = (let counted = length-append turn behind in let total : 4 + whole.size ≡ suc (suc (length (turn ++ behind))) = omega (arith, sized, counted) in total);
+        strings = bytes_both o.names start (((linked c).strings ++ whole.items.strings) ++ (next_item nx).strings) ks ((js ++ hs) ++ gs) first_bytes
+            (bytes_both o.names ((linked c).strings ++ whole.items.strings) (next_item nx).strings (js ++ hs) gs two_bytes dn.drawn.strings) ∙ sym (ap (map o.names.string) all);
+        marks = ap whole.labels two ∙ fits.marks ∙ sym (append-nil (marks_from o.label (suc (suc n)) turn))
+            ∙ ap (λ l. marks_from o.label (suc (suc n)) turn ++ (mark_at (suc (suc (suc n) + size)) l ++ [])) (sym bare'')
+            ∙ ap (λ l. marks_from o.label (suc (suc n)) turn ++ (mark_at (suc (suc n) + size) l ++ (mark_at (suc (suc (suc n) + size)) (o.label (suc (suc (suc n) + size))) ++ []))) (sym bare')
+            ∙ sym (marks_append o.label (suc (suc n)) (suc (suc n) + size) turn behind (omega (arith, long)))
+            ∙ ap (λ l. mark_at (suc n) l ++ marks_from o.label (suc (suc n)) (turn ++ behind)) (sym bare);
+        drawn = λ k are'.
+            let numbered = subst (AreNumbered k) all are' in
+            let here = numbered_left k ks ((js ++ hs) ++ gs) numbered in
+            let later = behind_both o.names k start ks ((js ++ hs) ++ gs) first_bytes numbered in
+            let k1 = k + length start in
+            let front = numbered_left k1 (js ++ hs) gs later in
+            let last = behind_both o.names k1 ((linked c).strings ++ whole.items.strings) (js ++ hs) gs two_bytes later in
+            (λ i. Assign (da.drawn k (numbered_left k (strings_in o.names v) (strings_in o.names first) here) i)
+            (db.drawn (k + length (linked a).strings) (behind_both o.names k (linked a).strings (strings_in o.names v) (strings_in o.names first) da.strings here) i)
+            ∷ Branch (dc.drawn k1 (numbered_left k1 js hs front) i) (on i) (off i)
+            ∷ (whole.items.drawn scope (k1 + length (linked c).strings) labels (on i) ++ dn.drawn.drawn (k1 + length ((linked c).strings ++ whole.items.strings)) last i ∷ Jump (back i) ∷ []))
+            ∙ ap (λ zs. Assign v first ∷ Branch test (suc (suc n)) (suc (suc n) + suc (suc size)) ∷ (zs ++ behind))
+            (fits.drawn (k1 + length (linked c).strings) (behind_both o.names k1 (linked c).strings js hs dc.strings front));
+      })
+
+  record IsFor (x y z : Option CExpr) (m : Option CNext) (xs : Option (List CStmt)) (s : CStmt) : Type 0 where
+    variable : CExpr
+    first : CExpr
+    test : CExpr
+    next : CNext
+    turn : List CStmt
+    variable_is : x ≡ Some variable
+    first_is : y ≡ Some first
+    test_is : z ≡ Some test
+    next_is : m ≡ Some next
+    turn_is : xs ≡ Some turn
+    is : stmt.For variable first test next turn ≡ s
+
+  for_of : (x y z : Option CExpr) (m : Option CNext) (xs : Option (List CStmt)) (s : CStmt) → for_by x y z m xs ≡ Some s → IsFor x y z m xs s
+  unfolding for_by
+  for_of (Some a) (Some b) (Some c) (Some d) (Some e) s h = record { variable = a; first = b; test = c; next = d; turn = e; variable_is = refl; first_is = refl; test_is = refl; next_is = refl; turn_is = refl; is = cc }
+  for_of x y z m xs s h = absurd (cc)
+
+  is_bare : (found : Option (List ℕ)) → is_none found ≡ true → found ≡ None
+  is_bare None h = refl
+  is_bare (Some name) h = absurd (cc)
+
+  back_is : (n : ℕ) (found : Option Flat) → goes_back n found ≡ true → found ≡ Some (Jump n)
+  unfolding goes_back
+  back_is n (Some (Jump position)) h = ap (λ p. Some (Jump p)) (eqb-true position n h)
+  back_is n found h = absurd (cc)
+
+  -- two items in their places
+  around_two : (m : ℕ) (xs : List Flat) (one other : Flat) → slice_get xs m ≡ Some one → slice_get xs (suc m) ≡ Some other → xs ≡ take m xs ++ one ∷ other ∷ drop (suc (suc m)) xs
+  around_two zero [] one other at at' = absurd (cc)
+  around_two zero (x ∷ []) one other at at' = absurd (cc)
+  around_two zero (x ∷ y ∷ xs) one other at at' = (λ i. some_same x one at i ∷ some_same y other at' i ∷ xs)
+  around_two (suc m) [] one other at at' = absurd (cc)
+  around_two (suc m) (x ∷ xs) one other at at' = ap (λ ys. x ∷ ys) (around_two m xs one other at at')
+
+  knows_at : (m : ℕ) (xs : List Flat) (item : Flat) → KnowsItems scope o.names xs → slice_get xs m ≡ Some item → KnowsItem scope o.names item
+  knows_at m [] item knows at = absurd (cc)
+  knows_at zero (x ∷ xs) item knows at = subst (KnowsItem scope o.names) (some_same x item at) knows.0
+  knows_at (suc m) (x ∷ xs) item knows at = knows_at m xs item knows.1 at
+
+  loop_found : (write : Writer) → WriterFits write → (n size : ℕ) (v first test : Term) (later : List Flat) (ss : List CStmt) → suc (suc size) ≤ length later → slice_get later (suc size) ≡ Some (Jump (suc n))
+      → o.label (suc n) ≡ None → o.label (suc (suc n) + size) ≡ None → o.label (suc (suc (suc n) + size)) ≡ None
+      → before (option_map (with_label (o.label n)) (for_by (expr_for o.names v) (expr_for o.names first) (expr_for o.names test) (next_for o.names v (slice_get later size)) (write (suc (suc n)) (take size later))))
+      (write (suc (suc n) + suc (suc size)) (drop (suc (suc size)) later)) ≡ Some ss
+      → Knows scope o.names v → Knows scope o.names first → Knows scope o.names test → KnowsItems scope o.names later
+      → Fits o scope labels n (Assign v first ∷ Branch test (suc (suc n)) (suc (suc n) + suc (suc size)) ∷ later) (body_of_all ss)
+  unfolding WriterFits
+  loop_found write fit n size v first test later ss room back bare bare' bare'' h kv kf kt knows =
+      let turn = take size later in
+      let rest = drop (suc (suc size)) later in
+      let off = suc (suc n) + suc (suc size) in
+      let long : length turn ≡ size = length-take-le size later (omega (arith, room)) in
+      let made = for_by (expr_for o.names v) (expr_for o.names first) (expr_for o.names test) (next_for o.names v (slice_get later size)) (write (suc (suc n)) (take size later)) in
+      let b = before_by (option_map (with_label (o.label n)) made) (write off rest) ss h in
+      let s = mapped_by (with_label (o.label n)) made b.first b.first_is in
+      let f = for_of (expr_for o.names v) (expr_for o.names first) (expr_for o.names test) (next_for o.names v (slice_get later size)) (write (suc (suc n)) (take size later)) s.one s.one_is in
+      let nx = next_found v (slice_get later size) f.next f.next_is kv (λ item at. knows_at size later item knows at) in
+      let behind = nx.item ∷ Jump (suc n) ∷ [] in
+      let inner = Branch test (suc (suc n)) off ∷ (turn ++ behind) in
+      let counted = length-append turn behind in
+      let whole : (turn ++ behind) ++ rest ≡ later = append_assoc turn behind rest ∙ sym (around_two size later nx.item (Jump (suc n)) nx.at back) in
+      subst (λ zs. Fits o scope labels n (Assign v first ∷ Branch test (suc (suc n)) off ∷ zs) (body_of_all ss)) whole
+      (first_fits n off (Assign v first) inner rest made (write off rest) ss (omega (arith, counted, long)) h
+      (λ one is.
+      let g = for_of (expr_for o.names v) (expr_for o.names first) (expr_for o.names test) (next_for o.names v (slice_get later size)) (write (suc (suc n)) (take size later)) one is in
+      let ny = next_found v (slice_get later size) g.next g.next_is kv (λ item at. knows_at size later item knows at) in
+      let same : ny.item ≡ nx.item = some_same ny.item nx.item (sym ny.at ∙ nx.at) in
+      subst (λ z. FitsUnlabelled n (Assign v first) inner (body z)) g.is
+      (for_fits n size v first test nx.item turn g.variable g.first g.test g.next g.turn long (expr_drawn scope o.names v g.variable g.variable_is kv) (expr_drawn scope o.names first g.first g.first_is kf)
+      (expr_drawn scope o.names test g.test g.test_is kt) (subst (λ it. IsNext v it g.next) same ny.next) (fit (suc (suc n)) turn g.turn g.turn_is (knows_take scope o.names size later knows)) bare bare' bare''))
+      (λ others is. fit off rest others is (knows_drop scope o.names (suc (suc size)) later knows)))
+
+  loop_fits : (write : Writer) → WriterFits write → (n size : ℕ) (item : Flat) (later : List Flat) (ss : List CStmt) → loop_for o write n size item later ≡ Some ss → KnowsItem scope o.names item → KnowsItems scope o.names later
+      → Fits o scope labels n (item ∷ later) (body_of_all ss)
+  unfolding loop_for is_loop
+  loop_fits write fit n size (Assign v first) (Branch test on off ∷ later) ss h known knows = by (is_loop o n size on off later) refl h
+    where
+      by : (b : Bool) → is_loop o n size on off later ≡ b
+          → (if b then
+          before (option_map (with_label (o.label n)) (for_by (expr_for o.names v) (expr_for o.names first) (expr_for o.names test) (next_for o.names v (slice_get later size)) (write (suc (suc n)) (take size later))))
+          (write (suc (suc n) + suc (suc size)) (drop (suc (suc size)) later))
+          else None) ≡ Some ss → Fits o scope labels n (Assign v first ∷ Branch test on off ∷ later) (body_of_all ss)
+      by true so g =
+          let r1 = right_true _ _ so in
+          let r2 = right_true _ _ r1 in
+          let r3 = right_true _ _ r2 in
+          let r4 = right_true _ _ r3 in
+          let r5 = right_true _ _ r4 in
+          let first_on : on ≡ suc (suc n) = eqb-true on (suc (suc n)) (left_true _ _ so) in
+          let last_off : off ≡ suc (suc n) + suc (suc size) = eqb-true off (suc (suc n) + suc (suc size)) (left_true _ _ r1) in
+          let room = leb-true (suc (suc size)) (length later) (left_true _ _ r2) in
+          let back = back_is (suc n) (slice_get later (suc size)) (left_true _ _ r3) in
+          subst (λ p. Fits o scope labels n (Assign v first ∷ Branch test p off ∷ later) (body_of_all ss)) (sym first_on)
+          (subst (λ p. Fits o scope labels n (Assign v first ∷ Branch test (suc (suc n)) p ∷ later) (body_of_all ss)) (sym last_off)
+          (loop_found write fit n size v first test later ss room back (is_bare (o.label (suc n)) (left_true _ _ r4)) (is_bare (o.label (suc (suc n) + size)) (left_true _ _ r5))
+          (is_bare (o.label (suc (suc (suc n) + size))) (right_true _ _ r5)) g known.0 known.1 knows.0 knows.1))
+      by false so g = absurd (cc)
+  loop_fits write fit n size item later ss h known knows = absurd (cc)
+
+  part_fits : (write : Writer) → WriterFits write → (found : Option ℕ) (n : ℕ) (item : Flat) (later : List Flat) (ss : List CStmt) → part_for o write found n item later ≡ Some ss → KnowsItem scope o.names item
+      → KnowsItems scope o.names later → Fits o scope labels n (item ∷ later) (body_of_all ss)
+  unfolding part_for
+  part_fits write fit None n item later ss h known knows = item_fits write fit n item later ss h known knows
+  part_fits write fit (Some size) n item later ss h known knows = loop_fits write fit n size item later ss h known knows
+
+  pub all_fit : (turns n : ℕ) (items : List Flat) (ss : List CStmt) → statements_for o turns n items ≡ Some ss → KnowsItems scope o.names items → Fits o scope labels n items (body_of_all ss)
+  unfolding statements_for WriterFits
+  all_fit turns n [] ss h knows = subst (λ zs. Fits o scope labels n [] (body_of_all zs)) (some_same [] ss h) (nothing_fits n)
+  all_fit zero n (item ∷ later) ss h knows = absurd (cc)
+  all_fit (suc turns) n (item ∷ later) ss h knows = part_fits (statements_for o turns) (λ m items rest is known. all_fit turns m items rest is known) (o.loop n) n item later ss h knows.0 knows.1
+
+pub statements_are_theirs : StatementsAreTheirs
+statements_are_theirs o scope labels turns n items ss are h knows = all_fit o scope labels are turns n items ss h knows

@@ -1,0 +1,3 @@
+pub mod DrawnExpressions
+pub mod FittingStatements
+pub mod BuiltLoop

@@ -1,0 +1,11 @@
+pub mod PlainData
+pub mod ValueLaw
+pub mod IntegerLemmas
+pub mod FoldedForms
+pub mod OperandLemmas
+pub mod OperatorLemmas
+pub mod ConstantLaws
+pub mod LengthLemmas
+pub mod BitLemmas
+pub mod TextLemmas
+pub mod ListLemmas

@@ -1,0 +1,5 @@
+pub mod Folded
+pub mod KnownConstants
+pub mod FunctionNames
+pub mod Operands
+pub mod TextSteps

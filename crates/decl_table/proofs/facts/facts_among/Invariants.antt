@@ -1,0 +1,7 @@
+use Rattle.std.proofs.Common.{take}
+use Rattle.name_table.specs.Named.{texts}
+use Rattle.decl_table.specs.UnitFacts.{AreFactsAmong}
+use Rattle.decl_table.proofs.facts.facts_among.Given as goal
+
+abbrev pub invariant-loop-name : goal.invariant-loop-name
+invariant-loop-name l = AreFactsAmong l.unit (texts (take l.name-index l.names)) l.facts

@@ -1,0 +1,4 @@
+pub mod TypeLemmas
+pub mod TypeForms
+pub mod ShapeLemmas
+pub mod ImpliedLemmas

@@ -1,0 +1,2 @@
+pub mod TermNames
+pub mod ItemNames

@@ -1,0 +1,3 @@
+pub mod SecondLayer
+pub mod Emitted
+pub mod Example

@@ -1,0 +1,3 @@
+pub mod CountForms
+pub mod CountLaws
+pub mod FunctionLaws

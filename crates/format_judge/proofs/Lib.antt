@@ -1,0 +1,3 @@
+pub mod LiteralForms
+pub mod FormatForms
+pub mod FormatLaws

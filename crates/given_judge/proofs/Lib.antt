@@ -1,0 +1,5 @@
+pub mod GiftLemmas
+pub mod GivenForms
+pub mod OwnerForms
+pub mod KeptLemmas
+pub mod RowForms

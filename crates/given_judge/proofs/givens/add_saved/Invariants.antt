@@ -1,0 +1,10 @@
+use Rattle.std.proofs.Common.{◌≡◌, ◌++◌, drop, map}
+use Rattle.declaration_rows.specs.GivenRows as rows
+use Rattle.declaration_rows.specs.GivenRows.{given, shaped_names, saved_names, owners, owners_of, owners_in, data_owners, tied_owners}
+use Rattle.given_judge.specs.GiftsSeen.{givens_in}
+use Rattle.given_judge.proofs.givens.add_saved.Given as goal
+
+abbrev pub invariant-loop-item : goal.invariant-loop-item
+invariant-loop-item l =
+    givens_in l.initial.givens.items ++ map (given rows.SavedOf) (saved_names l.items)
+    ≡ givens_in l.givens.items ++ map (given rows.SavedOf) (saved_names (drop l.item-index l.items))

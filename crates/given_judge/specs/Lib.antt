@@ -1,0 +1,3 @@
+pub mod GiftsSeen
+pub mod KeptSeen
+pub mod BlocksSeen

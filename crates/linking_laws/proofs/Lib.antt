@@ -1,0 +1,5 @@
+pub mod Places
+pub mod Scopes
+pub mod FunctionObjects
+pub mod Programs
+pub mod BuiltCode

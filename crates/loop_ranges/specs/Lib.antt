@@ -1,0 +1,4 @@
+pub mod LoopForms
+pub mod LoopEnds
+pub mod FirstLoops
+pub mod OpenRanges

@@ -1,0 +1,4 @@
+pub mod BoundForms
+pub mod BoundLaws
+pub mod KindLemmas
+pub mod HeadLemmas

@@ -1,0 +1,2 @@
+pub mod WrittenRecords
+pub mod ListedActs

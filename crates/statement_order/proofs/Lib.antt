@@ -1,0 +1,5 @@
+pub mod RankForms
+pub mod OtherForms
+pub mod BeforeForms
+pub mod UseSets
+pub mod OrderLemmas

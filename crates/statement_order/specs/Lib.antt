@@ -1,0 +1,3 @@
+pub mod OrderSteps
+pub mod BeforeSteps
+pub mod RowSteps

@@ -1,0 +1,3 @@
+pub mod UndeclaredLaws
+pub mod RowLemmas
+pub mod HeadLemmas
