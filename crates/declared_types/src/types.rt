@@ -3,7 +3,6 @@
 
 ghost use Rattle.std.specs.Prelude.{◌≡◌, ◌∷◌, [], List, OnOk, IfOk, Some, None, map, option_map};
 ghost use Rattle.f_tree.specs.declared.statements.Declarator as declarator;
-ghost use Rattle.f_tree.specs.declared.statements.LengthSpec as length;
 ghost use Rattle.f_tree.specs.Attributes as written;
 ghost use Rattle.f_tree.specs.Attributes.{typed_in, typed_by};
 ghost use Rattle.declared_types.specs.TypeTables as spec;

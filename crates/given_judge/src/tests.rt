@@ -1,46 +1,10 @@
 use crate::given_rows::add_given_rows;
-use f_tree::{
-    Basic, Body, Declarator, DummyArgument, Kind, Refusal, Stmt, TypeSpec, Unit, UnitKind,
-};
+use f_tree::{DummyArgument, Kind, Refusal, Unit, UnitKind};
 use found_rows::first_of;
 use name_uses::array_set;
 use plain_data::Items;
 use std::alloc::{AllocError, Global};
 use std::test::Fail;
-
-/// `INTEGER X`
-fn declaration(alloc: Global, card: u32) -> Result<Stmt, AllocError> {
-    let item = Declarator {
-        name: Items::from_slice(alloc, b"x")?,
-        dimensions: Items::new(alloc),
-        length: None,
-    };
-    let integers = TypeSpec {
-        basic: Basic::Integer,
-        length: None,
-    };
-    let items = vec![in alloc; item]?;
-    Ok(Stmt {
-        label: None,
-        file: 0,
-        card,
-        body: Body::Declare(integers, Items::from_vec(items)),
-    })
-}
-
-/// `INTEGER X` twice.
-fn typed_twice(alloc: Global) -> Result<Unit, AllocError> {
-    let first = declaration(alloc, 2)?;
-    let second = declaration(alloc, 3)?;
-    Ok(Unit {
-        file: 0,
-        card: 1,
-        kind: UnitKind::Main,
-        name: None,
-        dummies: Items::new(alloc),
-        statements: Items::from_vec(vec![in alloc; first, second]?),
-    })
-}
 
 /// `SUBROUTINE S(X, X)`
 fn dummies_alike(alloc: Global) -> Result<Unit, AllocError> {
@@ -71,12 +35,10 @@ fn conflict(card: u32) -> Option<Refusal> {
     })
 }
 
-/// A name has one type, and a list of dummy arguments has each name once.
+/// A list of dummy arguments has each name once.
 #[test]
-fn names_are_given_once(rt: HostRuntime) -> Result<(), Fail> {
+fn dummies_differ(rt: HostRuntime) -> Result<(), Fail> {
     let alloc = rt.alloc();
-    let typed = typed_twice(alloc)?;
-    assert!(rt; fault_of(alloc, &typed)? == conflict(3));
     let headed = dummies_alike(alloc)?;
     assert!(rt; fault_of(alloc, &headed)? == conflict(1));
     Ok(())

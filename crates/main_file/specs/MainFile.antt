@@ -174,7 +174,7 @@ abbrev pub writing_of : Inventory → Bases → Facts → (ℕ → ℕ → Optio
 writing_of v b facts kind = record {
   naming = record {
     address = λ x. Alone (b.function + place_or_none (place_of_variable v x));
-    length = λ x. b.file;
+    length = λ x. first_temporary v b + v.temporaries;
     lower = λ x k. lower_of (slice_get (facts.program.attribute x).bounds k);
     size = λ x k. size_of (slice_get (facts.program.attribute x).bounds k);
     temporary = λ k. first_temporary v b + k;
