@@ -1,0 +1,2 @@
+pub mod EmittedMain
+pub mod MainRuns
