@@ -7,6 +7,3 @@ pub mod order;
 pub mod ranks;
 
 pub use order::order_fault;
-
-#[cfg(test)]
-mod tests;
