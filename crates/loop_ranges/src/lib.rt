@@ -10,6 +10,3 @@ pub mod labels;
 
 pub use ends::{loop_ends, terminal_places};
 pub use faults::{add_crossing_rows, crossing_fault};
-
-#[cfg(test)]
-mod tests;

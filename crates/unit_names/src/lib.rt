@@ -8,6 +8,3 @@ pub mod stands;
 pub mod undeclared;
 
 pub use undeclared::undeclared_fault;
-
-#[cfg(test)]
-mod tests;
