@@ -72,8 +72,8 @@ unfoldable pub item_by : Writing → Option ℤ → Option Term → Option Flat
 item_by w (Some kind) (Some term) =
     if w.library.has kind && w.library.has (pos 1) then
     Some (call_of w (codes "do_lio")
-      (address_of (c.Variable (w.library.constant kind) ToNumber) ∷ address_of (c.Variable (w.library.constant (pos 1)) ToNumber)
-      ∷ c.Cast to.Chars (address_of term) ∷ c.Cast to.Length c.Size ∷ []))
+    (address_of (c.Variable (w.library.constant kind) ToNumber) ∷ address_of (c.Variable (w.library.constant (pos 1)) ToNumber)
+    ∷ c.Cast to.Chars (address_of term) ∷ c.Cast to.Length c.Size ∷ []))
     else None
 item_by w kind term = None
 
