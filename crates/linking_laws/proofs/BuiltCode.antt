@@ -41,19 +41,23 @@ module _ (o : Outline) (alone : (m n : ℕ) (name : List ℕ) → o.label m ≡ 
 
 -- ## The code
 
+-- the labels of what was built, and that it fits its items, wherever its names stand for what they are taken to stand for
+pub labels_are : (o : Outline) (items : List Flat) (function : CFunction) → IsBuilt o items function → AreLabels o (position_of (marks_from o.label 0 items))
+labels_are o items function is = record { found = λ n name stands. found_from o is.alone items 0 n name stands (omega arith) (let inside = is.inside n name stands in omega (arith, inside)); none = is.none }
+
+pub built_fit : (scope : Scope) (o : Outline) (items : List Flat) (function : CFunction) → IsBuilt o items function → KnowsItems scope o.names items → Fits o scope (position_of (marks_from o.label 0 items)) 0 items (body_of_all function.body)
+built_fit scope o items function is knows = statements_are_theirs o scope (position_of (marks_from o.label 0 items)) is.turns 0 items function.body (labels_are o items function is) is.statements knows
+
+pub whole_is : (o : Outline) (items : List Flat) (function : CFunction) → IsBuilt o items function → whole_body function.body ≡ body_of_all function.body
+whole_is o items function is = ap (λ b. with_return b (body_of_all function.body)) is.ended
+
 module _ (numbers : Routines) (own : ℕ) (outer : Scope) (base : ℕ) (function : CFunction) (o : Outline) (items : List Flat) (is : IsBuilt o items function)
     (knows : KnowsItems (scope_of numbers outer base function) o.names items) where
-  labels : Labels
-  labels = position_of (marks_from o.label 0 items)
-
-  are : AreLabels o (position_of (marks_from o.label 0 items))
-  are = record { found = λ n name stands. found_from o is.alone items 0 n name stands (omega arith) (let inside = is.inside n name stands in omega (arith, inside)); none = is.none }
-
   fits : Fits o (scope_of numbers outer base function) (position_of (marks_from o.label 0 items)) 0 items (body_of_all function.body)
-  fits = statements_are_theirs o (scope_of numbers outer base function) (position_of (marks_from o.label 0 items)) is.turns 0 items function.body are is.statements knows
+  fits = built_fit (scope_of numbers outer base function) o items function is knows
 
   whole : whole_body function.body ≡ body_of_all function.body
-  whole = ap (λ b. with_return b (body_of_all function.body)) is.ended
+  whole = whole_is o items function is
 
   its_strings : AreBytesOf o.names (whole_body function.body).items.strings (strings_of_items o.names items)
   its_strings = subst (λ (b : Body). AreBytesOf o.names b.items.strings (strings_of_items o.names items)) (sym whole) fits.strings

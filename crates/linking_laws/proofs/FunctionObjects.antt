@@ -10,7 +10,7 @@ use Rattle.c_tree.specs.Declarations.{Declared, string_object, declared_statics}
 use Rattle.c_tree.specs.Linking as linking
 use Rattle.c_tree.specs.Linking.{Routines, LinkedFunction, strings_of, objects_of, local_scope, linked_function}
 use Rattle.linking_laws.specs.Linked.{IsAlways, statics, framed, strings, first_string, frame, scope_of, FunctionsHaveObjects}
-use Rattle.linking_laws.proofs.Places.{some_same, get_front, get_back, map_at}
+use Rattle.linking_laws.proofs.Places.{some_same, get_front, get_back, map_at, IsAt, in_first, in_second, at_one}
 
 pub objects_at : (scope : Scope) (first : ℕ) (ds : List Declared) (i : ℕ) (d : Declared) (object : Object) → slice_get ds i ≡ Some d → IsAlways d object → slice_get (objects_of scope first ds) i ≡ Some object
 objects_at scope first [] i d object at always = absurd (cc)
@@ -45,20 +45,6 @@ lasting_count scope first before (one ∷ later) =
     length-append (objects_of (scope before) first made) (kept scope (first + length (strings_of made)) (before ++ one ∷ []) later)
     ∙ (λ i. objects_count (scope before) first made i + lasting_count scope (first + length (strings_of made)) (before ++ one ∷ []) later i)
     ∙ sym (length-append made (declared_statics later)) ∙ ap length (sym (statics_split one later))
-
--- a place in one of two lists
-data IsAt {A : Type 0} (xs ys : List A) (i : ℕ) (x : A) : Type 0 where
-  in_first : slice_get xs i ≡ Some x → IsAt xs ys i x
-  in_second : (j : ℕ) → i ≡ length xs + j → slice_get ys j ≡ Some x → IsAt xs ys i x
-
-at_later : {A : Type 0} (z : A) (xs ys : List A) (i : ℕ) (x : A) → IsAt xs ys i x → IsAt (z ∷ xs) ys (suc i) x
-at_later z xs ys i x (in_first at) = in_first at
-at_later z xs ys i x (in_second j there at) = in_second j (omega (arith, there)) at
-
-at_one : {A : Type 0} (xs ys : List A) (i : ℕ) (x : A) → slice_get (xs ++ ys) i ≡ Some x → IsAt xs ys i x
-at_one [] ys i x at = in_second i (omega arith) at
-at_one (z ∷ xs) ys zero x at = in_first at
-at_one (z ∷ xs) ys (suc i) x at = at_later z xs ys i x (at_one xs ys i x at)
 
 in_one_of : (made later : List Declared) (first second : List Object) (i : ℕ) (d : Declared) (object : Object) → length first ≡ length made → (slice_get made i ≡ Some d → slice_get first i ≡ Some object)
     → ((j : ℕ) → slice_get later j ≡ Some d → slice_get second j ≡ Some object) → IsAt made later i d → slice_get (first ++ second) i ≡ Some object

@@ -1,5 +1,5 @@
 -- The places of what a list has.
-use Rattle.std.specs.Prelude.{◌≡◌, ℕ, zero, suc, ◌+◌, nat_lt, Bool, true, false, not, List, [], ◌∷◌, ◌++◌, map, length, position, Some, None, option_map, slice_get, bytes_eq, if◌then◌else◌}
+use Rattle.std.specs.Prelude.{◌≡◌, ℕ, zero, suc, ◌+◌, ◌<◌, nat_lt, Bool, true, false, not, List, [], ◌∷◌, ◌++◌, map, length, position, Some, None, option_map, slice_get, bytes_eq, if◌then◌else◌}
 use Rattle.std.specs.List.{position_or_len}
 use Rattle.std.proofs.Common.{refl, sym, ap, ◌∙◌, arith}
 use Rattle.std.proofs.lemmas.Bool.{ltb-true, ltb-false, lt-ltb, le-ltb}
@@ -23,6 +23,30 @@ pub map_at : {A B : Type 0} (f : A → B) (xs : List A) (i : ℕ) (x : A) → sl
 map_at f [] i x at = absurd (cc)
 map_at f (y ∷ xs) zero x at = ap Some (ap f (some_same y x at))
 map_at f (y ∷ xs) (suc i) x at = map_at f xs i x at
+
+pub within : {A : Type 0} (xs : List A) (i : ℕ) (x : A) → slice_get xs i ≡ Some x → i < length xs
+within [] i x at = absurd (cc)
+within (y ∷ xs) zero x at = omega arith
+within (y ∷ xs) (suc i) x at = let less = within xs i x at in omega (arith, less)
+
+pub some_at : {A : Type 0} (xs : List A) (i : ℕ) → i < length xs → (x : A) × (slice_get xs i ≡ Some x)
+some_at [] i below = absurd (let no : ⊥ = omega (arith, below) in no)
+some_at (x ∷ xs) zero below = (x, refl)
+some_at (x ∷ xs) (suc i) below = some_at xs i (omega (arith, below))
+
+-- a place in one of two lists
+pub data IsAt {A : Type 0} (xs ys : List A) (i : ℕ) (x : A) : Type 0 where
+  in_first : slice_get xs i ≡ Some x → IsAt xs ys i x
+  in_second : (j : ℕ) → i ≡ length xs + j → slice_get ys j ≡ Some x → IsAt xs ys i x
+
+at_later : {A : Type 0} (z : A) (xs ys : List A) (i : ℕ) (x : A) → IsAt xs ys i x → IsAt (z ∷ xs) ys (suc i) x
+at_later z xs ys i x (in_first at) = in_first at
+at_later z xs ys i x (in_second j there at) = in_second j (omega (arith, there)) at
+
+pub at_one : {A : Type 0} (xs ys : List A) (i : ℕ) (x : A) → slice_get (xs ++ ys) i ≡ Some x → IsAt xs ys i x
+at_one [] ys i x at = in_second i (omega arith) at
+at_one (z ∷ xs) ys zero x at = in_first at
+at_one (z ∷ xs) ys (suc i) x at = at_later z xs ys i x (at_one xs ys i x at)
 
 pub distinct_later : (x : List ℕ) (xs : List (List ℕ)) → AreDistinct (x ∷ xs) → AreDistinct xs
 distinct_later x xs distinct i j name one other = let same = distinct (suc i) (suc j) name one other in omega (arith, same)

@@ -1,1 +1,2 @@
 pub mod MainFile
+pub mod MainItems

@@ -9,10 +9,11 @@ use Rattle.c_tree.specs.declared.statement.CStmt.{CStmt}
 use Rattle.c_tree.specs.Access.{ToChar}
 use Rattle.c_tree.specs.Flat.{Flat}
 use Rattle.c_tree.specs.Drafts.{Scope}
-use Rattle.c_tree.specs.Linking.{Routines, file_scope, linked_function, strings_of}
+use Rattle.c_tree.specs.FlatForm.{whole_body}
+use Rattle.c_tree.specs.Linking.{Routines, file_scope, strings_of}
 use Rattle.c_structure.specs.Expressions.{Names, strings_in}
 use Rattle.c_structure.specs.Expressions as written
-use Rattle.c_structure.specs.Statements.{Outline, strings_of_item, strings_of_items}
+use Rattle.c_structure.specs.Statements.{strings_of_item, strings_of_items}
 use Rattle.c_structure_laws.specs.Fitting.{KnowsItems, KnowsArray, AreNumbered}
 use Rattle.c_emit.specs.Numbers.{Writing}
 use Rattle.c_emit.specs.Flats.{flat_of}
@@ -22,8 +23,9 @@ use Rattle.linking_laws.proofs.BuiltCode.{code_is_theirs}
 use Rattle.emitted_names.specs.KnownNames.{KnowsStep}
 use Rattle.emitted_names.proofs.ItemNames.{emitted_names_are_known}
 use Rattle.main_file.specs.MainFile.{Inventory, Bases, main_function, main_file, first_string, first_temporary, place_or_none, place_of_string, names_of, string_at, writing_of}
-use Rattle.main_file_laws.specs.KnownFile.{scope_in, FileIsKnown}
-use Rattle.main_file_laws.specs.BuiltMain.{item_before, flats_from, stops_from, IsListed, AreListed, IsMainBuilt, AreNumberedBuiltins, MainsHaveTheirItems}
+use Rattle.main_file_laws.specs.KnownFile.{NamesDiffer, VariablesAreListed, scope_in, FileIsKnown}
+use Rattle.main_file.specs.MainItems.{item_before, flats_from, stops_from}
+use Rattle.main_file_laws.specs.BuiltMain.{IsListed, AreListed, AreNumberedBuiltins, MainsHaveTheirItems}
 use Rattle.main_file_laws.proofs.Listed.{no_strings, statics_count}
 use Rattle.main_file_laws.proofs.Known.{main_files_are_known}
 
@@ -61,8 +63,17 @@ before_by (Some item) (Some later) items h = record { item = item; later = later
 before_by (Some item) None items h = absurd (cc)
 before_by None xs items h = absurd (cc)
 
-module _ (numbers : Routines) (objects : List ℕ → Option ℕ) (own : ℕ) (v : Inventory) (b : Bases) (u : Text) (kind : ℕ → ℕ → Option Basic) (o : Outline) (all : List Flat) (body : List CStmt)
-    (builtins : AreNumberedBuiltins numbers v b) (is : IsMainBuilt v b u kind o all body) where
+-- what is said of the steps of a text and of what its file has, whatever statements its function has, if they have as many strings
+pub record AreEmitted (v : Inventory) (b : Bases) (u : Text) (kind : ℕ → ℕ → Option Basic) (all : List Flat) (body : List CStmt) : Type 0 where
+  pub differ : NamesDiffer v b
+  pub variables : VariablesAreListed v u.facts b kind
+  pub listed : AreListed v 0 u.steps
+  pub stops : v.strings ≡ stops_from 0 u.steps
+  pub emitted : flats_from (writing_of v b u.facts kind) u.position 0 u.steps ≡ Some all
+  pub as_many : length (whole_body body).items.strings ≡ length v.strings
+
+module _ (numbers : Routines) (objects : List ℕ → Option ℕ) (v : Inventory) (b : Bases) (u : Text) (kind : ℕ → ℕ → Option Basic) (all : List Flat) (body : List CStmt)
+    (builtins : AreNumberedBuiltins numbers v b) (is : AreEmitted v b u kind all body) where
   scope : Scope
   scope = scope_in numbers objects v b body
 
@@ -102,14 +113,16 @@ module _ (numbers : Routines) (objects : List ℕ → Option ℕ) (own : ℕ) (v
   writing : Writing
   writing = writing_of v b u.facts kind
 
-  -- an item and those behind it: known, and their strings numbered from one on
-  Numbered : List ℕ → List Flat → Type 0
-  Numbered before items = KnowsItems scope (names_of v b) items × AreNumbered (first_string v b + length before) (strings_of_items (names_of v b) items)
+  -- items of steps from a position on: known, and their strings numbered from one on, one for each STOP
+  record AreNumberedItems (before : List ℕ) (n : ℕ) (steps : List Step) (items : List Flat) : Type 0 where
+    knows : KnowsItems scope (names_of v b) items
+    numbered : AreNumbered (first_string v b + length before) (strings_of_items (names_of v b) items)
+    counted : length (strings_of_items (names_of v b) items) ≡ length (stops_from n steps)
 
   step_known : (n : ℕ) (before : List ℕ) (st : Step) (later : List Step) (item : Flat) (laters : List Flat) → v.strings ≡ before ++ stops_from n (st ∷ later) → AreBelow n before → IsListed v n st
       → flat_of (writing_of v b u.facts kind) (λ m. m) u.position n st ≡ Some item
-      → ((more : List ℕ) → v.strings ≡ more ++ stops_from (suc n) later → AreBelow (suc n) more → Numbered more laters) → Numbered before (item ∷ laters)
-  unfolding scope stops_from strings_of_items strings_in written.string_at Numbered
+      → ((more : List ℕ) → v.strings ≡ more ++ stops_from (suc n) later → AreBelow (suc n) more → AreNumberedItems more (suc n) later laters) → AreNumberedItems before n (st ∷ later) (item ∷ laters)
+  unfolding scope stops_from strings_of_items strings_in written.string_at
   step_known n before (Halt text) later item laters strings below calls h rest =
       let place : place_of_string v n ≡ Some (length before) = ap (position (nat_eq n)) strings ∙ place_behind n before (stops_from (suc n) later) below in
       let counted = ap length strings ∙ length-append before (n ∷ stops_from (suc n) later) in
@@ -122,31 +135,52 @@ module _ (numbers : Routines) (objects : List ℕ → Option ℕ) (own : ℕ) (v
       let one : strings_of_item (names_of v b) item ≡ (first_string v b + length before) ∷ [] =
       known_item.strings ∙ ap (λ p. written.string_at (string_at v b (first_string v b + place_or_none p)) (first_string v b + place_or_none p)) place
       ∙ ap (λ found. written.string_at found (first_string v b + length before)) string.1 in
-      ((known_item.knows, r.0), subst (λ ks. AreNumbered (first_string v b + length before) (ks ++ strings_of_items (names_of v b) laters)) (sym one) (refl, subst (λ k. AreNumbered k (strings_of_items (names_of v b) laters)) next r.1))
+      record {
+        knows = (known_item.knows, r.knows);
+        numbered = subst (λ ks. AreNumbered (first_string v b + length before) (ks ++ strings_of_items (names_of v b) laters)) (sym one) (refl, subst (λ k. AreNumbered k (strings_of_items (names_of v b) laters)) next r.numbered);
+        counted = (λ i. length (one i ++ strings_of_items (names_of v b) laters)) ∙ ap suc r.counted;
+      }
   step_known n before st later item laters strings below calls h rest =
       let known_item = emitted_names_are_known scope (names_of v b) (writing_of v b u.facts kind) (λ m. m) u.position n st item known.names (knows_step n st calls (λ t same. absurd (cc))) h in
       let r = rest before strings (below_next n before below) in
-      ((known_item.knows, r.0), subst (λ ks. AreNumbered (first_string v b + length before) (ks ++ strings_of_items (names_of v b) laters)) (sym known_item.strings) r.1)
+      record {
+        knows = (known_item.knows, r.knows);
+        numbered = subst (λ ks. AreNumbered (first_string v b + length before) (ks ++ strings_of_items (names_of v b) laters)) (sym known_item.strings) r.numbered;
+        counted = (λ i. length (known_item.strings i ++ strings_of_items (names_of v b) laters)) ∙ r.counted;
+      }
 
   items_known : (n : ℕ) (before : List ℕ) (steps : List Step) (items : List Flat) → v.strings ≡ before ++ stops_from n steps → AreBelow n before → AreListed v n steps
-      → flats_from (writing_of v b u.facts kind) u.position n steps ≡ Some items → Numbered before items
-  unfolding flats_from Numbered strings_of_items
-  items_known n before [] items strings below listed h = subst (λ zs. KnowsItems scope (names_of v b) zs × AreNumbered (first_string v b + length before) (strings_of_items (names_of v b) zs)) (some_same [] items h) (tt, tt)
+      → flats_from (writing_of v b u.facts kind) u.position n steps ≡ Some items → AreNumberedItems before n steps items
+  unfolding flats_from strings_of_items stops_from
+  items_known n before [] items strings below listed h = subst (AreNumberedItems before n []) (some_same [] items h) (record { knows = tt; numbered = tt; counted = refl })
   items_known n before (st ∷ later) items strings below listed h =
       let m = before_by (flat_of (writing_of v b u.facts kind) (λ k. k) u.position n st) (flats_from (writing_of v b u.facts kind) u.position (suc n) later) items h in
-      subst (λ zs. KnowsItems scope (names_of v b) zs × AreNumbered (first_string v b + length before) (strings_of_items (names_of v b) zs)) m.is
+      subst (AreNumberedItems before n (st ∷ later)) m.is
       (step_known n before st later m.item m.later strings below listed.0 m.item_is (λ more again further. items_known (suc n) more later m.later again further listed.1 m.later_is))
 
-  its_code : (linked_function numbers own (file_scope numbers objects b.file (main_file v body)) b.function (main_function v body)).function.code ≡ all
-  unfolding scope Numbered
-  its_code =
+  -- all items are known, and their strings are those of the file
+  pub record AreAllKnown : Type 0 where
+    pub knows : KnowsItems (scope_in numbers objects v b body) (names_of v b) all
+    pub numbered : AreNumbered (first_string v b) (strings_of_items (names_of v b) all)
+    pub counted : length (strings_of_items (names_of v b) all) ≡ length v.strings
+
+  pub all_known : AreAllKnown
+  unfolding scope
+  all_known =
       let every = items_known 0 [] u.steps all is.stops none_below is.listed is.emitted in
-      let kept = statics_count v in
-      let passed = ap length (no_strings v) in
-      let there : first_string v b + 0 ≡ linked.first_string b.function (main_function v body) + length (strings_of (linked.statics (main_function v body))) = omega (arith, kept, passed) in
-      code_is_theirs numbers own (file_scope numbers objects b.file (main_file v body)) b.function (main_function v body) o all is.built (subst (λ ns. KnowsItems (scope_in numbers objects v b body) ns all) (sym is.names) every.0)
-      (subst (λ ns. AreNumbered (linked.first_string b.function (main_function v body) + length (strings_of (linked.statics (main_function v body)))) (strings_of_items ns all)) (sym is.names)
-      (subst (λ k. AreNumbered k (strings_of_items (names_of v b) all)) there every.1))
+      let none : first_string v b + 0 ≡ first_string v b = omega arith in
+      record {
+        knows = every.knows;
+        numbered = subst (λ k. AreNumbered k (strings_of_items (names_of v b) all)) none every.numbered;
+        counted = every.counted ∙ ap length (sym is.stops);
+      }
 
 pub mains_have_their_items : MainsHaveTheirItems
-mains_have_their_items numbers objects own v b u kind o items body builtins is = its_code numbers objects own v b u kind o items body builtins is
+mains_have_their_items numbers objects own v b u kind o items body builtins is =
+    let all = all_known numbers objects v b u kind items body builtins (record { differ = is.differ; variables = is.variables; listed = is.listed; stops = is.stops; emitted = is.emitted; as_many = is.as_many }) in
+    let kept = statics_count v in
+    let passed = ap length (no_strings v) in
+    let there : first_string v b ≡ linked.first_string b.function (main_function v body) + length (strings_of (linked.statics (main_function v body))) = omega (arith, kept, passed) in
+    code_is_theirs numbers own (file_scope numbers objects b.file (main_file v body)) b.function (main_function v body) o items is.built (subst (λ ns. KnowsItems (scope_in numbers objects v b body) ns items) (sym is.names) all.knows)
+    (subst (λ ns. AreNumbered (linked.first_string b.function (main_function v body) + length (strings_of (linked.statics (main_function v body)))) (strings_of_items ns items)) (sym is.names)
+    (subst (λ k. AreNumbered k (strings_of_items (names_of v b) items)) there all.numbered))

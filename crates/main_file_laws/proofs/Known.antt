@@ -2,7 +2,7 @@
 use Rattle.std.specs.Prelude.{◌≡◌, ℕ, zero, suc, ◌+◌, ◌-◌, ◌<◌, nat_le, nat_lt, nat_eq, ℤ, pos, Bool, true, false, ◌&&◌, List, [], ◌∷◌, ◌++◌, map, length, replicate, position, Option, Some, None, is_some, option_map, unwrap_or, slice_get, bytes_eq, if◌then◌else◌}
 use Rattle.std.specs.Ordering.{int_eq}
 use Rattle.std.proofs.Common.{refl, sym, ap, ◌∙◌, subst, arith}
-use Rattle.std.proofs.lemmas.Bool.{ltb-true, le-leb, lt-leb}
+use Rattle.std.proofs.lemmas.Bool.{and_left, ltb-true, le-leb, lt-leb}
 use Rattle.std.proofs.lemmas.List.{length-append, length-map, length-replicate}
 use Rattle.std.proofs.lemmas.Slice.Eq.{bytes_eq-Decides}
 use Rattle.f_tree.specs.declared.names.Basic.{Basic}
@@ -26,7 +26,7 @@ use Rattle.c_emit.specs.Numbers.{is_scalar, is_array}
 use Rattle.c_structure_laws.specs.Fitting.{KnowsArray}
 use Rattle.linking_laws.specs.Linked as linked
 use Rattle.linking_laws.specs.Linked.{AreDistinct, IsNone, scope_of}
-use Rattle.linking_laws.proofs.Places.{some_same, get_front, get_back, map_at, position_step}
+use Rattle.linking_laws.proofs.Places.{some_same, get_front, get_back, map_at, within, taken, skipped, position_step}
 use Rattle.linking_laws.proofs.Scopes.{scopes_are_known, file_scopes_are_known}
 use Rattle.emitted_names.specs.KnownNames.{IsPlain, Calls}
 use Rattle.emitted_names.proofs.TermNames.{number_plain}
@@ -63,11 +63,6 @@ some_place : (found : Option ℕ) → is_some found ≡ true → (i : ℕ) × (f
 some_place (Some i) h = (i, refl)
 some_place None h = absurd (cc)
 
-within : {A : Type 0} (xs : List A) (i : ℕ) (x : A) → slice_get xs i ≡ Some x → i < length xs
-within [] i x at = absurd (cc)
-within (y ∷ xs) zero x at = omega arith
-within (y ∷ xs) (suc i) x at = let less = within xs i x at in omega (arith, less)
-
 temporary_named : (k n i : ℕ) → i < n → slice_get (temporary_names k n) i ≡ Some (made_name (NumberTemporary (k + i)))
 temporary_named k zero i below = absurd (let no : ⊥ = omega (arith, below) in no)
 temporary_named k (suc n) zero below = ap (λ m. Some (made_name (NumberTemporary m))) {x = k} {y = k + 0} (omega arith)
@@ -94,22 +89,6 @@ constants_named : (zs : List ℤ) → linked.names_of (map declared_constant zs)
 constants_named [] = refl
 constants_named (z ∷ zs) = ap (λ ns. made_name (ConstantOf z) ∷ ns) (constants_named zs)
 
-chosen : {A : Type 0} (t : Bool) (a c : A) → t ≡ true → (if t then a else c) ≡ a
-chosen true a c h = refl
-chosen false a c h = absurd (cc)
-
-other : {A : Type 0} (t : Bool) (a c : A) → t ≡ false → (if t then a else c) ≡ c
-other true a c h = absurd (cc)
-other false a c h = refl
-
-and_false : (s t : Bool) → s ≡ false → s && t ≡ false
-and_false true t h = absurd (cc)
-and_false false t h = refl
-
-and_no : (s t : Bool) → t ≡ false → s && t ≡ false
-and_no true t h = h
-and_no false t h = refl
-
 module _ (numbers : Routines) (objects : List ℕ → Option ℕ) (v : Inventory) (b : Bases) (facts : Facts) (kind : ℕ → ℕ → Option Basic) (body : List CStmt) (differ : NamesDiffer v b)
     (listed : VariablesAreListed v facts b kind) (strings : length (whole_body body).items.strings ≡ length v.strings) where
   inner : linked.NamesAreKnown numbers (file_scope numbers objects b.file (main_file v body)) b.function (main_function v body)
@@ -134,7 +113,7 @@ module _ (numbers : Routines) (objects : List ℕ → Option ℕ) (v : Inventory
   own_name : (i : ℕ) (name : List ℕ) → slice_get (function_names v) i ≡ Some name → object_name v b (b.function + i) ≡ name
   unfolding object_name
   own_name i name at =
-      chosen (nat_le b.function (b.function + i)) (unwrap_or (slice_get (function_names v) ((b.function + i) - b.function)) []) (unwrap_or (slice_get (constant_names v) ((b.function + i) - b.file)) []) (le-leb b.function (b.function + i) (omega arith))
+      taken (nat_le b.function (b.function + i)) (unwrap_or (slice_get (function_names v) ((b.function + i) - b.function)) []) (unwrap_or (slice_get (constant_names v) ((b.function + i) - b.file)) []) (le-leb b.function (b.function + i) (omega arith))
       ∙ ap (λ k. unwrap_or (slice_get (function_names v) k) []) {x = (b.function + i) - b.function} {y = i} (omega arith) ∙ ap (λ o. unwrap_or o []) at
 
   lasting_name : (i : ℕ) (name : List ℕ) → slice_get (lasting_names v) i ≡ Some name → object_name v b (b.function + i) ≡ name
@@ -158,14 +137,14 @@ module _ (numbers : Routines) (objects : List ℕ → Option ℕ) (v : Inventory
       let less = within (constant_names v) i name at in
       let count = length-map v.constants (λ z. made_name (ConstantOf z)) in
       let before = differ.behind in
-      other (nat_le b.function (b.file + i)) (unwrap_or (slice_get (function_names v) ((b.file + i) - b.function)) []) (unwrap_or (slice_get (constant_names v) ((b.file + i) - b.file)) []) (lt-leb b.function (b.file + i) (omega (arith, less, count, before)))
+      skipped (nat_le b.function (b.file + i)) (unwrap_or (slice_get (function_names v) ((b.file + i) - b.function)) []) (unwrap_or (slice_get (constant_names v) ((b.file + i) - b.file)) []) (lt-leb b.function (b.file + i) (omega (arith, less, count, before)))
       ∙ ap (λ k. unwrap_or (slice_get (constant_names v) k) []) {x = (b.file + i) - b.file} {y = i} (omega arith) ∙ ap (λ o. unwrap_or o []) at
 
   no_string : (k : ℕ) → k < first_string v b → string_at v b k ≡ None
   unfolding string_at
   no_string k below =
-      other (nat_le (first_string v b) k && nat_lt k (first_temporary v b)) (Some (v.texts (unwrap_or (slice_get v.strings (k - first_string v b)) 0))) None
-      (and_false (nat_le (first_string v b) k) (nat_lt k (first_temporary v b)) (lt-leb (first_string v b) k below))
+      skipped (nat_le (first_string v b) k && nat_lt k (first_temporary v b)) (Some (v.texts (unwrap_or (slice_get v.strings (k - first_string v b)) 0))) None
+      (and_left (nat_le (first_string v b) k) (nat_lt k (first_temporary v b)) (lt-leb (first_string v b) k below))
 
   -- ## What they stand for
 

@@ -1,5 +1,5 @@
 -- That the function of a main program has the items that are emitted for its lowered text, where its statements are built for them. C89, 3.6.
-use Rattle.std.specs.Prelude.{◌≡◌, ℕ, suc, ◌+◌, List, [], ◌∷◌, length, position, Option, Some, None, slice_get, bytes_eq, codes}
+use Rattle.std.specs.Prelude.{◌≡◌, ℕ, suc, ◌+◌, List, [], ◌∷◌, length, position, Option, Some, slice_get, bytes_eq, codes}
 use Rattle.f_tree.specs.declared.names.Basic.{Basic}
 use Rattle.l_core.specs.Steps.{Starts, Takes, Finishes, Step, Acts, Halt, Text}
 use Rattle.c_tree.specs.declared.statement.CStmt.{CStmt}
@@ -8,26 +8,10 @@ use Rattle.c_tree.specs.Builtins.{builtin_names}
 use Rattle.c_tree.specs.FlatForm.{whole_body}
 use Rattle.c_tree.specs.Linking.{Routines, file_scope, linked_function}
 use Rattle.c_structure.specs.Statements.{Outline}
-use Rattle.c_emit.specs.Numbers.{Writing}
-use Rattle.c_emit.specs.Flats.{flat_of}
 use Rattle.linking_laws.specs.Linked.{IsBuilt}
 use Rattle.main_file.specs.MainFile.{Inventory, Bases, main_function, main_file, names_of, writing_of, called_names, place_of_list}
+use Rattle.main_file.specs.MainItems.{flats_from, stops_from}
 use Rattle.main_file_laws.specs.KnownFile.{NamesDiffer, VariablesAreListed}
-
--- the items of steps from a position on, one for each
-unfoldable pub item_before : Option Flat → Option (List Flat) → Option (List Flat)
-item_before (Some item) (Some later) = Some (item ∷ later)
-item_before _ _ = None
-
-unfoldable pub flats_from : Writing → (ℕ → Option ℕ) → ℕ → List Step → Option (List Flat)
-flats_from w label n [] = Some []
-flats_from w label n (st ∷ later) = item_before (flat_of w (λ m. m) label n st) (flats_from w label (suc n) later)
-
--- the steps that pass a string
-unfoldable pub stops_from : ℕ → List Step → List ℕ
-stops_from n [] = []
-stops_from n (Halt text ∷ later) = n ∷ stops_from (suc n) later
-stops_from n (st ∷ later) = stops_from (suc n) later
 
 -- what a step calls is declared, and its control list is listed
 abbrev pub IsCalled : Inventory → List ℕ → Type 0

@@ -23,7 +23,8 @@ use Rattle.linking_laws.specs.Linked as linked
 use Rattle.linking_laws.proofs.Places.{some_same}
 use Rattle.linking_laws.proofs.FunctionObjects.{functions_have_objects}
 use Rattle.main_file.specs.MainFile.{Inventory, Bases, main_function, main_file, first_temporary, lower_of, size_of, writing_of}
-use Rattle.main_file_laws.specs.BuiltMain.{item_before, flats_from, AreNumberedBuiltins, IsMainBuilt}
+use Rattle.main_file.specs.MainItems.{item_before, flats_from}
+use Rattle.main_file_laws.specs.BuiltMain.{AreNumberedBuiltins, IsMainBuilt}
 use Rattle.main_file_laws.proofs.Listed.{declared_temporary, statics_count, no_strings, temporary_at}
 use Rattle.main_file_laws.proofs.BuiltItems.{mains_have_their_items}
 use Rattle.emitted_texts.specs.SecondLayer.{Surroundings}

@@ -1,3 +1,4 @@
 pub mod Emission
 pub mod MainStorage
+pub mod MainStrings
 pub mod MainRuns

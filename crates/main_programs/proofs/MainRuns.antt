@@ -10,7 +10,7 @@ use Rattle.simulation.specs.LocalSimulation.{Local}
 use Rattle.run_state.specs.Units.{Units}
 use Rattle.f_tree.specs.declared.names.Basic.{Basic}
 use Rattle.f_tree.specs.declared.names.Class.TheVariants as class
-use Rattle.f_tree.specs.Values.{Bytes, Spot, IsInt, IsSpot, Gives}
+use Rattle.f_tree.specs.Values.{Bytes, Spot, IsInt, IsText, IsSpot, Gives}
 use Rattle.f_tree.specs.Store.{Sequence, Cell, Undefined, undefined_units}
 use Rattle.f_tree.specs.Facts.{Direction, Layout, Controls, Home, Member, MainProgram, EntryPoint, ProgramUnit, FunctionUnit, Block, Tie, Frame}
 use Rattle.f_tree.specs.Setting.{IsIn, first_in, later_in, HasUnit, homes_at, unit_home}
@@ -25,7 +25,7 @@ use Rattle.lowering_laws.proofs.LayoutLemmas.{laid_out}
 use Rattle.lowering_laws.proofs.LocalLemmas.{simulates}
 use Rattle.c_tree.specs.declared.statement.CStmt.{CStmt}
 use Rattle.c_tree.specs.Objects.{Object, bytes_of_number}
-use Rattle.c_tree.specs.Declarations.{Declared, declared_statics}
+use Rattle.c_tree.specs.Declarations.{Declared, string_object, declared_statics}
 use Rattle.c_tree.specs.Builtins.{builtin_names}
 use Rattle.c_tree.specs.Flat.{Flat}
 use Rattle.c_tree.specs.FlatForm.{whole_body}
@@ -47,24 +47,24 @@ use Rattle.std.specs.List.{cons_option, list_any}
 use Rattle.output_laws.specs.ListedOutputs.{list_object}
 use Rattle.linking_laws.specs.Linked as linked
 use Rattle.linking_laws.specs.Linked.{AreDistinct, routines_of, outside_of, own_of, base_at, function_base, linked_at}
-use Rattle.linking_laws.proofs.Places.{some_same, get_front, get_back, map_at}
+use Rattle.linking_laws.proofs.Places.{some_same, get_front, get_back, map_at, within, some_at, IsAt, in_first, in_second, at_one, taken}
 use Rattle.linking_laws.proofs.Scopes.{builtins_are_numbered}
 use Rattle.linking_laws.proofs.FunctionObjects.{functions_have_objects}
-use Rattle.main_file_laws.specs.BuiltMain.{stops_from}
 use Rattle.linking_laws.proofs.Programs.{functions_stand, constants_stand}
 use Rattle.emitted_texts.specs.SecondLayer.{emit_couple}
 use Rattle.emitted_texts.proofs.Simulated.{mains_are_simulated}
 use Rattle.bridge.specs.Bridge.{is_wrapper, FramesStand, UnitIsTranslated, IsTranslated}
 use Rattle.bridge.proofs.Together.{translations_run_alike}
 use Rattle.main_file.specs.MainFile as main
-use Rattle.main_file.specs.MainFile.{Inventory, Listing, Bases, constant_for, main_function, main_file, first_temporary, place_or_none, place_of_constant, place_of_variable, place_of_list, main_locals, writing_of}
+use Rattle.main_file.specs.MainFile.{Inventory, Listing, Bases, constant_for, main_function, main_file, first_temporary, place_or_none, place_of_constant, place_of_variable, place_of_list, place_of_string, first_string, main_locals, writing_of}
 use Rattle.main_file_laws.specs.BuiltMain.{AreNumberedBuiltins}
-use Rattle.main_file_laws.proofs.Listed.{declared_variable, declared_listing, object_by, variable_at, listing_at, lasting_names_are}
+use Rattle.main_file_laws.proofs.Listed.{declared_variable, declared_listing, object_by, no_strings, statics_count, variable_at, listing_at, lasting_names_are}
 use Rattle.main_file_laws.proofs.Known.{position_finds}
 use Rattle.main_programs.specs.EmittedMain.{emission_of, ObjectsStand}
 use Rattle.main_programs.specs.MainRuns.{sizes_of, plain_setting, plain_facts, bytes_in, files_of, bases_of, linked_main, held_objects, held_at, world_of, surroundings_of, translation_of, IsTranslatedMain, MainProgramsRunAlike}
 use Rattle.main_programs.proofs.Emission as emission
 use Rattle.main_programs.proofs.Emission.{mains_are_emitted}
+use Rattle.main_programs.proofs.MainStrings.{front_is, string_of, strings_stand}
 use Rattle.main_programs.proofs.MainStorage.{home_found, home_there, IsPlaced, placed, shaped, store_is, map_back, all_undefined, room_of, position_named}
 
 -- ## Costs
@@ -82,33 +82,10 @@ ones_rest (suc count) = let later = ones_rest count in omega (arith, later)
 
 -- ## Lists
 
-within : {A : Type 0} (xs : List A) (i : ℕ) (x : A) → slice_get xs i ≡ Some x → i < length xs
-within [] i x at = absurd (cc)
-within (y ∷ xs) zero x at = omega arith
-within (y ∷ xs) (suc i) x at = let less = within xs i x at in omega (arith, less)
-
-some_at : {A : Type 0} (xs : List A) (i : ℕ) → i < length xs → (x : A) × (slice_get xs i ≡ Some x)
-some_at [] i below = absurd (let no : ⊥ = omega (arith, below) in no)
-some_at (x ∷ xs) zero below = (x, refl)
-some_at (x ∷ xs) (suc i) below = some_at xs i (omega (arith, below))
-
 -- a list is as long as it has places
 at_least : {A : Type 0} (xs : List A) (n : ℕ) → ((i : ℕ) → i < n → (x : A) × (slice_get xs i ≡ Some x)) → n ≤ length xs
 at_least xs zero each = omega arith
 at_least xs (suc n) each = let last = each n (omega arith) in let less = within xs n last.0 last.1 in omega (arith, less)
-
-data InOne {A : Type 0} (xs ys : List A) (i : ℕ) (x : A) : Type 0 where
-  in_first : slice_get xs i ≡ Some x → InOne xs ys i x
-  in_second : (j : ℕ) → i ≡ length xs + j → slice_get ys j ≡ Some x → InOne xs ys i x
-
-one_later : {A : Type 0} (z : A) (xs ys : List A) (i : ℕ) (x : A) → InOne xs ys i x → InOne (z ∷ xs) ys (suc i) x
-one_later z xs ys i x (in_first at) = in_first at
-one_later z xs ys i x (in_second j there at) = in_second j (omega (arith, there)) at
-
-in_one : {A : Type 0} (xs ys : List A) (i : ℕ) (x : A) → slice_get (xs ++ ys) i ≡ Some x → InOne xs ys i x
-in_one [] ys i x at = in_second i (omega arith) at
-in_one (z ∷ xs) ys zero x at = in_first at
-in_one (z ∷ xs) ys (suc i) x at = one_later z xs ys i x (in_one xs ys i x at)
 
 joined_is : (found : Option (Option Object)) (object : Object) → option_and_then (λ one. one) found ≡ Some object → found ≡ Some (Some object)
 joined_is (Some (Some one)) object h = ap Some h
@@ -124,23 +101,39 @@ blank_at zero n below = absurd (let no : ⊥ = omega (arith, below) in no)
 blank_at (suc count) zero below = refl
 blank_at (suc count) (suc n) below = blank_at count n (omega (arith, below))
 
-chosen : {A : Type 0} (t : Bool) (a c : A) → t ≡ true → (if t then a else c) ≡ a
-chosen true a c h = refl
-chosen false a c h = absurd (cc)
+-- ## What the objects hold
 
-no_stop_at : (n i : ℕ) (steps : List Step) (text : Bytes) → stops_from n steps ≡ [] → slice_get steps i ≡ Some (Halt text) → ⊥
-unfolding stops_from
-no_stop_at n i [] text none at = cc
-no_stop_at n zero (st ∷ later) text none at = first st none (some_same st (Halt text) at)
-  where
-    first : (st : Step) → stops_from n (st ∷ later) ≡ [] → st ≡ Halt text → ⊥
-    first (Halt other) none same = cc
-    first st none same = cc
-no_stop_at n (suc i) (st ∷ later) text none at = no_stop_at (suc n) i later text (passed st none) at
-  where
-    passed : (st : Step) → stops_from n (st ∷ later) ≡ [] → stops_from (suc n) later ≡ []
-    passed (Halt other) none = absurd (cc)
-    passed st none = none
+abbrev constants_held : Inventory → List (Option Object)
+constants_held v = map (λ z. Some (number_object z)) v.constants
+
+abbrev lists_held : Inventory → List (Option Object)
+lists_held v = map (λ (l : Listing). Some (list_object l.unit)) v.lists
+
+abbrev strings_held : Inventory → List (Option Object)
+strings_held v = map (λ n. Some (string_object (v.texts n))) v.strings
+
+constants_many : (v : Inventory) → length (constants_held v) ≡ length v.constants
+constants_many v = length-map v.constants (λ z. Some (number_object z))
+
+variables_many : (v : Inventory) → length {A = Option Object} (replicate (length v.variables) None) ≡ length v.variables
+variables_many v = length-replicate (length v.variables) None
+
+lists_many : (v : Inventory) → length (lists_held v) ≡ length v.lists
+lists_many v = length-map v.lists (λ (l : Listing). Some (list_object l.unit))
+
+strings_many : (v : Inventory) → length (strings_held v) ≡ length v.strings
+strings_many v = length-map v.strings (λ n. Some (string_object (v.texts n)))
+
+all_many : (v : Inventory) → length (held_objects v) ≡ length v.constants + (length v.variables + (length v.lists + length v.strings))
+all_many v =
+    let one = length-append (constants_held v) (replicate (length v.variables) None ++ (lists_held v ++ strings_held v)) in
+    let two = length-append (replicate (length v.variables) None) (lists_held v ++ strings_held v) in
+    let three = length-append (lists_held v) (strings_held v) in
+    let constants = constants_many v in
+    let variables = variables_many v in
+    let lists = lists_many v in
+    let strings = strings_many v in
+    omega (arith, one, two, three, constants, variables, lists, strings)
 
 -- ## The constants of the file
 
@@ -210,6 +203,14 @@ module _ (unit : ProgramUnit) (v : Inventory) (u : Text) (kind : ℕ → ℕ →
   list_stands : (i : ℕ) (l : Listing) → slice_get v.lists i ≡ Some l → slice_get (program (files_of v body)).objects ((bases_of v body).function + (length v.variables + i)) ≡ Some (list_object l.unit)
   list_stands i l at = in_program.objects (length v.variables + i) (list_object l.unit) (has.lasting (length v.variables + i) (declared_listing (1 + i) l) (list_object l.unit) (listing_at v i l at) (λ scope first. refl))
 
+  string_stands : (i n : ℕ) → slice_get v.strings i ≡ Some n → slice_get (program (files_of v body)).objects ((bases_of v body).function + (length v.variables + (length v.lists + i))) ≡ Some (string_object (v.texts n))
+  string_stands i n at =
+      let stands = strings_stand (routines_of (files_of v body)) (outside_of (files_of v body)) v (bases_of v body) u kind o items body builtins is.built i n at in
+      let passed = has.passed i (v.texts n) (ap (λ (ss : List (List ℕ)). slice_get (ss ++ (whole_body body).items.strings) i) (no_strings v) ∙ stands) in
+      let kept = statics_count v in
+      in_program.objects (length v.variables + (length v.lists + i)) (string_object (v.texts n))
+      (ap (slice_get (linked_at (files_of v body) 0 (main_file v body) 0 (main_function v body)).objects) {x = length v.variables + (length v.lists + i)} {y = length (declared_statics (main_locals v)) + i} (omega (arith, kept)) ∙ passed)
+
   constant_stands : (i : ℕ) (z : ℤ) → slice_get v.constants i ≡ Some z → slice_get (program (files_of v body)).objects i ≡ Some (number_object z)
   constant_stands i z at =
       let c = constant_at v.constants i z at in
@@ -219,47 +220,64 @@ module _ (unit : ProgramUnit) (v : Inventory) (u : Text) (kind : ℕ → ℕ →
 
   held_constant : (i : ℕ) (z : ℤ) → slice_get v.constants i ≡ Some z → held_at v i ≡ Some (number_object z)
   held_constant i z at =
-      ap (option_and_then (λ one. one)) (get_front (map (λ y. Some (number_object y)) v.constants) (replicate (length v.variables) None ++ map (λ (l : Listing). Some (list_object l.unit)) v.lists) i (Some (number_object z))
-      (map_at (λ y. Some (number_object y)) v.constants i z at))
+      ap (option_and_then (λ one. one)) (get_front (constants_held v) (replicate (length v.variables) None ++ (lists_held v ++ strings_held v)) i (Some (number_object z)) (map_at (λ y. Some (number_object y)) v.constants i z at))
+
+  held_behind : (k i : ℕ) (object : Object) → k ≡ (bases_of v body).function + length v.variables + i → slice_get (lists_held v ++ strings_held v) i ≡ Some (Some object) → held_at v k ≡ Some object
+  held_behind k i object there at =
+      let count = constants_many v in
+      let blanks = variables_many v in
+      let first = first_object in
+      ap (option_and_then (λ one. one))
+      (get_back (constants_held v) (replicate (length v.variables) None ++ (lists_held v ++ strings_held v)) k (length v.variables + i) (Some object) (omega (arith, count, there, first))
+      (get_back (replicate (length v.variables) None) (lists_held v ++ strings_held v) (length v.variables + i) i (Some object) (omega (arith, blanks)) at))
 
   held_list : (i k : ℕ) (l : Listing) → k ≡ (bases_of v body).function + length v.variables + i → slice_get v.lists i ≡ Some l → held_at v k ≡ Some (list_object l.unit)
   held_list i k l there at =
-      let count = length-map v.constants (λ y. Some (number_object y)) in
-      let blanks = length-replicate {A = Option Object} (length v.variables) None in
-      let first = first_object in
-      ap (option_and_then (λ one. one))
-      (get_back (map (λ y. Some (number_object y)) v.constants) (replicate (length v.variables) None ++ map (λ (l : Listing). Some (list_object l.unit)) v.lists) k (length v.variables + i) (Some (list_object l.unit)) (omega (arith, count, there, first))
-      (get_back (replicate (length v.variables) None) (map (λ (l : Listing). Some (list_object l.unit)) v.lists) (length v.variables + i) i (Some (list_object l.unit)) (omega (arith, blanks)) (map_at (λ (l : Listing). Some (list_object l.unit)) v.lists i l at)))
+      held_behind k i (list_object l.unit) there (get_front (lists_held v) (strings_held v) i (Some (list_object l.unit)) (map_at (λ (one : Listing). Some (list_object one.unit)) v.lists i l at))
+
+  held_string : (i k n : ℕ) → k ≡ first_string v (bases_of v body) + i → slice_get v.strings i ≡ Some n → held_at v k ≡ Some (string_object (v.texts n))
+  held_string i k n there at =
+      let lists = lists_many v in
+      held_behind k (length v.lists + i) (string_object (v.texts n)) (omega (arith, there))
+      (get_back (lists_held v) (strings_held v) (length v.lists + i) i (Some (string_object (v.texts n))) (omega (arith, lists)) (map_at (λ m. Some (string_object (v.texts m))) v.strings i n at))
 
   not_held : (n object : ℕ) → n < length v.variables → (bases_of v body).function + n ≡ object → held_at v object ≡ None
   unfolding blanks
   not_held n object below there =
-      let count = length-map v.constants (λ y. Some (number_object y)) in
+      let count = constants_many v in
       let first = first_object in
       ap (option_and_then (λ one. one))
-      (get_back (map (λ y. Some (number_object y)) v.constants) (replicate (length v.variables) None ++ map (λ (l : Listing). Some (list_object l.unit)) v.lists) object n None (omega (arith, count, there, first))
-      (get_front (replicate (length v.variables) None) (map (λ (l : Listing). Some (list_object l.unit)) v.lists) n None (blank_at (length v.variables) n below)))
+      (get_back (constants_held v) (replicate (length v.variables) None ++ (lists_held v ++ strings_held v)) object n None (omega (arith, count, there, first))
+      (get_front (replicate (length v.variables) None) (lists_held v ++ strings_held v) n None (blank_at (length v.variables) n below)))
 
   held_there : (k : ℕ) (object : Object) → held_at v k ≡ Some object → slice_get (program (files_of v body)).objects k ≡ Some object
-  held_there k object h = by (in_one (map (λ y. Some (number_object y)) v.constants) (replicate (length v.variables) None ++ map (λ (l : Listing). Some (list_object l.unit)) v.lists) k (Some object) (joined_is (slice_get (held_objects v) k) object h))
+  held_there k object h = by (at_one (constants_held v) (replicate (length v.variables) None ++ (lists_held v ++ strings_held v)) k (Some object) (joined_is (slice_get (held_objects v) k) object h))
     where
-      lists : (j : ℕ) → k ≡ length (map (λ y. Some (number_object y)) v.constants) + j → InOne (replicate (length v.variables) None) (map (λ (l : Listing). Some (list_object l.unit)) v.lists) j (Some object) → slice_get (program (files_of v body)).objects k ≡ Some object
-      lists j there (in_first at) = no_blank (length v.variables) j object at
-      lists j there (in_second i apart at) =
+      behind : (i : ℕ) → k ≡ (bases_of v body).function + (length v.variables + i) → IsAt (lists_held v) (strings_held v) i (Some object) → slice_get (program (files_of v body)).objects k ≡ Some object
+      behind i there (in_first at) =
           let l = map_back (λ (one : Listing). Some (list_object one.unit)) v.lists i (Some object) at in
-          let count = length-map v.constants (λ y. Some (number_object y)) in
-          let blank = length-replicate {A = Option Object} (length v.variables) None in
-          let first = first_object in
-          ap (slice_get (program (files_of v body)).objects) {x = k} {y = (bases_of v body).function + (length v.variables + i)} (omega (arith, there, apart, count, blank, first)) ∙ list_stands i l.0 l.1 ∙ l.2
+          ap (slice_get (program (files_of v body)).objects) there ∙ list_stands i l.0 l.1 ∙ l.2
+      behind i there (in_second j apart at) =
+          let n = map_back (λ m. Some (string_object (v.texts m))) v.strings j (Some object) at in
+          let lists = lists_many v in
+          ap (slice_get (program (files_of v body)).objects) {x = k} {y = (bases_of v body).function + (length v.variables + (length v.lists + j))} (omega (arith, there, apart, lists)) ∙ string_stands j n.0 n.1 ∙ n.2
 
-      by : InOne (map (λ y. Some (number_object y)) v.constants) (replicate (length v.variables) None ++ map (λ (l : Listing). Some (list_object l.unit)) v.lists) k (Some object) → slice_get (program (files_of v body)).objects k ≡ Some object
+      own_objects : (j : ℕ) → k ≡ length (constants_held v) + j → IsAt (replicate (length v.variables) None) (lists_held v ++ strings_held v) j (Some object) → slice_get (program (files_of v body)).objects k ≡ Some object
+      own_objects j there (in_first at) = no_blank (length v.variables) j object at
+      own_objects j there (in_second i apart at) =
+          let count = constants_many v in
+          let blank = variables_many v in
+          let first = first_object in
+          behind i (omega (arith, there, apart, count, blank, first)) (at_one (lists_held v) (strings_held v) i (Some object) at)
+
+      by : IsAt (constants_held v) (replicate (length v.variables) None ++ (lists_held v ++ strings_held v)) k (Some object) → slice_get (program (files_of v body)).objects k ≡ Some object
       by (in_first at) = let z = map_back (λ y. Some (number_object y)) v.constants k (Some object) at in constant_stands k z.0 z.1 ∙ z.2
-      by (in_second j there at) = lists j there (in_one (replicate (length v.variables) None) (map (λ (l : Listing). Some (list_object l.unit)) v.lists) j (Some object) at)
+      by (in_second j there at) = own_objects j there (at_one (replicate (length v.variables) None) (lists_held v ++ strings_held v) j (Some object) at)
 
   -- ## The world
 
   home_at : (n : ℕ) → n < length v.variables → (world_of v body unit.stored).homes n ≡ Some ((bases_of v body).function + n)
-  home_at n below = chosen (nat_lt n (length v.variables)) (Some ((bases_of v body).function + n)) None (lt-ltb n (length v.variables) below)
+  home_at n below = taken (nat_lt n (length v.variables)) (Some ((bases_of v body).function + n)) None (lt-ltb n (length v.variables) below)
 
   home_by : (n object : ℕ) (t : Bool) → nat_lt n (length v.variables) ≡ t → (if t then Some ((bases_of v body).function + n) else None) ≡ Some object → (n < length v.variables) × ((bases_of v body).function + n ≡ object)
   home_by n object true less h = (ltb-true n (length v.variables) less, some_same ((bases_of v body).function + n) object h)
@@ -392,8 +410,16 @@ module _ (unit : ProgramUnit) (v : Inventory) (u : Text) (kind : ℕ → ℕ →
       let l = is.units n way layout controls ps m number at of in
       held_list l.0 ((writing_of v (bases_of v body) u.facts kind).library.list n) l.1 (ap (λ found. (bases_of v body).function + length v.variables + place_or_none found) l.2) l.3 ∙ ap (λ z. Some (list_object z)) l.4
 
-  no_text : (n : ℕ) (text : Bytes) → slice_get u.steps n ≡ Some (Halt text) → ⊥
-  no_text n text at = no_stop_at 0 n u.steps text (sym is.built.stops ∙ is.no_strings) at
+  text_held : (n : ℕ) (text : Bytes) → slice_get u.steps n ≡ Some (Halt text) → Holds (held_at v ((writing_of v (bases_of v body) u.facts kind).library.text n)) (IsText text)
+  text_held n text at =
+      let string = string_of v u.steps n text is.built.stops at in
+      let short = is.short n text at in
+      record {
+        bytes = map Some (text ++ replicate (length text + 1 - length text) 0);
+        is = held_string string.place ((writing_of v (bases_of v body) u.facts kind).library.text n) n (ap (λ found. first_string v (bases_of v body) + place_or_none found) string.placed) string.at
+            ∙ ap (λ bytes. Some (string_object bytes)) (is.texts n text at);
+        begins = (short.1, short.0, front_is text (replicate (length text + 1 - length text) 0));
+      }
 
   sound_at : (x : Bytes) (p : Spot) → IsPlaced unit x p → IsSound (world_of v body unit.stored) p
   sound_at x p pl =
@@ -431,7 +457,7 @@ module _ (unit : ProgramUnit) (v : Inventory) (u : Text) (kind : ℕ → ℕ →
     inside = at_least (program (files_of v body)).objects ((linked_main v body).frame + length (linked_main v body).fresh) object_some;
     constants = constant_held;
     lists = list_held;
-    texts = λ n text at. absurd (no_text n text at);
+    texts = text_held;
     sound = sound;
     reached = reached;
   }
@@ -581,14 +607,10 @@ module _ (unit : ProgramUnit) (v : Inventory) (u : Text) (kind : ℕ → ℕ →
     where
       nothing_held : (k : ℕ) → (linked_main v body).frame ≤ k → held_at v k ≡ None
       nothing_held k from =
-          let count = length-map v.constants (λ y. Some (number_object y)) in
-          let blank = length-replicate {A = Option Object} (length v.variables) None in
-          let lists = length-map v.lists (λ (l : Listing). Some (list_object l.unit)) in
-          let one = length-append (map (λ y. Some (number_object y)) v.constants) (replicate (length v.variables) None ++ map (λ (l : Listing). Some (list_object l.unit)) v.lists) in
-          let two = length-append (replicate (length v.variables) None) (map (λ (l : Listing). Some (list_object l.unit)) v.lists) in
+          let all = all_many v in
           let first = first_object in
           let frame = frame_is in
-          ap (option_and_then (λ one. one)) (slice_get_past (held_objects v) k (omega (arith, count, blank, lists, one, two, first, frame, from)))
+          ap (option_and_then (λ one. one)) (slice_get_past (held_objects v) k (omega (arith, all, first, frame, from)))
 
   the_unit : UnitIsTranslated (plain_setting unit) (unit ∷ []) (files_of v body) (translation_of v body unit.stored u kind stage) 0
   unfolding facts_at

@@ -3,18 +3,19 @@
 use Rattle.std.specs.Prelude.{◌≡◌, ℕ, suc, ◌+◌, ◌*◌, ◌<◌, ◌≤◌, nat_lt, ℤ, true, false, List, [], ◌∷◌, ◌++◌, map, length, replicate, position, Option, Some, None, option_and_then, unwrap_or, slice_get, bytes_eq, if◌then◌else◌}
 use Rattle.run_state.specs.Units.{Units}
 use Rattle.f_tree.specs.declared.names.Basic.{Basic}
-use Rattle.f_tree.specs.Values.{NoMeaning, in_range}
+use Rattle.f_tree.specs.Values.{Bytes, NoMeaning, in_range}
 use Rattle.f_tree.specs.Facts.{Direction, Layout, Controls, Home, Member, ProgramUnit, Facts}
 use Rattle.f_tree.specs.Setting.{Setting, unit_home}
 use Rattle.f_tree.specs.Valuing.{elements_of, extent_of}
 use Rattle.f_tree.specs.Meaning.{ftn, act_of}
 use Rattle.l_core.specs.Pures.{Pures}
-use Rattle.l_core.specs.Steps.{Starts, Acts, Text}
+use Rattle.l_core.specs.Steps.{Starts, Halt, Acts, Text}
 use Rattle.lowering.specs.Units.{lowered_unit}
 use Rattle.lowering_laws.specs.Layout.{are_direct, has_end, LoopsFit}
 use Rattle.c_tree.specs.declared.statement.CStmt.{CStmt}
 use Rattle.c_tree.specs.declared.file.CFile.{CFile}
 use Rattle.c_tree.specs.Objects.{Object}
+use Rattle.c_tree.specs.Declarations.{string_object}
 use Rattle.c_tree.specs.Flat.{Flat}
 use Rattle.c_tree.specs.FlatForm.{whole_body}
 use Rattle.c_tree.specs.Linking as linking
@@ -25,6 +26,7 @@ use Rattle.c_structure.specs.Statements.{Outline}
 use Rattle.c_emit.specs.Numbers.{is_numeric}
 use Rattle.c_emit.specs.Calls.{unit_of}
 use Rattle.faithful.specs.Faithful.{SameRuns}
+use Rattle.faithful.specs.UnitsAtStart.{AreBytes}
 use Rattle.output_laws.specs.ListedOutputs.{list_object}
 use Rattle.linking_laws.specs.Linked.{routines_of, outside_of, own_of, base_at, function_base}
 use Rattle.emitted_texts.specs.SecondLayer.{Surroundings}
@@ -80,9 +82,11 @@ linked_main v body =
     (linking.linked_function (routines_of (files_of v body)) (bases_of v body).own (linking.file_scope (routines_of (files_of v body)) (outside_of (files_of v body)) (bases_of v body).file (main_file v body)) (bases_of v body).function
     (main_function v body)).function
 
--- what the objects hold that no statement defines: constants and control lists
+-- what the objects hold that no statement defines: constants, control lists and strings
 abbrev pub held_objects : Inventory → List (Option Object)
-held_objects v = map (λ z. Some (number_object z)) v.constants ++ (replicate (length v.variables) None ++ map (λ (l : Listing). Some (list_object l.unit)) v.lists)
+held_objects v =
+    map (λ z. Some (number_object z)) v.constants
+    ++ (replicate (length v.variables) None ++ (map (λ (l : Listing). Some (list_object l.unit)) v.lists ++ map (λ n. Some (string_object (v.texts n))) v.strings))
 
 abbrev pub held_at : Inventory → ℕ → Option Object
 held_at v k = option_and_then (λ object. object) (slice_get (held_objects v) k)
@@ -130,7 +134,9 @@ pub record IsTranslatedMain (unit : ProgramUnit) (v : Inventory) (u : Text) (kin
   pub numbers : (i : ℕ) (z : ℤ) → slice_get v.constants i ≡ Some z → in_range z ≡ true
   pub units : (n : ℕ) (way : Direction) (layout : Layout) (controls : Controls) (ps : Pures) (m : ℕ) (unit : ℤ) → slice_get u.steps n ≡ Some (Acts (Starts way layout controls) ps m) → unit_of ps ≡ Some unit →
       (i : ℕ) × (l : Listing) × (place_of_list v n ≡ Some i) × (slice_get v.lists i ≡ Some l) × (l.unit ≡ unit)
-  pub no_strings : v.strings ≡ []
+  -- the strings of its stops are their texts
+  pub texts : (n : ℕ) (text : Bytes) → slice_get u.steps n ≡ Some (Halt text) → v.texts n ≡ text
+  pub short : (n : ℕ) (text : Bytes) → slice_get u.steps n ≡ Some (Halt text) → AreBytes text × (length text < 2147483648)
   pub no_wrapper : wrapped_by body ≡ None
   pub some_step : 1 ≤ length u.steps
   pub as_long : length u.steps ≤ (whole_body body).size

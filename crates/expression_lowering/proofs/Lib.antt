@@ -1,0 +1,7 @@
+pub mod CoveredForms
+pub mod ReferenceForms
+pub mod Closings
+pub mod LoweredForms
+pub mod Walks
+pub mod Agreement
+pub mod FormLemmas

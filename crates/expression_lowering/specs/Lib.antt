@@ -1,0 +1,5 @@
+pub mod TableNames
+pub mod Purposes
+pub mod FunctionTable
+pub mod LoweredForms
+pub mod Outcomes

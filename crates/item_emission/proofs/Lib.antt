@@ -1,0 +1,5 @@
+pub mod Numbers
+pub mod TermNumbers
+pub mod ObjectNames
+pub mod ValuesAgree
+pub mod StepsAgree

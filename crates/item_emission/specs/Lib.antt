@@ -1,0 +1,2 @@
+pub mod NamedEmission
+pub mod Agreeing

@@ -1,0 +1,317 @@
+-- The C expressions and items for lowered values and steps over numbers, by names. None where a value is a text, takes a call of the library, or has a
+-- number that C has no constant for, and for a step that is not emitted. ANSI X3.9-1978, sections 5.4, 6, 10, 11, 12 and 13; C89, 3.3 and 3.6.
+use Rattle.std.specs.Prelude.{ℕ, zero, suc, ◌+◌, ◌-◌, nat_eq, nat_lt, ℤ, pos, negsuc, ◌+ℤ◌, Bool, true, false, ◌&&◌, List, [], ◌∷◌, length, Option, Some, None, option_map, option_and_then, slice_get, unwrap_or, codes, if◌then◌else◌}
+use Rattle.std.specs.Ordering.{int_eq}
+use Rattle.f_tree.specs.declared.names.Basic.{Basic}
+use Rattle.f_tree.specs.Values.{Bytes, Datum, IsInt, IsLog, in_range}
+use Rattle.f_tree.specs.Terms as fortran
+use Rattle.f_tree.specs.Facts.{Output, Listed, Controls}
+use Rattle.f_tree.specs.CNames.{variable_name, made_name, NumberTemporary, ControlList, ConstantOf}
+use Rattle.l_core.specs.Pures.{Pure, Constant, Temporary, Load, Name, ElementOf, Prefixed, Operated, Applied, Chosen, Pures, NoPure, AndPure}
+use Rattle.l_core.specs.Steps as step
+use Rattle.l_core.specs.Steps.{Step}
+use Rattle.c_tree.specs.declared.types.CastType.TheVariants as to
+use Rattle.c_tree.specs.declared.expression.CExpr.{CExpr}
+use Rattle.c_tree.specs.declared.expression.CExpr.TheVariants as expr
+use Rattle.c_tree.specs.declared.expression.UnaryOp.TheVariants as prefix
+use Rattle.c_tree.specs.declared.expression.BinaryOp.TheVariants as op
+use Rattle.c_tree.specs.declared.expression.Extreme.{Extreme}
+use Rattle.c_tree.specs.declared.expression.Extreme.TheVariants as extreme
+use Rattle.c_structure.specs.Expressions.{number_expr, with_two, with_three, one_more}
+use Rattle.c_image.specs.Operations.{prefix_for, operator_for}
+use Rattle.c_emit.specs.Types.{type_of_datum, type_behind, type_between, type_by, if_numeric}
+use Rattle.c_emit.specs.Calls.{is_plain, kind_number}
+use Rattle.named_items.specs.declared.item.Item.{Item}
+use Rattle.named_items.specs.declared.item.Item.TheVariants as item
+use Rattle.named_items.specs.Items.{assign_by}
+use Rattle.named_items.specs.SamePlaces.{number_in}
+use Rattle.item_emission.specs.declared.known.Dimension.{Dimension}
+
+-- what is known of a program unit
+pub record Knowledge : Type 0 where
+  -- whether a name stands for one number, or for an array of numbers; its type, and its dimensions
+  pub is_scalar : Bytes → Bool
+  pub is_array : Bytes → Bool
+  pub basic : Bytes → Basic
+  pub dimensions : Bytes → List Dimension
+  -- how many temporaries hold numbers
+  pub temporaries : ℕ
+  -- whether a constant has an object of its own
+  pub has : ℤ → Bool
+  -- the place among the control lists of the one for the output that begins at a step
+  pub list : ℕ → Option ℕ
+  -- the step of a label
+  pub label : ℕ → Option ℕ
+  -- whether END and RETURN give the caller 0
+  pub gives_zero : Bool
+
+-- ## Numbers
+
+-- the negative number whose opposite is so much more than 1; that of the least number has no constant
+unfoldable pub negative_expr : ℕ → Option CExpr
+negative_expr less =
+    if nat_eq less 2147483647 then Some (expr.Binary op.Subtract (expr.Unary prefix.Minus (expr.Number (pos 2147483647))) (expr.Number (pos 1)))
+    else option_map (expr.Unary prefix.Minus) (number_expr (pos (suc less)))
+
+-- a number
+unfoldable pub constant_expr : ℤ → Option CExpr
+constant_expr (pos n) = number_expr (pos n)
+constant_expr (negsuc less) = negative_expr less
+
+-- a constant: `.TRUE.` is 1 and `.FALSE.` is 0
+unfoldable pub datum_expr : Datum → Option CExpr
+datum_expr (IsInt z) = constant_expr z
+datum_expr (IsLog true) = Some (expr.Number (pos 1))
+datum_expr (IsLog false) = Some (expr.Number (pos 0))
+datum_expr d = None
+
+-- ## Elements of arrays
+
+unfoldable pub is_the_number : ℤ → Option ℤ → Bool
+is_the_number z None = false
+is_the_number z (Some n) = int_eq n z
+
+-- a sum without what adds nothing
+unfoldable pub added_expr : Bool → Bool → CExpr → CExpr → CExpr
+added_expr true nothing a b = b
+added_expr false true a b = a
+added_expr false false a b = expr.Binary op.Add a b
+
+-- of two constants the sum
+unfoldable pub sum_by : Option ℤ → Option ℤ → CExpr → CExpr → Option CExpr
+sum_by (Some m) (Some n) a b = number_expr (m +ℤ n)
+sum_by (Some m) None a b = Some (added_expr (int_eq m (pos 0)) false a b)
+sum_by None n a b = Some (added_expr false (is_the_number (pos 0) n) a b)
+
+unfoldable pub sum_expr : CExpr → CExpr → Option CExpr
+sum_expr a b = sum_by (number_in a) (number_in b) a b
+
+unfoldable pub difference_expr : CExpr → CExpr → CExpr
+difference_expr a b = if is_the_number (pos 0) (number_in b) then a else expr.Binary op.Subtract a b
+
+unfoldable pub product_expr : CExpr → CExpr → CExpr
+product_expr a b = if is_the_number (pos 1) (number_in b) then a else expr.Binary op.Multiply a b
+
+unfoldable pub sum_of : Option CExpr → Option CExpr → Option CExpr
+sum_of (Some a) (Some b) = sum_expr a b
+sum_of _ _ = None
+
+-- a dimension; what is not there counts as 0
+unfoldable pub dimension_at : List Dimension → ℕ → Dimension
+dimension_at ds k = unwrap_or (slice_get ds k) (record { lower = pos 0; size = 0 })
+
+-- how far a subscript is from its lower bound
+unfoldable pub distance_expr : Dimension → CExpr → Option CExpr
+distance_expr d e = option_map (difference_expr e) (constant_expr d.lower)
+
+-- one dimension more, before those by which an element has an index
+unfoldable pub stepped_expr : Dimension → CExpr → Option CExpr → Option CExpr
+stepped_expr d e index = sum_of (with_two product_expr index (number_expr (pos d.size))) (distance_expr d e)
+
+-- the index of an element by its subscripts, from a dimension on, the first one going fastest
+unfoldable pub index_expr : List Dimension → ℕ → List CExpr → Option CExpr
+index_expr ds k [] = number_expr (pos 0)
+index_expr ds k (e ∷ []) = distance_expr (dimension_at ds k) e
+index_expr ds k (e ∷ next ∷ later) = stepped_expr (dimension_at ds k) e (index_expr ds (suc k) (next ∷ later))
+
+-- a variable by its name, and an element of an array
+unfoldable pub variable_expr : Bytes → CExpr
+variable_expr x = expr.Name (variable_name x)
+
+unfoldable pub element_expr : Bytes → List Dimension → Option (List CExpr) → Option CExpr
+element_expr x ds None = None
+element_expr x ds (Some es) = option_map (expr.Index (variable_expr x)) (index_expr ds 0 es)
+
+-- ## Functions
+
+-- the greatest or the least of some numbers, from the left, where there are any
+unfoldable pub extreme_expr : Extreme → CExpr → List CExpr → CExpr
+extreme_expr which best [] = best
+extreme_expr which best (e ∷ later) = extreme_expr which (expr.MaxMin which best e) later
+
+unfoldable pub first_extreme : Extreme → List CExpr → Option CExpr
+first_extreme which [] = None
+first_extreme which (best ∷ later) = Some (extreme_expr which best later)
+
+-- an operand that stands alone, and the remainder of two
+unfoldable pub alone_expr : List CExpr → Option CExpr
+alone_expr (a ∷ []) = Some a
+alone_expr es = None
+
+unfoldable pub remainder_expr : List CExpr → Option CExpr
+remainder_expr [] = None
+remainder_expr (a ∷ later) = option_map (expr.Binary op.Remainder a) (alone_expr later)
+
+-- a function over numbers; none for one that takes a call of the library, or texts
+unfoldable pub function_expr : fortran.Function → List CExpr → Option CExpr
+function_expr fortran.Truncation es = alone_expr es
+function_expr fortran.Magnitude es = option_map expr.Abs (alone_expr es)
+function_expr fortran.Remainder es = remainder_expr es
+function_expr fortran.Largest es = first_extreme extreme.Max es
+function_expr fortran.Smallest es = first_extreme extreme.Min es
+function_expr f es = None
+
+unfoldable pub applied_expr : fortran.Function → Option (List CExpr) → Option CExpr
+applied_expr f None = None
+applied_expr f (Some es) = function_expr f es
+
+-- ## Values
+
+unfoldable pub expr_if : Bool → Option CExpr → Option CExpr
+expr_if true e = e
+expr_if false e = None
+
+unfoldable pub temporary_object : ℕ → CExpr
+temporary_object k = expr.Name (made_name (NumberTemporary (suc k)))
+
+unfoldable pub temporary_expr : Knowledge → ℕ → Option CExpr
+temporary_expr known k = expr_if (nat_lt k known.temporaries) (Some (temporary_object k))
+
+-- a value, a place of a number, and values one after the other
+unfoldable mutual
+  pub value_expr : Knowledge → Pure → Option CExpr
+  value_expr known (Constant d) = datum_expr d
+  value_expr known (Temporary k) = temporary_expr known k
+  value_expr known (Load p) = place_expr known p
+  value_expr known (Prefixed sign p) = option_map (expr.Unary (prefix_for sign)) (value_expr known p)
+  value_expr known (Operated sign p q) = with_two (expr.Binary (operator_for sign)) (value_expr known p) (value_expr known q)
+  value_expr known (Applied f ps) = applied_expr f (value_exprs known ps)
+  value_expr known (Chosen p q r) = with_three expr.Choose (value_expr known p) (value_expr known q) (value_expr known r)
+  value_expr known p = None
+
+  pub place_expr : Knowledge → Pure → Option CExpr
+  place_expr known (Name x) = expr_if (known.is_scalar x) (Some (variable_expr x))
+  place_expr known (ElementOf x ps) = expr_if (known.is_array x) (element_expr x (known.dimensions x) (value_exprs known ps))
+  place_expr known p = None
+
+  pub value_exprs : Knowledge → Pures → Option (List CExpr)
+  value_exprs known NoPure = Some []
+  value_exprs known (AndPure p ps) = one_more (value_expr known p) (value_exprs known ps)
+
+-- ## Types
+
+-- the types of what temporaries hold before a step
+abbrev pub Kinds : Type 0
+Kinds = ℕ → Option Basic
+
+-- the type of what stands at a place, and of a value
+unfoldable pub type_at : Knowledge → Pure → Option Basic
+type_at known (Name x) = if_numeric (known.basic x)
+type_at known (ElementOf x ps) = if_numeric (known.basic x)
+type_at known p = None
+
+unfoldable pub type_in : Knowledge → Kinds → Pure → Option Basic
+type_in known kind (Constant d) = type_of_datum d
+type_in known kind (Temporary k) = kind k
+type_in known kind (Load p) = type_at known p
+type_in known kind (Prefixed sign p) = Some (type_behind sign)
+type_in known kind (Operated sign p q) = Some (type_between sign)
+type_in known kind (Applied f ps) = type_by f
+type_in known kind p = None
+
+-- ## Calls of the library
+
+abbrev pub address_expr : CExpr → CExpr
+address_expr e = expr.Unary prefix.Address e
+
+-- the object of a constant, and that of a control list
+unfoldable pub constant_object : ℤ → CExpr
+constant_object z = expr.Name (made_name (ConstantOf z))
+
+unfoldable pub list_object : ℕ → CExpr
+list_object k = expr.Name (made_name (ControlList (suc k)))
+
+-- what holds a value
+unfoldable pub constant_held : Knowledge → ℤ → Option CExpr
+constant_held known z = expr_if (known.has z) (Some (constant_object z))
+
+unfoldable pub datum_held : Knowledge → Datum → Option CExpr
+datum_held known (IsInt z) = constant_held known z
+datum_held known (IsLog true) = constant_held known (pos 1)
+datum_held known (IsLog false) = constant_held known (pos 0)
+datum_held known d = None
+
+unfoldable pub held_expr : Knowledge → Pure → Option CExpr
+held_expr known (Constant d) = datum_held known d
+held_expr known (Temporary k) = temporary_expr known k
+held_expr known (Load p) = place_expr known p
+held_expr known p = None
+
+-- the start of an output, by its control list
+unfoldable pub start_call : ℕ → Item
+start_call k = item.Call (codes "s_wsle") (address_expr (list_object k) ∷ [])
+
+unfoldable pub start_if : Bool → Option ℕ → Option Item
+start_if true place = option_map start_call place
+start_if false place = None
+
+unfoldable pub start_step : Knowledge → ℕ → Controls → Pures → Option Item
+start_step known n controls (AndPure (Constant (IsInt unit)) NoPure) = start_if (is_plain controls && in_range unit) (known.list n)
+start_step known n controls ps = None
+
+-- an item, by the number of its type and by what holds it
+unfoldable pub output_call : ℤ → CExpr → Item
+output_call number e =
+    item.Call (codes "do_lio")
+    (address_expr (constant_object number) ∷ address_expr (constant_object (pos 1)) ∷ expr.Cast to.Chars (address_expr e) ∷ expr.Cast to.Length expr.SizeInt ∷ [])
+
+unfoldable pub output_if : Bool → Item → Option Item
+output_if true call = Some call
+output_if false call = None
+
+unfoldable pub output_by : Knowledge → Option ℤ → Option CExpr → Option Item
+output_by known (Some number) (Some e) = output_if (known.has number && known.has (pos 1)) (output_call number e)
+output_by known number e = None
+
+unfoldable pub output_step : Knowledge → Kinds → Pures → Option Item
+output_step known kind (AndPure p NoPure) = output_by known (option_and_then kind_number (type_in known kind p)) (held_expr known p)
+output_step known kind ps = None
+
+-- the end of an output
+unfoldable pub finish_step : Pures → Option Item
+finish_step NoPure = Some (item.Call (codes "e_wsle") [])
+finish_step ps = None
+
+-- the end of the run, with the text of STOP and its length
+unfoldable pub stop_call : Bytes → CExpr → Item
+stop_call text size = item.Call (codes "s_stop") (expr.Str text ∷ expr.Cast to.Length size ∷ [])
+
+unfoldable pub stop_step : Bytes → Option Item
+stop_step text = option_map (stop_call text) (number_expr (pos (length text)))
+
+-- ## Steps
+
+unfoldable pub branch_step : Option CExpr → ℕ → ℕ → Option Item
+branch_step None on off = None
+branch_step (Some test) on off = Some (item.Branch test on off)
+
+-- END and RETURN of what is no function
+unfoldable pub return_step : Bool → Option Item
+return_step true = Some (item.Return (Some (expr.Number (pos 0))))
+return_step false = None
+
+-- an act of a transfer
+unfoldable pub acting_step : Knowledge → Kinds → ℕ → step.Acting → Pures → ℕ → Option Item
+acting_step known kind n (step.Starts Output Listed controls) ps m = start_step known n controls ps
+acting_step known kind n step.Takes ps m = output_step known kind ps
+acting_step known kind n step.Finishes ps zero = finish_step ps
+acting_step known kind n what ps m = None
+
+-- the item of a step, by its position and the types of what temporaries hold before it
+unfoldable pub item_step : Knowledge → Kinds → ℕ → Step → Option Item
+item_step known kind n (step.Put target p) = assign_by (place_expr known target) (value_expr known p)
+item_step known kind n (step.Keep k p) = assign_by (temporary_expr known k) (value_expr known p)
+item_step known kind n (step.Unless p m) = branch_step (value_expr known p) (suc n) (suc n + m)
+item_step known kind n (step.AgainIf p m) = branch_step (value_expr known p) (n - m) (suc n)
+item_step known kind n (step.Skip m) = Some (item.Jump (suc n + m))
+item_step known kind n (step.Again m) = Some (item.Jump (n - m))
+item_step known kind n (step.Jump l) = option_map item.Jump (known.label l)
+item_step known kind n step.Pass = Some item.Nothing
+item_step known kind n step.Back = return_step known.gives_zero
+item_step known kind n (step.Acts what ps m) = acting_step known kind n what ps m
+item_step known kind n (step.Halt text) = stop_step text
+item_step known kind n _ = None
+
+unfoldable pub named_emission_opened : Unit {0}
+unfolding negative_expr constant_expr datum_expr is_the_number added_expr sum_by sum_expr difference_expr product_expr sum_of dimension_at distance_expr stepped_expr index_expr variable_expr element_expr extreme_expr first_extreme alone_expr remainder_expr function_expr applied_expr expr_if temporary_object temporary_expr value_expr place_expr value_exprs type_at type_in constant_object list_object constant_held datum_held held_expr start_call start_if start_step output_call output_if output_by output_step finish_step stop_call stop_step branch_step return_step acting_step item_step
+named_emission_opened = tt

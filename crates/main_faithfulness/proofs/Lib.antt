@@ -1,0 +1,4 @@
+pub mod Settings
+pub mod Signed
+pub mod Links
+pub mod Faithfulness

@@ -1,0 +1,416 @@
+-- What stands for an object or a function where a file is linked is declared where its text is read.
+use Rattle.std.specs.Prelude.{◌≡◌, ◌≢◌, ℕ, ◌+◌, pos, Bool, true, false, not, ◌||◌, List, [], ◌∷◌, map, Option, Some, None, bytes_eq, codes, cond, if◌then◌else◌}
+use Rattle.std.proofs.Common.{refl, sym, ap, ◌∙◌}
+use Rattle.std.proofs.lemmas.Slice.Eq.{bytes_eq-Decides}
+use Rattle.f_tree.specs.Setting.{IsIn, first_in, later_in}
+use Rattle.c_tree.specs.declared.declaration.CLocal.{CLocal}
+use Rattle.c_tree.specs.declared.declaration.CLocal.TheVariants as local
+use Rattle.c_tree.specs.declared.file.CConstant.{CConstant}
+use Rattle.c_tree.specs.Terms.{Term, Constant, Variable, Array, Routine, Unknown}
+use Rattle.c_tree.specs.CWords.{is_among}
+use Rattle.c_tree.specs.CExpressionText.{Scope, declared_before, an_object}
+use Rattle.c_tree.specs.CDeclarationText.{without, with_object, with_array, with_function, with_declared}
+use Rattle.c_tree.specs.CText.{no_names}
+use Rattle.c_tree.specs.Drafts as linking
+use Rattle.c_tree.specs.Declarations.{Declared, declared_statics, declared_automatics, declared_externs}
+use Rattle.c_tree.specs.Linking.{Routines, routine, known_objects, known_functions, included, declared_constants}
+use Rattle.linking_laws.specs.Linked.{names_of}
+use Rattle.linking_laws.proofs.Places.{other_bytes, same_bytes, skipped}
+use Rattle.main_translation_laws.proofs.Lists.{AreApart, one_apart}
+use Rattle.main_file_texts.specs.WellFormedMains.{Agrees}
+
+-- ## Truth of choices
+
+or_right : (a b : Bool) → b ≡ true → (a || b) ≡ true
+or_right true b h = refl
+or_right false b h = h
+
+or_left : (a b : Bool) → a ≡ true → (a || b) ≡ true
+or_left true b h = refl
+or_left false b h = absurd (cc)
+
+none_left : (a b : Bool) → (a || b) ≡ false → a ≡ false
+none_left true b h = h
+none_left false b h = refl
+
+none_right : (a b : Bool) → (a || b) ≡ false → b ≡ false
+none_right true b h = absurd (cc)
+none_right false b h = h
+
+none_both : (a b : Bool) → a ≡ false → b ≡ false → (a || b) ≡ false
+none_both true b h k = h
+none_both false b h k = k
+
+same_text : (x y : List ℕ) → bytes_eq x y ≡ true → x ≡ y
+same_text x y h = (bytes_eq-Decides x y).0 h
+
+-- ## Names among names
+
+pub none_among : (name : List ℕ) (list : List (List ℕ)) → ((other : List ℕ) → IsIn other list → name ≢ other) → is_among name list ≡ false
+none_among name [] none = refl
+none_among name (other ∷ list) none = none_both (bytes_eq name other) (is_among name list) (other_bytes name other (none other first_in)) (none_among name list (λ y o. none y (later_in o)))
+
+without_keeps : (x name : List ℕ) (list : List (List ℕ)) → bytes_eq x name ≡ false → is_among x list ≡ true → is_among x (without name list) ≡ true
+without_keeps x name [] differ h = h
+without_keeps x name (other ∷ list) differ h = by (bytes_eq name other) (bytes_eq x other) refl refl h (without_keeps x name list differ)
+  where
+    by : (a b : Bool) → bytes_eq name other ≡ a → bytes_eq x other ≡ b → (b || is_among x list) ≡ true → (is_among x list ≡ true → is_among x (without name list) ≡ true) → is_among x (cond (not a) (other ∷ without name list) (without name list)) ≡ true
+    by true true e f k again =
+        let same : x ≡ name = same_text x other f ∙ sym (same_text name other e) in
+        let no : true ≡ false = sym (same_bytes x name same) ∙ differ in absurd (cc)
+    by true false e f k again = again k
+    by false true e f k again = or_left (bytes_eq x other) (is_among x (without name list)) f
+    by false false e f k again = or_right (bytes_eq x other) (is_among x (without name list)) (again k)
+
+-- what was declared still is, where a name is declared anew
+declared_still : (x name : List ℕ) (list : List (List ℕ)) → is_among x list ≡ true → is_among x (name ∷ without name list) ≡ true
+declared_still x name list h = by (bytes_eq x name) refl
+  where
+    by : (a : Bool) → bytes_eq x name ≡ a → is_among x (name ∷ without name list) ≡ true
+    by true e = or_left (bytes_eq x name) (is_among x (without name list)) e
+    by false e = or_right (bytes_eq x name) (is_among x (without name list)) (without_keeps x name list e h)
+
+-- ## The scope behind declarations
+
+abbrev pub local_name : CLocal → List ℕ
+local_name (local.Extern of name types) = name
+local_name (local.StaticNumber of name value) = name
+local_name (local.StaticNumbers of name n values) = name
+local_name (local.StaticChars name n text) = name
+local_name (local.StaticList of name fields) = name
+local_name (local.Number of name) = name
+local_name (local.Numbers of name n) = name
+local_name (local.Chars name n) = name
+local_name (local.Addresses name n) = name
+
+abbrev pub local_names : List CLocal → List (List ℕ)
+local_names ones = map local_name ones
+
+abbrev pub with_all : Scope → List CLocal → Scope
+with_all scope [] = scope
+with_all scope (one ∷ later) = with_all (with_declared one (local_name one) scope) later
+
+abbrev pub with_constants : Scope → List CConstant → Scope
+with_constants scope [] = scope
+with_constants scope (one ∷ later) = with_constants (with_object one.name scope) later
+
+abbrev pub constant_texts : List CConstant → List (List ℕ)
+constant_texts constants = map (λ (one : CConstant). one.name) constants
+
+-- a declaration declares a function, an array that lasts or another object
+declares : (P : Scope → Type 0) (one : CLocal) (name : List ℕ) (scope : Scope) → P (with_function name scope) → P (with_object name scope) → P (with_array name scope) → P (with_declared one name scope)
+declares P (local.Extern of function types) name scope f o a = f
+declares P (local.StaticNumber of x value) name scope f o a = o
+declares P (local.StaticNumbers of x n values) name scope f o a = a
+declares P (local.StaticChars x n text) name scope f o a = a
+declares P (local.StaticList of x fields) name scope f o a = o
+declares P (local.Number of x) name scope f o a = o
+declares P (local.Numbers of x n) name scope f o a = o
+declares P (local.Chars x n) name scope f o a = o
+declares P (local.Addresses x n) name scope f o a = o
+
+abbrev IsObject : List ℕ → Scope → Type 0
+IsObject x scope = is_among x scope.objects ≡ true
+
+abbrev IsFunction : List ℕ → Scope → Type 0
+IsFunction x scope = is_among x scope.functions ≡ true
+
+keeps_object : (x : List ℕ) (one : CLocal) (name : List ℕ) (scope : Scope) → bytes_eq x name ≡ false → IsObject x scope → IsObject x (with_declared one name scope)
+keeps_object x one name scope differ is =
+    let kept = without_keeps x name scope.objects differ is in
+    let still = or_right (bytes_eq x name) (is_among x (without name scope.objects)) kept in
+    declares (IsObject x) one name scope kept still still
+
+keeps_function : (x : List ℕ) (one : CLocal) (name : List ℕ) (scope : Scope) → bytes_eq x name ≡ false → IsFunction x scope → IsFunction x (with_declared one name scope)
+keeps_function x one name scope differ is =
+    let kept = without_keeps x name scope.functions differ is in
+    declares (IsFunction x) one name scope (or_right (bytes_eq x name) (is_among x (without name scope.functions)) kept) kept kept
+
+all_keep_object : (x : List ℕ) (ones : List CLocal) (scope : Scope) → is_among x (local_names ones) ≡ false → IsObject x scope → IsObject x (with_all scope ones)
+all_keep_object x [] scope none is = is
+all_keep_object x (one ∷ ones) scope none is =
+    all_keep_object x ones (with_declared one (local_name one) scope) (none_right (bytes_eq x (local_name one)) (is_among x (local_names ones)) none)
+    (keeps_object x one (local_name one) scope (none_left (bytes_eq x (local_name one)) (is_among x (local_names ones)) none) is)
+
+all_keep_function : (x : List ℕ) (ones : List CLocal) (scope : Scope) → is_among x (local_names ones) ≡ false → IsFunction x scope → IsFunction x (with_all scope ones)
+all_keep_function x [] scope none is = is
+all_keep_function x (one ∷ ones) scope none is =
+    all_keep_function x ones (with_declared one (local_name one) scope) (none_right (bytes_eq x (local_name one)) (is_among x (local_names ones)) none)
+    (keeps_function x one (local_name one) scope (none_left (bytes_eq x (local_name one)) (is_among x (local_names ones)) none) is)
+
+-- the first name of a list that has none twice is none of the later ones
+apart_first : (x name : List ℕ) (names : List (List ℕ)) → bytes_eq x name ≡ true → AreApart (name ∷ names) → is_among x names ≡ false
+apart_first x name names same (one_apart none later) = none_among x names (λ y o e. none y o (sym (same_text x name same) ∙ e))
+
+apart_later : (name : List ℕ) (names : List (List ℕ)) → AreApart (name ∷ names) → AreApart names
+apart_later name names (one_apart none later) = later
+
+-- the names of objects, and those of functions
+abbrev object_names : List CLocal → List (List ℕ)
+object_names [] = []
+object_names (local.Extern of name types ∷ later) = object_names later
+object_names (other ∷ later) = local_name other ∷ object_names later
+
+-- one that is declared as an object is there
+first_object : (x name : List ℕ) (scope : Scope) → bytes_eq x name ≡ true → is_among x (name ∷ without name scope.objects) ≡ true
+first_object x name scope same = or_left (bytes_eq x name) (is_among x (without name scope.objects)) same
+
+split_or : (x name : List ℕ) (names : List (List ℕ)) (P : Type 0) → is_among x (name ∷ names) ≡ true → (bytes_eq x name ≡ true → P) → (is_among x names ≡ true → P) → P
+split_or x name names P h one other = by (bytes_eq x name) refl h
+  where
+    by : (b : Bool) → bytes_eq x name ≡ b → (b || is_among x names) ≡ true → P
+    by true e k = one e
+    by false e k = other k
+
+pub object_there : (x : List ℕ) (ones : List CLocal) (scope : Scope) → AreApart (local_names ones) → is_among x (object_names ones) ≡ true → IsObject x (with_all scope ones)
+object_there x [] scope apart is = absurd (cc)
+object_there x (local.Extern of name types ∷ later) scope apart is = object_there x later (with_function name scope) (apart_later name (local_names later) apart) is
+object_there x (local.StaticNumber of name value ∷ later) scope apart is =
+    split_or x name (object_names later) (IsObject x (with_all (with_object name scope) later)) is
+    (λ same. all_keep_object x later (with_object name scope) (apart_first x name (local_names later) same apart) (first_object x name scope same)) (object_there x later (with_object name scope) (apart_later name (local_names later) apart))
+object_there x (local.StaticNumbers of name n values ∷ later) scope apart is =
+    split_or x name (object_names later) (IsObject x (with_all (with_array name scope) later)) is
+    (λ same. all_keep_object x later (with_array name scope) (apart_first x name (local_names later) same apart) (first_object x name scope same)) (object_there x later (with_array name scope) (apart_later name (local_names later) apart))
+object_there x (local.StaticChars name n text ∷ later) scope apart is =
+    split_or x name (object_names later) (IsObject x (with_all (with_array name scope) later)) is
+    (λ same. all_keep_object x later (with_array name scope) (apart_first x name (local_names later) same apart) (first_object x name scope same)) (object_there x later (with_array name scope) (apart_later name (local_names later) apart))
+object_there x (local.StaticList of name fields ∷ later) scope apart is =
+    split_or x name (object_names later) (IsObject x (with_all (with_object name scope) later)) is
+    (λ same. all_keep_object x later (with_object name scope) (apart_first x name (local_names later) same apart) (first_object x name scope same)) (object_there x later (with_object name scope) (apart_later name (local_names later) apart))
+object_there x (local.Number of name ∷ later) scope apart is =
+    split_or x name (object_names later) (IsObject x (with_all (with_object name scope) later)) is
+    (λ same. all_keep_object x later (with_object name scope) (apart_first x name (local_names later) same apart) (first_object x name scope same)) (object_there x later (with_object name scope) (apart_later name (local_names later) apart))
+object_there x (local.Numbers of name n ∷ later) scope apart is =
+    split_or x name (object_names later) (IsObject x (with_all (with_object name scope) later)) is
+    (λ same. all_keep_object x later (with_object name scope) (apart_first x name (local_names later) same apart) (first_object x name scope same)) (object_there x later (with_object name scope) (apart_later name (local_names later) apart))
+object_there x (local.Chars name n ∷ later) scope apart is =
+    split_or x name (object_names later) (IsObject x (with_all (with_object name scope) later)) is
+    (λ same. all_keep_object x later (with_object name scope) (apart_first x name (local_names later) same apart) (first_object x name scope same)) (object_there x later (with_object name scope) (apart_later name (local_names later) apart))
+object_there x (local.Addresses name n ∷ later) scope apart is =
+    split_or x name (object_names later) (IsObject x (with_all (with_object name scope) later)) is
+    (λ same. all_keep_object x later (with_object name scope) (apart_first x name (local_names later) same apart) (first_object x name scope same)) (object_there x later (with_object name scope) (apart_later name (local_names later) apart))
+
+pub function_there : (x : List ℕ) (ones : List CLocal) (scope : Scope) → AreApart (local_names ones) → is_among x (declared_externs ones) ≡ true → IsFunction x (with_all scope ones)
+function_there x [] scope apart is = absurd (cc)
+function_there x (local.Extern of name types ∷ later) scope apart is =
+    split_or x name (declared_externs later) (IsFunction x (with_all (with_function name scope) later)) is
+    (λ same. all_keep_function x later (with_function name scope) (apart_first x name (local_names later) same apart) (or_left (bytes_eq x name) (is_among x (without name scope.functions)) same))
+    (function_there x later (with_function name scope) (apart_later name (local_names later) apart))
+function_there x (other ∷ later) scope apart is = function_there x later (with_declared other (local_name other) scope) (apart_later (local_name other) (local_names later) apart) is
+
+-- ## What is linked
+
+statics_are_objects : (x : List ℕ) (ones : List CLocal) → is_among x (names_of (declared_statics ones)) ≡ true → is_among x (object_names ones) ≡ true
+statics_are_objects x [] is = is
+statics_are_objects x (local.Extern of name types ∷ later) is = statics_are_objects x later is
+statics_are_objects x (local.StaticNumber of name value ∷ later) is = split_or x name (names_of (declared_statics later)) (is_among x (name ∷ object_names later) ≡ true) is (or_left (bytes_eq x name) (is_among x (object_names later))) (λ h. or_right (bytes_eq x name) (is_among x (object_names later)) (statics_are_objects x later h))
+statics_are_objects x (local.StaticNumbers of name n values ∷ later) is = split_or x name (names_of (declared_statics later)) (is_among x (name ∷ object_names later) ≡ true) is (or_left (bytes_eq x name) (is_among x (object_names later))) (λ h. or_right (bytes_eq x name) (is_among x (object_names later)) (statics_are_objects x later h))
+statics_are_objects x (local.StaticChars name n text ∷ later) is = split_or x name (names_of (declared_statics later)) (is_among x (name ∷ object_names later) ≡ true) is (or_left (bytes_eq x name) (is_among x (object_names later))) (λ h. or_right (bytes_eq x name) (is_among x (object_names later)) (statics_are_objects x later h))
+statics_are_objects x (local.StaticList of name fields ∷ later) is = split_or x name (names_of (declared_statics later)) (is_among x (name ∷ object_names later) ≡ true) is (or_left (bytes_eq x name) (is_among x (object_names later))) (λ h. or_right (bytes_eq x name) (is_among x (object_names later)) (statics_are_objects x later h))
+statics_are_objects x (local.Number of name ∷ later) is = or_right (bytes_eq x name) (is_among x (object_names later)) (statics_are_objects x later is)
+statics_are_objects x (local.Numbers of name n ∷ later) is = or_right (bytes_eq x name) (is_among x (object_names later)) (statics_are_objects x later is)
+statics_are_objects x (local.Chars name n ∷ later) is = or_right (bytes_eq x name) (is_among x (object_names later)) (statics_are_objects x later is)
+statics_are_objects x (local.Addresses name n ∷ later) is = or_right (bytes_eq x name) (is_among x (object_names later)) (statics_are_objects x later is)
+
+automatics_are_objects : (x : List ℕ) (ones : List CLocal) → is_among x (names_of (declared_automatics ones)) ≡ true → is_among x (object_names ones) ≡ true
+automatics_are_objects x [] is = is
+automatics_are_objects x (local.Extern of name types ∷ later) is = automatics_are_objects x later is
+automatics_are_objects x (local.StaticNumber of name value ∷ later) is = or_right (bytes_eq x name) (is_among x (object_names later)) (automatics_are_objects x later is)
+automatics_are_objects x (local.StaticNumbers of name n values ∷ later) is = or_right (bytes_eq x name) (is_among x (object_names later)) (automatics_are_objects x later is)
+automatics_are_objects x (local.StaticChars name n text ∷ later) is = or_right (bytes_eq x name) (is_among x (object_names later)) (automatics_are_objects x later is)
+automatics_are_objects x (local.StaticList of name fields ∷ later) is = or_right (bytes_eq x name) (is_among x (object_names later)) (automatics_are_objects x later is)
+automatics_are_objects x (local.Number of name ∷ later) is = split_or x name (names_of (declared_automatics later)) (is_among x (name ∷ object_names later) ≡ true) is (or_left (bytes_eq x name) (is_among x (object_names later))) (λ h. or_right (bytes_eq x name) (is_among x (object_names later)) (automatics_are_objects x later h))
+automatics_are_objects x (local.Numbers of name n ∷ later) is = split_or x name (names_of (declared_automatics later)) (is_among x (name ∷ object_names later) ≡ true) is (or_left (bytes_eq x name) (is_among x (object_names later))) (λ h. or_right (bytes_eq x name) (is_among x (object_names later)) (automatics_are_objects x later h))
+automatics_are_objects x (local.Chars name n ∷ later) is = split_or x name (names_of (declared_automatics later)) (is_among x (name ∷ object_names later) ≡ true) is (or_left (bytes_eq x name) (is_among x (object_names later))) (λ h. or_right (bytes_eq x name) (is_among x (object_names later)) (automatics_are_objects x later h))
+automatics_are_objects x (local.Addresses name n ∷ later) is = split_or x name (names_of (declared_automatics later)) (is_among x (name ∷ object_names later) ≡ true) is (or_left (bytes_eq x name) (is_among x (object_names later))) (λ h. or_right (bytes_eq x name) (is_among x (object_names later)) (automatics_are_objects x later h))
+
+none_first : (x name : List ℕ) (some names : List (List ℕ)) → is_among x (name ∷ some) ≡ false → (is_among x some ≡ false → is_among x names ≡ false) → is_among x (name ∷ names) ≡ false
+none_first x name some names h later = none_both (bytes_eq x name) (is_among x names) (none_left (bytes_eq x name) (is_among x some) h) (later (none_right (bytes_eq x name) (is_among x some) h))
+
+-- a name of no object that lasts, no object of the frame and no function is none of a declaration
+none_of_all : (x : List ℕ) (ones : List CLocal) → is_among x (names_of (declared_statics ones)) ≡ false → is_among x (names_of (declared_automatics ones)) ≡ false → is_among x (declared_externs ones) ≡ false → is_among x (local_names ones) ≡ false
+none_of_all x [] s a e = refl
+none_of_all x (local.Extern of name types ∷ later) s a e = none_first x name (declared_externs later) (local_names later) e (λ h. none_of_all x later s a h)
+none_of_all x (local.StaticNumber of name value ∷ later) s a e = none_first x name (names_of (declared_statics later)) (local_names later) s (λ h. none_of_all x later h a e)
+none_of_all x (local.StaticNumbers of name n values ∷ later) s a e = none_first x name (names_of (declared_statics later)) (local_names later) s (λ h. none_of_all x later h a e)
+none_of_all x (local.StaticChars name n text ∷ later) s a e = none_first x name (names_of (declared_statics later)) (local_names later) s (λ h. none_of_all x later h a e)
+none_of_all x (local.StaticList of name fields ∷ later) s a e = none_first x name (names_of (declared_statics later)) (local_names later) s (λ h. none_of_all x later h a e)
+none_of_all x (local.Number of name ∷ later) s a e = none_first x name (names_of (declared_automatics later)) (local_names later) a (λ h. none_of_all x later s h e)
+none_of_all x (local.Numbers of name n ∷ later) s a e = none_first x name (names_of (declared_automatics later)) (local_names later) a (λ h. none_of_all x later s h e)
+none_of_all x (local.Chars name n ∷ later) s a e = none_first x name (names_of (declared_automatics later)) (local_names later) a (λ h. none_of_all x later s h e)
+none_of_all x (local.Addresses name n ∷ later) s a e = none_first x name (names_of (declared_automatics later)) (local_names later) a (λ h. none_of_all x later s h e)
+
+-- ## What a name stands for
+
+-- an object, and a function
+abbrev is_place : Term → Bool
+is_place (Variable k access) = true
+is_place (Array k access) = true
+is_place other = false
+
+abbrev is_routine : Term → Bool
+is_routine (Routine k) = true
+is_routine other = false
+
+abbrev StandForObjects : List Declared → Type 0
+StandForObjects [] = Unit {0}
+StandForObjects (d ∷ later) = ((m : ℕ) → is_routine (d.stands m) ≡ false) × StandForObjects later
+
+statics_stand : (ones : List CLocal) → StandForObjects (declared_statics ones)
+statics_stand [] = tt
+statics_stand (local.Extern of name types ∷ later) = statics_stand later
+statics_stand (local.StaticNumber of name value ∷ later) = ((λ m. refl), statics_stand later)
+statics_stand (local.StaticNumbers of name n values ∷ later) = ((λ m. refl), statics_stand later)
+statics_stand (local.StaticChars name n text ∷ later) = ((λ m. refl), statics_stand later)
+statics_stand (local.StaticList of name fields ∷ later) = ((λ m. refl), statics_stand later)
+statics_stand (local.Number of name ∷ later) = statics_stand later
+statics_stand (local.Numbers of name n ∷ later) = statics_stand later
+statics_stand (local.Chars name n ∷ later) = statics_stand later
+statics_stand (local.Addresses name n ∷ later) = statics_stand later
+
+automatics_stand : (ones : List CLocal) → StandForObjects (declared_automatics ones)
+automatics_stand [] = tt
+automatics_stand (local.Extern of name types ∷ later) = automatics_stand later
+automatics_stand (local.StaticNumber of name value ∷ later) = automatics_stand later
+automatics_stand (local.StaticNumbers of name n values ∷ later) = automatics_stand later
+automatics_stand (local.StaticChars name n text ∷ later) = automatics_stand later
+automatics_stand (local.StaticList of name fields ∷ later) = automatics_stand later
+automatics_stand (local.Number of name ∷ later) = ((λ m. refl), automatics_stand later)
+automatics_stand (local.Numbers of name n ∷ later) = ((λ m. refl), automatics_stand later)
+automatics_stand (local.Chars name n ∷ later) = ((λ m. refl), automatics_stand later)
+automatics_stand (local.Addresses name n ∷ later) = ((λ m. refl), automatics_stand later)
+
+constants_stand : (constants : List CConstant) → StandForObjects (declared_constants constants)
+constants_stand [] = tt
+constants_stand (one ∷ later) = ((λ m. refl), constants_stand later)
+
+past_objects : (number : ℕ) (ds : List Declared) (outer : linking.Scope) (x : List ℕ) → is_among x (names_of ds) ≡ false → known_objects number ds outer x ≡ outer x
+past_objects number [] outer x none = refl
+past_objects number (d ∷ later) outer x none =
+    skipped (bytes_eq x d.name) (d.stands number) (known_objects (number + 1) later outer x) (none_left (bytes_eq x d.name) (is_among x (names_of later)) none)
+    ∙ past_objects (number + 1) later outer x (none_right (bytes_eq x d.name) (is_among x (names_of later)) none)
+
+past_functions : (numbers : Routines) (known : List (List ℕ)) (outer : linking.Scope) (x : List ℕ) → is_among x known ≡ false → known_functions numbers known outer x ≡ outer x
+past_functions numbers [] outer x none = refl
+past_functions numbers (name ∷ later) outer x none =
+    skipped (bytes_eq x name) (routine (numbers x)) (known_functions numbers later outer x) (none_left (bytes_eq x name) (is_among x later) none)
+    ∙ past_functions numbers later outer x (none_right (bytes_eq x name) (is_among x later) none)
+
+at_function : (numbers : Routines) (known : List (List ℕ)) (outer : linking.Scope) (x : List ℕ) → is_among x known ≡ true → known_functions numbers known outer x ≡ routine (numbers x)
+at_function numbers [] outer x is = absurd (cc)
+at_function numbers (name ∷ later) outer x is = by (bytes_eq x name) is (at_function numbers later outer x)
+  where
+    by : (b : Bool) → (b || is_among x later) ≡ true → (is_among x later ≡ true → known_functions numbers later outer x ≡ routine (numbers x)) → (if b then routine (numbers x) else known_functions numbers later outer x) ≡ routine (numbers x)
+    by true h again = refl
+    by false h again = again h
+
+no_place : (found : Option ℕ) → is_place (routine found) ≡ true → {A : Type 0} → A
+no_place None h = absurd (cc)
+no_place (Some k) h = absurd (cc)
+
+-- a function is none of some objects
+is_outside : (number : ℕ) (ds : List Declared) (outer : linking.Scope) (x : List ℕ) → StandForObjects ds → is_routine (known_objects number ds outer x) ≡ true → (is_among x (names_of ds) ≡ false) × (is_routine (outer x) ≡ true)
+is_outside number [] outer x stand is = (refl, is)
+is_outside number (d ∷ later) outer x stand is = by (bytes_eq x d.name) is (is_outside (number + 1) later outer x stand.1)
+  where
+    by : (b : Bool) → is_routine (if b then d.stands number else known_objects (number + 1) later outer x) ≡ true
+        → (is_routine (known_objects (number + 1) later outer x) ≡ true → (is_among x (names_of later) ≡ false) × (is_routine (outer x) ≡ true)) → ((b || is_among x (names_of later)) ≡ false) × (is_routine (outer x) ≡ true)
+    by true h again = let no : true ≡ false = sym h ∙ stand.0 number in absurd (cc)
+    by false h again = again h
+
+no_included_place : (x : List ℕ) → is_place (included x) ≡ true → {A : Type 0} → A
+no_included_place x h = by (bytes_eq x (codes "TRUE_")) (bytes_eq x (codes "FALSE_")) h
+  where
+    by : (a b : Bool) → is_place (if a then Constant (pos 1) else if b then Constant (pos 0) else Unknown) ≡ true → {A : Type 0} → A
+    by true b h = absurd (cc)
+    by false true h = absurd (cc)
+    by false false h = absurd (cc)
+
+no_included_routine : (x : List ℕ) → is_routine (included x) ≡ true → {A : Type 0} → A
+no_included_routine x h = by (bytes_eq x (codes "TRUE_")) (bytes_eq x (codes "FALSE_")) h
+  where
+    by : (a b : Bool) → is_routine (if a then Constant (pos 1) else if b then Constant (pos 0) else Unknown) ≡ true → {A : Type 0} → A
+    by true b h = absurd (cc)
+    by false true h = absurd (cc)
+    by false false h = absurd (cc)
+
+constants_keep : (x : List ℕ) (constants : List CConstant) (scope : Scope) → IsObject x scope → IsObject x (with_constants scope constants)
+constants_keep x [] scope is = is
+constants_keep x (one ∷ later) scope is = constants_keep x later (with_object one.name scope) (declared_still x one.name scope.objects is)
+
+constant_there : (x : List ℕ) (constants : List CConstant) (scope : Scope) → is_among x (names_of (declared_constants constants)) ≡ true → IsObject x (with_constants scope constants)
+constant_there x [] scope is = absurd (cc)
+constant_there x (one ∷ later) scope is =
+    split_or x one.name (names_of (declared_constants later)) (IsObject x (with_constants (with_object one.name scope) later)) is
+    (λ same. constants_keep x later (with_object one.name scope) (first_object x one.name scope same)) (constant_there x later (with_object one.name scope))
+
+-- ## A file with constants and one function
+
+module _ (numbers : Routines) (base frame first : ℕ) (main : List ℕ) (constants : List CConstant) (ones : List CLocal) (apart : AreApart (local_names ones)) (other : is_among main (names_of (declared_constants constants)) ≡ false) where
+  abbrev file_links : linking.Scope
+  file_links = known_objects first (declared_constants constants) (known_functions numbers (main ∷ []) included)
+
+  abbrev called_links : linking.Scope
+  called_links = known_functions numbers (declared_externs ones) file_links
+
+  abbrev frame_links : linking.Scope
+  frame_links = known_objects frame (declared_automatics ones) called_links
+
+  abbrev all_links : linking.Scope
+  all_links = known_objects base (declared_statics ones) frame_links
+
+  abbrev outer_scope : Scope
+  outer_scope = with_function main (with_constants no_names constants)
+
+  in_file : (x : List ℕ) → is_place (file_links x) ≡ true → is_among x (local_names ones) ≡ false → IsObject x (with_all outer_scope ones)
+  in_file x is none = by (is_among x (names_of (declared_constants constants))) refl
+    where
+      by : (b : Bool) → is_among x (names_of (declared_constants constants)) ≡ b → IsObject x (with_all outer_scope ones)
+      by true h =
+          all_keep_object x ones outer_scope none
+          (without_keeps x main (with_constants no_names constants).objects
+          (other_bytes x main (λ same. let no : true ≡ false = sym h ∙ ap (λ y. is_among y (names_of (declared_constants constants))) same ∙ other in absurd (cc))) (constant_there x constants no_names h))
+      by false h = again (bytes_eq x main) (ap is_place (sym (past_objects first (declared_constants constants) (known_functions numbers (main ∷ []) included) x h)) ∙ is)
+        where
+          again : (b : Bool) → is_place (if b then routine (numbers x) else included x) ≡ true → IsObject x (with_all outer_scope ones)
+          again true k = no_place (numbers x) k
+          again false k = no_included_place x k
+
+  object_declared : (x : List ℕ) → is_place (all_links x) ≡ true → IsObject x (with_all outer_scope ones)
+  object_declared x is = lasting (is_among x (names_of (declared_statics ones))) refl
+    where
+      called : (b : Bool) → is_among x (declared_externs ones) ≡ b → is_place (called_links x) ≡ true → is_among x (names_of (declared_statics ones)) ≡ false → is_among x (names_of (declared_automatics ones)) ≡ false → IsObject x (with_all outer_scope ones)
+      called true h k s a = no_place (numbers x) (ap is_place (sym (at_function numbers (declared_externs ones) file_links x h)) ∙ k)
+      called false h k s a = in_file x (ap is_place (sym (past_functions numbers (declared_externs ones) file_links x h)) ∙ k) (none_of_all x ones s a h)
+
+      framed : (b : Bool) → is_among x (names_of (declared_automatics ones)) ≡ b → is_place (frame_links x) ≡ true → is_among x (names_of (declared_statics ones)) ≡ false → IsObject x (with_all outer_scope ones)
+      framed true h k s = object_there x ones outer_scope apart (automatics_are_objects x ones h)
+      framed false h k s = called (is_among x (declared_externs ones)) refl (ap is_place (sym (past_objects frame (declared_automatics ones) called_links x h)) ∙ k) s h
+
+      lasting : (b : Bool) → is_among x (names_of (declared_statics ones)) ≡ b → IsObject x (with_all outer_scope ones)
+      lasting true h = object_there x ones outer_scope apart (statics_are_objects x ones h)
+      lasting false h = framed (is_among x (names_of (declared_automatics ones))) refl (ap is_place (sym (past_objects base (declared_statics ones) frame_links x h)) ∙ is) h
+
+  main_declared : (x : List ℕ) → is_routine (file_links x) ≡ true → is_among x (local_names ones) ≡ false → IsFunction x (with_all outer_scope ones)
+  main_declared x is none = by (bytes_eq x main) refl (is_outside first (declared_constants constants) (known_functions numbers (main ∷ []) included) x (constants_stand constants) is).1
+    where
+      by : (b : Bool) → bytes_eq x main ≡ b → is_routine (if b then routine (numbers x) else included x) ≡ true → IsFunction x (with_all outer_scope ones)
+      by true h k = all_keep_function x ones outer_scope none (or_left (bytes_eq x main) (is_among x (without main (with_constants no_names constants).functions)) h)
+      by false h k = no_included_routine x k
+
+  function_declared : (x : List ℕ) → is_routine (all_links x) ≡ true → IsFunction x (with_all outer_scope ones)
+  function_declared x is =
+      let one = is_outside base (declared_statics ones) frame_links x (statics_stand ones) is in
+      let two = is_outside frame (declared_automatics ones) called_links x (automatics_stand ones) one.1 in
+      called (is_among x (declared_externs ones)) refl one.0 two.0 two.1
+    where
+      called : (b : Bool) → is_among x (declared_externs ones) ≡ b → is_among x (names_of (declared_statics ones)) ≡ false → is_among x (names_of (declared_automatics ones)) ≡ false → is_routine (called_links x) ≡ true → IsFunction x (with_all outer_scope ones)
+      called true h s a k = function_there x ones outer_scope apart h
+      called false h s a k = main_declared x (ap is_routine (sym (past_functions numbers (declared_externs ones) file_links x h)) ∙ k) (none_of_all x ones s a h)
+
+  pub names_agree : Agrees all_links (with_all outer_scope ones)
+  names_agree = record {
+    variables = λ name k access h. declared_before (an_object (object_declared name (ap is_place h)));
+    arrays = λ name k access h. declared_before (an_object (object_declared name (ap is_place h)));
+    functions = λ name k h. function_declared name (ap is_routine h);
+  }

@@ -1,0 +1,11 @@
+pub mod SpelledTerms
+pub mod Fieldless
+pub mod FieldlessItems
+pub mod TreeLabels
+pub mod SpelledStatements
+pub mod MeetingLabels
+pub mod Declared
+pub mod Words
+pub mod Declarations
+pub mod Files
+pub mod ExampleTexts

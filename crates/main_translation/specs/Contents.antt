@@ -1,0 +1,149 @@
+-- What the C file of a main program has: the constants that are passed, the variables, the control lists, the temporaries and the functions of the
+-- library, each once. ANSI X3.9-1978, sections 4.1, 5.1 and 12.8; C89, 3.5.
+use Rattle.std.specs.List.{list_any}
+use Rattle.std.specs.Ordering.{int_eq}
+use Rattle.std.specs.Prelude.{ℕ, suc, max, ℤ, pos, Bool, true, false, List, [], ◌∷◌, ◌++◌, map, fold, length, Option, Some, None, option_and_then, slice_get, codes, if◌then◌else◌}
+use Rattle.f_tree.specs.declared.names.Basic.{Basic}
+use Rattle.f_tree.specs.declared.names.Basic.TheVariants.{Logical}
+use Rattle.f_tree.specs.Values.{Bytes, IsInt, IsLog, in_range}
+use Rattle.f_tree.specs.Facts.{Bounds, Member, ProgramUnit}
+use Rattle.f_tree.specs.Valuing.{elements_of}
+use Rattle.l_core.specs.Pures.{Pure, Constant, Temporary, NoPure, AndPure}
+use Rattle.l_core.specs.Steps.{Starts, Takes, Finishes, Step, Keep, Halt, Acts, Text}
+use Rattle.c_tree.specs.declared.types.NumberType.{NumberType}
+use Rattle.c_tree.specs.declared.types.NumberType.TheVariants as number_type
+use Rattle.c_tree.specs.declared.types.ListType.TheVariants as list_type
+use Rattle.c_tree.specs.declared.types.ParameterType.TheVariants as parameter
+use Rattle.c_tree.specs.declared.types.ArgumentType.TheVariants as argument
+use Rattle.c_emit.specs.Calls.{unit_of, kind_number}
+use Rattle.main_file.specs.MainFile.{Variable, Listing, Called, Inventory, Bases}
+use Rattle.main_file.specs.MainItems.{stops_from}
+use Rattle.main_translation.specs.Flow.{kept_type, kind_at}
+
+-- ## Constants
+
+-- a value behind those that are there, if it is none of them
+unfoldable pub with_new : List ℤ → ℤ → List ℤ
+with_new zs z = if list_any (int_eq z) zs then zs else zs ++ z ∷ []
+
+-- the value of an item that is a constant
+unfoldable pub own_value : Pure → List ℤ
+own_value (Constant (IsInt z)) = if in_range z then z ∷ [] else []
+own_value (Constant (IsLog true)) = pos 1 ∷ []
+own_value (Constant (IsLog false)) = pos 0 ∷ []
+own_value p = []
+
+unfoldable pub item_type : Text → ℕ → Pure → Option Basic
+item_type u n (Temporary k) = kind_at u n k
+item_type u n p = kept_type u.facts p
+
+unfoldable pub kind_value : Option ℤ → List ℤ
+kind_value None = []
+kind_value (Some z) = z ∷ []
+
+-- an item is passed with the number of its type and with the number of its elements
+unfoldable pub passed_by : Text → ℕ → Step → List ℤ
+passed_by u n (Acts Takes (AndPure p NoPure) m) = kind_value (option_and_then kind_number (item_type u n p)) ++ pos 1 ∷ own_value p
+passed_by u n st = []
+
+unfoldable pub passed_from : Text → ℕ → List Step → List ℤ
+passed_from u n [] = []
+passed_from u n (st ∷ later) = passed_by u n st ++ passed_from u (suc n) later
+
+unfoldable pub constants_of : Text → List ℤ
+constants_of u = fold with_new [] (passed_from u 0 u.steps)
+
+-- ## Variables
+
+unfoldable pub number_type_of : Basic → NumberType
+number_type_of Logical = number_type.Logical
+number_type_of basic = number_type.Integer
+
+unfoldable pub count_by : List Bounds → Option ℕ
+count_by [] = None
+count_by (b ∷ bs) = elements_of (b ∷ bs)
+
+unfoldable pub variable_of : ProgramUnit → Member → Variable
+variable_of unit m = record { name = m.name; type = number_type_of (unit.attribute m.name).basic; count = count_by (unit.attribute m.name).bounds }
+
+-- ## Control lists, temporaries, functions of the library
+
+unfoldable pub listing_by : ℕ → Option ℤ → List Listing
+listing_by n None = []
+listing_by n (Some unit) = record { step = n; unit = unit } ∷ []
+
+unfoldable pub listings_from : ℕ → List Step → List Listing
+listings_from n [] = []
+listings_from n (Acts (Starts way layout controls) ps m ∷ later) = listing_by n (unit_of ps) ++ listings_from (suc n) later
+listings_from n (st ∷ later) = listings_from (suc n) later
+
+unfoldable pub temporaries_in : List Step → ℕ
+temporaries_in [] = 0
+temporaries_in (Keep k p ∷ later) = max (suc k) (temporaries_in later)
+temporaries_in (st ∷ later) = temporaries_in later
+
+unfoldable pub begins_output : Step → Bool
+begins_output (Acts (Starts way layout controls) ps m) = true
+begins_output st = false
+
+unfoldable pub takes_item : Step → Bool
+takes_item (Acts Takes ps m) = true
+takes_item st = false
+
+unfoldable pub ends_output : Step → Bool
+ends_output (Acts Finishes ps m) = true
+ends_output st = false
+
+unfoldable pub stops_run : Step → Bool
+stops_run (Halt text) = true
+stops_run st = false
+
+-- a function of the library, where it is called
+unfoldable pub if_called : Bool → Called → List Called
+if_called true function = function ∷ []
+if_called false function = []
+
+abbrev pub start_output : Called
+start_output = record { name = codes "s_wsle"; arguments = argument.List list_type.Transfer ∷ [] }
+
+abbrev pub output_item : Called
+output_item = record {
+  name = codes "do_lio";
+  arguments = argument.Parameter parameter.Integers ∷ argument.Parameter parameter.Integers ∷ argument.Parameter parameter.Chars ∷ argument.Parameter parameter.Length ∷ [];
+}
+
+abbrev pub end_output : Called
+end_output = record { name = codes "e_wsle"; arguments = [] }
+
+abbrev pub stop_run : Called
+stop_run = record { name = codes "s_stop"; arguments = argument.Parameter parameter.Chars ∷ argument.Parameter parameter.Length ∷ [] }
+
+unfoldable pub calls_of : List Step → List Called
+calls_of steps =
+    if_called (list_any begins_output steps) start_output ++ (if_called (list_any takes_item steps) output_item
+    ++ (if_called (list_any ends_output steps) end_output ++ if_called (list_any stops_run steps) stop_run))
+
+unfoldable pub text_at : Option Step → Bytes
+text_at (Some (Halt text)) = text
+text_at st = []
+
+-- ## The whole
+
+abbrev pub inventory_of : ProgramUnit → Text → Inventory
+inventory_of unit u = record {
+  constants = constants_of u;
+  variables = map (variable_of unit) unit.stored;
+  lists = listings_from 0 u.steps;
+  temporaries = temporaries_in u.steps;
+  calls = calls_of u.steps;
+  strings = stops_from 0 u.steps;
+  texts = λ n. text_at (slice_get u.steps n);
+}
+
+-- a main program has one function, no external object, and its constants first
+abbrev pub first_objects : Inventory → Bases
+first_objects v = record { own = 1; file = 0; function = length v.constants }
+
+unfoldable pub contents_opened : Unit {0}
+unfolding with_new own_value item_type kind_value passed_by passed_from constants_of number_type_of count_by variable_of listing_by listings_from temporaries_in begins_output takes_item ends_output stops_run if_called calls_of text_at
+contents_opened = tt

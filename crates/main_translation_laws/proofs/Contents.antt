@@ -1,0 +1,344 @@
+-- What the inventory of a text has: constants told apart, a list for each output, and names of the library.
+use Rattle.std.specs.List.{list_any}
+use Rattle.std.specs.Ordering.{int_eq}
+use Rattle.std.specs.Prelude.{◌≡◌, ◌≢◌, ℕ, zero, suc, ◌+◌, ◌<◌, ◌≤◌, ◌^◌, nat_eq, nat_le, ℤ, pos, negsuc, nat_abs, Bool, true, false, ◌&&◌, ◌||◌, List, [], ◌∷◌, ◌++◌, map, fold, length, position, reverse, Option, Some, None, option_map, option_and_then, slice_get, codes, if◌then◌else◌}
+use Rattle.std.proofs.Common.{refl, sym, ap, ◌∙◌, subst, arith}
+use Rattle.std.proofs.lemmas.Bool.{eq-eqb, ne_eqb, leb-true}
+use Rattle.std.proofs.lemmas.Bool.Decides.{Decides-int_eq}
+use Rattle.f_tree.specs.declared.names.Basic.{Basic}
+use Rattle.f_tree.specs.declared.names.Basic.TheVariants.{Integer, Logical, Character, Untyped}
+use Rattle.f_tree.specs.Values.{Datum, IsInt, IsLog, IsText, IsSpot, IsProc, IsLabel, Nothing, in_range}
+use Rattle.f_tree.specs.Facts.{Direction, Layout, Controls}
+use Rattle.f_tree.specs.Setting.{IsIn, first_in, later_in}
+use Rattle.f_tree.specs.CNames.{has_underscore}
+use Rattle.l_core.specs.Pures.{Pure, Constant, Pures, NoPure, AndPure}
+use Rattle.l_core.specs.Steps.{Starts, Takes, Step, Acts, Text}
+use Rattle.c_emit.specs.Calls.{unit_of, kind_number}
+use Rattle.linking_laws.proofs.Places.{some_same, position_step, taken, skipped}
+use Rattle.main_file.specs.MainFile.{Listing, Called}
+use Rattle.main_translation.specs.Contents.{with_new, own_value, item_type, kind_value, passed_by, passed_from, constants_of, listing_by, listings_from, if_called, start_output, output_item, end_output, stop_run, calls_of, begins_output, takes_item, ends_output, stops_run}
+use Rattle.main_translation_laws.proofs.Lists.{AreApart, none_apart, one_apart, InEither, in_one, in_other, in_either, apart_append}
+use Rattle.main_translation_laws.proofs.Names.{IsCalledName}
+
+-- ## Constants
+
+or_false_left : (a b : Bool) → (a || b) ≡ false → a ≡ false
+or_false_left true b h = h
+or_false_left false b h = refl
+
+or_false_right : (a b : Bool) → (a || b) ≡ false → b ≡ false
+or_false_right true b h = absurd (cc)
+or_false_right false b h = h
+
+none_same : (z : ℤ) (zs : List ℤ) → list_any (int_eq z) zs ≡ false → (y : ℤ) → IsIn y zs → y ≢ z
+none_same z [] none y o same = elim o [ ]
+none_same z (x ∷ xs) none _ first_in same =
+    let no : true ≡ false = sym ((Decides-int_eq z x).1 (sym same)) ∙ or_false_left (int_eq z x) (list_any (int_eq z) xs) none in absurd (cc)
+none_same z (x ∷ xs) none y (later_in o) same = none_same z xs (or_false_right (int_eq z x) (list_any (int_eq z) xs) none) y o same
+
+only_one : (z y : ℤ) → IsIn y (z ∷ []) → y ≡ z
+only_one z _ first_in = refl
+only_one z y (later_in o) = elim o [ ]
+
+with_new_apart : (zs : List ℤ) (z : ℤ) → AreApart zs → AreApart (with_new zs z)
+unfolding with_new
+with_new_apart zs z apart = by (list_any (int_eq z) zs) refl
+  where
+    by : (b : Bool) → list_any (int_eq z) zs ≡ b → AreApart (if b then zs else zs ++ z ∷ [])
+    by true h = apart
+    by false h =
+        apart_append zs (z ∷ []) apart (one_apart (λ y o. elim o [ ]) none_apart)
+        (λ x y p q same. none_same z zs h x p (same ∙ only_one z y q))
+
+fold_apart : (more zs : List ℤ) → AreApart zs → AreApart (fold with_new zs more)
+fold_apart [] zs apart = apart
+fold_apart (z ∷ more) zs apart = fold_apart more (with_new zs z) (with_new_apart zs z apart)
+
+pub constants_apart : (u : Text) → AreApart (constants_of u)
+unfolding constants_of
+constants_apart u = fold_apart (passed_from u 0 u.steps) [] none_apart
+
+data IsOldOrNew (zs : List ℤ) (z y : ℤ) : Type 0 where
+  is_old : IsIn y zs → IsOldOrNew zs z y
+  is_new : y ≡ z → IsOldOrNew zs z y
+
+old_or_new : (zs : List ℤ) (z y : ℤ) → IsIn y (with_new zs z) → IsOldOrNew zs z y
+unfolding with_new
+old_or_new zs z y o = by (list_any (int_eq z) zs) o
+  where
+    split : InEither y zs (z ∷ []) → IsOldOrNew zs z y
+    split (in_one p) = is_old p
+    split (in_other q) = is_new (only_one z y q)
+
+    by : (b : Bool) → IsIn y (if b then zs else zs ++ z ∷ []) → IsOldOrNew zs z y
+    by true p = is_old p
+    by false p = split (in_either y zs (z ∷ []) p)
+
+abbrev AllFit : List ℤ → Type 0
+AllFit zs = (z : ℤ) → IsIn z zs → in_range z ≡ true
+
+fit_new : (zs : List ℤ) (z : ℤ) → in_range z ≡ true → AllFit zs → AllFit (with_new zs z)
+fit_new zs z fits all y o = by (old_or_new zs z y o)
+  where
+    by : IsOldOrNew zs z y → in_range y ≡ true
+    by (is_old p) = all y p
+    by (is_new same) = ap in_range same ∙ fits
+
+fold_fit : (more zs : List ℤ) → AllFit more → AllFit zs → AllFit (fold with_new zs more)
+fold_fit [] zs fit all = all
+fold_fit (z ∷ more) zs fit all = fold_fit more (with_new zs z) (λ y o. fit y (later_in o)) (fit_new zs z (fit z first_in) all)
+
+fit_both : (xs ys : List ℤ) → AllFit xs → AllFit ys → AllFit (xs ++ ys)
+fit_both xs ys one other z o = by (in_either z xs ys o)
+  where
+    by : InEither z xs ys → in_range z ≡ true
+    by (in_one p) = one z p
+    by (in_other q) = other z q
+
+fit_none : AllFit []
+fit_none z o = elim o [ ]
+
+fit_one : (y : ℤ) → in_range y ≡ true → AllFit (y ∷ [])
+fit_one y fits z o = ap in_range (only_one y z o) ∙ fits
+
+eight : in_range (pos 8) ≡ true
+unfolding in_range
+eight = refl
+
+three : in_range (pos 3) ≡ true
+unfolding in_range
+three = refl
+
+one : in_range (pos 1) ≡ true
+unfolding in_range
+one = refl
+
+nought : in_range (pos 0) ≡ true
+unfolding in_range
+nought = refl
+
+kind_fits : (basic : Option Basic) → AllFit (kind_value (option_and_then kind_number basic))
+unfolding kind_value kind_number
+kind_fits None = fit_none
+kind_fits (Some Integer) = fit_one (pos 3) three
+kind_fits (Some Logical) = fit_one (pos 8) eight
+kind_fits (Some Character) = fit_none
+kind_fits (Some Untyped) = fit_none
+
+if_fits : (z : ℤ) (b : Bool) → in_range z ≡ b → AllFit (if b then z ∷ [] else [])
+if_fits z true h = fit_one z h
+if_fits z false h = fit_none
+
+constant_fits : (d : Datum) → AllFit (own_value (Constant d))
+unfolding own_value
+constant_fits (IsInt z) = if_fits z (in_range z) refl
+constant_fits (IsLog true) = fit_one (pos 1) one
+constant_fits (IsLog false) = fit_one (pos 0) nought
+constant_fits (IsText cs) = fit_none
+constant_fits (IsSpot p) = fit_none
+constant_fits (IsProc x) = fit_none
+constant_fits (IsLabel l) = fit_none
+constant_fits Nothing = fit_none
+
+own_fits : (p : Pure) → AllFit (own_value p)
+own_fits (Constant d) = constant_fits d
+own_fits p = let none : own_value p ≡ [] = (unfold own_value in refl) in subst AllFit (sym none) fit_none
+
+passed_fits : (u : Text) (n : ℕ) (st : Step) → AllFit (passed_by u n st)
+unfolding passed_by
+passed_fits u n (Acts Takes (AndPure p NoPure) m) = fit_both (kind_value (option_and_then kind_number (item_type u n p))) (pos 1 ∷ own_value p) (kind_fits (item_type u n p)) (fit_both (pos 1 ∷ []) (own_value p) (fit_one (pos 1) one) (own_fits p))
+passed_fits u n st = fit_none
+
+all_fit : (u : Text) (n : ℕ) (steps : List Step) → AllFit (passed_from u n steps)
+unfolding passed_from
+all_fit u n [] = fit_none
+all_fit u n (st ∷ later) = fit_both (passed_by u n st) (passed_from u (suc n) later) (passed_fits u n st) (all_fit u (suc n) later)
+
+pub constants_fit : (u : Text) (z : ℤ) → IsIn z (constants_of u) → in_range z ≡ true
+unfolding constants_of
+constants_fit u = fold_fit (passed_from u 0 u.steps) [] (all_fit u 0 u.steps) fit_none
+
+-- a number of 32 bits is small
+pub small_magnitude : (z : ℤ) → in_range z ≡ true → nat_abs z < 2 ^ 64
+unfolding in_range
+small_magnitude (pos n) holds = let at_most = leb-true n 2147483647 holds in omega (arith, at_most)
+small_magnitude (negsuc n) holds = by (nat_le n 2147483647) refl holds
+  where
+    by : (b : Bool) → nat_le n 2147483647 ≡ b → (b && true) ≡ true → suc n < 2 ^ 64
+    by true is h = let at_most = leb-true n 2147483647 is in omega (arith, at_most)
+    by false is h = absurd (cc)
+
+-- ## Control lists
+
+pub listings_count : (n : ℕ) (steps : List Step) → length (listings_from n steps) ≤ length steps
+unfolding listings_from listing_by
+listings_count n [] = omega arith
+listings_count n (Acts (Starts way layout controls) ps m ∷ later) = by (unit_of ps) (listings_count (suc n) later)
+  where
+    by : (unit : Option ℤ) → length (listings_from (suc n) later) ≤ length later → length (listing_by n unit ++ listings_from (suc n) later) ≤ suc (length later)
+    by None rest = omega (arith, rest)
+    by (Some unit) rest = omega (arith, rest)
+listings_count n (st ∷ later) = let rest = listings_count (suc n) later in omega (arith, rest)
+
+-- the list of an output by its step
+pub record IsListing (lists : List Listing) (n : ℕ) (unit : ℤ) : Type 0 where
+  pub index : ℕ
+  pub listing : Listing
+  pub place : position (λ (l : Listing). nat_eq n l.step) lists ≡ Some index
+  pub at : slice_get lists index ≡ Some listing
+  pub is : listing.unit ≡ unit
+
+behind_other : (lists : List Listing) (n m : ℕ) (unit other : ℤ) → (n ≡ m → ⊥) → IsListing lists n unit → IsListing (record { step = m; unit = other } ∷ lists) n unit
+behind_other lists n m unit other differ found = record {
+  index = suc found.index;
+  listing = found.listing;
+  place = position_step (λ (l : Listing). nat_eq n l.step) (record { step = m; unit = other }) lists
+      ∙ skipped (nat_eq n m) (Some 0) (option_map suc (position (λ (l : Listing). nat_eq n l.step) lists)) (ne_eqb n m differ)
+      ∙ ap (option_map suc) found.place;
+  at = found.at;
+  is = found.is;
+}
+
+at_first : (lists : List Listing) (n m : ℕ) (unit : ℤ) → n ≡ m → IsListing (record { step = m; unit = unit } ∷ lists) n unit
+at_first lists n m unit same = record {
+  index = 0;
+  listing = record { step = m; unit = unit };
+  place = position_step (λ (l : Listing). nat_eq n l.step) (record { step = m; unit = unit }) lists
+      ∙ taken (nat_eq n m) (Some 0) (option_map suc (position (λ (l : Listing). nat_eq n l.step) lists)) (eq-eqb n m same);
+  at = refl;
+  is = refl;
+}
+
+past_listing : (lists : List Listing) (n m : ℕ) (unit : ℤ) (found : Option ℤ) → (n ≡ m → ⊥) → IsListing lists n unit → IsListing (listing_by m found ++ lists) n unit
+unfolding listing_by
+past_listing lists n m unit None differ is = is
+past_listing lists n m unit (Some other) differ is = behind_other lists n m unit other differ is
+
+own_listing : (lists : List Listing) (n m : ℕ) (unit : ℤ) (found : Option ℤ) → n ≡ m → found ≡ Some unit → IsListing (listing_by m found ++ lists) n unit
+unfolding listing_by
+own_listing lists n m unit None same is = absurd (cc)
+own_listing lists n m unit (Some other) same is = subst (IsListing (record { step = m; unit = other } ∷ lists) n) (some_same other unit is) (at_first lists n m other same)
+
+pub listed_at : (first : ℕ) (steps : List Step) (i n : ℕ) (way : Direction) (layout : Layout) (controls : Controls) (ps : Pures) (m : ℕ) (unit : ℤ) → n ≡ first + i
+    → slice_get steps i ≡ Some (Acts (Starts way layout controls) ps m) → unit_of ps ≡ Some unit → IsListing (listings_from first steps) n unit
+unfolding listings_from
+listed_at first [] i n way layout controls ps m unit at stands is = absurd (cc)
+listed_at first (st ∷ later) zero n way layout controls ps m unit at stands is =
+    subst (λ s. IsListing (listings_from first (s ∷ later)) n unit) (sym (some_same st (Acts (Starts way layout controls) ps m) stands))
+    (own_listing (listings_from (suc first) later) n first unit (unit_of ps) (let same : n ≡ first = omega (arith, at) in same) is)
+listed_at first (Acts (Starts way' layout' controls') ps' m' ∷ later) (suc i) n way layout controls ps m unit at stands is =
+    past_listing (listings_from (suc first) later) n first unit (unit_of ps') (λ same. let no : ⊥ = omega (arith, at, same) in no) (listed_at (suc first) later i n way layout controls ps m unit (omega (arith, at)) stands is)
+listed_at first (st ∷ later) (suc i) n way layout controls ps m unit at stands is = listed_at (suc first) later i n way layout controls ps m unit (omega (arith, at)) stands is
+
+-- ## Functions of the library
+
+same_first : (a b : ℕ) (x y : List ℕ) → a ∷ x ≡ b ∷ y → a ≡ b
+same_first a b x y e = cc
+
+starts_named : IsCalledName (codes "s_wsle")
+starts_named = record {
+  underscored = unfold has_underscore in refl;
+  closed = λ rest e. omega (arith, same_first 101 95 (reverse (codes "s_wsl")) rest e);
+  no_i = λ rest e. omega (arith, same_first 115 105 (codes "_wsle") rest e);
+  no_c = λ rest e. omega (arith, same_first 115 99 (codes "_wsle") rest e);
+}
+
+item_named : IsCalledName (codes "do_lio")
+item_named = record {
+  underscored = unfold has_underscore in refl;
+  closed = λ rest e. omega (arith, same_first 111 95 (reverse (codes "do_li")) rest e);
+  no_i = λ rest e. omega (arith, same_first 100 105 (codes "o_lio") rest e);
+  no_c = λ rest e. omega (arith, same_first 100 99 (codes "o_lio") rest e);
+}
+
+ends_named : IsCalledName (codes "e_wsle")
+ends_named = record {
+  underscored = unfold has_underscore in refl;
+  closed = λ rest e. omega (arith, same_first 101 95 (reverse (codes "e_wsl")) rest e);
+  no_i = λ rest e. omega (arith, same_first 101 105 (codes "_wsle") rest e);
+  no_c = λ rest e. omega (arith, same_first 101 99 (codes "_wsle") rest e);
+}
+
+stops_named : IsCalledName (codes "s_stop")
+stops_named = record {
+  underscored = unfold has_underscore in refl;
+  closed = λ rest e. omega (arith, same_first 112 95 (reverse (codes "s_sto")) rest e);
+  no_i = λ rest e. omega (arith, same_first 115 105 (codes "_stop") rest e);
+  no_c = λ rest e. omega (arith, same_first 115 99 (codes "_stop") rest e);
+}
+
+if_named : (b : Bool) (function : Called) → IsCalledName function.name → (call : Called) → IsIn call (if_called b function) → IsCalledName call.name
+unfolding if_called
+if_named true function is call o = by call o
+  where
+    by : (call' : Called) → IsIn call' (function ∷ []) → IsCalledName call'.name
+    by _ first_in = is
+    by call' (later_in p) = elim p [ ]
+if_named false function is call o = elim o [ ]
+
+pub calls_named : (steps : List Step) (call : Called) → IsIn call (calls_of steps) → IsCalledName call.name
+unfolding calls_of
+calls_named steps call o = first (in_either call (if_called (list_any begins_output steps) start_output) _ o)
+  where
+    fourth : InEither call (if_called (list_any ends_output steps) end_output) (if_called (list_any stops_run steps) stop_run) → IsCalledName call.name
+    fourth (in_one p) = if_named (list_any ends_output steps) end_output ends_named call p
+    fourth (in_other p) = if_named (list_any stops_run steps) stop_run stops_named call p
+
+    second : InEither call (if_called (list_any takes_item steps) output_item) (if_called (list_any ends_output steps) end_output ++ if_called (list_any stops_run steps) stop_run) → IsCalledName call.name
+    second (in_one p) = if_named (list_any takes_item steps) output_item item_named call p
+    second (in_other p) = fourth (in_either call (if_called (list_any ends_output steps) end_output) (if_called (list_any stops_run steps) stop_run) p)
+
+    first : InEither call (if_called (list_any begins_output steps) start_output) (if_called (list_any takes_item steps) output_item ++ (if_called (list_any ends_output steps) end_output ++ if_called (list_any stops_run steps) stop_run)) → IsCalledName call.name
+    first (in_one p) = if_named (list_any begins_output steps) start_output starts_named call p
+    first (in_other p) = second (in_either call (if_called (list_any takes_item steps) output_item) (if_called (list_any ends_output steps) end_output ++ if_called (list_any stops_run steps) stop_run) p)
+
+-- a step of a kind calls its function
+called_there : (test : Step → Bool) (steps : List Step) (i : ℕ) (st : Step) → slice_get steps i ≡ Some st → test st ≡ true → list_any test steps ≡ true
+called_there test [] i st at is = absurd (cc)
+called_there test (first ∷ later) zero st at is = ap (λ b. b || list_any test later) (ap test (some_same first st at) ∙ is)
+called_there test (first ∷ later) (suc i) st at is = or_true (test first) (list_any test later) (called_there test later i st at is)
+  where
+    or_true : (a b : Bool) → b ≡ true → (a || b) ≡ true
+    or_true true b h = refl
+    or_true false b h = h
+
+pub record IsAmong (name : List ℕ) (calls : List Called) : Type 0 where
+  pub index : ℕ
+  pub at : slice_get (map (λ (call : Called). call.name) calls) index ≡ Some name
+
+among_later : (name : List ℕ) (more calls : List Called) → IsAmong name calls → IsAmong name (more ++ calls)
+among_later name [] calls is = is
+among_later name (call ∷ more) calls is = let rest = among_later name more calls is in record { index = suc rest.index; at = rest.at }
+
+among_first : (b : Bool) (function : Called) (calls : List Called) → b ≡ true → IsAmong function.name (if_called b function ++ calls)
+unfolding if_called
+among_first true function calls is = record { index = 0; at = refl }
+among_first false function calls is = absurd (cc)
+
+pub starts_called : (steps : List Step) (i : ℕ) (st : Step) → slice_get steps i ≡ Some st → begins_output st ≡ true → IsAmong (codes "s_wsle") (calls_of steps)
+unfolding calls_of
+starts_called steps i st at is = among_first (list_any begins_output steps) start_output _ (called_there begins_output steps i st at is)
+
+pub item_called : (steps : List Step) (i : ℕ) (st : Step) → slice_get steps i ≡ Some st → takes_item st ≡ true → IsAmong (codes "do_lio") (calls_of steps)
+unfolding calls_of
+item_called steps i st at is = among_later (codes "do_lio") (if_called (list_any begins_output steps) start_output) _ (among_first (list_any takes_item steps) output_item _ (called_there takes_item steps i st at is))
+
+pub ends_called : (steps : List Step) (i : ℕ) (st : Step) → slice_get steps i ≡ Some st → ends_output st ≡ true → IsAmong (codes "e_wsle") (calls_of steps)
+unfolding calls_of
+ends_called steps i st at is =
+    among_later (codes "e_wsle") (if_called (list_any begins_output steps) start_output) _
+    (among_later (codes "e_wsle") (if_called (list_any takes_item steps) output_item) _ (among_first (list_any ends_output steps) end_output _ (called_there ends_output steps i st at is)))
+
+single : (function : Called) → function ∷ [] ≡ (function ∷ []) ++ []
+single function = refl
+
+pub stop_called : (steps : List Step) (i : ℕ) (st : Step) → slice_get steps i ≡ Some st → stops_run st ≡ true → IsAmong (codes "s_stop") (calls_of steps)
+unfolding calls_of
+stop_called steps i st at is =
+    among_later (codes "s_stop") (if_called (list_any begins_output steps) start_output) _
+    (among_later (codes "s_stop") (if_called (list_any takes_item steps) output_item) _
+    (among_later (codes "s_stop") (if_called (list_any ends_output steps) end_output) _ (by (list_any stops_run steps) (called_there stops_run steps i st at is))))
+  where
+    by : (b : Bool) → b ≡ true → IsAmong (codes "s_stop") (if_called b stop_run)
+    by true h = unfold if_called in record { index = 0; at = refl }
+    by false h = absurd (cc)

@@ -1,0 +1,74 @@
+-- Lists whose parts are told apart.
+use Rattle.std.specs.Prelude.{◌≡◌, ◌≢◌, ℕ, zero, suc, List, [], ◌∷◌, ◌++◌, map, Some, slice_get}
+use Rattle.std.proofs.Common.{refl, sym, ap, ◌∙◌, subst}
+use Rattle.f_tree.specs.Setting.{IsIn, first_in, later_in}
+use Rattle.linking_laws.specs.Linked.{AreDistinct, IsNone}
+use Rattle.linking_laws.proofs.Places.{some_same}
+
+-- no part stands twice
+pub data AreApart {A : Type 0} : List A → Type 0 where
+  none_apart : AreApart []
+  one_apart : {x : A} {xs : List A} → ((y : A) → IsIn y xs → x ≢ y) → AreApart xs → AreApart (x ∷ xs)
+
+pub in_at : {A : Type 0} (xs : List A) (i : ℕ) (x : A) → slice_get xs i ≡ Some x → IsIn x xs
+in_at [] i x at = absurd (cc)
+in_at (y ∷ xs) zero x at = subst (λ z. IsIn z (y ∷ xs)) (some_same y x at) first_in
+in_at (y ∷ xs) (suc i) x at = later_in (in_at xs i x at)
+
+pub record StandsAt {A : Type 0} (xs : List A) (x : A) : Type 0 where
+  pub index : ℕ
+  pub at : slice_get xs index ≡ Some x
+
+pub at_in : {A : Type 0} (x : A) (xs : List A) → IsIn x xs → StandsAt xs x
+at_in x _ first_in = record { index = 0; at = refl }
+at_in x _ (later_in o) = let found = at_in x _ o in record { index = suc found.index; at = found.at }
+
+-- where a part of two lists stands
+pub data InEither {A : Type 0} (x : A) (xs ys : List A) : Type 0 where
+  in_one : IsIn x xs → InEither x xs ys
+  in_other : IsIn x ys → InEither x xs ys
+
+pub in_either : {A : Type 0} (x : A) (xs ys : List A) → IsIn x (xs ++ ys) → InEither x xs ys
+in_either x [] ys o = in_other o
+in_either x (y ∷ xs) ys first_in = in_one first_in
+in_either x (y ∷ xs) ys (later_in o) = by (in_either x xs ys o)
+  where
+    by : InEither x xs ys → InEither x (y ∷ xs) ys
+    by (in_one found) = in_one (later_in found)
+    by (in_other found) = in_other found
+
+pub record IsMapped {A B : Type 0} (f : A → B) (xs : List A) (y : B) : Type 0 where
+  pub from : A
+  pub among : IsIn from xs
+  pub is : f from ≡ y
+
+pub in_map : {A B : Type 0} (f : A → B) (xs : List A) (y : B) → IsIn y (map f xs) → IsMapped f xs y
+in_map f [] y o = elim o [ ]
+in_map f (x ∷ xs) _ first_in = record { from = x; among = first_in; is = refl }
+in_map f (x ∷ xs) y (later_in o) = let found = in_map f xs y o in record { from = found.from; among = later_in found.among; is = found.is }
+
+pub apart_append : {A : Type 0} (xs ys : List A) → AreApart xs → AreApart ys → ((x y : A) → IsIn x xs → IsIn y ys → x ≢ y) → AreApart (xs ++ ys)
+apart_append [] ys one other differ = other
+apart_append (x ∷ xs) ys (one_apart none later) other differ =
+    one_apart (λ y o. by y (in_either y xs ys o)) (apart_append xs ys later other (λ a b p q. differ a b (later_in p) q))
+  where
+    by : (y : _) → InEither y xs ys → x ≢ y
+    by y (in_one o) = none y o
+    by y (in_other o) = differ x y first_in o
+
+pub apart_map : {A B : Type 0} (f : A → B) (xs : List A) → ((x y : A) → IsIn x xs → IsIn y xs → f x ≡ f y → x ≡ y) → AreApart xs → AreApart (map f xs)
+apart_map f [] told none_apart = none_apart
+apart_map f (x ∷ xs) told (one_apart none later) =
+    one_apart
+    (λ y o same. let found = in_map f xs y o in none found.from found.among (told x found.from first_in (later_in found.among) (same ∙ sym found.is)))
+    (apart_map f xs (λ a b p q. told a b (later_in p) (later_in q)) later)
+
+pub distinct_by : (names : List (List ℕ)) → AreApart names → AreDistinct names
+distinct_by [] none_apart i j name at at' = absurd (cc)
+distinct_by (x ∷ xs) (one_apart none later) zero zero name at at' = refl
+distinct_by (x ∷ xs) (one_apart none later) zero (suc j) name at at' = absurd (none name (in_at xs j name at') (some_same x name at))
+distinct_by (x ∷ xs) (one_apart none later) (suc i) zero name at at' = absurd (none name (in_at xs i name at) (some_same x name at'))
+distinct_by (x ∷ xs) (one_apart none later) (suc i) (suc j) name at at' = ap suc (distinct_by xs later i j name at at')
+
+pub none_by : (name : List ℕ) (names : List (List ℕ)) → ((other : List ℕ) → IsIn other names → name ≢ other) → IsNone name names
+none_by name names differ i at = differ name (in_at names i name at) refl

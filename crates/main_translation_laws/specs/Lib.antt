@@ -1,0 +1,2 @@
+pub mod PlainMains
+pub mod Example

@@ -1,0 +1,224 @@
+-- Items by names and the flat ones that they are of.
+use Rattle.std.specs.Prelude.{◌≡◌, ℕ, zero, suc, true, nat_eq, List, [], ◌∷◌, length, take, drop, Option, Some, None, option_map, slice_get}
+use Rattle.std.proofs.Common.{refl, sym, ap, ◌∙◌}
+use Rattle.c_tree.specs.declared.expression.CExpr.{CExpr}
+use Rattle.c_tree.specs.Terms.{Term}
+use Rattle.c_tree.specs.Flat.{Flat, Assign, Branch, Jump, Invoke, Return, Nothing, Ignored, Direct}
+use Rattle.c_structure.specs.Expressions.{Names, expr_for, exprs_for}
+use Rattle.c_structure.specs.Statements as flat
+use Rattle.named_items.specs.declared.item.Item.{Item}
+use Rattle.named_items.specs.declared.item.Item.TheVariants as item
+use Rattle.named_items.specs.Items.{assign_by, item_for, before_items, items_for}
+use Rattle.named_items.specs.Structured as named
+use Rattle.named_items.specs.Agreement.{TellsPlaces}
+
+pub some_same : {A : Type 0} → (x y : A) → Some x ≡ Some y → x ≡ y
+some_same x y h = cc
+
+-- a value that is made of another
+pub record IsMapped {A B : Type 0} (f : A → B) (x : Option A) (y : B) : Type 0 where
+  pub one : A
+  pub one_is : x ≡ Some one
+  pub is : f one ≡ y
+
+pub mapped_by : {A B : Type 0} → (f : A → B) (x : Option A) (y : B) → option_map f x ≡ Some y → IsMapped f x y
+mapped_by f (Some a) y h = record { one = a; one_is = refl; is = some_same (f a) y h }
+mapped_by f None y h = absurd (cc)
+
+pub record IsAssigned (x y : Option CExpr) (i : Item) : Type 0 where
+  pub place : CExpr
+  pub value : CExpr
+  pub place_is : x ≡ Some place
+  pub value_is : y ≡ Some value
+  pub is : item.Assign place value ≡ i
+
+pub assigned : (x y : Option CExpr) (i : Item) → assign_by x y ≡ Some i → IsAssigned x y i
+unfolding assign_by
+assigned (Some a) (Some b) i h = record { place = a; value = b; place_is = refl; value_is = refl; is = some_same (item.Assign a b) i h }
+assigned (Some a) None i h = absurd (cc)
+assigned None y i h = absurd (cc)
+
+-- ## Lists
+
+before_is : (x : Option Item) (xs : Option (List Item)) (i : Item) (is : List Item) → before_items x xs ≡ Some (i ∷ is) → (x ≡ Some i) × (xs ≡ Some is)
+unfolding before_items
+before_is (Some a) (Some as') i is h = let both : a ∷ as' ≡ i ∷ is = some_same (a ∷ as') (i ∷ is) h in let one : a ≡ i = cc in let other : as' ≡ is = cc in (ap Some one, ap Some other)
+before_is (Some a) None i is h = absurd (cc)
+before_is None xs i is h = absurd (cc)
+
+before_none : (x : Option Item) (xs : Option (List Item)) → before_items x xs ≡ Some [] → ⊥
+unfolding before_items
+before_none (Some a) (Some as') h = let same : a ∷ as' ≡ [] = some_same (a ∷ as') [] h in cc
+before_none (Some a) None h = cc
+before_none None xs h = cc
+
+pub items_first : (names : Names) (f : Flat) (fs : List Flat) (i : Item) (is : List Item) → items_for names (f ∷ fs) ≡ Some (i ∷ is) → item_for names f ≡ Some i
+unfolding items_for
+items_first names f fs i is h = (before_is (item_for names f) (items_for names fs) i is h).0
+
+pub items_later : (names : Names) (f : Flat) (fs : List Flat) (i : Item) (is : List Item) → items_for names (f ∷ fs) ≡ Some (i ∷ is) → items_for names fs ≡ Some is
+unfolding items_for
+items_later names f fs i is h = (before_is (item_for names f) (items_for names fs) i is h).1
+
+pub no_items : (names : Names) (f : Flat) (fs : List Flat) → items_for names (f ∷ fs) ≡ Some [] → ⊥
+unfolding items_for
+no_items names f fs h = before_none (item_for names f) (items_for names fs) h
+
+pub no_flats : (names : Names) (i : Item) (is : List Item) → items_for names [] ≡ Some (i ∷ is) → ⊥
+unfolding items_for
+no_flats names i is h = let same : [] ≡ i ∷ is = some_same [] (i ∷ is) h in cc
+
+both_before : (names : Names) (f : Flat) (fs : List Flat) (i : Item) (is : List Item) → item_for names f ≡ Some i → items_for names fs ≡ Some is → items_for names (f ∷ fs) ≡ Some (i ∷ is)
+unfolding items_for before_items
+both_before names f fs i is one other = (λ k. before_items (one k) (other k))
+
+none_named : (names : Names) → items_for names [] ≡ Some []
+unfolding items_for
+none_named names = refl
+
+pub items_take : (names : Names) (m : ℕ) (fs : List Flat) (is : List Item) → items_for names fs ≡ Some is → items_for names (take m fs) ≡ Some (take m is)
+items_take names zero fs is h = none_named names
+items_take names (suc m) [] [] h = none_named names
+items_take names (suc m) [] (i ∷ is) h = absurd (no_flats names i is h)
+items_take names (suc m) (f ∷ fs) [] h = absurd (no_items names f fs h)
+items_take names (suc m) (f ∷ fs) (i ∷ is) h = both_before names f (take m fs) i (take m is) (items_first names f fs i is h) (items_take names m fs is (items_later names f fs i is h))
+
+pub items_drop : (names : Names) (m : ℕ) (fs : List Flat) (is : List Item) → items_for names fs ≡ Some is → items_for names (drop m fs) ≡ Some (drop m is)
+items_drop names zero fs is h = h
+items_drop names (suc m) [] [] h = h
+items_drop names (suc m) [] (i ∷ is) h = absurd (no_flats names i is h)
+items_drop names (suc m) (f ∷ fs) [] h = absurd (no_items names f fs h)
+items_drop names (suc m) (f ∷ fs) (i ∷ is) h = items_drop names m fs is (items_later names f fs i is h)
+
+pub items_length : (names : Names) (fs : List Flat) (is : List Item) → items_for names fs ≡ Some is → length fs ≡ length is
+items_length names [] [] h = refl
+items_length names [] (i ∷ is) h = absurd (no_flats names i is h)
+items_length names (f ∷ fs) [] h = absurd (no_items names f fs h)
+items_length names (f ∷ fs) (i ∷ is) h = ap suc (items_length names fs is (items_later names f fs i is h))
+
+-- an item that may be there is that of a flat one
+abbrev pub IsNamed : Names → Option Flat → Option Item → Type 0
+IsNamed names (Some f) (Some i) = item_for names f ≡ Some i
+IsNamed names None None = Unit {0}
+IsNamed names x y = ⊥
+
+pub items_at : (names : Names) (k : ℕ) (fs : List Flat) (is : List Item) → items_for names fs ≡ Some is → IsNamed names (slice_get fs k) (slice_get is k)
+items_at names k [] [] h = tt
+items_at names k [] (i ∷ is) h = absurd (no_flats names i is h)
+items_at names k (f ∷ fs) [] h = absurd (no_items names f fs h)
+items_at names zero (f ∷ fs) (i ∷ is) h = items_first names f fs i is h
+items_at names (suc k) (f ∷ fs) (i ∷ is) h = items_at names k fs is (items_later names f fs i is h)
+
+-- ## Places
+
+get_take : {A : Type 0} → (m k : ℕ) (xs : List A) (x : A) → slice_get (take m xs) k ≡ Some x → slice_get xs k ≡ Some x
+get_take zero k xs x h = absurd (cc)
+get_take (suc m) k [] x h = absurd (cc)
+get_take (suc m) zero (y ∷ xs) x h = h
+get_take (suc m) (suc k) (y ∷ xs) x h = get_take m k xs x h
+
+pub tells_take : (names : Names) (m : ℕ) (fs : List Flat) → TellsPlaces names fs → TellsPlaces names (take m fs)
+tells_take names m fs t = record {
+  tells = λ j k variable first target operand amount one other. t.tells j k variable first target operand amount (get_take m j fs _ one) (get_take m k fs _ other);
+}
+
+pub tells_later : (names : Names) (f : Flat) (fs : List Flat) → TellsPlaces names (f ∷ fs) → TellsPlaces names fs
+tells_later names f fs t = record { tells = λ j k variable first target operand amount one other. t.tells (suc j) (suc k) variable first target operand amount one other }
+
+pub tells_drop : (names : Names) (m : ℕ) (fs : List Flat) → TellsPlaces names fs → TellsPlaces names (drop m fs)
+tells_drop names zero fs t = t
+tells_drop names (suc m) [] t = t
+tells_drop names (suc m) (f ∷ fs) t = tells_drop names m fs (tells_later names f fs t)
+
+-- ## Which flat item an item is of
+
+pub record IsSetFrom (names : Names) (f : Flat) (a b : CExpr) : Type 0 where
+  pub place : Term
+  pub value : Term
+  pub is : f ≡ Assign place value
+  pub place_is : expr_for names place ≡ Some a
+  pub value_is : expr_for names value ≡ Some b
+
+set_parts : (i j : Item) (a b c d : CExpr) → i ≡ item.Assign a b → i ≡ item.Assign c d → (a ≡ c) × (b ≡ d)
+set_parts i j a b c d one other = let both : item.Assign a b ≡ item.Assign c d = sym one ∙ other in let left : a ≡ c = cc in let right : b ≡ d = cc in (left, right)
+
+pub set_from : (names : Names) (f : Flat) (a b : CExpr) → item_for names f ≡ Some (item.Assign a b) → IsSetFrom names f a b
+unfolding item_for
+set_from names (Assign t u) a b h =
+    let m = assigned (expr_for names t) (expr_for names u) (item.Assign a b) h in
+    let same = set_parts (item.Assign a b) (item.Assign a b) m.place m.value a b (sym m.is) refl in
+    record { place = t; value = u; is = refl; place_is = m.place_is ∙ ap Some same.0; value_is = m.value_is ∙ ap Some same.1 }
+set_from names (Branch test on off) a b h =
+    let m = mapped_by (λ e. item.Branch e on off) (expr_for names test) (item.Assign a b) h in
+    let is : item.Branch m.one on off ≡ item.Assign a b = m.is in absurd (cc)
+set_from names (Jump position) a b h = absurd (cc)
+set_from names (Invoke Ignored (Direct k) arguments) a b h =
+    let m = mapped_by (item.Call (names.routine k)) (exprs_for names arguments) (item.Assign a b) h in
+    let is : item.Call (names.routine k) m.one ≡ item.Assign a b = m.is in absurd (cc)
+set_from names (Return None) a b h = absurd (cc)
+set_from names (Return (Some t)) a b h =
+    let m = mapped_by (λ e. item.Return (Some e)) (expr_for names t) (item.Assign a b) h in
+    let is : item.Return (Some m.one) ≡ item.Assign a b = m.is in absurd (cc)
+set_from names Nothing a b h = absurd (cc)
+set_from names other a b h = absurd (cc)
+
+pub record IsTestFrom (names : Names) (f : Flat) (e : CExpr) (on off : ℕ) : Type 0 where
+  pub test : Term
+  pub is : f ≡ Branch test on off
+  pub test_is : expr_for names test ≡ Some e
+
+pub test_from : (names : Names) (f : Flat) (e : CExpr) (on off : ℕ) → item_for names f ≡ Some (item.Branch e on off) → IsTestFrom names f e on off
+unfolding item_for
+test_from names (Branch t a b) e on off h =
+    let m = mapped_by (λ d. item.Branch d a b) (expr_for names t) (item.Branch e on off) h in
+    let is : item.Branch m.one a b ≡ item.Branch e on off = m.is in
+    let one : m.one ≡ e = cc in
+    let two : a ≡ on = cc in
+    let three : b ≡ off = cc in
+    record { test = t; is = (λ k. Branch t (two k) (three k)); test_is = m.one_is ∙ ap Some one }
+test_from names (Assign t u) e on off h =
+    let m = assigned (expr_for names t) (expr_for names u) (item.Branch e on off) h in
+    let is : item.Assign m.place m.value ≡ item.Branch e on off = m.is in absurd (cc)
+test_from names (Jump position) e on off h = absurd (cc)
+test_from names (Invoke Ignored (Direct k) arguments) e on off h =
+    let m = mapped_by (item.Call (names.routine k)) (exprs_for names arguments) (item.Branch e on off) h in
+    let is : item.Call (names.routine k) m.one ≡ item.Branch e on off = m.is in absurd (cc)
+test_from names (Return None) e on off h = absurd (cc)
+test_from names (Return (Some t)) e on off h =
+    let m = mapped_by (λ d. item.Return (Some d)) (expr_for names t) (item.Branch e on off) h in
+    let is : item.Return (Some m.one) ≡ item.Branch e on off = m.is in absurd (cc)
+test_from names Nothing e on off h = absurd (cc)
+test_from names other e on off h = absurd (cc)
+
+pub jump_from : (names : Names) (f : Flat) (p : ℕ) → item_for names f ≡ Some (item.Jump p) → f ≡ Jump p
+unfolding item_for
+jump_from names (Jump position) p h = let same : position ≡ p = cc in ap Jump same
+jump_from names (Assign t u) p h =
+    let m = assigned (expr_for names t) (expr_for names u) (item.Jump p) h in
+    let is : item.Assign m.place m.value ≡ item.Jump p = m.is in absurd (cc)
+jump_from names (Branch t a b) p h =
+    let m = mapped_by (λ d. item.Branch d a b) (expr_for names t) (item.Jump p) h in
+    let is : item.Branch m.one a b ≡ item.Jump p = m.is in absurd (cc)
+jump_from names (Invoke Ignored (Direct k) arguments) p h =
+    let m = mapped_by (item.Call (names.routine k)) (exprs_for names arguments) (item.Jump p) h in
+    let is : item.Call (names.routine k) m.one ≡ item.Jump p = m.is in absurd (cc)
+jump_from names (Return None) p h = absurd (cc)
+jump_from names (Return (Some t)) p h =
+    let m = mapped_by (λ d. item.Return (Some d)) (expr_for names t) (item.Jump p) h in
+    let is : item.Return (Some m.one) ≡ item.Jump p = m.is in absurd (cc)
+jump_from names Nothing p h = absurd (cc)
+jump_from names other p h = absurd (cc)
+
+-- ## Jumps
+
+pub ends_alike : (names : Names) (x : Option Flat) (y : Option Item) (p : ℕ) → IsNamed names x y → named.end_of_arm y ≡ Some p → flat.end_of_arm x ≡ Some p
+unfolding named.end_of_arm flat.end_of_arm
+ends_alike names (Some f) (Some (item.Jump q)) p is h = ap flat.end_of_arm (ap Some (jump_from names f q is)) ∙ h
+ends_alike names None (Some (item.Jump q)) p is h = absurd is
+ends_alike names x y p is h = absurd (cc)
+
+pub back_alike : (names : Names) (n m : ℕ) (x : Option Flat) (y : Option Item) → n ≡ m → IsNamed names x y → named.goes_back n y ≡ true → flat.goes_back m x ≡ true
+unfolding named.goes_back flat.goes_back
+back_alike names n m (Some f) (Some (item.Jump q)) same is h = ap (flat.goes_back m) (ap Some (jump_from names f q is)) ∙ ap (nat_eq q) (sym same) ∙ h
+back_alike names n m None (Some (item.Jump q)) same is h = absurd is
+back_alike names n m x y same is h = absurd (cc)

@@ -1,0 +1,5 @@
+pub mod Agreement
+pub mod Items
+pub mod Layouts
+pub mod SamePlaces
+pub mod Structured

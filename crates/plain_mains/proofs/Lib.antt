@@ -1,0 +1,4 @@
+pub mod Described
+pub mod StoredNames
+pub mod PlainUnits
+pub mod ExampleRows

@@ -1,0 +1,4 @@
+pub mod Building
+pub mod Carrying
+pub mod Labels
+pub mod PlannedItems

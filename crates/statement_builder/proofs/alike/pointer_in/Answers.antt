@@ -1,0 +1,6 @@
+use Rattle.std.proofs.Common.{sym}
+use Rattle.named_items.proofs.Forms.{pointer-other}
+use Rattle.statement_builder.proofs.alike.pointer_in.Goals as goal
+
+pub returns-in_default : goal.returns-in_default
+returns-in_default c = sym (pointer-other c.args.e.now c.in_default.not-Unary)

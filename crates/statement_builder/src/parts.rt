@@ -1,0 +1,161 @@
+//! Statements with the items that belong to them, from parts that are built already.
+
+ghost use Rattle.std.specs.Prelude.{◌≡◌, ◌+◌, ◌<◌, ◌^◌, option_copied, IfOk, Option, Some, None};
+ghost use Rattle.c_tree.specs.declared.statement.CStmt.TheVariants as stmt;
+ghost use Rattle.c_structure.specs.Statements.{with_label};
+ghost use Rattle.named_items.specs.Layouts.{layout_of};
+ghost use Rattle.named_items.specs.Structured as spec;
+
+use c_tree::expression::{CCall, CExpr, Text};
+use c_tree::statement::{CNext, CStmt};
+use named_items::{Head, Item, Layout, Part};
+use plain_data::{Boxed, Items};
+use std::alloc::{AllocError, Global};
+
+/// Nothing, in place of what is given.
+pub(crate) fn nothing<T: Drop, U>(_given: T) -> Option<U>
+    ensures { result ≡ None }
+{
+    None
+}
+
+/// Lets go of what is given.
+pub(crate) fn passed<T: Drop>(_given: T) {}
+
+/// A statement with a label.
+fn with_name(alloc: Global, name: &[u8], statement: CStmt) -> Result<CStmt, AllocError>
+    ensures { IfOk result (λ s. s ≡ stmt.Label name.now statement) }
+{
+    let inner = Boxed::new(alloc, statement)?;
+    let name = Items::from_slice(alloc, name)?;
+    Ok(CStmt::Label(name, inner))
+}
+
+/// A statement with its label, where it has one.
+#[tactic(auto)]
+fn labelled(alloc: Global, label: Option<&[u8]>, statement: CStmt) -> Result<CStmt, AllocError>
+    ensures { IfOk result (λ s. s ≡ with_label (option_copied label.entry) statement) }
+{
+    match label {
+        Some(name) => with_name(alloc, name, statement),
+        None => Ok(statement),
+    }
+}
+
+/// A part whose statement has its label.
+#[tactic(auto)]
+pub(crate) fn marked(
+    alloc: Global,
+    label: Option<&[u8]>,
+    part: Option<Part>,
+) -> Result<Option<Part>, AllocError>
+    ensures { IfOk result (λ p. p ≡ spec.marked (option_copied label.entry) part) }
+{
+    match part {
+        Some(Part { statement, taken }) => {
+            let statement = labelled(alloc, label, statement)?;
+            Ok(Some(Part { statement, taken }))
+        }
+        None => Ok(None),
+    }
+}
+
+/// A jump to a label, where there is one.
+#[tactic(auto, unfolding(named_items::specs::Structured::goto_label))]
+fn goto_label(alloc: Global, label: Option<&[u8]>) -> Result<Option<CStmt>, AllocError>
+    ensures { IfOk result (λ s. s ≡ spec.goto_label (option_copied label.entry)) }
+{
+    match label {
+        Some(name) => Ok(Some(CStmt::Goto(Items::from_slice(alloc, name)?))),
+        None => Ok(None),
+    }
+}
+
+/// A call of a function by its name.
+#[tactic(auto, unfolding(named_items::specs::Structured::call_of))]
+fn call_of(name: Text, arguments: Items<CExpr>) -> CStmt
+    ensures { result ≡ spec.call_of name arguments }
+{
+    CStmt::Call(CCall {
+        through: false,
+        name,
+        arguments,
+    })
+}
+
+/// The statement of one item, where it has one of its own.
+#[tactic(auto, unfolding(named_items::specs::Structured::statement_of))]
+pub(crate) fn statement_of(
+    alloc: Global,
+    layout: &Layout,
+    item: Item,
+) -> Result<Option<CStmt>, AllocError>
+    ensures { IfOk result (λ s. s ≡ spec.statement_of (layout_of layout.now) item) }
+{
+    match item {
+        Item::Assign(place, value) => Ok(Some(CStmt::Set(place, value))),
+        Item::Branch(_, _, _) => Ok(None),
+        Item::Jump(position) => goto_label(alloc, layout.label(position)),
+        Item::Call(name, arguments) => Ok(Some(call_of(name, arguments))),
+        Item::Return(value) => Ok(Some(CStmt::Return(value))),
+        Item::Nothing => Ok(Some(CStmt::Empty)),
+    }
+}
+
+/// An `if` whose block has so many items.
+#[tactic(auto, unfolding(named_items::specs::Structured::if_by))]
+pub(crate) fn if_by(test: CExpr, size: usize, first: Option<Items<CStmt>>) -> Option<Part>
+    ensures { result ≡ spec.if_by test size first }
+{
+    match first {
+        Some(first) => Some(Part {
+            statement: CStmt::If(test, first, None),
+            taken: size,
+        }),
+        None => None,
+    }
+}
+
+/// An `if` with an `else`, whose blocks and the jump between them are so many items.
+#[tactic(auto, unfolding(named_items::specs::Structured::if_else_by))]
+pub(crate) fn if_else_by(
+    test: CExpr,
+    size: usize,
+    first: Items<CStmt>,
+    second: Option<Items<CStmt>>,
+) -> Option<Part>
+    ensures { result ≡ spec.if_else_by test size (Some first) second }
+{
+    match second {
+        Some(second) => Some(Part {
+            statement: CStmt::If(test, first, Some(second)),
+            taken: size,
+        }),
+        None => None,
+    }
+}
+
+/// A `for`, whose turn has so many items.
+#[tactic(auto, unfolding(named_items::specs::Structured::for_by))]
+pub(crate) fn for_by(
+    head: Head,
+    size: usize,
+    next: Option<CNext>,
+    turn: Items<CStmt>,
+) -> Option<Part>
+    requires { size + 3 < 2 ^ 64 }
+    ensures { result ≡ spec.for_by head size next (Some turn) }
+{
+    let Head {
+        variable,
+        first,
+        test,
+    } = head;
+    match next {
+        Some(next) => Some(Part {
+            statement: CStmt::For(variable, first, test, next, turn),
+            taken: size + 3,
+        }),
+        None => None,
+    }
+}

@@ -1,0 +1,20 @@
+//! How an item is written with those behind it, before they are.
+
+use c_tree::expression::CExpr;
+use c_tree::statement::CStmt;
+use named_items::Head;
+
+/// How an item is written with those behind it.
+#[derive(Drop)]
+pub(crate) enum Plan {
+    /// Nothing is built for it.
+    Unwritten,
+    /// A statement of its own.
+    Whole(CStmt),
+    /// An `if` whose block has so many items.
+    OneArm(CExpr, usize),
+    /// An `if` with an `else`, whose blocks have so many items, with a jump between them.
+    TwoArms(CExpr, usize, usize),
+    /// A `for` whose turn has so many items, with its growth and the jump back behind them. The test is taken already.
+    Turns(Head, usize),
+}
