@@ -13,6 +13,3 @@ pub mod sharing;
 
 pub use faults::{add_block_rows, block_fault};
 pub use sharing::entry_sharing;
-
-#[cfg(test)]
-mod tests;

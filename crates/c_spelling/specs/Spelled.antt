@@ -24,6 +24,7 @@ use Rattle.c_tree.specs.CText.{kinds, CText, WellFormed}
 use Rattle.c_text.specs.Expressions.{bare, printed_call}
 use Rattle.c_text.specs.Printed.{printed_stmt, printed}
 
+-- a number of eight bits
 abbrev pub is_byte : ℕ → Bool
 is_byte number = nat_lt number 256
 

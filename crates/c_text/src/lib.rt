@@ -12,8 +12,6 @@ mod local;
 mod out;
 mod phrase;
 mod statement;
-#[cfg(test)]
-mod tests;
 mod types;
 
 pub use file::print_c;

@@ -7,8 +7,6 @@ mod functions;
 mod integers;
 mod intrinsics;
 mod operators;
-#[cfg(test)]
-mod tests;
 mod texts;
 mod values;
 mod valuing;

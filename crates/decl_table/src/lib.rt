@@ -7,8 +7,6 @@ mod constants;
 mod declarations;
 mod facts;
 mod functions;
-#[cfg(test)]
-mod tests;
 mod widths;
 
 pub use declarations::{Declarations, unit_declarations};

@@ -8,6 +8,3 @@ pub mod types;
 
 pub use shapes::{Shapes, shape, unit_shapes};
 pub use types::{DeclaredType, Types, typed_name, unit_types};
-
-#[cfg(test)]
-mod tests;

@@ -10,6 +10,3 @@ mod judge;
 
 pub use given::given_names;
 pub use judge::definition_fault;
-
-#[cfg(test)]
-mod tests;

@@ -40,6 +40,3 @@ pub fn translate(alloc: Global, file: &File) -> Result<CFile, AllocError>
         functions,
     })
 }
-
-#[cfg(test)]
-mod tests;

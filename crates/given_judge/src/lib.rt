@@ -14,6 +14,3 @@ mod statements;
 mod twice;
 
 pub use judge::given_fault;
-
-#[cfg(test)]
-mod tests;

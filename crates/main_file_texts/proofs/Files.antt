@@ -28,7 +28,7 @@ use Rattle.c_laws.proofs.TokenSpellings.{and-first, and-second}
 use Rattle.linking_laws.specs.Linked as linked
 use Rattle.linking_laws.specs.Linked.{AreDistinct, IsBuilt}
 use Rattle.linking_laws.proofs.BuiltCode.{built_fit}
-use Rattle.linking_laws.proofs.Places.{some_same, same_bytes}
+use Rattle.linking_laws.proofs.Places.{some_same, same_bytes, within}
 use Rattle.main_file.specs.MainFile.{Variable, Listing, Called, constant_for, main_locals, main_function, main_file, names_of, writing_of, list_names, temporary_names, constant_names, lasting_names, called_names}
 use Rattle.main_file.specs.MainItems.{item_before, flats_from}
 use Rattle.main_file_laws.specs.KnownFile.{NamesDiffer, scope_in}
@@ -72,11 +72,6 @@ whiles_count (one ∷ marks) = by (opens_while one.mark) (whiles_count marks)
     by true rest = omega (arith, rest)
     by false rest = omega (arith, rest)
 
-below : {A : Type 0} (xs : List A) (i : ℕ) (x : A) → slice_get xs i ≡ Some x → i < length xs
-below [] i x at = absurd (cc)
-below (y ∷ xs) zero x at = omega arith
-below (y ∷ xs) (suc i) x at = let less = below xs i x at in omega (arith, less)
-
 module _ (u : Text) (plain : IsPlainText u) where
   name_word : (n : ℕ) (name : List ℕ) (label loop : Option ℕ) → label_before u.position n (labels_in u.steps) ≡ label → position (nat_eq n) (whiles_in u.marks) ≡ loop → name_by label loop ≡ Some name → is_name name ≡ true
   unfolding name_by
@@ -84,7 +79,7 @@ module _ (u : Text) (plain : IsPlainText u) where
       subst (λ x. is_name x ≡ true) (some_same (made_name (StatementLabel l)) name h) (statement_label_word l (plain.labels l (among_labels u.position n (labels_in u.steps) l one)))
   name_word n name None (Some k) one other h =
       let found = position_finds (nat_eq n) (whiles_in u.marks) k other in
-      let less = below (whiles_in u.marks) k found.one found.at in
+      let less = within (whiles_in u.marks) k found.one found.at in
       let few = whiles_count u.marks in
       let fits = plain.marks in
       subst (λ x. is_name x ≡ true) (some_same (made_name (MadeLabel (suc k))) name h) (made_label_word (suc k) (omega (arith, less, few, fits)))

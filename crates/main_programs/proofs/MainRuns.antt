@@ -137,7 +137,7 @@ all_many v =
 
 -- ## The constants of the file
 
-constants_count : (zs : List ℤ) → length (declared_constants (map constant_for zs)) ≡ length zs
+pub constants_count : (zs : List ℤ) → length (declared_constants (map constant_for zs)) ≡ length zs
 constants_count [] = refl
 constants_count (z ∷ zs) = ap suc (constants_count zs)
 
@@ -151,7 +151,7 @@ constant_at [] i z at = absurd (cc)
 constant_at (y ∷ zs) zero z at = subst (IsConstantAt (y ∷ zs) 0) (some_same y z at) (record { declared = _; at = refl; always = λ scope first. refl })
 constant_at (y ∷ zs) (suc i) z at = let later = constant_at zs i z at in record { declared = later.declared; at = later.at; always = later.always }
 
-no_main : (found : Option ℕ) (k : ℕ) → position (bytes_eq linking.main_name) builtin_names ≡ Some k → ⊥
+pub no_main : (found : Option ℕ) (k : ℕ) → position (bytes_eq linking.main_name) builtin_names ≡ Some k → ⊥
 no_main found k h = cc
 
 no_blank : {A : Type 0} (count j : ℕ) (object : Object) → slice_get (replicate count None) j ≡ Some (Some object) → A

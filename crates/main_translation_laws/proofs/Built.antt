@@ -22,7 +22,7 @@ use Rattle.c_emit.specs.Calls.{start_item, unit_of}
 use Rattle.c_emit.specs.Flats.{flat_of}
 use Rattle.c_structure.specs.Statements.{statements_for}
 use Rattle.linking_laws.specs.Linked.{IsBuilt}
-use Rattle.linking_laws.proofs.Places.{some_same}
+use Rattle.linking_laws.proofs.Places.{some_same, within}
 use Rattle.main_file.specs.MainFile.{Inventory, Bases, main_function}
 use Rattle.main_file.specs.MainItems.{item_before, flats_from}
 use Rattle.main_file_laws.specs.BuiltMain.{IsListed, AreListed}
@@ -215,14 +215,9 @@ whiles_count (one ∷ marks) = by (opens_while one.mark) (whiles_count marks)
     by true rest = omega (arith, rest)
     by false rest = omega (arith, rest)
 
-below : {A : Type 0} (xs : List A) (i : ℕ) (x : A) → slice_get xs i ≡ Some x → i < length xs
-below [] i x at = absurd (cc)
-below (y ∷ xs) zero x at = omega arith
-below (y ∷ xs) (suc i) x at = let less = below xs i x at in omega (arith, less)
-
 made_small : (u : Text) (k n : ℕ) → IsPlainText u → slice_get (whiles_in u.marks) k ≡ Some n → suc k < 2 ^ 64
 made_small u k n plain at =
-    let less = below (whiles_in u.marks) k n at in
+    let less = within (whiles_in u.marks) k n at in
     let few = whiles_count u.marks in
     let fits = plain.marks in omega (arith, less, few, fits)
 

@@ -18,7 +18,7 @@ use Rattle.linking_laws.proofs.Places.{some_same, position_step, taken, skipped}
 use Rattle.main_file.specs.MainFile.{Listing, Called}
 use Rattle.main_translation.specs.Contents.{with_new, own_value, item_type, kind_value, passed_by, passed_from, constants_of, listing_by, listings_from, if_called, start_output, output_item, end_output, stop_run, calls_of, begins_output, takes_item, ends_output, stops_run}
 use Rattle.main_translation_laws.proofs.Lists.{AreApart, none_apart, one_apart, InEither, in_one, in_other, in_either, apart_append}
-use Rattle.main_translation_laws.proofs.Names.{IsCalledName}
+use Rattle.main_translation_laws.proofs.Names.{IsCalledName, same_first}
 
 -- ## Constants
 
@@ -231,9 +231,6 @@ listed_at first (Acts (Starts way' layout' controls') ps' m' ∷ later) (suc i) 
 listed_at first (st ∷ later) (suc i) n way layout controls ps m unit at stands is = listed_at (suc first) later i n way layout controls ps m unit (omega (arith, at)) stands is
 
 -- ## Functions of the library
-
-same_first : (a b : ℕ) (x y : List ℕ) → a ∷ x ≡ b ∷ y → a ≡ b
-same_first a b x y e = cc
 
 starts_named : IsCalledName (codes "s_wsle")
 starts_named = record {

@@ -16,6 +16,7 @@ use Rattle.main_file.specs.MainFile.{Inventory, Bases, writing_of}
 use Rattle.main_translation.specs.Flow as flow
 use Rattle.main_translation.specs.Flow.{target_in, targets_of, targets_from, is_target, kept_type, kept_at, kind_at, stage_after, stage_at, is_on, are_on}
 use Rattle.main_programs.specs.EmittedMain.{StepsFit}
+use Rattle.c_laws.proofs.TokenSpellings.{and-first, and-second}
 
 -- ## Where steps lead
 
@@ -214,22 +215,14 @@ module _ (v : Inventory) (b : Bases) (u : Text) where
           let there : slice_get u.steps m ≡ Some st = ap (slice_get u.steps) here ∙ stands in
           sym (same_stage (stage_at u n) st) ∙ sym (at_stage (stage_at u n) st) ∙ ap (λ j. flow.stage_behind false (stage_at u j) (Some st)) (sym here) ∙ ap (flow.stage_behind false (stage_at u m)) (sym there) ∙ g
 
-  left_true : (a c : Bool) → a && c ≡ true → a ≡ true
-  left_true true c h = refl
-  left_true false c h = absurd (cc)
-
-  right_true : (a c : Bool) → a && c ≡ true → c ≡ true
-  right_true true c h = h
-  right_true false c h = absurd (cc)
-
   on_at : (n : ℕ) (steps : List Step) (i k : ℕ) (st : Step) → k ≡ n + i → are_on u n steps ≡ true → slice_get steps i ≡ Some st → is_on st (stage_at u k) ≡ true
   unfolding are_on
   on_at n [] i k st at on stands = absurd (cc)
   on_at n (first ∷ later) zero k st at on stands =
       let same : k ≡ n = omega (arith, at) in
       let it : first ≡ st = some_same first st stands in
-      subst (λ s. is_on s (stage_at u k) ≡ true) it (subst (λ j. is_on first (stage_at u j) ≡ true) (sym same) (left_true (is_on first (stage_at u n)) (are_on u (suc n) later) on))
-  on_at n (first ∷ later) (suc i) k st at on stands = on_at (suc n) later i k st (omega (arith, at)) (right_true (is_on first (stage_at u n)) (are_on u (suc n) later) on) stands
+      subst (λ s. is_on s (stage_at u k) ≡ true) it (subst (λ j. is_on first (stage_at u j) ≡ true) (sym same) (and-first (is_on first (stage_at u n)) (are_on u (suc n) later) on))
+  on_at n (first ∷ later) (suc i) k st at on stands = on_at (suc n) later i k st (omega (arith, at)) (and-second (is_on first (stage_at u n)) (are_on u (suc n) later) on) stands
 
   some_unit : (stage : Option ℤ) → is_some stage ≡ true → (unit : ℤ) × (stage ≡ Some unit)
   some_unit (Some unit) h = (unit, refl)

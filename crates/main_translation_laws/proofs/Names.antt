@@ -32,10 +32,10 @@ pub record IsCalledName (name : List ℕ) : Type 0 where
   pub no_i : (rest : List ℕ) → name ≢ 105 ∷ rest
   pub no_c : (rest : List ℕ) → name ≢ 99 ∷ rest
 
-same_first : (a b : ℕ) (x y : List ℕ) → a ∷ x ≡ b ∷ y → a ≡ b
+pub same_first : (a b : ℕ) (x y : List ℕ) → a ∷ x ≡ b ∷ y → a ≡ b
 same_first a b x y e = cc
 
-same_rest : (a b : ℕ) (x y : List ℕ) → a ∷ x ≡ b ∷ y → x ≡ y
+pub same_rest : (a b : ℕ) (x y : List ℕ) → a ∷ x ≡ b ∷ y → x ≡ y
 same_rest a b x y e = cc
 
 -- ## Names of two sorts

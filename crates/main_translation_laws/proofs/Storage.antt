@@ -17,6 +17,7 @@ use Rattle.main_translation.specs.Contents.{count_by, variable_of, inventory_of}
 use Rattle.main_programs.specs.MainRuns.{bytes_in, HasPlainStorage}
 use Rattle.main_translation_laws.specs.PlainMains.{IsPlainMain}
 use Rattle.main_translation_laws.proofs.Lists.{AreApart, none_apart, one_apart, in_map, in_at}
+use Rattle.c_laws.proofs.TokenSpellings.{and-first, and-second}
 
 -- ## Members
 
@@ -101,14 +102,6 @@ own_place unit (k ∷ ms) (suc i) m (another_name none later) at =
 
 -- ## The storage of a main program
 
-left_true : (a b : Bool) → a && b ≡ true → a ≡ true
-left_true true b h = refl
-left_true false b h = absurd (cc)
-
-right_true : (a b : Bool) → a && b ≡ true → b ≡ true
-right_true true b h = h
-right_true false b h = absurd (cc)
-
 no_bounds : (bs : List Bounds) → not (has_bounds bs) ≡ true → count_by bs ≡ None
 unfolding has_bounds count_by
 no_bounds [] h = refl
@@ -152,13 +145,13 @@ module _ (unit : ProgramUnit) (u : Text) (main : IsPlainMain unit) where
     unfolding is_scalar is_array
     variables_listed = record {
       scalars = λ x is.
-          let number = left_true (has_number (writing_of (inventory_of unit u) b facts kind) x) (not (has_bounds (facts.program.attribute x).bounds)) is in
-          let bare = right_true (has_number (writing_of (inventory_of unit u) b facts kind) x) (not (has_bounds (facts.program.attribute x).bounds)) is in
+          let number = and-first (has_number (writing_of (inventory_of unit u) b facts kind) x) (not (has_bounds (facts.program.attribute x).bounds)) is in
+          let bare = and-second (has_number (writing_of (inventory_of unit u) b facts kind) x) (not (has_bounds (facts.program.attribute x).bounds)) is in
           let p = number_placed x number in
           (p.index, variable_of unit p.member, p.place, map_at (variable_of unit) unit.stored p.index p.member p.at, scalar_count x p.member p.called bare);
       arrays = λ x is.
-          let number = left_true (has_number (writing_of (inventory_of unit u) b facts kind) x) (has_bounds (facts.program.attribute x).bounds) is in
-          let bounded = right_true (has_number (writing_of (inventory_of unit u) b facts kind) x) (has_bounds (facts.program.attribute x).bounds) is in
+          let number = and-first (has_number (writing_of (inventory_of unit u) b facts kind) x) (has_bounds (facts.program.attribute x).bounds) is in
+          let bounded = and-second (has_number (writing_of (inventory_of unit u) b facts kind) x) (has_bounds (facts.program.attribute x).bounds) is in
           let p = number_placed x number in
           let counted = array_count x p.member p.called bounded in
           (p.index, variable_of unit p.member, counted.0, p.place, map_at (variable_of unit) unit.stored p.index p.member p.at, counted.1);

@@ -30,7 +30,7 @@ use Rattle.main_file_laws.specs.KnownFile.{scope_in}
 use Rattle.main_file_laws.proofs.BuiltItems.{AreEmitted, AreAllKnown, all_known}
 use Rattle.main_programs.specs.EmittedMain.{StepsFit, IsMain}
 use Rattle.main_programs.specs.MainRuns.{plain_facts, bases_of, IsTranslatedMain}
-use Rattle.main_programs.proofs.MainRuns.{main_programs_run_alike}
+use Rattle.main_programs.proofs.MainRuns.{main_programs_run_alike, constants_count, no_main}
 use Rattle.main_translation.specs.Flow.{kind_at, stage_at}
 use Rattle.main_translation.specs.Contents.{constants_of, variable_of, text_at, inventory_of, first_objects}
 use Rattle.main_translation.specs.Outlined.{outline_of, returns_last}
@@ -68,10 +68,6 @@ first_start u = none_before u u.lines
 
 -- ## The numbers of its objects
 
-constants_count : (zs : List ℤ) → length (declared_constants (map constant_for zs)) ≡ length zs
-constants_count [] = refl
-constants_count (z ∷ zs) = ap suc (constants_count zs)
-
 bases_are : (v : Inventory) (body : List CStmt) → bases_of v body ≡ first_objects v
 bases_are v body = let count = constants_count v.constants in ap (λ n. record { own = 1; file = 0; function = n }) {x = 0 + length (declared_constants (map constant_for v.constants))} {y = length v.constants} (omega (arith, count))
 
@@ -96,9 +92,6 @@ other_body u = strings_body (length (stops_from 0 u.steps))
 
 body_count : (n : ℕ) → length (whole_body (strings_body n)).items.strings ≡ n
 body_count n = same_strings (ends (strings_body n)) (body_of_all (strings_body n)) ∙ strings_count n
-
-no_main : (found : Option ℕ) (k : ℕ) → position (bytes_eq linking.main_name) builtin_names ≡ Some k → ⊥
-no_main found k h = cc
 
 -- ## The whole
 

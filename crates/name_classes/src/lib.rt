@@ -11,6 +11,3 @@ pub mod used;
 
 pub use classes::class_of;
 pub use signs::{Signs, unit_signs};
-
-#[cfg(test)]
-mod tests;

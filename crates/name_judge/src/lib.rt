@@ -10,6 +10,3 @@ mod rows;
 mod tables;
 
 pub use judge::name_fault;
-
-#[cfg(test)]
-mod tests;

@@ -28,19 +28,12 @@ use Rattle.main_file_texts.specs.WellFormedMains.{IsSpellable}
 use Rattle.main_file_texts.proofs.Files.{main_files_are_well_formed}
 use Rattle.plain_mains.proofs.PlainUnits.{plain_mains_are_told}
 use Rattle.plain_files.specs.PlainFiles.{has_element, is_spellable_name, is_spellable, made_file, EachPlainFileIsFaithful}
-
-left_true : (a b : Bool) → a && b ≡ true → a ≡ true
-left_true true b h = refl
-left_true false b h = absurd (cc)
-
-right_true : (a b : Bool) → a && b ≡ true → b ≡ true
-right_true true b h = h
-right_true false b h = absurd (cc)
+use Rattle.c_laws.proofs.TokenSpellings.{and-first, and-second}
 
 each_of : {A : Type 0} (test : A → Bool) (xs : List A) → list_all test xs ≡ true → (x : A) → IsIn x xs → test x ≡ true
 each_of test [] all x o = elim o [ ]
-each_of test (y ∷ ys) all _ first_in = left_true (test y) (list_all test ys) all
-each_of test (y ∷ ys) all x (later_in o) = each_of test ys (right_true (test y) (list_all test ys) all) x o
+each_of test (y ∷ ys) all _ first_in = and-first (test y) (list_all test ys) all
+each_of test (y ∷ ys) all x (later_in o) = each_of test ys (and-second (test y) (list_all test ys) all) x o
 
 -- ## Names
 
@@ -56,8 +49,8 @@ some_element (Some m) n is same = let here : m ≡ n = cc in subst (λ k. 1 ≤ 
 spellable : (unit : ProgramUnit) → is_spellable unit ≡ true → IsSpellable unit
 unfolding is_spellable_name
 spellable unit is = record {
-  letters = λ m o. left_true (begins_with is_letter m.name) (has_element (count_by (unit.attribute m.name).bounds)) (named unit is m o);
-  elements = λ m n o count. some_element (count_by (unit.attribute m.name).bounds) n (right_true (begins_with is_letter m.name) (has_element (count_by (unit.attribute m.name).bounds)) (named unit is m o)) count;
+  letters = λ m o. and-first (begins_with is_letter m.name) (has_element (count_by (unit.attribute m.name).bounds)) (named unit is m o);
+  elements = λ m n o count. some_element (count_by (unit.attribute m.name).bounds) n (and-second (begins_with is_letter m.name) (has_element (count_by (unit.attribute m.name).bounds)) (named unit is m o)) count;
 }
 
 -- ## The set of one file

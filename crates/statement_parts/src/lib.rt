@@ -7,6 +7,3 @@ pub mod expressions;
 
 pub use calls::{CallPart, call_part};
 pub use expressions::add_expressions;
-
-#[cfg(test)]
-mod tests;

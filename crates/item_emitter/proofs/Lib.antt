@@ -1,0 +1,6 @@
+pub mod ValueForms
+pub mod ValueWalks
+pub mod IndexWalks
+pub mod FunctionWalks
+pub mod StepForms
+pub mod CallForms

@@ -1,0 +1,32 @@
+-- Acts of a transfer by their operands: the unit of one that begins, and what ends. ANSI X3.9-1978, sections 12.8 and 13.6.
+use Rattle.std.specs.Prelude.{ℕ, zero, suc, ℤ, ◌&&◌, Option, Some, None}
+use Rattle.f_tree.specs.Values.{IsInt, in_range}
+use Rattle.f_tree.specs.Facts.{Direction, Output, Layout, Listed, Controls}
+use Rattle.l_core.specs.Pures.{Pure, Constant, Pures}
+use Rattle.c_emit.specs.Calls.{is_plain}
+use Rattle.named_items.specs.declared.item.Item.{Item}
+use Rattle.item_emission.specs.NamedEmission.{Knowledge, start_if, start_step, finish_step}
+
+-- the integer that a value is
+unfoldable pub integer_in : Pure → Option ℤ
+integer_in (Constant (IsInt z)) = Some z
+integer_in p = None
+
+-- the start of an output on a unit
+unfoldable pub start_unit : Knowledge → ℕ → Controls → Option ℤ → Option Item
+start_unit known n controls None = None
+start_unit known n controls (Some unit) = start_if (is_plain controls && in_range unit) (known.list n)
+
+-- the start of a transfer
+unfoldable pub begin_step : Knowledge → ℕ → Direction → Layout → Controls → Pures → Option Item
+begin_step known n Output Listed controls ps = start_step known n controls ps
+begin_step known n way layout controls ps = None
+
+-- the end of a transfer that passes so many steps
+unfoldable pub finish_at : ℕ → Pures → Option Item
+finish_at zero ps = finish_step ps
+finish_at (suc m) ps = None
+
+unfoldable pub operands_opened : Unit {0}
+unfolding integer_in start_unit begin_step finish_at
+operands_opened = tt

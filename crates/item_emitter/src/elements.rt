@@ -1,0 +1,156 @@
+//! Elements of arrays. ANSI X3.9-1978, section 5.4.
+
+ghost use Rattle.std.specs.Prelude.{◌≡◌, ◌++◌, ◌∷◌, [], Some, option_map, IfOk};
+ghost use Rattle.c_tree.specs.declared.expression.CExpr.TheVariants as expr;
+ghost use Rattle.c_structure.specs.Expressions.{with_two};
+ghost use Rattle.item_emission.specs.NamedEmission as spec;
+
+use crate::arithmetic::{constant, count, difference, product, sum};
+use c_names::variable_name;
+use c_tree::expression::CExpr;
+use item_emission::Dimension;
+use plain_data::{Boxed, Items};
+use std::alloc::{AllocError, Global};
+
+/// A dimension; what is not there counts as 0.
+#[tactic(auto, unfolding(item_emission::specs::NamedEmission::dimension_at))]
+fn dimension_at(dimensions: &[Dimension], place: usize) -> Dimension
+    ensures { result ≡ spec.dimension_at dimensions.now place }
+{
+    match dimensions.get(place) {
+        Some(dimension) => *dimension,
+        None => Dimension { lower: 0, size: 0 },
+    }
+}
+
+/// How far a subscript is from the lower bound of its dimension.
+#[tactic(auto, unfolding(item_emission::specs::NamedEmission::distance_expr))]
+fn distance(alloc: Global, dimension: Dimension, subscript: CExpr) -> Result<CExpr, AllocError>
+    ensures { IfOk result (λ e. spec.distance_expr dimension subscript ≡ Some e) }
+{
+    let lower = constant(alloc, dimension.lower)?;
+    difference(alloc, subscript, lower)
+}
+
+/// A product, where there are factors.
+#[tactic(auto, unfolding(c_structure::specs::Expressions::with_two))]
+fn product_of(
+    alloc: Global,
+    left: Option<CExpr>,
+    right: Option<CExpr>,
+) -> Result<Option<CExpr>, AllocError>
+    ensures { IfOk result (λ e. e ≡ with_two spec.product_expr left right) }
+{
+    match (left, right) {
+        (Some(left), Some(right)) => Ok(Some(product(alloc, left, right)?)),
+        (Some(_), None) => Ok(None),
+        (None, _) => Ok(None),
+    }
+}
+
+/// A sum, where there is what is added to.
+#[tactic(auto, unfolding(item_emission::specs::NamedEmission::sum_of))]
+fn sum_of(alloc: Global, left: Option<CExpr>, right: CExpr) -> Result<Option<CExpr>, AllocError>
+    ensures { IfOk result (λ e. e ≡ spec.sum_of left (Some right)) }
+{
+    match left {
+        Some(left) => sum(alloc, left, right),
+        None => Ok(None),
+    }
+}
+
+/// One dimension more, before those by which an element has an index.
+#[tactic(auto, unfolding(item_emission::specs::NamedEmission::stepped_expr))]
+fn stepped(
+    alloc: Global,
+    dimension: Dimension,
+    subscript: CExpr,
+    index: Option<CExpr>,
+) -> Result<Option<CExpr>, AllocError>
+    ensures { IfOk result (λ e. e ≡ spec.stepped_expr dimension subscript index) }
+{
+    let before = product_of(alloc, index, count(dimension.size))?;
+    let distance = distance(alloc, dimension, subscript)?;
+    sum_of(alloc, before, distance)
+}
+
+/// The index of an element whose last subscript is given apart, the first subscript going fastest.
+fn index_by(
+    alloc: Global,
+    dimensions: &[Dimension],
+    mut before: Items<CExpr>,
+    last: CExpr,
+) -> Result<Option<CExpr>, AllocError>
+    ensures { IfOk result (λ e. e ≡ spec.index_expr dimensions.now 0 (before ++ last ∷ [])) }
+{
+    let mut index = Some(distance(alloc, dimension_at(dimensions, before.len()), last)?);
+    while let Some(subscript) = before.pop() {
+        index = stepped(
+            alloc,
+            dimension_at(dimensions, before.len()),
+            subscript,
+            index,
+        )?;
+    }
+    Ok(index)
+}
+
+/// The index of an element, by its subscripts.
+fn index(
+    alloc: Global,
+    dimensions: &[Dimension],
+    mut subscripts: Items<CExpr>,
+) -> Result<Option<CExpr>, AllocError>
+    ensures { IfOk result (λ e. e ≡ spec.index_expr dimensions.now 0 subscripts) }
+{
+    match subscripts.pop() {
+        Some(last) => index_by(alloc, dimensions, subscripts, last),
+        None => Ok(count(0)),
+    }
+}
+
+/// A variable by its name.
+#[tactic(auto, unfolding(item_emission::specs::NamedEmission::variable_expr))]
+pub(crate) fn variable(alloc: Global, name: &[u8]) -> Result<CExpr, AllocError>
+    ensures { IfOk result (λ e. e ≡ spec.variable_expr name.now) }
+{
+    Ok(CExpr::Name(variable_name(alloc, name)?))
+}
+
+/// An element of an array, by its index.
+#[tactic(auto, unfolding(item_emission::specs::NamedEmission::variable_expr))]
+fn indexed(alloc: Global, name: &[u8], index: CExpr) -> Result<CExpr, AllocError>
+    ensures { IfOk result (λ e. e ≡ expr.Index (spec.variable_expr name.now) index) }
+{
+    let array = variable(alloc, name)?;
+    Ok(CExpr::Index(Boxed::new(alloc, array)?, Boxed::new(alloc, index)?))
+}
+
+/// An element of an array, where it has an index.
+fn indexed_if(alloc: Global, name: &[u8], index: Option<CExpr>) -> Result<Option<CExpr>, AllocError>
+    ensures { IfOk result (λ e. e ≡ option_map (expr.Index (spec.variable_expr name.now)) index) }
+{
+    match index {
+        Some(index) => Ok(Some(indexed(alloc, name, index)?)),
+        None => Ok(None),
+    }
+}
+
+/// An element of an array, by its subscripts.
+#[tactic(auto, unfolding(item_emission::specs::NamedEmission::element_expr))]
+pub(crate) fn element(
+    alloc: Global,
+    name: &[u8],
+    dimensions: &[Dimension],
+    subscripts: Option<Vec<CExpr>>,
+) -> Result<Option<CExpr>, AllocError>
+    ensures { IfOk result (λ e. e ≡ spec.element_expr name.now dimensions.now (option_map (λ es. es.items) subscripts)) }
+{
+    match subscripts {
+        Some(subscripts) => {
+            let index = index(alloc, dimensions, Items::from_vec(subscripts))?;
+            indexed_if(alloc, name, index)
+        }
+        None => Ok(None),
+    }
+}

@@ -1,0 +1,16 @@
+//! The C items of a main program's lowered steps, by names: values over numbers, assignments, tests, jumps, list-directed output and STOP. ANSI
+//! X3.9-1978, sections 6, 10, 11, 12 and 13; C89, 3.3 and 3.6.
+#![tactic(auto)]
+
+mod arithmetic;
+mod calls;
+mod elements;
+mod functions;
+pub mod known;
+mod steps;
+mod stops;
+mod types;
+mod values;
+
+pub use known::{Known, Variable};
+pub use steps::emit_step;

@@ -1,0 +1,195 @@
+//! Items of steps. ANSI X3.9-1978, sections 10 and 11; C89, 3.6.
+
+ghost use Rattle.std.specs.Prelude.{◌≡◌, ◌+◌, ◌-◌, pos, suc, true, Some, option_map, IfOk};
+ghost use Rattle.c_tree.specs.declared.expression.CExpr.TheVariants as expr;
+ghost use Rattle.named_items.specs.declared.item.Item.TheVariants as item;
+ghost use Rattle.named_items.specs.Items.{assign_by};
+ghost use Rattle.lowered_tree.specs.Shapes.{pure_of, pures_of, step_of, acting_of};
+ghost use Rattle.lowered_text.specs.Texts.{kinds_of};
+ghost use Rattle.item_emitter.specs.Knowing.{known_of};
+ghost use Rattle.item_emission.specs.NamedEmission as spec;
+
+use crate::calls::acting;
+use crate::known::Known;
+use crate::stops::stop;
+use crate::values::{place, temporary, value};
+use c_tree::expression::CExpr;
+use lowered_text::Kept;
+use lowered_tree::{Pure, Step};
+use named_items::Item;
+use std::alloc::{AllocError, Global};
+
+/// The next position. Fails where it has no number.
+fn following(position: usize) -> Result<usize, AllocError>
+    ensures { IfOk result (λ n. n ≡ suc position) }
+{
+    match position.checked_add(1) {
+        Some(next) => Ok(next),
+        None => Err(AllocError),
+    }
+}
+
+/// A position so many steps behind the next one. Fails where it has no number.
+fn onward(position: usize, passed: usize) -> Result<usize, AllocError>
+    ensures { IfOk result (λ n. n ≡ suc position + passed) }
+{
+    let next = following(position)?;
+    match next.checked_add(passed) {
+        Some(place) => Ok(place),
+        None => Err(AllocError),
+    }
+}
+
+/// An assignment, where the place and the value have expressions.
+#[tactic(auto, unfolding(named_items::specs::Items::assign_by))]
+fn assignment(target: Option<CExpr>, source: Option<CExpr>) -> Option<Item>
+    ensures { result ≡ assign_by target source }
+{
+    match (target, source) {
+        (Some(target), Some(source)) => Some(Item::Assign(target, source)),
+        (Some(_), None) => None,
+        (None, _) => None,
+    }
+}
+
+/// A test, where it has an expression.
+#[tactic(auto, unfolding(item_emission::specs::NamedEmission::branch_step))]
+fn branch(test: Option<CExpr>, on: usize, off: usize) -> Option<Item>
+    ensures { result ≡ spec.branch_step test on off }
+{
+    match test {
+        Some(test) => Some(Item::Branch(test, on, off)),
+        None => None,
+    }
+}
+
+/// A place gets a value.
+fn put(
+    alloc: Global,
+    known: &Known,
+    target: &Pure,
+    source: &Pure,
+) -> Result<Option<Item>, AllocError>
+    ensures { IfOk result (λ i. i ≡ assign_by (spec.place_expr (known_of known.now) (pure_of target.now)) (spec.value_expr (known_of known.now) (pure_of source.now))) }
+{
+    let target = place(alloc, known, target)?;
+    let source = value(alloc, known, source)?;
+    Ok(assignment(target, source))
+}
+
+/// A temporary gets a value.
+fn keep(
+    alloc: Global,
+    known: &Known,
+    number: usize,
+    source: &Pure,
+) -> Result<Option<Item>, AllocError>
+    ensures { IfOk result (λ i. i ≡ assign_by (spec.temporary_expr (known_of known.now) number) (spec.value_expr (known_of known.now) (pure_of source.now))) }
+{
+    let target = temporary(alloc, known, number)?;
+    let source = value(alloc, known, source)?;
+    Ok(assignment(target, source))
+}
+
+/// A test that goes on, or passes so many steps.
+fn unless(
+    alloc: Global,
+    known: &Known,
+    position: usize,
+    test: &Pure,
+    passed: usize,
+) -> Result<Option<Item>, AllocError>
+    ensures { IfOk result (λ i. i ≡ spec.branch_step (spec.value_expr (known_of known.now) (pure_of test.now)) (suc position) (suc position + passed)) }
+{
+    let on = following(position)?;
+    let off = onward(position, passed)?;
+    let test = value(alloc, known, test)?;
+    Ok(branch(test, on, off))
+}
+
+/// A test that goes so many steps back, or on.
+fn again_if(
+    alloc: Global,
+    known: &Known,
+    position: usize,
+    test: &Pure,
+    back: usize,
+) -> Result<Option<Item>, AllocError>
+    ensures { IfOk result (λ i. i ≡ spec.branch_step (spec.value_expr (known_of known.now) (pure_of test.now)) (position - back) (suc position)) }
+{
+    let off = following(position)?;
+    let test = value(alloc, known, test)?;
+    Ok(branch(test, position.saturating_sub(back), off))
+}
+
+/// A jump over so many steps.
+fn skip(position: usize, passed: usize) -> Result<Option<Item>, AllocError>
+    ensures { IfOk result (λ i. i ≡ Some (item.Jump (suc position + passed))) }
+{
+    Ok(Some(Item::Jump(onward(position, passed)?)))
+}
+
+/// A jump to a label, if it has a step.
+fn jump(known: &Known, label: u32) -> Option<Item>
+    ensures { result ≡ option_map item.Jump ((known_of known.now).label label) }
+{
+    match known.label(label) {
+        Some(position) => Some(Item::Jump(position)),
+        None => None,
+    }
+}
+
+/// END and RETURN of a main program.
+#[tactic(auto, unfolding(item_emission::specs::NamedEmission::return_step))]
+fn back() -> Option<Item>
+    ensures { result ≡ spec.return_step true }
+{
+    Some(Item::Return(Some(CExpr::Number(0))))
+}
+
+/// The item of a step by its position, given what the step before it keeps in a temporary; none where the step is not emitted.
+///
+/// # Errors
+///
+/// Want of memory, or a position that has no number.
+#[tactic(auto, unfolding(item_emission::specs::NamedEmission::item_step))]
+pub fn emit_step(
+    alloc: Global,
+    known: &Known,
+    kept: Option<Kept>,
+    position: usize,
+    step: &Step,
+) -> Result<Option<Item>, AllocError>
+    ensures { IfOk result (λ i. i ≡ spec.item_step (known_of known.now) (kinds_of kept) position (step_of step.now)) }
+{
+    match step {
+        Step::Put(target, source) => put(alloc, known, target, source),
+        Step::Keep(number, source) => keep(alloc, known, *number, source),
+        Step::Unless(test, passed) => unless(alloc, known, position, test, *passed),
+        Step::AgainIf(test, back) => again_if(alloc, known, position, test, *back),
+        Step::Skip(passed) => skip(position, *passed),
+        Step::Again(back) => Ok(Some(Item::Jump(position.saturating_sub(*back)))),
+        Step::Jump(label) => Ok(jump(known, *label)),
+        Step::Pass => Ok(Some(Item::Nothing)),
+        Step::Back => Ok(back()),
+        Step::Halt(text) => stop(alloc, text.as_slice()),
+        Step::Acts(what, operands, passed) => acting(
+            alloc,
+            known,
+            kept,
+            position,
+            what,
+            operands.as_slice(),
+            *passed,
+        ),
+        Step::PutText(_, _) => Ok(None),
+        Step::PutLabel(_, _) => Ok(None),
+        Step::Compute(_, _, _) => Ok(None),
+        Step::Select(_, _) => Ok(None),
+        Step::JumpBy(_, _) => Ok(None),
+        Step::CallFor(_, _, _) => Ok(None),
+        Step::CallSub(_, _, _) => Ok(None),
+        Step::Branch(_) => Ok(None),
+        Step::BackBy(_) => Ok(None),
+    }
+}

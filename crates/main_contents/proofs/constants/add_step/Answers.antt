@@ -1,0 +1,19 @@
+use Rattle.std.proofs.Common.{fold, ap, ◌∙◌}
+use Rattle.lowered_tree.specs.Shapes.{acting_of, pures_of}
+use Rattle.main_translation.specs.Contents.{with_new}
+use Rattle.main_contents.specs.Parts.{acting_values}
+use Rattle.main_contents.proofs.Lists.{then_ok}
+use Rattle.main_contents.proofs.ConstantLaws.{step-Acts, step-other, nothing_added}
+use Rattle.main_contents.proofs.constants.add_step.Goals as goal
+
+pub returns-in-Acts : goal.returns-in-Acts
+returns-in-Acts c =
+    let values = c.args.values.now.keys in
+    then_ok _ _ c.add_acting.result
+    (λ added facts tells.
+    added facts tells ∙ ap (λ ps. fold with_new values (acting_values facts c.args.kept (acting_of c.in-Acts.acting) (pures_of ps))) c.as_slice.ensures
+    ∙ ap (fold with_new values) (step-Acts facts c.args.kept c.args.step.now c.in-Acts.acting c.in-Acts.operands c.in-Acts.field-2 c.in-Acts.is))
+    c.add_acting.ensures
+
+pub returns-in_default : goal.returns-in_default
+returns-in_default c = λ facts tells. nothing_added c.args.values.now.keys _ (step-other facts c.args.kept c.args.step.now c.in_default.not-Acts)

@@ -1,0 +1,16 @@
+use Rattle.main_contents.proofs.WholeLaws.{contents_told}
+use Rattle.main_contents.proofs.reading.contents_of.Goals as goal
+
+pub returns : goal.returns
+returns c =
+    contents_told c.args.table.now c.args.text.now c.as_slice-steps.result.now _ c.as_slice-steps.ensures.value
+    (record {
+      lists = c.in_ok-lists.ensures;
+      temporaries = c.in_ok-temporaries.ensures;
+      strings = c.in_ok-strings.ensures;
+      starts = c.calls_of-calls.ensures.starts;
+      takes = c.calls_of-calls.ensures.takes;
+      finishes = c.calls_of-calls.ensures.finishes;
+      stops = c.calls_of-calls.ensures.stops;
+    })
+    c.in_ok-constants.ensures c.in_ok-kinds.ensures c.are_on-are_outputs_on.ensures c.in_ok-layout.ensures

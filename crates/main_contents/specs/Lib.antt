@@ -1,0 +1,3 @@
+pub mod MainContents
+pub mod Parts
+pub mod Tables

@@ -1,0 +1,53 @@
+-- What the C file of a main program has, read off its lowered text: when the data of a translator are it. ANSI X3.9-1978, sections 4.1, 11 and 12; C89,
+-- 3.5 and 3.6.
+use Rattle.std.specs.List.{list_any}
+use Rattle.std.specs.Option.{option_flatten}
+use Rattle.std.specs.Prelude.{◌≡◌, ℕ, nat_lt, true, ◌&&◌, map, length, is_none, slice_get}
+use Rattle.f_tree.specs.Values.{Bytes}
+use Rattle.f_tree.specs.Facts.{Facts}
+use Rattle.l_core.specs.Steps.{Text}
+use Rattle.lowered_text.specs.declared.text.LoweredText.{LoweredText}
+use Rattle.lowered_text.specs.Texts.{IsText, kinds_of}
+use Rattle.main_file.specs.MainFile as file
+use Rattle.main_file.specs.MainItems.{stops_from}
+use Rattle.main_translation.specs.Flow.{kind_at, are_on}
+use Rattle.main_translation.specs.Contents.{constants_of, listings_from, temporaries_in, begins_output, takes_item, ends_output, stops_run}
+use Rattle.main_translation.specs.Outlined.{label_at, passes_arms, loop_at}
+use Rattle.name_facts.specs.declared.table.NameFacts.{NameFacts}
+use Rattle.name_facts.specs.GivenFacts.{fact_in}
+use Rattle.named_items.specs.Layouts.{layout_of}
+use Rattle.main_contents.specs.declared.contents.Listing.{Listing}
+use Rattle.main_contents.specs.declared.contents.Calls.{Calls}
+use Rattle.main_contents.specs.declared.contents.Contents.{Contents}
+
+abbrev pub listing_of : Listing → file.Listing
+listing_of l = record { step = l.step; unit = l.unit }
+
+-- the table tells the types of the names
+pub record TellsTypes (table : NameFacts) (facts : Facts) : Type 0 where
+  pub basic : (x : Bytes) → (facts.program.attribute x).basic ≡ (fact_in table x).basic
+
+-- which functions of the library are called
+pub record AreCalls (u : Text) (calls : Calls) : Type 0 where
+  pub starts : calls.starts ≡ list_any begins_output u.steps
+  pub takes : calls.takes ≡ list_any takes_item u.steps
+  pub finishes : calls.finishes ≡ list_any ends_output u.steps
+  pub stops : calls.stops ≡ list_any stops_run u.steps
+
+pub record AreContents (u : Text) (c : Contents) : Type 0 where
+  pub constants : c.constants.items ≡ constants_of u
+  pub lists : map listing_of c.lists.items ≡ listings_from 0 u.steps
+  pub temporaries : c.temporaries ≡ temporaries_in u.steps
+  pub calls : AreCalls u c.calls
+  pub strings : c.strings.items ≡ stops_from 0 u.steps
+  -- what is known before each step
+  pub kinds : (n k : ℕ) → nat_lt n (length u.steps) ≡ true → kinds_of (option_flatten (slice_get c.kinds.items n)) k ≡ kind_at u n k
+  pub outputs : c.are_outputs_on ≡ are_on u 0 u.steps
+  -- labels, arms and loops
+  pub labels : (n : ℕ) → (layout_of c.layout).label n ≡ label_at u n
+  pub arms : (n : ℕ) → (layout_of c.layout).ends_arm n ≡ passes_arms (slice_get u.steps n) && is_none (label_at u n)
+  pub loops : (n : ℕ) → (layout_of c.layout).loop n ≡ loop_at u n
+
+-- whatever the unit is, if this is its text and the table tells its types
+pub record AreContentsOf (table : NameFacts) (t : LoweredText) (c : Contents) : Type 0 where
+  pub meant : (u : Text) → IsText t u → TellsTypes table u.facts → AreContents u c

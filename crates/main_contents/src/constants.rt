@@ -1,0 +1,182 @@
+//! The constants that are passed by their address. Section 12.8; CSTR 149, on the run time library.
+
+ghost use Rattle.std.specs.Prelude.{◌≡◌, ℕ, fold, OnOk, IfOk, option_and_then};
+ghost use Rattle.f_tree.specs.Facts.{Facts};
+ghost use Rattle.lowered_tree.specs.Shapes.{datum_of, pure_of, pures_of, acting_of, step_of};
+ghost use Rattle.lowered_text.specs.Texts.{kinds_of};
+ghost use Rattle.c_emit.specs.Calls.{kind_number};
+ghost use Rattle.main_translation.specs.Contents.{with_new, own_value, kind_value, constants_of};
+ghost use Rattle.main_contents.specs.MainContents.{TellsTypes};
+ghost use Rattle.main_contents.specs.Parts as spec;
+ghost use Rattle.main_contents.specs.Tables.{text_of, AreKinds};
+
+use crate::kinds::kept_type;
+use f_tree::Basic;
+use indexmap::IndexSet;
+use lowered_text::{Kept, LoweredText};
+use lowered_tree::{Acting, Literal, Pure, Step};
+use name_facts::NameFacts;
+use std::alloc::{AllocError, Global};
+
+/// The value of an item that is a literal.
+#[tactic(auto, unfolding(main_translation::specs::Contents::kind_value, crate::specs::Parts::literal_value))]
+fn literal_value(literal: &Literal) -> Option<i32>
+    ensures { kind_value result ≡ spec.literal_value (datum_of literal.now) }
+{
+    match literal {
+        Literal::Integer(value) => Some(*value),
+        Literal::Logical(true) => Some(1),
+        Literal::Logical(false) => Some(0),
+        Literal::Text(_) | Literal::Label(_) | Literal::Nothing => None,
+    }
+}
+
+/// The value of an item that is a constant.
+#[tactic(auto, using(crate::proofs::ConstantLaws::own_forms))]
+fn own_value(item: &Pure) -> Option<i32>
+    ensures { kind_value result ≡ own_value (pure_of item.now) }
+{
+    match item {
+        Pure::Constant(literal) => literal_value(literal),
+        _ => None,
+    }
+}
+
+/// The number that the library has for a type.
+#[tactic(auto, unfolding(c_emit::specs::Calls::kind_number))]
+fn kind_number(basic: Option<Basic>) -> Option<i32>
+    ensures { result ≡ option_and_then kind_number basic }
+{
+    match basic {
+        Some(Basic::Integer) => Some(3),
+        Some(Basic::Logical) => Some(8),
+        Some(Basic::Character | Basic::Untyped) | None => None,
+    }
+}
+
+/// The type of what a temporary holds, given what is known of the temporaries.
+#[tactic(auto, unfolding(lowered_text::specs::Texts::kinds_of))]
+fn type_kept(kept: Option<Kept>, temporary: usize) -> Option<Basic>
+    ensures { result ≡ kinds_of kept temporary }
+{
+    let kept = kept?;
+    if temporary == kept.temporary {
+        Some(kept.basic)
+    } else {
+        None
+    }
+}
+
+/// The type of an item, given what is known of the temporaries.
+#[tactic(auto, using(crate::proofs::ConstantLaws::item_forms))]
+fn item_type(table: &NameFacts, kept: Option<Kept>, item: &Pure) -> Option<Basic>
+    ensures { (c : Facts) → TellsTypes table.now c → result ≡ spec.item_type_by c kept (pure_of item.now) }
+{
+    match item {
+        Pure::Temporary(temporary) => type_kept(kept, *temporary),
+        _ => kept_type(table, item),
+    }
+}
+
+/// Adds a value that is passed, if none of those that are there is it.
+#[tactic(auto, unfolding(main_translation::specs::Contents::with_new))]
+fn add_value(values: &mut IndexSet<i32>, value: i32) -> Result<(), AllocError>
+    ensures { OnOk result (values.new.keys ≡ with_new values.old.keys value) }
+{
+    match values.insert(value) {
+        Ok(_) => Ok(()),
+        Err(_) => Err(AllocError),
+    }
+}
+
+/// Adds a value that is passed, if there is one and none of those that are there is it.
+#[tactic(auto, unfolding(main_translation::specs::Contents::kind_value))]
+fn add_if(values: &mut IndexSet<i32>, value: Option<i32>) -> Result<(), AllocError>
+    ensures { OnOk result (values.new.keys ≡ fold with_new values.old.keys (kind_value value)) }
+{
+    match value {
+        Some(value) => add_value(values, value),
+        None => Ok(()),
+    }
+}
+
+/// Adds what is passed for an item by its address.
+fn add_item(
+    values: &mut IndexSet<i32>,
+    table: &NameFacts,
+    kept: Option<Kept>,
+    item: &Pure,
+) -> Result<(), AllocError>
+    ensures { OnOk result ((c : Facts) → TellsTypes table.now c → values.new.keys ≡ fold with_new values.old.keys (spec.item_values c kept (pure_of item.now))) }
+{
+    add_if(values, kind_number(item_type(table, kept, item)))?;
+    add_value(values, 1)?;
+    add_if(values, own_value(item))
+}
+
+/// Adds what is passed for the operands of a step that takes an item.
+fn add_operands(
+    values: &mut IndexSet<i32>,
+    table: &NameFacts,
+    kept: Option<Kept>,
+    operands: &[Pure],
+) -> Result<(), AllocError>
+    ensures { OnOk result ((c : Facts) → TellsTypes table.now c → values.new.keys ≡ fold with_new values.old.keys (spec.list_values c kept (pures_of operands.now))) }
+{
+    match operands {
+        [item] => add_item(values, table, kept, item),
+        _ => Ok(()),
+    }
+}
+
+/// Adds what is passed for an act of a transfer with its operands.
+fn add_acting(
+    values: &mut IndexSet<i32>,
+    table: &NameFacts,
+    kept: Option<Kept>,
+    acting: &Acting,
+    operands: &[Pure],
+) -> Result<(), AllocError>
+    ensures { OnOk result ((c : Facts) → TellsTypes table.now c
+        → values.new.keys ≡ fold with_new values.old.keys (spec.acting_values c kept (acting_of acting.now) (pures_of operands.now))) }
+{
+    match acting {
+        Acting::Takes => add_operands(values, table, kept, operands),
+        _ => Ok(()),
+    }
+}
+
+/// Adds what a step passes by the address of a constant.
+fn add_step(
+    values: &mut IndexSet<i32>,
+    table: &NameFacts,
+    kept: Option<Kept>,
+    step: &Step,
+) -> Result<(), AllocError>
+    ensures { OnOk result ((c : Facts) → TellsTypes table.now c → values.new.keys ≡ fold with_new values.old.keys (spec.step_values c kept (step_of step.now))) }
+{
+    match step {
+        Step::Acts(acting, operands, _) => {
+            add_acting(values, table, kept, acting, operands.as_slice())
+        }
+        _ => Ok(()),
+    }
+}
+
+/// The constants that are passed by their address, each once, in the order in which they are first passed.
+pub(crate) fn constants_of(
+    alloc: Global,
+    table: &NameFacts,
+    text: &LoweredText,
+    kinds: &[Option<Kept>],
+) -> Result<Vec<i32>, AllocError>
+    requires { AreKinds table.now text.now kinds.now }
+    ensures { IfOk result (λ constants. (c : Facts) (begins : ℕ → ℕ) → TellsTypes table.now c → constants.items ≡ constants_of (text_of text.now c begins)) }
+{
+    let steps = text.steps.as_slice();
+    let mut values = IndexSet::new(alloc);
+    for (position, step) in steps.iter().enumerate() {
+        add_step(&mut values, table, kinds[position], step)?;
+    }
+    Vec::from_slice(alloc, values.as_slice())
+}

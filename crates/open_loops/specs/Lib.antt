@@ -1,0 +1,5 @@
+pub mod ReadLines
+pub mod LoopPlaces
+pub mod OpenRanges
+pub mod KeptTemporaries
+pub mod PlacesAmong

@@ -1,0 +1,7 @@
+pub mod NamedLabels
+pub mod StatementSizes
+pub mod StepPositions
+pub mod NextArms
+pub mod StepWays
+pub mod LaidOut
+pub mod StatementPlaces

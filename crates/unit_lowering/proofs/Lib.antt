@@ -1,0 +1,14 @@
+pub mod Appending
+pub mod RowLemmas
+pub mod FormLemmas
+pub mod BegunForms
+pub mod LabelStartLemmas
+pub mod MarkLemmas
+pub mod TurnLemmas
+pub mod LineLemmas
+pub mod LoopKinds
+pub mod PlacedLines
+pub mod PlacedSteps
+pub mod PlacedMarks
+pub mod PlacedLabels
+pub mod UnitTexts

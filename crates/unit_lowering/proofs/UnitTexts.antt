@@ -1,0 +1,76 @@
+-- The text of a unit, from its steps, its marks and its labels.
+use Rattle.std.proofs.Common.{◌≡◌, ℕ, nat_eq, Bool, List, length, map, Some, option_map, refl, sym, ap, ◌∙◌}
+use Rattle.std.specs.HashMap.{get_by}
+use Rattle.f_tree.specs.declared.statements.Stmt.{Stmt}
+use Rattle.f_tree.specs.Facts.{Facts}
+use Rattle.f_tree.specs.Lines.{Naming}
+use Rattle.f_tree.specs.Places.{place_of_label}
+use Rattle.l_core.specs.Steps.{Step, Text}
+use Rattle.lowering.specs.Units.{start_of, text_with, lowered_unit}
+use Rattle.lowering.specs.Units as unit
+use Rattle.lowered_tree.specs.declared.steps.Step as tree
+use Rattle.lowered_tree.specs.Shapes.{steps_of}
+use Rattle.lowered_text.specs.declared.text.LoweredText.{LoweredText}
+use Rattle.lowered_text.specs.Texts.{marked_of}
+use Rattle.name_facts.specs.declared.table.NameFacts.{NameFacts}
+use Rattle.expression_lowering.specs.TableNames.{AreFactsOf}
+use Rattle.open_loops.specs.ReadLines.{IsReadAs}
+use Rattle.statement_places.specs.declared.places.StatementPlace.{StatementPlace}
+use Rattle.statement_places.specs.StatementPlaces.{AreStatementPlaces, AreAllPlaces}
+use Rattle.unit_lowering.specs.LineSteps.{lines_steps}
+use Rattle.unit_lowering.specs.LineMarks.{lines_marks}
+use Rattle.unit_lowering.specs.LabelStarts.{label_start}
+use Rattle.unit_lowering.specs.LoweredUnits.{IsTextOf, IsLoweredUnit}
+use Rattle.unit_lowering.proofs.PlacedSteps.{steps_are}
+use Rattle.unit_lowering.proofs.PlacedMarks.{marks_are}
+use Rattle.unit_lowering.proofs.PlacedLabels.{label_is}
+
+-- the text of these steps
+abbrev whole_text : Facts → List Step → Text
+whole_text c steps = record {
+  facts = c;
+  steps = steps;
+  begins = start_of c.program;
+  position = λ label. option_map (start_of c.program) (place_of_label c.program label);
+  marks = unit.lines_marks c.program 0 c.program.lines;
+}
+
+lowered_by : (c : Facts) (steps : List Step) → unit.lines_code c.program 0 c.program.lines ≡ Some steps → lowered_unit c ≡ Some (whole_text c steps)
+unfolding lowered_unit text_with
+lowered_by c steps is = ap (text_with c) is
+
+text_of : (c : Facts) (once : Bool) (names : Naming) (ss : List Stmt) (places : List StatementPlace) (t : LoweredText) → IsReadAs c.program once names ss → AreStatementPlaces c.program places →
+    lines_steps once names ss places (length ss) ≡ Some (steps_of t.steps.items) →
+    ((l : ℕ) → get_by (nat_eq l) t.labels ≡ label_start l ss places (length ss)) → map marked_of t.marks.items ≡ lines_marks once ss places (length ss) → IsTextOf c t
+text_of c once names ss places t told are steps labels marks = record {
+  text = whole_text c (steps_of t.steps.items);
+  lowered = lowered_by c (steps_of t.steps.items) (sym (steps_are c.program once names ss places told are) ∙ steps);
+  is = record {
+    steps = refl;
+    marks = marks ∙ marks_are c.program once names ss places told are;
+    labels = λ l. labels l ∙ label_is c.program once names ss places told are l;
+  };
+}
+
+unit_lowered : (table : NameFacts) (once : Bool) (ss : List Stmt) (places : List StatementPlace) (t : LoweredText) → AreAllPlaces table once ss places →
+    ((names : Naming) → AreFactsOf names table → lines_steps once names ss places (length ss) ≡ Some (steps_of t.steps.items)) →
+    ((l : ℕ) → get_by (nat_eq l) t.labels ≡ label_start l ss places (length ss)) → map marked_of t.marks.items ≡ lines_marks once ss places (length ss) →
+    IsLoweredUnit table once ss t
+unit_lowered table once ss places t all steps labels marks = record {
+  lowers = all.lowers;
+  meant = λ c names told facts. text_of c once names ss places t told (all.meant c.program names told facts) (steps names facts) labels marks;
+}
+
+-- the statements and the places being read as slices
+pub unit_read_lowered : (table : NameFacts) (once : Bool) (ss seen : List Stmt) (places before behind : List StatementPlace) (steps : List tree.Step) (t : LoweredText) →
+    seen ≡ ss → before ≡ places → behind ≡ places → AreAllPlaces table once ss places →
+    ((names : Naming) → AreFactsOf names table → lines_steps once names seen before (length seen) ≡ Some (steps_of steps)) → t.steps.items ≡ steps →
+    ((l : ℕ) → get_by (nat_eq l) t.labels ≡ label_start l seen behind (length seen)) → map marked_of t.marks.items ≡ lines_marks once seen behind (length seen) →
+    IsLoweredUnit table once ss t
+unit_read_lowered table once ss seen places before behind steps t same first later all lowered kept labels marks =
+    unit_lowered table once ss places t all
+    (λ names facts.
+    ap (λ xs. lines_steps once names xs places (length xs)) (sym same) ∙ ap (λ ps. lines_steps once names seen ps (length seen)) (sym first) ∙ lowered names facts
+    ∙ ap (λ xs. Some (steps_of xs)) (sym kept))
+    (λ l. labels l ∙ ap (λ ps. label_start l seen ps (length seen)) later ∙ ap (λ xs. label_start l xs places (length xs)) same)
+    (marks ∙ ap (λ ps. lines_marks once seen ps (length seen)) later ∙ ap (λ xs. lines_marks once xs places (length xs)) same)
