@@ -112,7 +112,7 @@ integer i_dim(integer *left, integer *right)
 
 int s_stop(char *text, ftnlen size)
 {
-    printf("stop%.*s\n", size, text);
+    fprintf(stderr, "stop%.*s\n", size, text);
     exit(0);
 }
 

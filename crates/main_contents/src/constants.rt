@@ -12,11 +12,11 @@ ghost use Rattle.main_contents.specs.Tables.{text_of, AreKinds};
 
 use crate::kinds::kept_type;
 use f_tree::Basic;
-use indexmap::IndexSet;
 use lowered_text::{Kept, LoweredText};
 use lowered_tree::{Acting, Literal, Pure, Step};
 use name_facts::NameFacts;
 use std::alloc::{AllocError, Global};
+use std::collections::BTreeSet;
 
 /// The value of an item that is a literal.
 #[tactic(auto, unfolding(main_translation::specs::Contents::kind_value, crate::specs::Parts::literal_value))]
@@ -78,9 +78,9 @@ fn item_type(table: &NameFacts, kept: Option<Kept>, item: &Pure) -> Option<Basic
     }
 }
 
-/// Adds a value that is passed, if none of those that are there is it.
+/// Adds a value that is passed at its place, if none of those that are there is it.
 #[tactic(auto, unfolding(main_translation::specs::Contents::with_new))]
-fn add_value(values: &mut IndexSet<i32>, value: i32) -> Result<(), AllocError>
+fn add_value(values: &mut BTreeSet<i32>, value: i32) -> Result<(), AllocError>
     ensures { OnOk result (values.new.keys ≡ with_new values.old.keys value) }
 {
     match values.insert(value) {
@@ -91,7 +91,7 @@ fn add_value(values: &mut IndexSet<i32>, value: i32) -> Result<(), AllocError>
 
 /// Adds a value that is passed, if there is one and none of those that are there is it.
 #[tactic(auto, unfolding(main_translation::specs::Contents::kind_value))]
-fn add_if(values: &mut IndexSet<i32>, value: Option<i32>) -> Result<(), AllocError>
+fn add_if(values: &mut BTreeSet<i32>, value: Option<i32>) -> Result<(), AllocError>
     ensures { OnOk result (values.new.keys ≡ fold with_new values.old.keys (kind_value value)) }
 {
     match value {
@@ -102,7 +102,7 @@ fn add_if(values: &mut IndexSet<i32>, value: Option<i32>) -> Result<(), AllocErr
 
 /// Adds what is passed for an item by its address.
 fn add_item(
-    values: &mut IndexSet<i32>,
+    values: &mut BTreeSet<i32>,
     table: &NameFacts,
     kept: Option<Kept>,
     item: &Pure,
@@ -116,7 +116,7 @@ fn add_item(
 
 /// Adds what is passed for the operands of a step that takes an item.
 fn add_operands(
-    values: &mut IndexSet<i32>,
+    values: &mut BTreeSet<i32>,
     table: &NameFacts,
     kept: Option<Kept>,
     operands: &[Pure],
@@ -131,7 +131,7 @@ fn add_operands(
 
 /// Adds what is passed for an act of a transfer with its operands.
 fn add_acting(
-    values: &mut IndexSet<i32>,
+    values: &mut BTreeSet<i32>,
     table: &NameFacts,
     kept: Option<Kept>,
     acting: &Acting,
@@ -148,7 +148,7 @@ fn add_acting(
 
 /// Adds what a step passes by the address of a constant.
 fn add_step(
-    values: &mut IndexSet<i32>,
+    values: &mut BTreeSet<i32>,
     table: &NameFacts,
     kept: Option<Kept>,
     step: &Step,
@@ -163,7 +163,18 @@ fn add_step(
     }
 }
 
-/// The constants that are passed by their address, each once, in the order in which they are first passed.
+/// The values of a set, in ascending order.
+fn listed(alloc: Global, values: &BTreeSet<i32>) -> Result<Vec<i32>, AllocError>
+    ensures { IfOk result (λ list. list.items ≡ values.now.keys) }
+{
+    let mut list = Vec::new(alloc);
+    for value in values.iter() {
+        list.push(*value)?;
+    }
+    Ok(list)
+}
+
+/// The constants that are passed by their address, each once, in ascending order.
 pub(crate) fn constants_of(
     alloc: Global,
     table: &NameFacts,
@@ -174,9 +185,9 @@ pub(crate) fn constants_of(
     ensures { IfOk result (λ constants. (c : Facts) (begins : ℕ → ℕ) → TellsTypes table.now c → constants.items ≡ constants_of (text_of text.now c begins)) }
 {
     let steps = text.steps.as_slice();
-    let mut values = IndexSet::new(alloc);
+    let mut values = BTreeSet::new(alloc);
     for (position, step) in steps.iter().enumerate() {
         add_step(&mut values, table, kinds[position], step)?;
     }
-    Vec::from_slice(alloc, values.as_slice())
+    listed(alloc, &values)
 }

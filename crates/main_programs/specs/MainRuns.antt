@@ -33,23 +33,10 @@ use Rattle.emitted_texts.specs.SecondLayer.{Surroundings}
 use Rattle.bridge.specs.Bridge.{Translation}
 use Rattle.main_file.specs.MainFile.{Inventory, Variable, Listing, Bases, main_function, main_file, place_of_list}
 use Rattle.main_file_laws.specs.BuiltMain.{IsMainBuilt}
+pub use Rattle.plain_forms.specs.OwnStorage.{homes_from, sizes_of, plain_setting, plain_facts}
 use Rattle.main_programs.specs.EmittedMain.{StepsFit, IsMain, emission_of}
 
 -- ## Storage of its own
-
--- each stored name in a sequence of its own, as they stand
-abbrev pub homes_from : ℕ → List Member → List Home
-homes_from n [] = []
-homes_from n (m ∷ ms) = record { sequence = n; first = 0 } ∷ homes_from (suc n) ms
-
-abbrev pub sizes_of : List Member → List ℕ
-sizes_of ms = map (λ (m : Member). m.size) ms
-
-abbrev pub plain_setting : ProgramUnit → Setting
-plain_setting unit = record { homes = homes_from 0 unit.stored ∷ []; sizes = sizes_of unit.stored }
-
-abbrev pub plain_facts : ProgramUnit → Facts
-plain_facts unit = record { program = unit; home = unit_home (plain_setting unit) 0 unit }
 
 -- the bytes of a variable
 abbrev pub bytes_in : Option ℕ → ℕ

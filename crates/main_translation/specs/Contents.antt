@@ -1,7 +1,8 @@
 -- What the C file of a main program has: the constants that are passed, the variables, the control lists, the temporaries and the functions of the
 -- library, each once. ANSI X3.9-1978, sections 4.1, 5.1 and 12.8; C89, 3.5.
+use Rattle.std.specs.BTreeSet.{insert_key}
 use Rattle.std.specs.List.{list_any}
-use Rattle.std.specs.Ordering.{int_eq}
+use Rattle.std.specs.Ordering.{int_cmp}
 use Rattle.std.specs.Prelude.{ℕ, suc, max, ℤ, pos, Bool, true, false, List, [], ◌∷◌, ◌++◌, map, fold, length, Option, Some, None, option_and_then, slice_get, codes, if◌then◌else◌}
 use Rattle.f_tree.specs.declared.names.Basic.{Basic}
 use Rattle.f_tree.specs.declared.names.Basic.TheVariants.{Logical}
@@ -22,9 +23,9 @@ use Rattle.main_translation.specs.Flow.{kept_type, kind_at}
 
 -- ## Constants
 
--- a value behind those that are there, if it is none of them
+-- a value at its place among those that are there, which ascend, if it is none of them
 unfoldable pub with_new : List ℤ → ℤ → List ℤ
-with_new zs z = if list_any (int_eq z) zs then zs else zs ++ z ∷ []
+with_new zs z = insert_key int_cmp zs z
 
 -- the value of an item that is a constant
 unfoldable pub own_value : Pure → List ℤ

@@ -1,10 +1,11 @@
 -- What the inventory of a text has: constants told apart, a list for each output, and names of the library.
 use Rattle.std.specs.List.{list_any}
-use Rattle.std.specs.Ordering.{int_eq}
+use Rattle.std.specs.BTreeSet.{insert_key}
+use Rattle.std.specs.Ordering.{int_cmp, match_ordering, ordering_reverse}
 use Rattle.std.specs.Prelude.{◌≡◌, ◌≢◌, ℕ, zero, suc, ◌+◌, ◌<◌, ◌≤◌, ◌^◌, nat_eq, nat_le, ℤ, pos, negsuc, nat_abs, Bool, true, false, ◌&&◌, ◌||◌, List, [], ◌∷◌, ◌++◌, map, fold, length, position, reverse, Option, Some, None, option_map, option_and_then, slice_get, codes, if◌then◌else◌}
-use Rattle.std.proofs.Common.{refl, sym, ap, ◌∙◌, subst, arith}
+use Rattle.std.proofs.Common.{refl, sym, ap, ◌∙◌, subst, arith, Ordering, Less, Equal, Greater}
 use Rattle.std.proofs.lemmas.Bool.{eq-eqb, ne_eqb, leb-true}
-use Rattle.std.proofs.lemmas.Bool.Decides.{Decides-int_eq}
+use Rattle.std.proofs.lemmas.Cmp.{int_cmp_total}
 use Rattle.f_tree.specs.declared.names.Basic.{Basic}
 use Rattle.f_tree.specs.declared.names.Basic.TheVariants.{Integer, Logical, Character, Untyped}
 use Rattle.f_tree.specs.Values.{Datum, IsInt, IsLog, IsText, IsSpot, IsProc, IsLabel, Nothing, in_range}
@@ -22,57 +23,84 @@ use Rattle.main_translation_laws.proofs.Names.{IsCalledName, same_first}
 
 -- ## Constants
 
-or_false_left : (a b : Bool) → (a || b) ≡ false → a ≡ false
-or_false_left true b h = h
-or_false_left false b h = refl
-
-or_false_right : (a b : Bool) → (a || b) ≡ false → b ≡ false
-or_false_right true b h = absurd (cc)
-or_false_right false b h = h
-
-none_same : (z : ℤ) (zs : List ℤ) → list_any (int_eq z) zs ≡ false → (y : ℤ) → IsIn y zs → y ≢ z
-none_same z [] none y o same = elim o [ ]
-none_same z (x ∷ xs) none _ first_in same =
-    let no : true ≡ false = sym ((Decides-int_eq z x).1 (sym same)) ∙ or_false_left (int_eq z x) (list_any (int_eq z) xs) none in absurd (cc)
-none_same z (x ∷ xs) none y (later_in o) same = none_same z xs (or_false_right (int_eq z x) (list_any (int_eq z) xs) none) y o same
-
 only_one : (z y : ℤ) → IsIn y (z ∷ []) → y ≡ z
 only_one z _ first_in = refl
 only_one z y (later_in o) = elim o [ ]
 
-with_new_apart : (zs : List ℤ) (z : ℤ) → AreApart zs → AreApart (with_new zs z)
-unfolding with_new
-with_new_apart zs z apart = by (list_any (int_eq z) zs) refl
-  where
-    by : (b : Bool) → list_any (int_eq z) zs ≡ b → AreApart (if b then zs else zs ++ z ∷ [])
-    by true h = apart
-    by false h =
-        apart_append zs (z ∷ []) apart (one_apart (λ y o. elim o [ ]) none_apart)
-        (λ x y p q same. none_same z zs h x p (same ∙ only_one z y q))
+-- each value is above
+abbrev AreAbove : ℤ → List ℤ → Type 0
+AreAbove x ys = (y : ℤ) → IsIn y ys → int_cmp x y ≡ Less
 
-fold_apart : (more zs : List ℤ) → AreApart zs → AreApart (fold with_new zs more)
-fold_apart [] zs apart = apart
-fold_apart (z ∷ more) zs apart = fold_apart more (with_new zs z) (with_new_apart zs z apart)
-
-pub constants_apart : (u : Text) → AreApart (constants_of u)
-unfolding constants_of
-constants_apart u = fold_apart (passed_from u 0 u.steps) [] none_apart
+data AreAscending : List ℤ → Type 0 where
+  none_ascending : AreAscending []
+  one_ascending : {z : ℤ} {zs : List ℤ} → AreAbove z zs → AreAscending zs → AreAscending (z ∷ zs)
 
 data IsOldOrNew (zs : List ℤ) (z y : ℤ) : Type 0 where
   is_old : IsIn y zs → IsOldOrNew zs z y
   is_new : y ≡ z → IsOldOrNew zs z y
 
+old_behind : (x : ℤ) (xs : List ℤ) (z y : ℤ) → IsOldOrNew xs z y → IsOldOrNew (x ∷ xs) z y
+old_behind x xs z y (is_old o) = is_old (later_in o)
+old_behind x xs z y (is_new same) = is_new same
+
+placed : (x : ℤ) (xs more : List ℤ) (z y : ℤ) (r : Ordering) → (IsIn y more → IsOldOrNew xs z y) → IsIn y (match_ordering r (z ∷ x ∷ xs) (x ∷ xs) (x ∷ more)) → IsOldOrNew (x ∷ xs) z y
+placed x xs more z _ Less rest first_in = is_new refl
+placed x xs more z y Less rest (later_in o) = is_old o
+placed x xs more z y Equal rest o = is_old o
+placed x xs more z _ Greater rest first_in = is_old first_in
+placed x xs more z y Greater rest (later_in o) = old_behind x xs z y (rest o)
+
+in_inserted : (zs : List ℤ) (z y : ℤ) → IsIn y (insert_key int_cmp zs z) → IsOldOrNew zs z y
+in_inserted [] z y o = is_new (only_one z y o)
+in_inserted (x ∷ xs) z y o = placed x xs (insert_key int_cmp xs z) z y (int_cmp z x) (in_inserted xs z y) o
+
 old_or_new : (zs : List ℤ) (z y : ℤ) → IsIn y (with_new zs z) → IsOldOrNew zs z y
 unfolding with_new
-old_or_new zs z y o = by (list_any (int_eq z) zs) o
-  where
-    split : InEither y zs (z ∷ []) → IsOldOrNew zs z y
-    split (in_one p) = is_old p
-    split (in_other q) = is_new (only_one z y q)
+old_or_new zs z y o = in_inserted zs z y o
 
-    by : (b : Bool) → IsIn y (if b then zs else zs ++ z ∷ []) → IsOldOrNew zs z y
-    by true p = is_old p
-    by false p = split (in_either y zs (z ∷ []) p)
+-- what is above the least is above the value before it
+over_first : (z x : ℤ) (xs : List ℤ) → int_cmp z x ≡ Less → AreAbove x xs → AreAbove z (x ∷ xs)
+over_first z x xs less above _ first_in = less
+over_first z x xs less above y (later_in o) = int_cmp_total.trans z x y less (above y o)
+
+turned : (z x : ℤ) → int_cmp z x ≡ Greater → int_cmp x z ≡ Less
+turned z x greater = int_cmp_total.antisymm x z ∙ ap ordering_reverse greater
+
+over_new : (x z y : ℤ) (xs : List ℤ) → int_cmp z x ≡ Greater → AreAbove x xs → IsOldOrNew xs z y → int_cmp x y ≡ Less
+over_new x z y xs greater above (is_old o) = above y o
+over_new x z y xs greater above (is_new same) = ap (int_cmp x) same ∙ turned z x greater
+
+inserted_ascends : (zs : List ℤ) (z : ℤ) → AreAscending zs → AreAscending (insert_key int_cmp zs z)
+inserted_ascends [] z none_ascending = one_ascending (λ y o. elim o [ ]) none_ascending
+inserted_ascends (x ∷ xs) z (one_ascending above rest) = by (int_cmp z x) refl (inserted_ascends xs z rest) (in_inserted xs z)
+  where
+    by : (r : Ordering) → int_cmp z x ≡ r → AreAscending (insert_key int_cmp xs z) → ((y : ℤ) → IsIn y (insert_key int_cmp xs z) → IsOldOrNew xs z y)
+        → AreAscending (match_ordering r (z ∷ x ∷ xs) (x ∷ xs) (x ∷ insert_key int_cmp xs z))
+    by Less h more old = one_ascending (over_first z x xs h above) (one_ascending above rest)
+    by Equal h more old = one_ascending above rest
+    by Greater h more old = one_ascending (λ y o. over_new x z y xs h above (old y o)) more
+
+with_new_ascends : (zs : List ℤ) (z : ℤ) → AreAscending zs → AreAscending (with_new zs z)
+unfolding with_new
+with_new_ascends zs z ascending = inserted_ascends zs z ascending
+
+fold_ascends : (more zs : List ℤ) → AreAscending zs → AreAscending (fold with_new zs more)
+fold_ascends [] zs ascending = ascending
+fold_ascends (z ∷ more) zs ascending = fold_ascends more (with_new zs z) (with_new_ascends zs z ascending)
+
+-- a value is not below itself
+not_below : (x y : ℤ) → int_cmp x y ≡ Less → x ≢ y
+not_below x y less same =
+    let itself : int_cmp x x ≡ Less = ap (int_cmp x) same ∙ less in
+    let back : Less ≡ Greater = sym itself ∙ (int_cmp_total.antisymm x x ∙ ap ordering_reverse itself) in absurd (cc)
+
+apart : (zs : List ℤ) → AreAscending zs → AreApart zs
+apart [] none_ascending = none_apart
+apart (z ∷ zs) (one_ascending above rest) = one_apart (λ y o. not_below z y (above y o)) (apart zs rest)
+
+pub constants_apart : (u : Text) → AreApart (constants_of u)
+unfolding constants_of
+constants_apart u = apart (constants_of u) (fold_ascends (passed_from u 0 u.steps) [] none_ascending)
 
 abbrev AllFit : List ℤ → Type 0
 AllFit zs = (z : ℤ) → IsIn z zs → in_range z ≡ true

@@ -1,40 +1,26 @@
 -- That the printed C file of a plain main program is faithful to its FORTRAN file. ANSI X3.9-1978, sections 2.4, 3.5, 5 and 14; C89, 3.7.
-use Rattle.std.specs.List.{list_all}
-use Rattle.std.specs.Prelude.{◌≡◌, ℕ, nat_le, Bool, true, ◌&&◌, List, [], ◌∷◌, Option, Some, None}
+use Rattle.std.specs.Prelude.{◌≡◌, true, List, [], ◌∷◌, Some}
 use Rattle.f_tree.specs.declared.names.Options.{Options}
 use Rattle.f_tree.specs.declared.refusals.Refusal.{Refusal}
 use Rattle.f_tree.specs.declared.units.File.{File}
 use Rattle.f_tree.specs.declared.units.Unit.{Unit as WrittenUnit}
-use Rattle.f_tree.specs.Facts.{Member, ProgramUnit}
+use Rattle.f_tree.specs.Facts.{ProgramUnit}
 use Rattle.f_tree.specs.Lines.{unit_read}
 use Rattle.l_core.specs.Steps.{Text}
 use Rattle.lowering.specs.Units.{lowered_unit}
 use Rattle.c_tree.specs.declared.statement.CStmt.{CStmt}
 use Rattle.c_tree.specs.declared.file.CFile.{CFile}
-use Rattle.c_tree.specs.Tokens.{begins_with, is_letter}
 use Rattle.c_text.specs.Printed.{printed}
 use Rattle.c_spelling.specs.Spelled.{file_of_bytes}
 use Rattle.declaration_rows.specs.SetRows.{Faults}
 use Rattle.faithful.specs.Faithful.{Faithful}
 use Rattle.main_file.specs.MainFile.{main_file}
-use Rattle.main_translation.specs.Contents.{count_by, inventory_of}
+use Rattle.main_translation.specs.Contents.{inventory_of}
 use Rattle.main_translation.specs.Outlined.{body_of}
 use Rattle.main_translation_laws.specs.PlainMains.{IsPlainText}
 use Rattle.main_programs.specs.MainRuns.{plain_facts}
 use Rattle.plain_mains.specs.PlainUnits.{is_plain_main}
-
--- an array has an element
-unfoldable pub has_element : Option ℕ → Bool
-has_element None = true
-has_element (Some n) = nat_le 1 n
-
--- a name begins with a letter
-unfoldable pub is_spellable_name : ProgramUnit → Member → Bool
-is_spellable_name unit m = begins_with is_letter m.name && has_element (count_by (unit.attribute m.name).bounds)
-
--- what C asks besides of the names of a program
-unfoldable pub is_spellable : ProgramUnit → Bool
-is_spellable unit = list_all (is_spellable_name unit) unit.stored
+unfoldable pub use Rattle.plain_forms.specs.SpellableNames.{has_element, is_spellable_name, is_spellable}
 
 -- the C file that is made for a unit with its lowered text and statements
 abbrev pub made_file : ProgramUnit → Text → List CStmt → CFile

@@ -16,7 +16,7 @@ use Rattle.f_tree.specs.declared.statements.Stmt.{Stmt}
 use Rattle.f_tree.specs.declared.statements.UnitKind.TheVariants as kind
 use Rattle.f_tree.specs.declared.statements.UpperBound.TheVariants as upper
 use Rattle.f_tree.specs.declared.units.Unit.{Unit as WrittenUnit}
-use Rattle.plain_mains.specs.PlainUnits.{is_plain_main}
+use Rattle.plain_forms.specs.PlainUnits.{is_plain_main}
 
 -- a statement on a card
 abbrev pub on_card : ℕ → Body → Stmt

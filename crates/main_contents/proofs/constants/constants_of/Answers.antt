@@ -13,7 +13,7 @@ loop-position-preserved c =
 
 pub returns : goal.returns
 returns c =
-    IfOk-weaker c.from_slice.result _ _
+    IfOk-weaker c.listed.result _ _
     (λ constants is facts begins tells.
-    is ∙ c.as_slice.ensures.keys ∙ added_end c.args.table.now c.args.text.now c.loop-position.position c.loop-position.values.keys (omega arith) c.loop-position.invariant facts begins tells)
-    c.from_slice.ensures.items
+    is ∙ added_end c.args.table.now c.args.text.now c.loop-position.position c.loop-position.values.keys (omega arith) c.loop-position.invariant facts begins tells)
+    c.listed.ensures

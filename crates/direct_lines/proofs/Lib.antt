@@ -1,0 +1,11 @@
+pub mod ArgumentForms
+pub mod ReferenceForms
+pub mod TargetForms
+pub mod StatementForms
+pub mod ReadReferences
+pub mod UsedNames
+pub mod Expansions
+pub mod KnownNames
+pub mod FirstPlaces
+pub mod Weights
+pub mod ReferenceSteps

@@ -1,0 +1,7 @@
+use Rattle.std.proofs.Common.{◌≡◌, drop}
+use Rattle.declaration_rows.specs.NameRows.{given_names}
+use Rattle.direct_lines.specs.DirectStatements.{are_direct_lines}
+use Rattle.direct_lines.proofs.lines.are_direct_lines.Given as goal
+
+abbrev pub invariant-loop-statement : goal.invariant-loop-statement
+invariant-loop-statement l = are_direct_lines (given_names l.unit) (drop l.statement-index l.statements) ≡ are_direct_lines (given_names l.unit) l.statements

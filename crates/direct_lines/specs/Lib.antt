@@ -1,0 +1,4 @@
+pub mod Definitions
+pub mod References
+pub mod Assignments
+pub mod DirectStatements

@@ -1,0 +1,4 @@
+pub mod KnownNames
+pub mod LengthsSeen
+pub mod FaultsSeen
+pub mod ItemsSeen

@@ -1,0 +1,17 @@
+pub mod Tests
+pub mod LineLemmas
+pub mod TerminalLemmas
+pub mod RangeLemmas
+pub mod CrossingLemmas
+pub mod NestLemmas
+pub mod ArmLemmas
+pub mod BlockLemmas
+pub mod UseLemmas
+pub mod PassedLaws
+pub mod TellsLemmas
+pub mod FunctionLaws
+pub mod LabelForms
+pub mod BranchForms
+pub mod BranchLaws
+pub mod EntryLemmas
+pub mod FitLemmas

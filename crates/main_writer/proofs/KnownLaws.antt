@@ -1,0 +1,152 @@
+-- What is known of a main program is what its unit, its text and its contents say.
+use Rattle.std.specs.HashMap.{get_by}
+use Rattle.std.specs.List.{list_any, position_or_len}
+use Rattle.std.specs.Ordering.{int_eq}
+use Rattle.std.specs.Prelude.{◌≡◌, ℕ, suc, ◌+◌, nat_eq, nat_lt, ℤ, Bool, true, false, not, ◌&&◌, ◌||◌, List, [], ◌∷◌, map, length, position, bytes_eq, Option, Some, None, option_map, is_some, if◌then◌else◌}
+use Rattle.std.proofs.Common.{cond, refl, sym, ap, ◌∙◌, arith}
+use Rattle.std.proofs.lemmas.Bool.{lt-ltb}
+use Rattle.std.proofs.lemmas.Bool.Decides.{nat_tests}
+use Rattle.f_tree.specs.Values.{Bytes}
+use Rattle.f_tree.specs.Facts.{Attribute, Bounds}
+use Rattle.l_core.specs.Steps.{Text}
+use Rattle.c_emit.specs.Numbers.{is_variable, is_numeric, has_bounds}
+use Rattle.main_file.specs.MainFile as file
+use Rattle.main_translation.specs.Contents.{inventory_of}
+use Rattle.lowered_text.specs.declared.text.LoweredText.{LoweredText}
+use Rattle.lowered_text.specs.Texts.{IsText}
+use Rattle.name_facts.specs.declared.fact.Bound.{Bound}
+use Rattle.name_facts.specs.declared.fact.NameFact.{NameFact}
+use Rattle.name_facts.specs.declared.table.NameFacts.{NameFacts}
+use Rattle.name_facts.specs.GivenFacts.{IsNameFact, bounds_of, fact_in}
+use Rattle.item_emission.specs.Agreeing.{dimension_of, gives_zero_in, known_in}
+use Rattle.item_emitter.specs.declared.known.Variable.{Variable}
+use Rattle.item_emitter.specs.declared.known.Known.{Known}
+use Rattle.item_emitter.specs.Knowing.{variable_in, has_dimensions, is_number, is_numbers, basic_of, dimensions_of, known_of}
+use Rattle.main_contents.specs.declared.contents.Listing.{Listing}
+use Rattle.main_contents.specs.declared.contents.Contents.{Contents}
+use Rattle.main_contents.specs.MainContents.{AreContents, listing_of}
+use Rattle.main_writer.specs.Told.{Seen, Tells, dimension_by, seen_of, seen_by, seen_among, step_of_list}
+use Rattle.main_writer.specs.WrittenMains.{IsNoName, IsTold}
+use Rattle.main_writer.proofs.OptionForms.{none_some, some_none, some_same}
+
+-- ## Places in lists
+
+is_some-cond : {A : Type 0} (b : Bool) (x : A) → is_some (cond b (Some x) None) ≡ b
+is_some-cond true x = refl
+is_some-cond false x = refl
+
+next_lt : (a b : ℕ) → nat_lt (1 + a) (suc b) ≡ nat_lt a b
+next_lt a b = grind (arith, nat_tests)
+
+within_by : (here later : Bool) (place size : ℕ) → later ≡ nat_lt place size → (here || later) ≡ nat_lt (cond (not here) (1 + place) 0) (suc size)
+within_by true later place size is = sym (lt-ltb 0 (suc size) (omega arith))
+within_by false later place size is = is ∙ sym (next_lt place size)
+
+any_within : {A : Type 0} (test : A → Bool) (xs : List A) → list_any test xs ≡ nat_lt (position_or_len test xs) (length xs)
+any_within test [] = refl
+any_within test (x ∷ xs) = within_by (test x) (list_any test xs) (position_or_len test xs) (length xs) (any_within test xs)
+
+any_position : {A : Type 0} (test : A → Bool) (xs : List A) → list_any test xs ≡ is_some (position test xs)
+any_position test xs = any_within test xs ∙ sym (is_some-cond (nat_lt (position_or_len test xs) (length xs)) (position_or_len test xs))
+
+listed_place : (n : ℕ) (ls : List Listing) → position_or_len (nat_eq n) (map step_of_list ls) ≡ position_or_len (λ (l : file.Listing). nat_eq n l.step) (map listing_of ls)
+listed_place n [] = refl
+listed_place n (l ∷ ls) = ap (λ (k : ℕ). cond (not (nat_eq n l.step)) (1 + k) 0) (listed_place n ls)
+
+listed_length : (ls : List Listing) → length (map step_of_list ls) ≡ length (map listing_of ls)
+listed_length [] = refl
+listed_length (l ∷ ls) = ap suc (listed_length ls)
+
+listed_position : (n : ℕ) (ls : List Listing) → position (nat_eq n) (map step_of_list ls) ≡ position (λ (l : file.Listing). nat_eq n l.step) (map listing_of ls)
+listed_position n ls = λ i. cond (nat_lt (listed_place n ls i) (listed_length ls i)) (Some (listed_place n ls i)) None
+
+-- ## Names
+
+-- what is found of a name is what it is
+record IsSeen (a : Attribute) (found : Option Variable) : Type 0 where
+  number : is_number found ≡ (is_variable a.class && is_numeric a.basic && not (has_bounds a.bounds))
+  numbers : is_numbers found ≡ (is_variable a.class && is_numeric a.basic && has_bounds a.bounds)
+  basic : basic_of found ≡ a.basic
+  dimensions : dimensions_of found ≡ map dimension_of a.bounds
+
+all_three : (a b c : Bool) → (a && (b && c)) ≡ (a && b && c)
+all_three true b c = refl
+all_three false b c = refl
+
+dimensions_are : (bs : List Bound) → map dimension_by bs ≡ map dimension_of (map bounds_of bs)
+unfolding dimension_by
+dimensions_are [] = refl
+dimensions_are (b ∷ bs) = ap (λ ds. dimension_of (bounds_of b) ∷ ds) (dimensions_are bs)
+
+has_same : (bs : List Bounds) → has_dimensions (map dimension_of bs) ≡ has_bounds bs
+unfolding has_dimensions has_bounds
+has_same [] = refl
+has_same (b ∷ bs) = refl
+
+seen_some : (v : Variable) (f : NameFact) (a : Attribute) → seen_of v ≡ seen_by f → IsNameFact a f → IsSeen a (Some v)
+unfolding seen_of seen_by is_number is_numbers basic_of dimensions_of
+seen_some v f a same is =
+    let kind : v.is_variable ≡ is_variable a.class = ap (λ (s : Seen). s.is_variable) same ∙ ap is_variable is.class in
+    let basic : v.basic ≡ a.basic = ap (λ (s : Seen). s.basic) same ∙ is.basic in
+    let dimensions : v.dimensions.items ≡ map dimension_of a.bounds = ap (λ (s : Seen). s.dimensions) same ∙ dimensions_are f.bounds ∙ ap (map dimension_of) is.bounds in
+    let some : has_dimensions v.dimensions.items ≡ has_bounds a.bounds = ap has_dimensions dimensions ∙ has_same a.bounds in
+    let number : (v.is_variable && (is_numeric v.basic && not (has_dimensions v.dimensions.items))) ≡ (is_variable a.class && (is_numeric a.basic && not (has_bounds a.bounds))) = λ i. kind i && (is_numeric (basic i) && not (some i)) in
+    let numbers : (v.is_variable && (is_numeric v.basic && has_dimensions v.dimensions.items)) ≡ (is_variable a.class && (is_numeric a.basic && has_bounds a.bounds)) = λ i. kind i && (is_numeric (basic i) && some i) in
+    record {
+      number = number ∙ all_three (is_variable a.class) (is_numeric a.basic) (not (has_bounds a.bounds));
+      numbers = numbers ∙ all_three (is_variable a.class) (is_numeric a.basic) (has_bounds a.bounds);
+      basic = basic;
+      dimensions = dimensions;
+    }
+
+seen_none : (a : Attribute) → IsNoName a → IsSeen a None
+unfolding is_variable is_number is_numbers basic_of dimensions_of
+seen_none a none = record {
+  number = sym (ap (λ c. is_variable c && is_numeric a.basic && not (has_bounds a.bounds)) none.class);
+  numbers = sym (ap (λ c. is_variable c && is_numeric a.basic && has_bounds a.bounds) none.class);
+  basic = sym none.basic;
+  dimensions = sym (ap (map dimension_of) none.bounds);
+}
+
+seen_case : (a : Attribute) (f : NameFact) (among : Bool) (found : Option Variable) → option_map seen_of found ≡ (if among then Some (seen_by f) else None) → IsNameFact a f → (among ≡ false → IsNoName a) → IsSeen a found
+seen_case a f true None is fact other = absurd (none_some (seen_by f) is)
+seen_case a f true (Some v) is fact other = seen_some v f a (some_same is) fact
+seen_case a f false None is fact other = seen_none a (other refl)
+seen_case a f false (Some v) is fact other = absurd (some_none (seen_of v) is)
+
+-- ## The whole
+
+module _ (table : NameFacts) (names : List Bytes) (t : LoweredText) (c : Contents) (k : Known) (u : Text) (tells : Tells table names t c k) (told : IsTold table names u.facts.program)
+    (text : IsText t u) (contents : AreContents u c) where
+  seen : (x : Bytes) → IsSeen (u.facts.program.attribute x) (variable_in k x)
+  unfolding seen_among
+  seen x = seen_case (u.facts.program.attribute x) (fact_in table x) (list_any (bytes_eq x) names) (variable_in k x) (tells.variables x) (told.facts x) (told.others x)
+
+  has_constant : (z : ℤ) → list_any (int_eq z) k.constants.items ≡ is_some (file.place_of_constant (inventory_of u.facts.program u) z)
+  has_constant z = ap (list_any (int_eq z)) (tells.constants ∙ contents.constants) ∙ any_position (int_eq z) (inventory_of u.facts.program u).constants
+
+  list_place : (n : ℕ) → position (nat_eq n) k.lists.items ≡ file.place_of_list (inventory_of u.facts.program u) n
+  list_place n = ap (position (nat_eq n)) tells.lists ∙ listed_position n c.lists.items ∙ ap (position (λ (l : file.Listing). nat_eq n l.step)) contents.lists
+
+  zero_given : true ≡ gives_zero_in u.facts.program.kind
+  unfolding gives_zero_in
+  zero_given = sym (ap gives_zero_in told.kind)
+
+  label_place : (l : ℕ) → get_by (nat_eq l) k.labels ≡ u.position l
+  label_place l = tells.labels l ∙ text.labels l
+
+  temporaries_same : k.temporaries ≡ (inventory_of u.facts.program u).temporaries
+  temporaries_same = tells.temporaries ∙ contents.temporaries
+
+  pub known_agrees : known_of k ≡ known_in (inventory_of u.facts.program u) u.facts u.position
+  known_agrees = λ i. record {
+    is_scalar = λ x. (seen x).number i;
+    is_array = λ x. (seen x).numbers i;
+    basic = λ x. (seen x).basic i;
+    dimensions = λ x. (seen x).dimensions i;
+    temporaries = temporaries_same i;
+    has = λ z. has_constant z i;
+    list = λ n. list_place n i;
+    label = λ l. label_place l i;
+    gives_zero = zero_given i;
+  }

@@ -1,0 +1,249 @@
+//! What a main program's function declares: temporaries, functions of the library, variables and control lists. Sections 4.1, 5.1 and 12.8; C89, 3.5.
+
+ghost use Rattle.std.specs.Prelude.{◌≡◌, ◌++◌, ◌∷◌, [], IfOk, OnOk, map, pos};
+ghost use Rattle.c_tree.specs.declared.declaration.CField.TheVariants as field;
+ghost use Rattle.main_contents.specs.MainContents.{listing_of};
+ghost use Rattle.main_file.specs.MainFile as file;
+ghost use Rattle.main_translation.specs.Contents as contents;
+ghost use Rattle.name_facts.specs.GivenFacts.{bounds_of, fact_in};
+ghost use Rattle.main_writer.specs.Files as spec;
+ghost use Rattle.main_writer.specs.WrittenMains.{is_stored_class, stored_names};
+
+use crate::bounds::{bounds_in, elements};
+use c_names::{control_list_name, temporary_name, variable_name};
+use c_tree::declaration::{CField, CLocal};
+use c_tree::types::{ArgumentType, ListType, NumberType, ParameterType, ResultType};
+use f_tree::{Basic, Class};
+use main_contents::{Calls, Contents, Listing};
+use name_facts::{Bound, NameFacts};
+use plain_data::Items;
+use std::alloc::{AllocError, Global};
+
+/// Declares the temporaries.
+fn add_temporaries(alloc: Global, locals: &mut Vec<CLocal>, count: usize) -> Result<(), AllocError>
+    ensures { OnOk result (locals.new.items ≡ locals.old.items ++ file.temporaries_from 1 count) }
+{
+    for before in 0..count {
+        let name = temporary_name(alloc, before + 1)?;
+        locals.push(CLocal::Number(NumberType::Integer, name))?;
+    }
+    Ok(())
+}
+
+/// Declares a function of the library, where it is called.
+#[tactic(auto, unfolding(main_translation::specs::Contents::if_called))]
+fn add_call(
+    alloc: Global,
+    locals: &mut Vec<CLocal>,
+    is_called: bool,
+    name: &[u8],
+    arguments: &[ArgumentType],
+) -> Result<(), AllocError>
+    ensures { OnOk result (locals.new.items ≡ locals.old.items ++ map file.call_for (contents.if_called is_called (record { name = name.now; arguments = arguments.now }))) }
+{
+    if !is_called {
+        return Ok(());
+    }
+    let name = Items::from_slice(alloc, name)?;
+    let arguments = Items::from_slice(alloc, arguments)?;
+    locals.push(CLocal::Extern(ResultType::Integer, name, arguments))?;
+    Ok(())
+}
+
+/// The function that takes an item, where it is called.
+fn add_output_item(
+    alloc: Global,
+    locals: &mut Vec<CLocal>,
+    is_called: bool,
+) -> Result<(), AllocError>
+    ensures { OnOk result (locals.new.items ≡ locals.old.items ++ map file.call_for (contents.if_called is_called contents.output_item)) }
+{
+    let arguments = [
+        ArgumentType::Parameter(ParameterType::Integers),
+        ArgumentType::Parameter(ParameterType::Integers),
+        ArgumentType::Parameter(ParameterType::Chars),
+        ArgumentType::Parameter(ParameterType::Length),
+    ];
+    add_call(alloc, locals, is_called, b"do_lio", &arguments)
+}
+
+/// The function that stops the run, where it is called.
+fn add_stop(alloc: Global, locals: &mut Vec<CLocal>, is_called: bool) -> Result<(), AllocError>
+    ensures { OnOk result (locals.new.items ≡ locals.old.items ++ map file.call_for (contents.if_called is_called contents.stop_run)) }
+{
+    let arguments = [
+        ArgumentType::Parameter(ParameterType::Chars),
+        ArgumentType::Parameter(ParameterType::Length),
+    ];
+    add_call(alloc, locals, is_called, b"s_stop", &arguments)
+}
+
+/// The function that starts an output, where it is called.
+fn add_start(alloc: Global, locals: &mut Vec<CLocal>, is_called: bool) -> Result<(), AllocError>
+    ensures { OnOk result (locals.new.items ≡ locals.old.items ++ map file.call_for (contents.if_called is_called contents.start_output)) }
+{
+    let arguments = [ArgumentType::List(ListType::Transfer)];
+    add_call(alloc, locals, is_called, b"s_wsle", &arguments)
+}
+
+/// The function that ends an output, where it is called.
+fn add_finish(alloc: Global, locals: &mut Vec<CLocal>, is_called: bool) -> Result<(), AllocError>
+    ensures { OnOk result (locals.new.items ≡ locals.old.items ++ map file.call_for (contents.if_called is_called contents.end_output)) }
+{
+    add_call(alloc, locals, is_called, b"e_wsle", &[])
+}
+
+/// Declares the functions of the library that are called.
+fn add_calls(alloc: Global, locals: &mut Vec<CLocal>, calls: Calls) -> Result<(), AllocError>
+    ensures { OnOk result (locals.new.items ≡ locals.old.items ++ map file.call_for (spec.calls_by calls)) }
+{
+    add_start(alloc, locals, calls.starts)?;
+    add_output_item(alloc, locals, calls.takes)?;
+    add_finish(alloc, locals, calls.finishes)?;
+    add_stop(alloc, locals, calls.stops)?;
+    Ok(())
+}
+
+/// The type of an object of numbers or truth values.
+#[tactic(auto, unfolding(main_translation::specs::Contents::number_type_of))]
+fn number_type(basic: Basic) -> NumberType
+    ensures { result ≡ contents.number_type_of basic }
+{
+    match basic {
+        Basic::Logical => NumberType::Logical,
+        Basic::Integer | Basic::Character | Basic::Untyped => NumberType::Integer,
+    }
+}
+
+/// How many elements there are, as the tree has it.
+fn length_of(count: u64) -> Result<u32, AllocError>
+    ensures { IfOk result (λ length. length ≡ count) }
+{
+    if count > 4_294_967_295 {
+        return Err(AllocError);
+    }
+    Ok(count as u32)
+}
+
+/// How many elements an array has; none for what is no array.
+#[tactic(auto, unfolding(main_translation::specs::Contents::count_by))]
+fn count(bounds: &[Bound]) -> Result<Option<u32>, AllocError>
+    ensures { IfOk result (λ found. found ≡ contents.count_by (map bounds_of bounds.now)) }
+{
+    match bounds {
+        [] => Ok(None),
+        [_, ..] => Ok(Some(length_of(elements(bounds)?)?)),
+    }
+}
+
+/// The declaration of a variable or an array.
+#[tactic(auto, unfolding(crate::specs::Files::local_of))]
+fn variable_local(alloc: Global, table: &NameFacts, name: &[u8]) -> Result<CLocal, AllocError>
+    ensures { IfOk result (λ local. local ≡ spec.local_of table.now name.now) }
+{
+    let basic = number_type(table.basic(name));
+    let written = variable_name(alloc, name)?;
+    match count(bounds_in(table, name))? {
+        Some(length) => Ok(CLocal::StaticNumbers(basic, written, length, None)),
+        None => Ok(CLocal::StaticNumber(basic, written, None)),
+    }
+}
+
+/// Whether a class is that of a name which stands in storage.
+#[tactic(auto, unfolding(crate::specs::WrittenMains::is_stored_class))]
+fn is_stored(class: Class) -> bool
+    ensures { result ≡ is_stored_class class }
+{
+    match class {
+        Class::Stored => true,
+        Class::Constant | Class::Dummy | Class::Result | Class::Procedure => false,
+        Class::DummyProcedure | Class::StatementFunction => false,
+        Class::Intrinsic | Class::Unit => false,
+    }
+}
+
+/// Declares a variable or an array, where the name stands in storage.
+#[tactic(auto, unfolding(crate::specs::Files::local_if))]
+fn add_variable(
+    alloc: Global,
+    locals: &mut Vec<CLocal>,
+    table: &NameFacts,
+    name: &[u8],
+) -> Result<(), AllocError>
+    ensures { OnOk result (locals.new.items ≡ locals.old.items ++ spec.local_if (is_stored_class (fact_in table.now name.now).class) (spec.local_of table.now name.now)) }
+{
+    if !is_stored(table.class(name)) {
+        return Ok(());
+    }
+    locals.push(variable_local(alloc, table, name)?)?;
+    Ok(())
+}
+
+/// Declares the variables and arrays.
+fn add_variables(
+    alloc: Global,
+    locals: &mut Vec<CLocal>,
+    table: &NameFacts,
+    names: &[&[u8]],
+) -> Result<(), AllocError>
+    ensures { OnOk result (locals.new.items ≡ locals.old.items ++ map (spec.local_of table.now) (stored_names table.now (map (λ name. name.now) names.now))) }
+{
+    for name in names {
+        add_variable(alloc, locals, table, name)?;
+    }
+    Ok(())
+}
+
+/// The fields of a control list for a unit.
+fn fields(alloc: Global, unit: i32) -> Result<Items<CField>, AllocError>
+    ensures { IfOk result (λ found. found ≡ field.Number (pos 0) ∷ field.Number unit ∷ field.Number (pos 0) ∷ field.Number (pos 0) ∷ field.Number (pos 0) ∷ []) }
+{
+    let mut found = Items::new(alloc);
+    found.push(CField::Number(0))?;
+    found.push(CField::Number(unit))?;
+    found.push(CField::Number(0))?;
+    found.push(CField::Number(0))?;
+    found.push(CField::Number(0))?;
+    Ok(found)
+}
+
+/// The declaration of a control list, by its number from 1.
+fn list_local(alloc: Global, number: usize, list: &Listing) -> Result<CLocal, AllocError>
+    ensures { IfOk result (λ local. local ≡ file.list_for number (listing_of list.now)) }
+{
+    let name = control_list_name(alloc, number)?;
+    let fields = fields(alloc, list.unit)?;
+    Ok(CLocal::StaticList(ListType::Transfer, name, fields))
+}
+
+/// Declares the control lists.
+fn add_lists(alloc: Global, locals: &mut Vec<CLocal>, lists: &[Listing]) -> Result<(), AllocError>
+    ensures { OnOk result (locals.new.items ≡ locals.old.items ++ file.lists_from 1 (map listing_of lists.now)) }
+{
+    for before in 0..lists.len() {
+        locals.push(list_local(alloc, before + 1, &lists[before])?)?;
+    }
+    Ok(())
+}
+
+/// What the function declares.
+///
+/// # Errors
+///
+/// Want of memory, or an array of more elements than a number has room for.
+#[tactic(auto, unfolding(crate::specs::Files::locals_by))]
+pub(crate) fn locals(
+    alloc: Global,
+    table: &NameFacts,
+    names: &[&[u8]],
+    contents: &Contents,
+) -> Result<Items<CLocal>, AllocError>
+    ensures { IfOk result (λ found. found ≡ spec.locals_by table.now (map (λ name. name.now) names.now) contents.now) }
+{
+    let mut found = Vec::new(alloc);
+    add_temporaries(alloc, &mut found, contents.temporaries)?;
+    add_calls(alloc, &mut found, contents.calls)?;
+    add_variables(alloc, &mut found, table, names)?;
+    add_lists(alloc, &mut found, &contents.lists)?;
+    Ok(Items::from_vec(found))
+}

@@ -1,0 +1,3 @@
+pub mod PlainUnits
+pub mod SpellableNames
+pub mod OwnStorage

@@ -1,0 +1,5 @@
+pub mod Saturation
+pub mod ElementLaws
+pub mod ToldLaws
+pub mod Statements
+pub mod Described

@@ -1,0 +1,9 @@
+use Rattle.std.proofs.Common.{◌*◌, min, nat_lt, ap, ◌∙◌, lit≤}
+use Rattle.plain_names.specs.Elements.{elements_in}
+use Rattle.plain_names.proofs.ElementLaws.{size-below}
+use Rattle.plain_names.proofs.bounds.is_small.Goals as goal
+
+pub returns : goal.returns
+returns c =
+    ap (λ n. nat_lt n 2147483648) (c.saturating_mul.ensures ∙ ap (λ n. min (n * 4) 18446744073709551615) c.elements.ensures)
+    ∙ size-below (elements_in c.args.bounds.now) 18446744073709551615 2147483648 (lit≤ tt)

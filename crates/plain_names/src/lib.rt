@@ -1,0 +1,11 @@
+//! Whether a program unit is a main program with one entry and storage of its own, whose names are integers and logicals, and can be spelled in C.
+//! Sections 2.4, 4.1, 5.1 and 8 of the standard, ANSI X3.9-1978.
+#![tactic(auto)]
+
+mod bounds;
+mod name;
+mod names;
+mod spelling;
+mod units;
+
+pub use names::{has_plain_names, is_spellable};

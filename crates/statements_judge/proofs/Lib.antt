@@ -1,0 +1,5 @@
+pub mod FormLemmas
+pub mod LabelLemmas
+pub mod LoopLemmas
+pub mod GuardLemmas
+pub mod RowLemmas

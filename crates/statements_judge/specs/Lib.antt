@@ -1,0 +1,2 @@
+pub mod UnitLabels
+pub mod UnitLoops

@@ -1,0 +1,2 @@
+pub mod LoweredForms
+pub mod TranslatedForms

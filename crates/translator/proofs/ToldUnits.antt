@@ -1,0 +1,104 @@
+-- What the table of a unit's names tells of the unit as the meaning takes it.
+use Rattle.std.specs.List.{list_any}
+use Rattle.std.specs.Prelude.{◌≡◌, Bool, true, false, ◌||◌, List, [], ◌∷◌, map, bytes_eq, None, if◌then◌else◌}
+use Rattle.std.proofs.Common.{refl, sym, ap, ◌∙◌}
+use Rattle.std.proofs.lemmas.Bool.{or_left, or_right}
+use Rattle.std.proofs.lemmas.Slice.Eq.{bytes_eq-Decides}
+use Rattle.f_tree.specs.declared.names.Class.{Class}
+use Rattle.f_tree.specs.declared.names.Class.TheVariants as class
+use Rattle.f_tree.specs.declared.names.Options.{Options}
+use Rattle.f_tree.specs.declared.units.Unit.{Unit as WrittenUnit}
+use Rattle.f_tree.specs.Values.{Bytes}
+use Rattle.f_tree.specs.Facts.{Attribute, Member, MainProgram, UnitKind, SubroutineUnit, FunctionUnit, BlockDataUnit}
+use Rattle.f_tree.specs.Uses.{Use, is_among}
+use Rattle.f_tree.specs.Attributes.{Constant, Expansion, bare, attribute_in, attribute_of, described, all_described}
+use Rattle.f_tree.specs.Lines.{is_stored, stored_among, program_of, with_ties, unit_kind, unit_read}
+use Rattle.declaration_rows.specs.NameRows.{given_names, all_names}
+use Rattle.name_facts.specs.declared.table.NameFacts.{NameFacts}
+use Rattle.name_facts.specs.GivenFacts.{AreNameFacts, IsNameFact, fact_in}
+use Rattle.expression_lowering.specs.TableNames.{AreFactsOf}
+use Rattle.open_loops.specs.ReadLines.{IsReadAs}
+use Rattle.decl_table.proofs.FactLemmas.{attribute-among}
+use Rattle.main_writer.specs.WrittenMains.{is_stored_class, stored_names, IsNoName, IsTold}
+use Rattle.plain_forms.specs.PlainUnits.{is_main}
+
+-- the table tells what the names of the unit are
+pub facts_given : (u : WrittenUnit) (table : NameFacts) → AreNameFacts u table → AreFactsOf (given_names u) table
+facts_given u table are = record { facts = are.facts }
+
+-- the unit's lines are what is read of its statements
+pub lines_read : (options : Options) (u : WrittenUnit) → IsReadAs (unit_read options u) options.onetrip (given_names u) u.statements
+unfolding unit_read with_ties program_of given_names
+lines_read options u = record { onetrip = refl; lines = refl }
+
+-- ## Names that the unit does not have
+
+among_any : (x : Bytes) (xs : List Bytes) → is_among x xs ≡ list_any (bytes_eq x) xs
+unfolding is_among
+among_any x [] = refl
+among_any x (y ∷ ys) = ap (λ b. bytes_eq x y || b) (among_any x ys)
+
+bare_is_none : (a : Attribute) → a ≡ bare class.Unit None → IsNoName a
+unfolding bare
+bare_is_none a is = record { class = ap (λ (b : Attribute). b.class) is; basic = ap (λ (b : Attribute). b.basic) is; bounds = ap (λ (b : Attribute). b.bounds) is }
+
+-- ## Stored names
+
+stored_class : (k : Class) → (elim k [ class.Stored ↦ true | _ ↦ false ]) ≡ is_stored_class k
+unfolding is_stored_class
+stored_class class.Stored = refl
+stored_class _ = refl
+
+stored_by_class : (a : Attribute) (k : Class) → k ≡ a.class → is_stored a ≡ is_stored_class k
+unfolding is_stored
+stored_by_class a k is = stored_class a.class ∙ ap is_stored_class (sym is)
+
+abbrev names_in : List Member → List Bytes
+names_in ms = map (λ (m : Member). m.name) ms
+
+kept_by : (b c : Bool) (m : Member) (ms : List Member) (xs : List Bytes) → b ≡ c → names_in ms ≡ xs → names_in (if b then m ∷ ms else ms) ≡ (if c then m.name ∷ xs else xs)
+kept_by true c m ms xs is same = ap (λ ys. m.name ∷ ys) same ∙ ap (λ (d : Bool). if d then m.name ∷ xs else xs) is
+kept_by false c m ms xs is same = same ∙ ap (λ (d : Bool). if d then m.name ∷ xs else xs) is
+
+same_bytes : (x : Bytes) → bytes_eq x x ≡ true
+same_bytes x = (bytes_eq-Decides x x).1 refl
+
+module _ (table : NameFacts) (u : WrittenUnit) (uses : List Use) (cs : List Constant) (es : List Expansion) where
+  abbrev HaveClasses : List Bytes → Type 0
+  HaveClasses xs = (x : Bytes) → is_among x xs ≡ true → (fact_in table x).class ≡ (attribute_of u uses cs es x).class
+
+  stored_described : (xs : List Bytes) → HaveClasses xs → names_in (stored_among (described u uses cs es xs)) ≡ stored_names table xs
+  unfolding described stored_among stored_names is_among
+  stored_described [] have = refl
+  stored_described (x ∷ xs) have =
+      kept_by (is_stored (attribute_of u uses cs es x)) (is_stored_class (fact_in table x).class) _ (stored_among (described u uses cs es xs)) (stored_names table xs)
+      (stored_by_class (attribute_of u uses cs es x) (fact_in table x).class (have x (or_left (bytes_eq x x) (is_among x xs) (same_bytes x))))
+      (stored_described xs (λ y among. have y (or_right (bytes_eq y x) (is_among y xs) among)))
+
+  class_among : (xs : List Bytes) → ((x : Bytes) → IsNameFact (attribute_in (described u uses cs es xs) x) (fact_in table x)) → HaveClasses xs
+  class_among xs facts x among =
+      (facts x).class ∙ ap (λ (a : Attribute). a.class) (attribute-among u uses cs es xs x ∙ ap (λ (b : Bool). if b then attribute_of u uses cs es x else bare class.Unit None) among)
+
+  none_among : (xs : List Bytes) (x : Bytes) → list_any (bytes_eq x) xs ≡ false → IsNoName (attribute_in (described u uses cs es xs) x)
+  none_among xs x other =
+      bare_is_none (attribute_in (described u uses cs es xs) x)
+      (attribute-among u uses cs es xs x ∙ ap (λ (b : Bool). if b then attribute_of u uses cs es x else bare class.Unit None) (among_any x xs ∙ other))
+
+-- ## The whole
+
+main_kind : (k : UnitKind) → is_main k ≡ true → k ≡ MainProgram
+unfolding is_main
+main_kind MainProgram is = refl
+main_kind SubroutineUnit is = absurd (cc)
+main_kind FunctionUnit is = absurd (cc)
+main_kind BlockDataUnit is = absurd (cc)
+
+-- the table tells of the unit what its C file is written from
+pub unit_told : (options : Options) (u : WrittenUnit) (table : NameFacts) → AreNameFacts u table → is_main (unit_kind u) ≡ true → IsTold table (all_names u) (unit_read options u)
+unfolding unit_read with_ties program_of given_names all_names all_described
+unit_told options u table are main = record {
+  kind = main_kind (unit_kind u) main;
+  facts = are.facts;
+  others = λ x other. none_among table u _ _ _ (all_names u) x other;
+  stored = stored_described table u _ _ _ (all_names u) (class_among table u _ _ _ (all_names u) are.facts);
+}

@@ -1,0 +1,3 @@
+pub mod TranslatedFiles
+pub mod FittingSteps
+pub mod UnitFiles

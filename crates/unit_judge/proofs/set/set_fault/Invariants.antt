@@ -1,0 +1,8 @@
+use Rattle.std.proofs.Common.{◌≡◌, drop}
+use Rattle.declaration_rows.specs.SetRows.{files_rows}
+use Rattle.declaration_rows.specs.Verdicts.{first_of}
+use Rattle.refusal_order.specs.Earliest.{earliest}
+use Rattle.unit_judge.proofs.set.set_fault.Given as goal
+
+abbrev pub invariant-loop-file : goal.invariant-loop-file
+invariant-loop-file l = first_of (files_rows l.options l.files) ≡ earliest l.first (first_of (files_rows l.options (drop l.file-index l.files)))

@@ -1,0 +1,2 @@
+pub mod UnitTables
+pub mod UnitParts
