@@ -18,7 +18,7 @@ use Rattle.source_verdict.proofs.FrontLaws.{accepted_by_fronts}
 use Rattle.source_reader.specs.SourceReading.{entries, IsNamed}
 use Rattle.source_reader.specs.Sources.{source_of}
 use Rattle.source_reader.specs.declared.named.NamedFiles.{NamedFiles}
-use Rattle.source_judge.proofs.OneFile.{OneFile, clean, faulty, one_file}
+use Rattle.source_translator.proofs.OneFile.{OneFile, clean, faulty, one_file}
 use Rattle.f2c_program.specs.declared.command.Command.{Command}
 use Rattle.f2c_program.specs.declared.command.Command.TheVariants as command
 use Rattle.f2c_program.specs.declared.outcome.Outcome.{Outcome}

@@ -11,12 +11,12 @@ use Rattle.f_tree.specs.declared.refusals.Refusal.{Refusal}
 use Rattle.fortran_text.specs.FirstFault.{most_bytes, FaultOfFile, IsSound}
 use Rattle.source_acceptance.specs.SourceFiles.{Included, Source, names_of, IsWhole}
 use Rattle.source_acceptance.specs.Acceptance.{CardFault, of_file}
-use Rattle.source_verdict.specs.SourceRows.{Phase, Cards, Syntax, Nesting, Forms, place_of, Fault, of_cards, IsFirstRefusal}
+use Rattle.source_verdict.specs.SourceRows.{Phase, Cards, Syntax, Nesting, Declarations, Forms, place_of, Fault, of_cards, IsFirstRefusal}
 use Rattle.source_verdict.specs.Fronts.{front_of, fronts, IsSourceOf, IsFirstOfAll, IsReadOf}
 use Rattle.source_verdict.proofs.LongFiles.{Alike, the_same, both_refused, front_alike, long_fault, long_is_unsound}
 use Rattle.source_verdict.proofs.FrontLaws.{refused_by_fronts, alone, is_alone}
 use Rattle.source_reader.specs.SourceReading.{entries}
-use Rattle.source_judge.proofs.OneFile.{OneFile, clean, faulty}
+use Rattle.source_translator.proofs.OneFile.{OneFile, clean, faulty}
 use Rattle.f2c_program.specs.SourceOnShelf.{mentions, name_of_file, IsThere, AreThere, included_on, source_on, IsRefused, IsMissing}
 use Rattle.f2c_program.specs.SourceReads.{AreFronts}
 
@@ -89,6 +89,7 @@ unfolding place_of
 not_behind Cards other = absurd (other refl)
 not_behind Syntax other = omega arith
 not_behind Nesting other = omega arith
+not_behind Declarations other = omega arith
 not_behind Forms other = omega arith
 
 pub in_first_file : (options : Options) (source : Source) (bytes : List ℕ) (r : Refusal) (card : ℕ) (kind : Kind) → source.files ≡ bytes ∷ [] →
@@ -112,6 +113,7 @@ in_first_file options source bytes r card kind files fault first = by first.phas
     by Cards is = none r.file (first.least q (subst (λ p. Fault options source p q) (sym is) (of_cards q row))).file
     by Syntax is = behind (subst (λ p. place_of Cards < place_of p) (sym is) (not_behind Syntax (λ e. absurd (cc))))
     by Nesting is = behind (subst (λ p. place_of Cards < place_of p) (sym is) (not_behind Nesting (λ e. absurd (cc))))
+    by Declarations is = behind (subst (λ p. place_of Cards < place_of p) (sym is) (not_behind Declarations (λ e. absurd (cc))))
     by Forms is = behind (subst (λ p. place_of Cards < place_of p) (sym is) (not_behind Forms (λ e. absurd (cc))))
 
 -- A REFUSAL by what was read

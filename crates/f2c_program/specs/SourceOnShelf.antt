@@ -1,5 +1,5 @@
 -- The source of a translation as a shelf holds it: a place, and the files that it includes. ANSI X3.9-1978, sections 3 to 15; MIL-STD-1753: INCLUDE.
-use Rattle.std.specs.Prelude.{◌≡◌, ℕ, zero, suc, List, [], ◌∷◌, ◌++◌, Option, None, slice_get}
+use Rattle.std.specs.Prelude.{◌≡◌, ℕ, zero, suc, List, [], ◌∷◌, ◌++◌, Option, Some, None, slice_get}
 use Rattle.f2c_outside.specs.declared.shelves.Place.{Place}
 use Rattle.f2c_outside.specs.declared.shelves.Place.TheVariants.{File as FileNamed}
 use Rattle.f2c_outside.specs.Shelf.{Contents, Lacks, bytes_of}
@@ -11,8 +11,8 @@ use Rattle.f_tree.specs.declared.units.FileSet.{FileSet}
 use Rattle.fortran_text.specs.FirstFault.{FaultOfFile, IsSound}
 use Rattle.source_acceptance.specs.SourceFiles.{Included, Source, mentioned_from, first_mentions}
 use Rattle.source_verdict.specs.SourceRows as verdict
-use Rattle.first_path.specs.Translation.{translation_of}
 use Rattle.faithful.specs.Faithful.{Faithful}
+use Rattle.translated_laws.specs.FaithfulTranslations.{translation_of}
 
 -- the names of the files that a file includes, each once, in the order of first mention
 abbrev pub mentions : List ℕ → List (List ℕ)
@@ -50,12 +50,12 @@ pub record IsAccepted (options : Options) (source : Source) : Type 0 where
   pub tree : File
   pub is : verdict.IsAccepted options source (set_of tree)
 
--- the source is accepted, and the text is the translation of the tree that it spells, and faithful to it whatever the options
+-- the source is accepted, and the text is the translation of the tree that it spells, and faithful to it
 pub record IsTextOf (options : Options) (source : Source) (text : List ℕ) : Type 0 where
   pub tree : File
   pub accepted : verdict.IsAccepted options source (set_of tree)
-  pub translation : text ≡ translation_of tree
-  pub faithful : (whatever : Options) → Faithful whatever (tree ∷ []) (text ∷ [])
+  pub translation : translation_of options tree ≡ Some text
+  pub faithful : Faithful options (tree ∷ []) (text ∷ [])
 
 -- the place and each file that it includes are there, the source is accepted, and this text is its translation
 pub record IsTranslated (options : Options) (from : Place) (text : List ℕ) (contents : Contents) : Type 0 where

@@ -6,8 +6,8 @@ use Rattle.f_tree.specs.declared.refusals.Refusal.{Refusal}
 use Rattle.f_tree.specs.declared.names.Options.{Options}
 use Rattle.f_tree.specs.declared.refusals.Fail.{Fail}
 use Rattle.f_tree.specs.declared.refusals.Fail.TheVariants.{NoMemory, Refused}
-use Rattle.f_tree.specs.declared.units.File.{File}
-use Rattle.first_path.specs.Translation.{translation_of}
+use Rattle.c_tree.specs.declared.file.CFile.{CFile}
+use Rattle.c_text.specs.Printed.{printed}
 use Rattle.source_reader.specs.SourceReading.{entries}
 use Rattle.source_reader.specs.Sources.{source_of}
 use Rattle.source_verdict.specs.Fronts.{IsFirstOfAll}
@@ -18,9 +18,9 @@ use Rattle.f2c_program.specs.SourceOnShelf.{name_of_file, IsTextOf}
 use Rattle.f2c_program.specs.SourceReads.{IsSourceRead, IsSourceUnread}
 use Rattle.f2c_program.specs.ShelfLoops.{IsKept, IsWritten, IsUnwritten}
 
--- the text of the last of some files, which is the first of one
-abbrev pub IsFirstText : List File → List ℕ → Type 0
-IsFirstText files text = (tree : File) → files ≡ tree ∷ [] → text ≡ translation_of tree
+-- the printed text of the last of some C files, which is the first of one
+abbrev pub IsFirstText : List CFile → List ℕ → Type 0
+IsFirstText files text = (file : CFile) → files ≡ file ∷ [] → text ≡ printed file
 
 -- the text of a source whose files were read
 abbrev pub IsTextFor : Options → List ℕ → List (List ℕ) → List (List ℕ) → List ℕ → Type 0

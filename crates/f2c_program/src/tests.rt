@@ -83,7 +83,7 @@ static integer c__3 = 3;
 ";
 
 /// One file for each row of cards and of statements, and files with more than one fault: by phase, then card, then number.
-const REFUSED: [(&[u8], &[u8]); 14] = [
+const REFUSED: [(&[u8], &[u8]); 15] = [
     (
         b"      I=\x01\n      END\n",
         b"f2c: <stdin>:1: F01 character outside the set\n",
@@ -131,8 +131,12 @@ const REFUSED: [(&[u8], &[u8]); 14] = [
         b"f2c: <stdin>:3: F11 syntax error\n",
     ),
     (
-        b"      DO 10 I=1,2\n   10 CONTINUE\n      END\n",
-        b"f2c: <stdin>:1: F99 not built yet\n",
+        b"      CALL A\n      GO TO 10\n      END\n",
+        b"f2c: <stdin>:2: F27 label missing or twice\n",
+    ),
+    (
+        b"      I=1\n      CALL A\n      END\n",
+        b"f2c: <stdin>:2: F99 not built yet\n",
     ),
 ];
 

@@ -1,4 +1,4 @@
--- The phases that are judged before forms are those of the whole table of refusals: cards, statements, nests.
+-- The phases that are judged before declarations and forms are those of the whole table of refusals: cards, statements, nests.
 use Rattle.std.specs.Prelude.{◌≡◌, ℕ, ◌<◌, ◌≤◌, List, [], ◌∷◌, ◌++◌, length, Option, Some, None}
 use Rattle.std.proofs.Common.{refl, sym, ap, subst, ◌∙◌, arith}
 use Rattle.std.proofs.lemmas.List.{append-nil, length-append}
@@ -11,12 +11,14 @@ use Rattle.f_tree.specs.RefusalRows.{IsNotAfter}
 use Rattle.f_tree.specs.Setting.{IsIn, first_in, later_in}
 use Rattle.fortran_grammar.specs.SyntaxRows.{unit_deep_rows}
 use Rattle.declaration_rows.specs.GlobalRows.{all_units}
-use Rattle.declaration_rows.specs.Verdicts.{first_of}
+use Rattle.declaration_rows.specs.SetRows.{set_faults}
+use Rattle.declaration_rows.specs.Verdicts.{first_of, IsFirstOf}
 use Rattle.refusal_order.proofs.RefusalOrder.{IsChosen, none_there, first_there, first_is_chosen}
 use Rattle.source_acceptance.specs.SourceFiles.{Included, Source, names_of, mentioned_from, first_mentions, IsWhole, SpellsSource}
 use Rattle.source_acceptance.specs.Acceptance as table
 use Rattle.source_acceptance.specs.Acceptance.{CardFault, SyntaxFault, deep_rows_of, tree_faults}
-use Rattle.source_verdict.specs.SourceRows.{Phase, Cards, Syntax, Nesting, Forms, place_of, files_not_built, Fault, of_cards, of_syntax, of_nests, of_forms, IsRead, IsFirstRefusal, IsAccepted}
+use Rattle.translated_forms.specs.TranslatedForms.{files_not_translated}
+use Rattle.source_verdict.specs.SourceRows.{Phase, Cards, Syntax, Nesting, Declarations, Forms, place_of, Fault, of_cards, of_syntax, of_nests, of_declarations, of_forms, IsRead, IsFirstRefusal, IsAccepted}
 use Rattle.source_verdict.specs.Fronts.{IsSourceOf}
 use Rattle.source_verdict.proofs.OneSet.{one_set}
 
@@ -150,6 +152,7 @@ unfolding place_of
 before_syntax options source cards Cards q before h = cards q (cards_up options source q h)
 before_syntax options source cards Syntax q before h = absurd (omega (arith, before))
 before_syntax options source cards Nesting q before h = absurd (omega (arith, before))
+before_syntax options source cards Declarations q before h = absurd (omega (arith, before))
 before_syntax options source cards Forms q before h = absurd (omega (arith, before))
 
 refused_by_syntax : (options : Options) (source : Source) (r : Refusal) → IsClear options source table.Cards → table.Fault options source table.Syntax r →
@@ -166,6 +169,7 @@ unfolding place_of
 before_nests options source cards rows Cards q before h = cards q (cards_up options source q h)
 before_nests options source cards rows Syntax q before h = rows q (syntax_up options source q h)
 before_nests options source cards rows Nesting q before h = absurd (omega (arith, before))
+before_nests options source cards rows Declarations q before h = absurd (omega (arith, before))
 before_nests options source cards rows Forms q before h = absurd (omega (arith, before))
 
 refused_by_nests : (options : Options) (source : Source) (r : Refusal) → IsClear options source table.Cards → IsClear options source table.Syntax →
@@ -201,7 +205,7 @@ pub early_refusal : (options : Options) (source : Source) (r : Refusal) (first :
     IsFirstRefusal options source r
 early_refusal options source r first early = by_phase options source r first first.phase refl early
 
--- FORMS, where no earlier phase refuses
+-- DECLARATIONS AND FORMS, where no earlier phase refuses
 pub record IsSpelledClear (options : Options) (source : Source) (set : FileSet) : Type 0 where
   pub whole : IsWhole source
   pub spells : SpellsSource source set
@@ -209,79 +213,109 @@ pub record IsSpelledClear (options : Options) (source : Source) (set : FileSet) 
   pub rows : IsClear options source table.Syntax
   pub nests : IsClear options source table.Nesting
 
-before_forms : (options : Options) (source : Source) (set : FileSet) → IsSpelledClear options source set → IsRead options source Forms
-unfolding place_of
-before_forms options source set clear Cards q before h = clear.cards q (cards_up options source q h)
-before_forms options source set clear Syntax q before h = clear.rows q (syntax_up options source q h)
-before_forms options source set clear Nesting q before h = clear.nests q (nests_up options source q h)
-before_forms options source set clear Forms q before h = absurd (omega (arith, before))
+-- the first of some rows, or none
+chosen_first : (rs : List Refusal) (found : Option Refusal) (r : Refusal) → IsChosen rs found → found ≡ Some r → IsFirstOf rs r
+chosen_first rs _ r (none_there empty) is = absurd (cc)
+chosen_first rs _ r (first_there q first) is = let same : q ≡ r = cc in subst (IsFirstOf rs) same first
 
--- the rows of forms are those of the one set
-of_the_set : (options : Options) (source : Source) (set : FileSet) → SpellsSource source set → (q : Refusal) → Fault options source Forms q → IsIn q (files_not_built set.files)
-of_the_set options source set spells q (of_forms other _ its among) =
-    subst (λ (s : FileSet). IsIn q (files_not_built s.files)) (one_set source other set its spells) among
+first_among : (rs : List Refusal) (r : Refusal) → first_of rs ≡ Some r → IsFirstOf rs r
+first_among rs r is = chosen_first rs (first_of rs) r (first_is_chosen rs) is
 
-data FormsJudged (options : Options) (source : Source) (set : FileSet) : Option Refusal → Type 0 where
-  no_form : files_not_built set.files ≡ [] → FormsJudged options source set None
-  a_form : (r : Refusal) → IsIn r (files_not_built set.files) → ((q : Refusal) → IsIn q (files_not_built set.files) → IsNotAfter r q) → FormsJudged options source set (Some r)
-
-forms_judged : (options : Options) (source : Source) (set : FileSet) (found : Option Refusal) → IsChosen (files_not_built set.files) found → FormsJudged options source set found
-forms_judged options source set _ (none_there empty) = no_form empty
-forms_judged options source set _ (first_there r first) = a_form r first.is first.least
-
-refused_by : (options : Options) (source : Source) (set : FileSet) (found : Option Refusal) (r : Refusal) → IsSpelledClear options source set →
-    FormsJudged options source set found → found ≡ Some r → IsFirstRefusal options source r
-refused_by options source set _ r clear (no_form empty) is = absurd (cc)
-refused_by options source set _ r clear (a_form q among least) is =
-    let same : q ≡ r = cc in
-    subst (IsFirstRefusal options source) same
-    (record {
-      phase = Forms;
-      read = before_forms options source set clear;
-      holds = of_forms set q clear.spells among;
-      least = λ p h. least p (of_the_set options source set clear.spells p h);
-    })
-
-pub forms_refused : (options : Options) (source : Source) (set : FileSet) (r : Refusal) → IsSpelledClear options source set → first_of (files_not_built set.files) ≡ Some r →
-    IsFirstRefusal options source r
-forms_refused options source set r clear is =
-    refused_by options source set (first_of (files_not_built set.files)) r clear
-    (forms_judged options source set (first_of (files_not_built set.files)) (first_is_chosen (files_not_built set.files))) is
+none_chosen : (rs : List Refusal) (found : Option Refusal) → IsChosen rs found → found ≡ None → rs ≡ []
+none_chosen rs _ (none_there empty) is = empty
+none_chosen rs _ (first_there q first) is = absurd (cc)
 
 none_among : (q : Refusal) (rs : List Refusal) → rs ≡ [] → IsIn q rs → ⊥
 none_among q [] is among = elim among [ ]
 none_among q (r ∷ rs) is among = absurd (cc)
 
-no_forms : (options : Options) (source : Source) (set : FileSet) (found : Option Refusal) → FormsJudged options source set found → found ≡ None →
-    files_not_built set.files ≡ []
-no_forms options source set _ (no_form empty) is = empty
-no_forms options source set _ (a_form q among least) is = absurd (cc)
+no_row : (rs : List Refusal) → first_of rs ≡ None → (q : Refusal) → IsIn q rs → ⊥
+no_row rs none q among = none_among q rs (none_chosen rs (first_of rs) (first_is_chosen rs) none) among
 
-no_fault : (options : Options) (source : Source) (set : FileSet) → IsSpelledClear options source set → files_not_built set.files ≡ [] →
-    (phase : Phase) (r : Refusal) → Fault options source phase r → ⊥
-no_fault options source set clear none Cards r h = clear.cards r (cards_up options source r h)
-no_fault options source set clear none Syntax r h = clear.rows r (syntax_up options source r h)
-no_fault options source set clear none Nesting r h = clear.nests r (nests_up options source r h)
-no_fault options source set clear none Forms r h = none_among r (files_not_built set.files) none (of_the_set options source set clear.spells r h)
+-- the rows of declarations and of forms are those of the one set
+declared_in_set : (options : Options) (source : Source) (set : FileSet) → SpellsSource source set → (q : Refusal) → Fault options source Declarations q →
+    IsIn q (set_faults options set)
+declared_in_set options source set spells q (of_declarations other _ its among) =
+    subst (λ (s : FileSet). IsIn q (set_faults options s)) (one_set source other set its spells) among
 
-pub set_accepted : (options : Options) (source : Source) (set : FileSet) → IsSpelledClear options source set → first_of (files_not_built set.files) ≡ None →
-    IsAccepted options source set
-set_accepted options source set clear is = record {
+formed_in_set : (options : Options) (source : Source) (set : FileSet) → SpellsSource source set → (q : Refusal) → Fault options source Forms q →
+    IsIn q (files_not_translated options set.files)
+formed_in_set options source set spells q (of_forms other _ its among) =
+    subst (λ (s : FileSet). IsIn q (files_not_translated options s.files)) (one_set source other set its spells) among
+
+before_declarations : (options : Options) (source : Source) (set : FileSet) → IsSpelledClear options source set → IsRead options source Declarations
+unfolding place_of
+before_declarations options source set clear Cards q before h = clear.cards q (cards_up options source q h)
+before_declarations options source set clear Syntax q before h = clear.rows q (syntax_up options source q h)
+before_declarations options source set clear Nesting q before h = clear.nests q (nests_up options source q h)
+before_declarations options source set clear Declarations q before h = absurd (omega (arith, before))
+before_declarations options source set clear Forms q before h = absurd (omega (arith, before))
+
+pub declarations_refused : (options : Options) (source : Source) (set : FileSet) (r : Refusal) → IsSpelledClear options source set →
+    first_of (set_faults options set) ≡ Some r → IsFirstRefusal options source r
+declarations_refused options source set r clear is =
+    let first : IsFirstOf (set_faults options set) r = first_among (set_faults options set) r is in
+    record {
+      phase = Declarations;
+      read = before_declarations options source set clear;
+      holds = of_declarations set r clear.spells first.is;
+      least = λ q h. first.least q (declared_in_set options source set clear.spells q h);
+    }
+
+before_forms : (options : Options) (source : Source) (set : FileSet) → IsSpelledClear options source set → first_of (set_faults options set) ≡ None →
+    IsRead options source Forms
+unfolding place_of
+before_forms options source set clear declared Cards q before h = clear.cards q (cards_up options source q h)
+before_forms options source set clear declared Syntax q before h = clear.rows q (syntax_up options source q h)
+before_forms options source set clear declared Nesting q before h = clear.nests q (nests_up options source q h)
+before_forms options source set clear declared Declarations q before h =
+    no_row (set_faults options set) declared q (declared_in_set options source set clear.spells q h)
+before_forms options source set clear declared Forms q before h = absurd (omega (arith, before))
+
+pub forms_refused : (options : Options) (source : Source) (set : FileSet) (r : Refusal) → IsSpelledClear options source set →
+    first_of (set_faults options set) ≡ None → first_of (files_not_translated options set.files) ≡ Some r → IsFirstRefusal options source r
+forms_refused options source set r clear declared is =
+    let first : IsFirstOf (files_not_translated options set.files) r = first_among (files_not_translated options set.files) r is in
+    record {
+      phase = Forms;
+      read = before_forms options source set clear declared;
+      holds = of_forms set r clear.spells first.is;
+      least = λ q h. first.least q (formed_in_set options source set clear.spells q h);
+    }
+
+no_fault : (options : Options) (source : Source) (set : FileSet) → IsSpelledClear options source set → first_of (set_faults options set) ≡ None →
+    first_of (files_not_translated options set.files) ≡ None → (phase : Phase) (r : Refusal) → Fault options source phase r → ⊥
+no_fault options source set clear declared formed Cards r h = clear.cards r (cards_up options source r h)
+no_fault options source set clear declared formed Syntax r h = clear.rows r (syntax_up options source r h)
+no_fault options source set clear declared formed Nesting r h = clear.nests r (nests_up options source r h)
+no_fault options source set clear declared formed Declarations r h =
+    no_row (set_faults options set) declared r (declared_in_set options source set clear.spells r h)
+no_fault options source set clear declared formed Forms r h =
+    no_row (files_not_translated options set.files) formed r (formed_in_set options source set clear.spells r h)
+
+pub set_accepted : (options : Options) (source : Source) (set : FileSet) → IsSpelledClear options source set → first_of (set_faults options set) ≡ None →
+    first_of (files_not_translated options set.files) ≡ None → IsAccepted options source set
+set_accepted options source set clear declared formed = record {
   whole = clear.whole;
   spelled = clear.spells;
-  sound = no_fault options source set clear
-      (no_forms options source set (first_of (files_not_built set.files)) (forms_judged options source set (first_of (files_not_built set.files)) (first_is_chosen (files_not_built set.files))) is);
+  sound = no_fault options source set clear declared formed;
 }
 
--- and what is accepted has no form that is not translated
+-- and what is accepted breaks no row of declarations, and has no form that is not translated
 not_empty : (rs : List Refusal) → ((r : Refusal) → IsIn r rs → ⊥) → (found : Option Refusal) → IsChosen rs found → rs ≡ []
 not_empty rs none _ (none_there empty) = empty
 not_empty rs none _ (first_there r first) = absurd (none r first.is)
 
-pub accepted_forms : (options : Options) (source : Source) (set : FileSet) → IsAccepted options source set → files_not_built set.files ≡ []
+is_empty : (rs : List Refusal) → ((r : Refusal) → IsIn r rs → ⊥) → rs ≡ []
+is_empty rs none = not_empty rs none (first_of rs) (first_is_chosen rs)
+
+pub accepted_declarations : (options : Options) (source : Source) (set : FileSet) → IsAccepted options source set → set_faults options set ≡ []
+accepted_declarations options source set accepted =
+    is_empty (set_faults options set) (λ r among. accepted.sound Declarations r (of_declarations set r accepted.spelled among))
+
+pub accepted_forms : (options : Options) (source : Source) (set : FileSet) → IsAccepted options source set → files_not_translated options set.files ≡ []
 accepted_forms options source set accepted =
-    not_empty (files_not_built set.files) (λ r among. accepted.sound Forms r (of_forms set r accepted.spelled among)) (first_of (files_not_built set.files))
-    (first_is_chosen (files_not_built set.files))
+    is_empty (files_not_translated options set.files) (λ r among. accepted.sound Forms r (of_forms set r accepted.spelled among))
 
 -- A WHOLE SOURCE has no further files
 names_append : (is js : List Included) → names_of (is ++ js) ≡ names_of is ++ names_of js

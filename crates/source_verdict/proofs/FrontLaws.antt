@@ -9,7 +9,7 @@ use Rattle.f_tree.specs.RefusalRows.{IsNotAfter}
 use Rattle.fortran_text.specs.FirstFault.{most_bytes, FaultOfFile, of_cards as cards_of_file, IsSound}
 use Rattle.source_acceptance.specs.SourceFiles.{Included, Source, names_of, mentioned_from, first_mentions}
 use Rattle.source_acceptance.specs.Acceptance.{HasIncluded, CardFault, of_file, of_included, too_many_included, end_or_include}
-use Rattle.source_verdict.specs.SourceRows.{Phase, Cards, Syntax, Nesting, Forms, place_of, Fault, of_cards, IsFirstRefusal, IsAccepted}
+use Rattle.source_verdict.specs.SourceRows.{Phase, Cards, Syntax, Nesting, Declarations, Forms, place_of, Fault, of_cards, IsFirstRefusal, IsAccepted}
 use Rattle.source_verdict.specs.Fronts.{front_of, fronts, IsSourceOf, IsFirstOfAll, IsReadOf, RefusedByFronts, AcceptedByFronts}
 use Rattle.source_verdict.proofs.LongFiles.{Alike, the_same, both_refused, SameFaults, long_fault, front_alike, whole_where_short}
 use Rattle.source_verdict.proofs.AlikeSources.{AlikeIncluded, no_more, one_more, AlikeSources, sources_back, card_fault, same_source}
@@ -55,6 +55,7 @@ by_phase options s t r same first Cards is =
     refused_cards options s t r same (subst (λ p. Fault options s p r) is first.holds) (subst (λ p. (q : Refusal) → Fault options s p q → IsNotAfter r q) is first.least)
 by_phase options s t r same first Syntax is = behind_cards options s t r same first (subst (λ p. 0 < place_of p) (sym is) (omega arith))
 by_phase options s t r same first Nesting is = behind_cards options s t r same first (subst (λ p. 0 < place_of p) (sym is) (omega arith))
+by_phase options s t r same first Declarations is = behind_cards options s t r same first (subst (λ p. 0 < place_of p) (sym is) (omega arith))
 by_phase options s t r same first Forms is = behind_cards options s t r same first (subst (λ p. 0 < place_of p) (sym is) (omega arith))
 
 alike_refusal : (options : Options) (s t : Source) (r : Refusal) → AlikeSources options.long_cards s t → IsFirstRefusal options s r → IsFirstRefusal options t r
@@ -192,6 +193,8 @@ long_phase options s t one other r files others same back first Cards is =
 long_phase options s t one other r files others same back first Syntax is =
     absurd (first.read Cards _ (subst (λ p. 0 < place_of p) (sym is) (omega arith)) (of_cards _ (a_row options s one other files same)))
 long_phase options s t one other r files others same back first Nesting is =
+    absurd (first.read Cards _ (subst (λ p. 0 < place_of p) (sym is) (omega arith)) (of_cards _ (a_row options s one other files same)))
+long_phase options s t one other r files others same back first Declarations is =
     absurd (first.read Cards _ (subst (λ p. 0 < place_of p) (sym is) (omega arith)) (of_cards _ (a_row options s one other files same)))
 long_phase options s t one other r files others same back first Forms is =
     absurd (first.read Cards _ (subst (λ p. 0 < place_of p) (sym is) (omega arith)) (of_cards _ (a_row options s one other files same)))

@@ -1,7 +1,7 @@
 -- When a source is accepted for translation, and its first refusal: by phase, then file, then card, then number. A later phase is read only where
--- no earlier one refuses. The rows of declarations, of storage and of what units share are not judged here yet: forms that are not translated are
--- refused in their place, and those that are translated break none of them. ANSI X3.9-1978, sections 3 to 15; MIL-STD-1753.
-use Rattle.std.specs.Prelude.{◌≡◌, ℕ, ◌<◌, List, [], ◌∷◌, ◌++◌}
+-- no earlier one refuses. The rows of storage and of what units share are not judged here yet: forms that have them are not translated, and are
+-- refused as such. ANSI X3.9-1978, sections 3 to 15; MIL-STD-1753.
+use Rattle.std.specs.Prelude.{◌≡◌, ℕ, ◌<◌}
 use Rattle.f_tree.specs.declared.names.Options.{Options}
 use Rattle.f_tree.specs.declared.refusals.Refusal.{Refusal}
 use Rattle.f_tree.specs.declared.units.File.{File}
@@ -10,9 +10,10 @@ use Rattle.f_tree.specs.declared.units.FileSet.{FileSet}
 use Rattle.f_tree.specs.RefusalRows.{number_of, IsNotAfter}
 use Rattle.f_tree.specs.Setting.{IsIn}
 use Rattle.fortran_grammar.specs.SyntaxRows.{unit_deep_rows}
+use Rattle.declaration_rows.specs.SetRows.{set_faults}
 use Rattle.source_acceptance.specs.SourceFiles.{Source, IsWhole, SpellsSource}
 use Rattle.source_acceptance.specs.TextRows.{CardFault, SyntaxFault}
-use Rattle.built_forms.specs.BuiltForms.{not_built}
+use Rattle.translated_forms.specs.TranslatedForms.{files_not_translated}
 
 -- the phases, in their order
 pub data Phase : Type 0 where
@@ -20,6 +21,8 @@ pub data Phase : Type 0 where
   Syntax : Phase
   -- more than 64 open blocks, with INCLUDE replaced
   Nesting : Phase
+  -- the rows of the declarations of units
+  Declarations : Phase
   -- F99, forms that are not translated yet
   Forms : Phase
 
@@ -27,11 +30,8 @@ unfoldable pub place_of : Phase → ℕ
 place_of Cards = 0
 place_of Syntax = 1
 place_of Nesting = 2
-place_of Forms = 3
-
-unfoldable pub files_not_built : List File → List Refusal
-files_not_built [] = []
-files_not_built (f ∷ fs) = not_built f ++ files_not_built fs
+place_of Declarations = 3
+place_of Forms = 4
 
 -- a row of a phase holds in the source, at a file and a card
 pub data Fault (options : Options) (source : Source) : Phase → Refusal → Type 0 where
@@ -39,7 +39,8 @@ pub data Fault (options : Options) (source : Source) : Phase → Refusal → Typ
   of_syntax : (r : Refusal) → SyntaxFault source r → Fault options source Syntax r
   of_nests : (set : FileSet) (file : File) (unit : ProgramUnit) (r : Refusal) → SpellsSource source set → IsIn file set.files → IsIn unit file.units
       → IsIn r (unit_deep_rows unit) → Fault options source Nesting r
-  of_forms : (set : FileSet) (r : Refusal) → SpellsSource source set → IsIn r (files_not_built set.files) → Fault options source Forms r
+  of_declarations : (set : FileSet) (r : Refusal) → SpellsSource source set → IsIn r (set_faults options set) → Fault options source Declarations r
+  of_forms : (set : FileSet) (r : Refusal) → SpellsSource source set → IsIn r (files_not_translated options set.files) → Fault options source Forms r
 
 -- no row of an earlier phase holds
 abbrev pub IsRead : Options → Source → Phase → Type 0

@@ -11,11 +11,10 @@ use Rattle.faithful.specs.FrameImage as frame
 use Rattle.faithful_rows.proofs.Checks.{world_by}
 use Rattle.faithful_rows.proofs.PairProofs.{homes_from}
 use Rattle.worked_rows.specs.FirstRow.{AreAlike}
-use Rattle.worked_rows.specs.TranslatorOpened.{translation_opened}
 
 -- nothing is defined yet
 pub at_start : AreAlike 0 0
-unfolding everything runs_opened sources_opened meaning_opened faithful_opened translation_opened
+unfolding everything runs_opened sources_opened meaning_opened faithful_opened
 at_start = record {
   least = omega arith;
   most = lit≤ tt;
@@ -24,7 +23,7 @@ at_start = record {
 
 -- after the assignment on both sides
 pub assigned : AreAlike 1 1
-unfolding everything runs_opened sources_opened meaning_opened faithful_opened translation_opened
+unfolding everything runs_opened sources_opened meaning_opened faithful_opened
 assigned = record {
   least = omega arith;
   most = lit≤ tt;
@@ -33,7 +32,7 @@ assigned = record {
 
 -- after the start of the PRINT and the call that starts the transfer
 pub print_started : AreAlike 2 2
-unfolding everything runs_opened sources_opened meaning_opened faithful_opened translation_opened
+unfolding everything runs_opened sources_opened meaning_opened faithful_opened
 print_started = record {
   least = omega arith;
   most = lit≤ tt;
@@ -42,7 +41,7 @@ print_started = record {
 
 -- after the item, and the temporary and the call that pass it
 pub item_written : AreAlike 3 4
-unfolding everything runs_opened sources_opened meaning_opened faithful_opened translation_opened
+unfolding everything runs_opened sources_opened meaning_opened faithful_opened
 item_written = record {
   least = omega arith;
   most = lit≤ tt;
@@ -51,7 +50,7 @@ item_written = record {
 
 -- after the end of the PRINT and the call that ends the transfer
 pub print_ended : AreAlike 4 5
-unfolding everything runs_opened sources_opened meaning_opened faithful_opened translation_opened
+unfolding everything runs_opened sources_opened meaning_opened faithful_opened
 print_ended = record {
   least = omega arith;
   most = lit≤ tt;
@@ -60,7 +59,7 @@ print_ended = record {
 
 -- both have ended
 pub over : AreAlike 5 6
-unfolding everything runs_opened sources_opened meaning_opened faithful_opened translation_opened
+unfolding everything runs_opened sources_opened meaning_opened faithful_opened
 over = record {
   least = omega arith;
   most = lit≤ tt;

@@ -1,5 +1,5 @@
--- The first worked row: `I=2`, `PRINT *,I+3`, `END` and its translation, as the two runs that are compared.
-use Rattle.std.specs.Prelude.{ℕ, ◌*◌, ◌≤◌, List, map}
+-- The first worked row: `I=2`, `PRINT *,I+3`, `END` and its C file, as the two runs that are compared.
+use Rattle.std.specs.Prelude.{ℕ, ◌*◌, ◌≤◌, List, [], ◌∷◌}
 use Rattle.f_tree.specs.Facts.{ProgramUnit}
 use Rattle.f_tree.specs.Setting.{Setting}
 use Rattle.f_tree.specs.Meaning.{units_of, ftn}
@@ -7,8 +7,8 @@ use Rattle.f_tree.specs.Runs.{no_options, setting_apart}
 use Rattle.fortran_rows.specs.WorkedSources.{sum_printed}
 use Rattle.c_tree.specs.declared.file.CFile.{CFile}
 use Rattle.c_tree.specs.Meaning.{meaning, step_factor}
-use Rattle.first_translator.specs.Translated.{translated}
 use Rattle.c_rows.specs.RowTexts.{output_unit}
+use Rattle.c_text_rows.specs.TextRows.{first_tree}
 use Rattle.faithful.specs.SameState.{Same}
 
 abbrev pub units : List ProgramUnit
@@ -18,7 +18,7 @@ abbrev pub setting : Setting
 setting = setting_apart units
 
 abbrev pub texts : List CFile
-texts = map translated sum_printed.files
+texts = first_tree ∷ []
 
 -- after n statement steps and m flat steps, n at the least and the step factor times n at the most, the two runs are in one state
 pub record AreAlike (n m : ℕ) : Type 0 where

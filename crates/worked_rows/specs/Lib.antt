@@ -1,2 +1,1 @@
 pub mod FirstRow
-pub mod TranslatorOpened

@@ -1,6 +1,0 @@
-pub mod DistinctNames
-pub mod Equations
-mod FirstRow
-mod Folds
-mod Noting
-mod Walks

@@ -1,3 +1,0 @@
-pub mod FormRows
-pub mod JudgeLemmas
-pub mod OneFile

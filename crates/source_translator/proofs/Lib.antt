@@ -1,0 +1,3 @@
+pub mod FilesInOrder
+pub mod OneFile
+pub mod SourceAnswers

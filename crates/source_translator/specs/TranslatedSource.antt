@@ -1,0 +1,45 @@
+-- What the translator of a source answers: the C files of the trees with which it is accepted, or its first refusal.
+use Rattle.std.specs.Prelude.{◌≡◌, ℕ, List, [], ◌∷◌, Option, Some, None, Result, Ok, Err}
+use Rattle.f_tree.specs.declared.names.Options.{Options}
+use Rattle.f_tree.specs.declared.refusals.Fail.{Fail}
+use Rattle.f_tree.specs.declared.refusals.Fail.TheVariants as fail
+use Rattle.f_tree.specs.declared.refusals.Refusal.{Refusal}
+use Rattle.f_tree.specs.declared.units.File.{File}
+use Rattle.f_tree.specs.declared.units.FileSet.{FileSet}
+use Rattle.c_tree.specs.declared.file.CFile.{CFile}
+use Rattle.declaration_rows.specs.Verdicts.{first_of}
+use Rattle.translated_forms.specs.TranslatedForms.{file_of, files_not_translated}
+use Rattle.source_acceptance.specs.SourceFiles.{Source}
+use Rattle.source_verdict.specs.SourceRows.{IsAccepted}
+use Rattle.source_verdict.specs.Fronts.{IsFirstOfAll}
+use Rattle.source_reader.specs.SourceReading.{entries}
+use Rattle.source_reader.specs.Sources.{source_of}
+
+-- the C files of some trees, one for each, in their order
+pub data AreFilesOf (options : Options) : List File → List CFile → Type 0 where
+  no_files : AreFilesOf options [] []
+  one_file : (tree : File) (file : CFile) (trees : List File) (files : List CFile) → file_of options tree ≡ Some file → AreFilesOf options trees files
+      → AreFilesOf options (tree ∷ trees) (file ∷ files)
+
+-- the source is accepted, and these are the C files of the trees that it spells
+pub record AreFilesOfSource (options : Options) (source : Source) (made : List CFile) : Type 0 where
+  pub set : FileSet
+  pub accepted : IsAccepted options source set
+  pub files : AreFilesOf options set.files made
+
+-- the C files, or the first refusal, whatever further files the source includes; want of memory says nothing
+abbrev pub IsSourceTranslated : Options → List (List ℕ) → List (List ℕ) → List (List ℕ) → Result (List CFile) Fail → Type 0
+IsSourceTranslated options files names included (Ok made) = AreFilesOfSource options (source_of files names included) made
+IsSourceTranslated options files names included (Err (fail.Refused r)) = IsFirstOfAll options files (entries names included) r
+IsSourceTranslated options files names included (Err fail.NoMemory) = Unit {0}
+
+-- the C files of some trees, or the first of their rows F99; want of memory says nothing
+abbrev pub AreTranslated : Options → List File → Result (List CFile) Fail → Type 0
+AreTranslated options trees (Ok made) = (first_of (files_not_translated options trees) ≡ None) × AreFilesOf options trees made
+AreTranslated options trees (Err (fail.Refused r)) = first_of (files_not_translated options trees) ≡ Some r
+AreTranslated options trees (Err fail.NoMemory) = Unit {0}
+
+-- what was found of the trees that were looked at: the first of their rows F99, and their C files where they have none
+pub record IsFoundOf (options : Options) (trees : List File) (found : Option Refusal) (made : List CFile) : Type 0 where
+  pub first : found ≡ first_of (files_not_translated options trees)
+  pub files : found ≡ None → AreFilesOf options trees made

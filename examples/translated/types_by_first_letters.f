@@ -1,0 +1,6 @@
+      IMPLICIT LOGICAL (L),INTEGER (A-C)
+      L1=.TRUE.
+      APPLES=3
+      BANANAS=APPLES*4
+      PRINT *,L1,APPLES,BANANAS
+      END
