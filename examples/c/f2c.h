@@ -21,6 +21,10 @@ typedef integer (*I_fp)();
 typedef logical (*L_fp)();
 typedef int (*U_fp)();
 
-#define max(a, b) ({ integer a_ = (a); integer b_of_two = (b); a_ >= b_of_two ? a_ : b_of_two; })
-#define min(a, b) ({ integer a_ = (a); integer b_of_two = (b); a_ <= b_of_two ? a_ : b_of_two; })
-#define abs(a) ({ integer a_ = (a); a_ >= 0 ? a_ : -a_; })
+/* The greater and the less of two, and the magnitude: each operand is valued once, however deep they stand in each other. */
+static integer f2c__max(integer a, integer b) { return a >= b ? a : b; }
+static integer f2c__min(integer a, integer b) { return a <= b ? a : b; }
+static integer f2c__abs(integer a) { return a >= 0 ? a : -a; }
+#define max(a, b) f2c__max(a, b)
+#define min(a, b) f2c__min(a, b)
+#define abs(a) f2c__abs(a)

@@ -226,6 +226,14 @@ pub read_of_file : (file : ℕ) (refused : Bool) (bytes : List ℕ) (reading : R
     → record { statements = reading.statements; cards = reading.cards } ≡ file_cards file bytes
 read_of_file file refused bytes reading end h none = read_whole file refused bytes reading h (sym h.too_long ∙ limit_of_file reading.fault reading.too_long end none)
 
+limit_of_unjudged : (limit : Option ℕ) → at_limit limit ≡ None → limit ≡ None
+limit_of_unjudged None h = refl
+limit_of_unjudged (Some limit) h = absurd (cc h)
+
+pub read_of_unjudged : (file : ℕ) (refused : Bool) (bytes : List ℕ) (reading : Reading) → IsReading file refused bytes reading → at_limit reading.too_long ≡ None
+    → record { statements = reading.statements; cards = reading.cards } ≡ file_cards file bytes
+read_of_unjudged file refused bytes reading h none = read_whole file refused bytes reading h (sym h.too_long ∙ limit_of_unjudged reading.too_long none)
+
 -- from the fault to the answer
 pub answer_sound : (Faults : ℕ → Kind → Type 0) (fault : Option Fault) (value : FileCards) (r : Result FileCards Fail)
     → IfOk r (λ cards. (fault ≡ None) × (cards ≡ value)) → IsFound Faults fault → IfOk r (λ _. IsSound Faults)

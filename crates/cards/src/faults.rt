@@ -142,7 +142,7 @@ pub(crate) fn fault_or(fault: Option<Fault>, later: Option<Fault>) -> Option<Fau
 }
 
 /// F07 at a card.
-fn at_limit(card: Option<u32>) -> Option<Fault>
+pub(crate) fn at_limit(card: Option<u32>) -> Option<Fault>
     ensures { result ≡ at_limit card }
 {
     match card {

@@ -23,6 +23,13 @@ pub fn card_kind(card: &[u8]) -> CardKind
     kind_of(&card_of(card).columns)
 }
 
+/// Whether the text of a card is END, by its line, which may come with its end or without it.
+pub fn says_end(card: &[u8]) -> bool
+    ensures { result ≡ is_end (text_of (columns_of card.now)) }
+{
+    is_end(text_of(&card_of(card).columns))
+}
+
 /// Whether a text is blank.
 pub(crate) fn is_all_blank(text: &[u8]) -> bool
     ensures { result ≡ list_all is_blank text.now }

@@ -13,5 +13,6 @@ mod reader;
 mod tests;
 
 pub use fortran_text::{CardKind, Statement};
-pub use kinds::{card_kind, is_end};
-pub use reader::{Cards, read_cards, read_included};
+pub use kinds::{card_kind, is_end, says_end};
+pub use lines::line_length;
+pub use reader::{Cards, read_cards, read_included, read_unjudged};

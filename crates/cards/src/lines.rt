@@ -6,8 +6,8 @@ ghost use Rattle.cards.specs.Passes.{ends_with};
 
 use memchr::memchr;
 
-/// The length of the first line of a text, with the line feed that ends it.
-pub(crate) fn line_length(text: &[u8]) -> usize
+/// The length in bytes of the first line of a text that is not empty, with the line feed that ends it.
+pub fn line_length(text: &[u8]) -> usize
     requires { 0 < length text.now }
     ensures some { 0 < result }
     ensures within { result ≤ length text.now }

@@ -1,16 +1,16 @@
 //! From the bytes of a file to its statements, or to its first fault.
 
-ghost use Rattle.std.specs.Prelude.{◌≡◌, ◌<◌, ◌==◌, length, take, map, nat_lt, slice_get, IfOk, IfErr};
+ghost use Rattle.std.specs.Prelude.{◌≡◌, ◌<◌, ◌==◌, length, take, map, nat_lt, slice_get, None, Some, IfOk, IfErr};
 ghost use Rattle.fortran_text.specs.FirstFault.{most_bytes, most_cards, judged, too_long, FaultOfCards, FaultOfFile, IsSound, IsFailure};
 ghost use Rattle.fortran_text.specs.Lines.{lines};
 ghost use Rattle.fortran_text.specs.StatementsOfFile.{file_cards};
 ghost use Rattle.cards.specs.Passes.{IsReading, IsRefusal};
 
-use crate::faults::{Fault, first_of_file, first_of_included, unended};
+use crate::faults::{Fault, at_limit, first_of_file, first_of_included, unended};
 use crate::grouping::closed;
 use crate::lines::ends_with;
 use crate::pass::{MOST_CARDS, Pass, pass_over};
-use f_tree::{Fail, Options, Refusal};
+use f_tree::{Fail, Kind, Options, Refusal};
 use fortran_text::Statement;
 use plain_data::Items;
 use std::alloc::{AllocError, Global};
@@ -149,6 +149,20 @@ pub fn read_included(
         first_of_included(reading.fault, reading.too_long),
         reading,
     )
+}
+
+/// The statements of a file with the given number, from its bytes, whatever its cards are: for what only cuts or lists a file.
+///
+/// # Errors
+///
+/// The row F07, or want of memory.
+pub fn read_unjudged(alloc: Global, bytes: &[u8], file: usize) -> Result<Cards, Fail>
+    ensures within { IfOk result (λ _. too_long bytes.now ≡ None) }
+    ensures read { IfOk result (λ cards. cards ≡ file_cards file bytes.now) }
+    ensures failed { IfErr result (IsFailure file (λ card kind. (too_long bytes.now ≡ Some card) × (kind ≡ Kind.FileTooLong))) }
+{
+    let reading = read_whole(alloc, bytes, file, false)?;
+    answer(file, at_limit(reading.too_long), reading)
 }
 
 /// The refusal by a fault, else what was read.

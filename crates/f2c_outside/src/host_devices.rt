@@ -46,9 +46,9 @@ impl<W: Write + Drop> Device for HostOutput<W> {
 
     fn write_record(&mut self, bytes: &[u8]) -> Result<(), DeviceFault> {
         self.tally.call();
+        self.finished = false;
         if self.records < u64::MAX && put_line(&mut self.writer, bytes).is_ok() {
             self.records += 1;
-            self.finished = false;
             return Ok(());
         }
         Err(self.tally.fail())

@@ -1,18 +1,19 @@
 //! A device over a real file. No clause tells what the file holds: it is the trusted edge.
 
-ghost use Rattle.std.specs.Prelude.{◌≡◌, false};
-ghost use Rattle.f2c_outside.specs.HostState.{untold_device};
+ghost use Rattle.std.specs.Prelude.{◌≡◌, ◌≤◌, ◌-◌, ◌^◌, min, false, IfOk, OnOk, IsSome, IsSomeAnd, IsTrue};
+ghost use Rattle.host_lines.specs.Lines.{lines_in, HasFirst, ReadsAt, WritesAt, record_text};
+ghost use Rattle.f2c_outside.specs.HostState.{untold_device, BothOpen};
 ghost use Rattle.f2c_outside.specs.LineEnds.{behind_line};
 
 use crate::devices::{Device, DeviceFault, Got};
 use crate::host_devices::Tally;
 use crate::memory_device::give;
 use crate::texts::Name;
-use host_lines::{CHUNK, Found, MOST_TURNS, last_end, line_at, lines_from, put_record};
+use host_lines::{Found, line_at, line_before, lines_from, record_at};
 use std::alloc::Global;
 use std::fs;
 use std::fs::{OpenFile, OpenOptions};
-use std::io::{Read, Seek, SeekFrom, Write};
+use std::io::{Read, Seek, Write};
 use std::rt::Files;
 
 /// A file as a device: each line is a record, without its LF. It is opened at the first call, and made
@@ -75,15 +76,15 @@ impl<R: Files + Drop> Device for HostFile<R> {
 
     fn write_record(&mut self, bytes: &[u8]) -> Result<(), DeviceFault> {
         self.tally.call();
+        self.finished = false;
         let start = after_line(self.offset, 0, self.lacks_end);
         let _open = open_if_needed(&self.rt, &self.name, &mut self.file);
         if self.records < u64::MAX
-            && write_line(&mut self.file, self.offset, self.lacks_end, bytes)
+            && write_line(&mut self.file, self.offset, self.lacks_end, bytes).is_ok()
         {
             self.records += 1;
             self.offset = after_line(start, bytes.len(), true);
             self.lacks_end = false;
-            self.finished = false;
             return Ok(());
         }
         Err(self.tally.fail())
@@ -121,10 +122,10 @@ impl<R: Files + Drop> Device for HostFile<R> {
 
     fn end_file(&mut self) -> Result<(), DeviceFault> {
         self.tally.call();
+        self.finished = false;
         if open_if_needed(&self.rt, &self.name, &mut self.file)
             && cut(&mut self.file, self.offset)
         {
-            self.finished = false;
             return Ok(());
         }
         Err(self.tally.fail())
@@ -173,8 +174,10 @@ fn open_if_needed<R: Files>(rt: &R, name: &Name, file: &mut Option<R::File>) -> 
     file.is_some()
 }
 
-/// Cuts the file off at an offset, and says whether that succeeded.
-fn cut<F: OpenFile>(file: &mut Option<F>, offset: u64) -> bool {
+/// Cuts the file off at an offset, and says whether that succeeded. A file that is not open is a fault.
+fn cut<F: OpenFile>(file: &mut Option<F>, offset: u64) -> bool
+    ensures { IsTrue result → IsSome file.old }
+{
     match file {
         Some(file) => file.set_len(offset).is_ok(),
         None => false,
@@ -186,61 +189,64 @@ fn next_line<F: Read + Seek>(
     file: &mut Option<F>,
     offset: u64,
     line: &mut Vec<u8>,
-) -> Result<Found, DeviceFault> {
-    match file {
-        Some(file) => line_at(file, offset, line).map_err(|_| DeviceFault::Failed),
-        None => Err(DeviceFault::Failed),
+) -> Result<Found, DeviceFault>
+    ensures { IfOk result (λ found. IsSomeAnd file.old (λ there. ReadsAt F.stream_position F.stream_bytes F.remaining offset there (HasFirst found line.new.items))) }
+{
+    let Some(file) = file else {
+        return Err(DeviceFault::Failed);
+    };
+    match line_at(file, offset, line) {
+        Ok(found) => Ok(found),
+        Err(_) => Err(DeviceFault::Failed),
     }
 }
 
 /// How many lines there are from an offset on. A file that is not open is a fault.
-fn lines_left<F: Read + Seek>(file: &mut Option<F>, offset: u64) -> Result<u64, DeviceFault> {
-    match file {
-        Some(file) => lines_from(file, offset).map_err(|_| DeviceFault::Failed),
-        None => Err(DeviceFault::Failed),
+fn lines_left<F: Read + Seek>(file: &mut Option<F>, offset: u64) -> Result<u64, DeviceFault>
+    ensures { IfOk result (λ lines. IsSomeAnd file.old (λ there. ReadsAt F.stream_position F.stream_bytes F.remaining offset there
+        (λ bytes. lines ≡ min (lines_in bytes) (2 ^ 64 - 1)))) }
+{
+    let Some(file) = file else {
+        return Err(DeviceFault::Failed);
+    };
+    match lines_from(file, offset) {
+        Ok(lines) => Ok(lines),
+        Err(_) => Err(DeviceFault::Failed),
     }
 }
 
-/// Cuts the file off at an offset, and writes a line there, behind an LF where one is lacking. Says
-/// whether all of it went out.
+/// Cuts the file off at an offset, and writes a record there, behind an LF where one is lacking. A file that is not open is
+/// a fault.
 fn write_line<F: Write + Seek + OpenFile>(
     file: &mut Option<F>,
     offset: u64,
     lacks_end: bool,
     bytes: &[u8],
-) -> bool {
-    let Some(file) = file else {
-        return false;
-    };
-    file.set_len(offset).is_ok()
-        && file.seek(SeekFrom::Start(offset)).is_ok()
-        && put_record(file, lacks_end, bytes).is_ok()
-}
-
-/// The offset at which the line before an offset begins.
-fn line_start<F: Read + Seek>(file: &mut Option<F>, offset: u64) -> Result<u64, DeviceFault> {
+) -> Result<(), DeviceFault>
+    ensures { OnOk result (BothOpen file.old file.new
+        (λ before after. WritesAt F.stream_position F.contents offset before after (record_text lacks_end bytes.now))) }
+{
     let Some(file) = file else {
         return Err(DeviceFault::Failed);
     };
-    let mut end = offset.saturating_sub(1);
-    let mut chunk = [0u8; CHUNK];
-    for _ in 0..MOST_TURNS {
-        if end == 0 {
-            return Ok(0);
-        }
-        let length = end.min(CHUNK as u64);
-        let start = end - length;
-        if file.seek(SeekFrom::Start(start)).is_err() {
-            return Err(DeviceFault::Failed);
-        }
-        let wanted = length as usize;
-        if file.read_exact(&mut chunk[..wanted]).is_err() {
-            return Err(DeviceFault::Failed);
-        }
-        if let Some(last) = last_end(&chunk[..wanted]) {
-            return Ok(start.saturating_add(last as u64).saturating_add(1));
-        }
-        end = start;
+    if file.set_len(offset).is_err() {
+        return Err(DeviceFault::Failed);
     }
-    Err(DeviceFault::Failed)
+    match record_at(file, offset, lacks_end, bytes) {
+        Ok(()) => Ok(()),
+        Err(_) => Err(DeviceFault::Failed),
+    }
+}
+
+/// Where the line before an offset begins. A file that is not open is a fault.
+fn line_start<F: Read + Seek>(file: &mut Option<F>, offset: u64) -> Result<u64, DeviceFault>
+    ensures { IfOk result (λ start. start ≤ offset) }
+{
+    let Some(file) = file else {
+        return Err(DeviceFault::Failed);
+    };
+    match line_before(file, offset) {
+        Ok(start) => Ok(start),
+        Err(_) => Err(DeviceFault::Failed),
+    }
 }

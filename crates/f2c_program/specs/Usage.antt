@@ -11,6 +11,6 @@ usage =
     ∷ codes "  -72         refuses text past column 72\n"
     ∷ codes "  -h, --help  puts this on standard output, and reads nothing\n"
     ∷ codes "\n"
-    ∷ codes "Status 0: it is done. 1: the file is refused, and a line says at which card and why.\n"
-    ∷ codes "2: this word is none of those above. 3: a stream failed. 5: out of memory.\n"
+    ∷ codes "Status 0: it is done. 1: the source is refused, and a line says at which card and why.\n"
+    ∷ codes "2: a line names a word that is none of those above, or not beside the others.\n3: an included file is not there, or a stream failed. 5: out of memory.\n"
     ∷ [])

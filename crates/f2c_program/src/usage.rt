@@ -19,8 +19,8 @@ pub(crate) fn write_usage<H: Shelf>(shelf: &mut H) -> Outcome
         b"  -72         refuses text past column 72\n",
         b"  -h, --help  puts this on standard output, and reads nothing\n",
         b"\n",
-        b"Status 0: it is done. 1: the file is refused, and a line says at which card and why.\n",
-        b"2: this word is none of those above. 3: a stream failed. 5: out of memory.\n",
+        b"Status 0: it is done. 1: the source is refused, and a line says at which card and why.\n",
+        b"2: a line names a word that is none of those above, or not beside the others.\n3: an included file is not there, or a stream failed. 5: out of memory.\n",
     ];
     match write_pieces(shelf, &Place::Output, &pieces) {
         Err(_) => Outcome::Unwritten(Place::Output),

@@ -6,7 +6,7 @@ use Rattle.std.proofs.lemmas.List.Folds.{list_any-append}
 use Rattle.std.specs.Io.KnownBytes.{Consumes, Appends}
 use Rattle.std.proofs.KnownBytes.{Consumes-trans, Appends-trans}
 use lib.Seq.{take-add}
-use Rattle.host_lines.specs.Lines.{is_end, HasNoEnd, ends_in, inside_after, LosesPart, HasFirst, AddsPart, PutFront}
+use Rattle.host_lines.specs.Lines.{is_end, HasNoEnd, ends_in, inside_after, LosesPart, HasFirst, AddsPart, PutFront, IsLastEnd, HasLastEnd}
 use Rattle.host_lines.specs.declared.reading.Found.TheVariants.{Line}
 
 -- two texts without a line feed, joined
@@ -134,3 +134,25 @@ long-front (x ∷ bytes) (suc n) within = ap suc (long-front bytes n (omega arit
 -- counts that stay at a bound, added up
 pub capped-sum : (bound lines ends all more : ℕ) → lines ≡ min ends bound → all ≡ ends + more → min (lines + more) bound ≡ min all bound
 capped-sum bound lines ends all more is sum = omega arith
+
+-- what was taken ends its last line where the last line feed stands in it
+pub last_end_taken :
+    (old new : Option (List ℕ)) (piece : List ℕ) (count : ℕ) (found : Option ℕ)
+    → Consumes old new piece
+    → length piece ≡ count
+    → IsLastEnd piece found
+    → IfSome old (HasLastEnd count found)
+last_end_taken None new piece count found taken long end = tt
+last_end_taken (Some xs) None piece count found taken long end = absurd taken
+last_end_taken (Some xs) (Some ys) piece count found taken long end =
+    record { piece = piece; rest = ys; is = taken; long = long; end = end }
+
+-- the last line feed of a piece stands in it
+pub last_end_within :
+    (piece : List ℕ) (count : ℕ) (found : Option ℕ) → length piece ≡ count → IsLastEnd piece found → IfSome found (λ number. number < count)
+last_end_within piece count None long end = tt
+last_end_within piece count (Some number) long end =
+    let at : number ≡ length end.front = end.at
+    in let sum : length piece ≡ length end.front + suc (length end.back) =
+    ap length end.is ∙ length-joined end.front (10 ∷ end.back)
+    in omega (arith, at, sum, long)

@@ -112,3 +112,17 @@ pub record ReadsAt {F : Type 0} (position : F → Option ℕ) (bytes remaining :
   pub moved : IfSome (position file) (λ before. position there ≡ Some offset)
   pub kept : Keeps (bytes file) (bytes there)
   pub read : IfSome (remaining there) P
+
+-- the first bytes of a text, so many, end their last line there, or have no line feed
+pub record HasLastEnd (count : ℕ) (found : Option ℕ) (text : List ℕ) : Type 0 where
+  pub piece : List ℕ
+  pub rest : List ℕ
+  pub is : text ≡ piece ++ rest
+  pub long : length piece ≡ count
+  pub end : IsLastEnd piece found
+
+-- a file moved to an offset, where it tells its position, and bytes went behind what it held then, where it tells that
+pub record WritesAt {F : Type 0} (position : F → Option ℕ) (contents : F → Option (List ℕ)) (offset : ℕ) (before after : F) (bytes : List ℕ) : Type 0 where
+  pub there : F
+  pub moved : IfSome (position before) (λ was. position there ≡ Some offset)
+  pub put : Appends (contents there) (contents after) bytes

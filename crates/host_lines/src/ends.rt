@@ -16,7 +16,7 @@ pub(crate) fn first_end(bytes: &[u8]) -> Option<usize>
 }
 
 /// Where the last line feed stands.
-pub fn last_end(bytes: &[u8]) -> Option<usize>
+pub(crate) fn last_end(bytes: &[u8]) -> Option<usize>
     ensures { IsLastEnd bytes.now result }
 {
     let mut found = None;

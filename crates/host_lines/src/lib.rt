@@ -8,6 +8,5 @@ mod reading;
 mod tests;
 mod writing;
 
-pub use ends::last_end;
-pub use reading::{CHUNK, Found, MOST_TURNS, line_at, lines_from, read_line};
-pub use writing::{put_all, put_line, put_record};
+pub use reading::{Found, line_at, line_before, lines_from, read_line};
+pub use writing::{put_line, record_at};

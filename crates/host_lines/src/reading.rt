@@ -1,18 +1,18 @@
 //! Lines that are read.
 
-ghost use Rattle.std.specs.Prelude.{◌≡◌, [], min, ◌-◌, ◌^◌, IfOk, OnErr, IfSome, bytes_eq, if◌then◌else◌};
+ghost use Rattle.std.specs.Prelude.{◌≡◌, ◌<◌, ◌≤◌, [], length, min, ◌-◌, ◌^◌, IfOk, OnErr, IfSome, bytes_eq, if◌then◌else◌};
 ghost use Rattle.std.specs.Io.KnownBytes.{Keeps};
-ghost use Rattle.host_lines.specs.Lines.{lines_in, AddsLine, HasRead, HasFirst, LosesPart, GaveByte, ReadsAt};
+ghost use Rattle.host_lines.specs.Lines.{lines_in, AddsLine, HasRead, HasFirst, HasLastEnd, LosesPart, GaveByte, ReadsAt};
 
-use crate::ends::{ends_in, first_end, inside_after};
+use crate::ends::{ends_in, first_end, inside_after, last_end};
 use std::io;
 use std::io::{ErrorKind, Read, Seek, SeekFrom};
 
 /// How many bytes are read at once.
-pub const CHUNK: usize = 4096;
+pub(crate) const CHUNK: usize = 4096;
 
 /// The most turns of a loop over a stream; a further turn is an error.
-pub const MOST_TURNS: usize = 67_108_865;
+pub(crate) const MOST_TURNS: usize = 67_108_865;
 
 /// What was found where a line was looked for.
 #[derive(Clone, Copy, Debug, PartialEq, Eq)]
@@ -134,6 +134,51 @@ pub fn lines_from<F: Read + Seek>(file: &mut F, offset: u64) -> io::Result<u64>
 {
     file.seek(SeekFrom::Start(offset))?;
     count_lines(file)
+}
+
+/// Fills a piece, and says where its last line feed stands. A reader that has fewer bytes left is an error.
+#[tactic(auto, using(crate::proofs::LineLaws::last_end_taken, crate::proofs::LineLaws::last_end_within))]
+fn last_end_in<F: Read>(reader: &mut F, piece: &mut [u8]) -> io::Result<Option<usize>>
+    ensures read { IfOk result (λ found. IfSome (F.remaining reader.old) (HasLastEnd (length piece.old) found)) }
+    ensures within { IfOk result (λ found. IfSome found (λ number. number < length piece.old)) }
+{
+    reader.read_exact(piece)?;
+    Ok(last_end(piece))
+}
+
+/// Moves to an offset, fills a piece from there on, and says where its last line feed stands. A file that has fewer bytes is
+/// an error.
+pub(crate) fn last_end_at<F: Read + Seek>(
+    file: &mut F,
+    offset: u64,
+    piece: &mut [u8],
+) -> io::Result<Option<usize>>
+    ensures read { IfOk result (λ found. ReadsAt F.stream_position F.stream_bytes F.remaining offset file.old (HasLastEnd (length piece.old) found)) }
+    ensures within { IfOk result (λ found. IfSome found (λ number. number < length piece.old)) }
+{
+    file.seek(SeekFrom::Start(offset))?;
+    last_end_in(file, piece)
+}
+
+/// Where the line that ends right before an offset begins: behind the line feed of the line before it, or at 0. It is read
+/// backwards, in large pieces.
+pub fn line_before<F: Read + Seek>(file: &mut F, offset: u64) -> io::Result<u64>
+    ensures { IfOk result (λ start. start ≤ offset) }
+{
+    let mut end = offset.saturating_sub(1);
+    let mut chunk = [0u8; CHUNK];
+    for _ in 0..MOST_TURNS {
+        if end == 0 {
+            return Ok(0);
+        }
+        let length = end.min(CHUNK as u64);
+        let start = end - length;
+        if let Some(last) = last_end_at(file, start, &mut chunk[..length as usize])? {
+            return Ok(start + last as u64 + 1);
+        }
+        end = start;
+    }
+    Err(too_long())
 }
 
 /// The error of a stream that goes on for more turns than a loop may have.

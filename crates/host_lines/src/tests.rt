@@ -1,6 +1,6 @@
 //! Readers and writers that fail, answer short, or end, at each byte; and that all succeeds where they do.
 
-use crate::last_end;
+use crate::ends::last_end;
 use crate::reading::{Found, count_lines, read_line, take_line};
 use crate::writing::{put_all, put_line, put_record};
 use std::io;

@@ -2,11 +2,11 @@
 
 ghost use Rattle.std.specs.Prelude.{◌≡◌, ◌≤◌, ◌++◌, ◌∷◌, [], length, take, IfOk, OnOk, OnErr};
 ghost use Rattle.std.specs.Io.KnownBytes.{Appends, Keeps};
-ghost use Rattle.host_lines.specs.Lines.{PutFront, end_before, record_text};
+ghost use Rattle.host_lines.specs.Lines.{PutFront, WritesAt, end_before, record_text};
 
 use crate::reading::{MOST_TURNS, too_long};
 use std::io;
-use std::io::{ErrorKind, Write};
+use std::io::{ErrorKind, Seek, SeekFrom, Write};
 
 /// Writes the first bytes and answers how many: at least one of bytes that are not none, but 0 where a signal came first.
 fn put_some<W: Write>(writer: &mut W, bytes: &[u8]) -> io::Result<usize>
@@ -22,7 +22,7 @@ fn put_some<W: Write>(writer: &mut W, bytes: &[u8]) -> io::Result<usize>
 }
 
 /// Writes all bytes. After an error a front of them went out.
-pub fn put_all<W: Write>(writer: &mut W, bytes: &[u8]) -> io::Result<()>
+pub(crate) fn put_all<W: Write>(writer: &mut W, bytes: &[u8]) -> io::Result<()>
     ensures ok { OnOk result (Appends (W.contents writer.old) (W.contents writer.new) bytes.now) }
     ensures err { OnErr result (PutFront (W.contents writer.old) (W.contents writer.new) bytes.now) }
 {
@@ -54,10 +54,24 @@ fn end_before(lacks_end: bool) -> &'static [u8]
 
 /// Writes a text and a line feed, behind another line feed where the line before lacks its own. After an error a front of
 /// that went out.
-pub fn put_record<W: Write>(writer: &mut W, lacks_end: bool, bytes: &[u8]) -> io::Result<()>
+pub(crate) fn put_record<W: Write>(writer: &mut W, lacks_end: bool, bytes: &[u8]) -> io::Result<()>
     ensures ok { OnOk result (Appends (W.contents writer.old) (W.contents writer.new) (record_text lacks_end bytes.now)) }
     ensures err { OnErr result (PutFront (W.contents writer.old) (W.contents writer.new) (record_text lacks_end bytes.now)) }
 {
     put_all(writer, end_before(lacks_end))?;
     put_line(writer, bytes)
+}
+
+/// Moves to an offset, and writes a record there as `put_record` does.
+pub fn record_at<F: Write + Seek>(
+    file: &mut F,
+    offset: u64,
+    lacks_end: bool,
+    bytes: &[u8],
+) -> io::Result<()>
+    ensures { OnOk result (WritesAt F.stream_position F.contents offset file.old file.new (record_text lacks_end bytes.now)) }
+{
+    file.seek(SeekFrom::Start(offset))?;
+    put_record(file, lacks_end, bytes)?;
+    Ok(())
 }

@@ -82,9 +82,9 @@ has_four_units (Some n) = nat_eq n 4
 unfoldable pub is_number : Attribute → Bool
 is_number a = is_numeric a.basic && has_four_units a.width
 
--- numbers of less than 2 ^ 31 bytes, under a name of letters and digits
+-- numbers of at most 67,108,864 bytes, as many as one sequence may have, under a name of letters and digits
 unfoldable pub is_plain_variable : Described → Bool
-is_plain_variable d = is_name d.name && (is_number d.attribute && nat_lt (size_of d.attribute) 2147483648)
+is_plain_variable d = is_name d.name && (is_number d.attribute && nat_lt (size_of d.attribute) 67108865)
 
 -- a name that is no dummy and no result, whose bounds fit, and which is a plain variable if it is stored
 unfoldable pub is_plain_name : Described → Bool

@@ -178,6 +178,7 @@ pub record IsPlainMember (a : Attribute) (m : Member) : Type 0 where
   pub sized : m.size ≡ bytes_in (count_by a.bounds)
   pub within : extent_of (elements_of a.bounds) 4 ≤ m.size
   pub small : m.size < 2147483648
+  pub bounded : size_of a < 67108865
 
 four_units : (width : Option ℕ) → has_four_units width ≡ true → width ≡ Some 4
 unfolding has_four_units
@@ -199,8 +200,8 @@ member_by : (u : WrittenUnit) (uses : List Use) (cs : List Constant) (es : List 
 unfolding is_plain_variable is_number size_of size_by
 member_by u uses cs es m size plain =
     let a : Attribute = attribute_of u uses cs es m.name in
-    let parts = and_parts (is_name m.name) (is_number a && nat_lt (size_of a) 2147483648) plain in
-    let rest = and_parts (is_number a) (nat_lt (size_of a) 2147483648) parts.1 in
+    let parts = and_parts (is_name m.name) (is_number a && nat_lt (size_of a) 67108865) plain in
+    let rest = and_parts (is_number a) (nat_lt (size_of a) 67108865) parts.1 in
     let number = and_parts (is_numeric a.basic) (has_four_units a.width) rest.0 in
     let wide : a.width ≡ Some 4 = four_units a.width number.1 in
     let extent : m.size ≡ extent_of (elements_of a.bounds) 4 = size ∙ ap (size_by a) wide in
@@ -210,7 +211,8 @@ member_by u uses cs es m size plain =
       wide = wide;
       sized = extent ∙ size_is a.bounds (closed_attribute u uses cs es m.name);
       within = subst (λ n. extent_of (elements_of a.bounds) 4 ≤ n) (sym extent) (omega arith);
-      small = subst (λ n. n < 2147483648) (sym size) (ltb-true (size_of a) 2147483648 rest.1);
+      small = subst (λ n. n < 2147483648) (sym size) (let less : size_of a < 67108865 = ltb-true (size_of a) 67108865 rest.1 in omega (arith, less));
+      bounded = ltb-true (size_of a) 67108865 rest.1;
     }
 
 plain_among : (u : WrittenUnit) (uses : List Use) (cs : List Constant) (es : List Expansion) (xs : List Bytes) → list_all is_plain_name (described u uses cs es xs) ≡ true →

@@ -74,10 +74,10 @@ if-true false x y h = refl
 variable-told : (x : Bytes) (a : Attribute) (fact : NameFact) → IsNameFact a fact → is_plain_variable x fact ≡ plain.is_plain_variable (record { name = x; attribute = a })
 unfolding is_plain_variable Rattle.plain_forms.specs.PlainUnits.is_plain_variable
 variable-told x a fact told =
-    ap (λ t. is_name x && (t && nat_lt (elements_in fact.bounds * 4) 2147483648)) (number-told a fact told)
+    ap (λ t. is_name x && (t && nat_lt (elements_in fact.bounds * 4) 67108865)) (number-told a fact told)
     ∙ ap (λ t. is_name x && t)
-    (if-true (plain.is_number a) (nat_lt (elements_in fact.bounds * 4) 2147483648) (nat_lt (size_of a) 2147483648)
-    (λ number. ap (λ n. nat_lt n 2147483648) (size-known a fact told (units-of a number))))
+    (if-true (plain.is_number a) (nat_lt (elements_in fact.bounds * 4) 67108865) (nat_lt (size_of a) 67108865)
+    (λ number. ap (λ n. nat_lt n 67108865) (size-known a fact told (units-of a number))))
 
 -- a name is plain by what is said of it
 pub plain-told : (x : Bytes) (a : Attribute) (fact : NameFact) → IsNameFact a fact → is_plain x fact ≡ plain.is_plain_name (record { name = x; attribute = a })

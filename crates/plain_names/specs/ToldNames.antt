@@ -26,7 +26,7 @@ has_plain_bounds fact = nat_eq (length fact.bounds) fact.rank && list_all fits f
 
 -- numbers of less than 2 ^ 31 bytes, of four bytes each, under a name of letters and digits
 unfoldable pub is_plain_variable : Bytes → NameFact → Bool
-is_plain_variable x fact = is_name x && (is_number fact && nat_lt (elements_in fact.bounds * 4) 2147483648)
+is_plain_variable x fact = is_name x && (is_number fact && nat_lt (elements_in fact.bounds * 4) 67108865)
 
 -- no dummy and no result, with bounds that fit, and such a variable if it is stored
 unfoldable pub is_plain : Bytes → NameFact → Bool

@@ -59,9 +59,9 @@ fn elements(bounds: &[Bound]) -> u64
     count
 }
 
-/// Whether a variable or an array of numbers has less than 2 ^ 31 bytes.
+/// Whether a variable or an array of numbers has at most 67,108,864 bytes.
 pub(crate) fn is_small(bounds: &[Bound]) -> bool
-    ensures { result ≡ nat_lt (spec.elements_in bounds.now * 4) 2147483648 }
+    ensures { result ≡ nat_lt (spec.elements_in bounds.now * 4) 67108865 }
 {
-    elements(bounds).saturating_mul(4) < 2_147_483_648
+    elements(bounds).saturating_mul(4) < 67_108_865
 }

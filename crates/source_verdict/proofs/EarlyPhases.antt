@@ -31,11 +31,11 @@ no_syntax_of_trees : (options : Options) (set : FileSet) (r : Refusal) → IsIn 
 unfolding tree_faults
 no_syntax_of_trees options set r among = elim among [ ]
 
-cards_down : (options : Options) (source : Source) (r : Refusal) → table.Fault options source table.Cards r → Fault options source Cards r
+pub cards_down : (options : Options) (source : Source) (r : Refusal) → table.Fault options source table.Cards r → Fault options source Cards r
 cards_down options source r (table.of_cards _ h) = of_cards r h
 cards_down options source r (table.of_trees _ set _ spells among) = absurd (no_cards_of_trees options set r among)
 
-syntax_down : (options : Options) (source : Source) (r : Refusal) → table.Fault options source table.Syntax r → Fault options source Syntax r
+pub syntax_down : (options : Options) (source : Source) (r : Refusal) → table.Fault options source table.Syntax r → Fault options source Syntax r
 syntax_down options source r (table.of_syntax _ h) = of_syntax r h
 syntax_down options source r (table.of_trees _ set _ spells among) = absurd (no_syntax_of_trees options set r among)
 
@@ -111,19 +111,19 @@ trees_of_deep : (options : Options) (set : FileSet) (r : Refusal) → IsIn r (de
 unfolding tree_faults
 trees_of_deep options set r among = among
 
-nests_down : (options : Options) (source : Source) (r : Refusal) → table.Fault options source table.Nesting r → Fault options source Nesting r
+pub nests_down : (options : Options) (source : Source) (r : Refusal) → table.Fault options source table.Nesting r → Fault options source Nesting r
 nests_down options source r (table.of_trees _ set _ spells among) =
     let in_unit = unit_of_row (all_units set.files) r (deep_of_trees options set r among) in
     let in_file = file_of_unit set.files in_unit.unit in_unit.is in
     of_nests set in_file.file in_unit.unit r spells in_file.is in_file.has in_unit.row
 
-cards_up : (options : Options) (source : Source) (r : Refusal) → Fault options source Cards r → table.Fault options source table.Cards r
+pub cards_up : (options : Options) (source : Source) (r : Refusal) → Fault options source Cards r → table.Fault options source table.Cards r
 cards_up options source r (of_cards _ h) = table.of_cards r h
 
-syntax_up : (options : Options) (source : Source) (r : Refusal) → Fault options source Syntax r → table.Fault options source table.Syntax r
+pub syntax_up : (options : Options) (source : Source) (r : Refusal) → Fault options source Syntax r → table.Fault options source table.Syntax r
 syntax_up options source r (of_syntax _ h) = table.of_syntax r h
 
-nests_up : (options : Options) (source : Source) (r : Refusal) → Fault options source Nesting r → table.Fault options source table.Nesting r
+pub nests_up : (options : Options) (source : Source) (r : Refusal) → Fault options source Nesting r → table.Fault options source table.Nesting r
 nests_up options source r (of_nests set file unit _ spells is has row) =
     table.of_trees table.Nesting set r spells (trees_of_deep options set r (row_of_unit (all_units set.files) unit r (unit_of_file set.files file unit is has) row))
 

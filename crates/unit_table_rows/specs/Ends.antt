@@ -47,6 +47,11 @@ pub record HasDrawer (rows : List Row) (state : Option UnitState) (files : List 
   pub is : (units_of rows).connected the_unit ≡ state
   pub drawer : (units_of rows).drawer ≡ files
 
+-- a device came back because there was no memory
+abbrev pub IsUnplaced : {V : Type 0} {H : V → Type 0} → DynBox V Global H → NotPlaced V H → Type 0
+IsUnplaced device (refusal.NoMemory back) = back ≡ device
+IsUnplaced device (refusal.Taken back) = ⊥
+
 -- a device came back because the unit is connected
 abbrev pub IsTaken : {V : Type 0} {H : V → Type 0} → DynBox V Global H → NotPlaced V H → Type 0
 IsTaken device (refusal.Taken back) = back ≡ device

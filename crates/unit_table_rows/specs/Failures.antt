@@ -1,5 +1,5 @@
 -- What calls of a unit table leave whose device fails, and how `finish_all` goes through three units.
-use Rattle.std.specs.Prelude.{◌≡◌, Bool, false, List, [], ◌∷◌, pos}
+use Rattle.std.specs.Prelude.{◌≡◌, Bool, false, List, [], ◌∷◌, pos, if◌then◌else◌}
 use Rattle.f2c_outside.specs.Shelf.{Rose}
 use Rattle.f2c_outside.specs.Device.{DeviceState, IsPlaced, TellsAlike, one_more}
 use Rattle.f2c_outside.specs.Table.{Row, Connects}
@@ -12,6 +12,19 @@ pub record LeftByFailure (d : DeviceState) (m : Bool) (d' : DeviceState) (m' : B
   pub rose : Rose d.faults d'.faults
   pub placed : IsPlaced d'
   pub tells : TellsAlike d d'
+  pub mark : m' ≡ m
+
+-- the device was called once
+abbrev pub CalledOnce : DeviceState → Bool → DeviceState → Bool → Type 0
+CalledOnce d m d' m' = d'.calls ≡ one_more d.calls
+
+-- the device was called once, and not at all where the end mark stands
+abbrev pub CalledUnlessMarked : DeviceState → Bool → DeviceState → Bool → Type 0
+CalledUnlessMarked d m d' m' = d'.calls ≡ (if m then d.calls else one_more d.calls)
+
+-- `finish` failed on the device, and the end mark is as before
+pub record LeftByFinish (d : DeviceState) (m : Bool) (d' : DeviceState) (m' : Bool) : Type 0 where
+  pub did : FailedToFinish d d'
   pub mark : m' ≡ m
 
 -- the devices of three units

@@ -1,19 +1,20 @@
-//! What calls leave whose device fails, and in which order the devices are finished.
+//! What calls leave whose device fails, how often each calls its device, and in which order the devices are finished.
 
 ghost use Rattle.std.specs.Prelude.{◌≡◌, IfErr, IsErrOf, OnOk, true};
 ghost use Rattle.f2c_outside.specs.Rows.{rows_of};
 ghost use Rattle.f2c_outside.specs.Table.{AtUnit, is_connected};
 ghost use Rattle.unit_table_rows.specs.Ends.{the_unit};
-ghost use Rattle.unit_table_rows.specs.Failures.{LeftByFailure, Three, three_rows, AllFinished, StoppedAtThree};
+ghost use Rattle.unit_table_rows.specs.Failures.{LeftByFailure, LeftByFinish, CalledOnce, CalledUnlessMarked, Three, three_rows, AllFinished, StoppedAtThree};
 
 use f2c_outside::devices::Device;
 use f2c_outside::unit_table::{UnitFault, UnitTable};
 use run_state::UnitRefusal;
 
-/// Reads a record of unit 3, which is connected. Where the device fails, the unit stays connected with its end mark and its blanks, and no other row changes.
+/// Reads a record of unit 3, which is connected, by one call of its device. Where the device fails, the unit stays connected with its end mark and its blanks, and no other row changes.
 pub fn read_or_fail(table: &mut UnitTable, into: &mut [u8]) -> Result<(), UnitRefusal>
     requires { is_connected the_unit (rows_of (λ b. (⟦<dyn Device as Device>⟧ b.vtable).device_state b.value) table.old) ≡ true }
     ensures failed { IsErrOf result UnitRefusal.Failed → AtUnit the_unit (rows_of (λ b. (⟦<dyn Device as Device>⟧ b.vtable).device_state b.value) table.old) (rows_of (λ b. (⟦<dyn Device as Device>⟧ b.vtable).device_state b.value) table.new) LeftByFailure }
+    ensures called { AtUnit the_unit (rows_of (λ b. (⟦<dyn Device as Device>⟧ b.vtable).device_state b.value) table.old) (rows_of (λ b. (⟦<dyn Device as Device>⟧ b.vtable).device_state b.value) table.new) CalledOnce }
 {
     match table.read_from(3, into) {
         Ok(_) => Ok(()),
@@ -21,42 +22,47 @@ pub fn read_or_fail(table: &mut UnitTable, into: &mut [u8]) -> Result<(), UnitRe
     }
 }
 
-/// Writes a record to unit 3, with the same where the device fails.
+/// Writes a record to unit 3, by one call of its device, and by none where the end mark stands, with the same where the device fails.
 pub fn write_or_fail(table: &mut UnitTable) -> Result<(), UnitRefusal>
     requires { is_connected the_unit (rows_of (λ b. (⟦<dyn Device as Device>⟧ b.vtable).device_state b.value) table.old) ≡ true }
     ensures failed { IsErrOf result UnitRefusal.Failed → AtUnit the_unit (rows_of (λ b. (⟦<dyn Device as Device>⟧ b.vtable).device_state b.value) table.old) (rows_of (λ b. (⟦<dyn Device as Device>⟧ b.vtable).device_state b.value) table.new) LeftByFailure }
+    ensures called { AtUnit the_unit (rows_of (λ b. (⟦<dyn Device as Device>⟧ b.vtable).device_state b.value) table.old) (rows_of (λ b. (⟦<dyn Device as Device>⟧ b.vtable).device_state b.value) table.new) CalledUnlessMarked }
 {
     table.write_to(3, b"A")
 }
 
-/// BACKSPACE of unit 3, with the same where the device fails.
+/// BACKSPACE of unit 3, by one call of its device, and by none where the end mark stands, with the same where the device fails.
 pub fn back_or_fail(table: &mut UnitTable) -> Result<(), UnitRefusal>
     requires { is_connected the_unit (rows_of (λ b. (⟦<dyn Device as Device>⟧ b.vtable).device_state b.value) table.old) ≡ true }
     ensures failed { IsErrOf result UnitRefusal.Failed → AtUnit the_unit (rows_of (λ b. (⟦<dyn Device as Device>⟧ b.vtable).device_state b.value) table.old) (rows_of (λ b. (⟦<dyn Device as Device>⟧ b.vtable).device_state b.value) table.new) LeftByFailure }
+    ensures called { AtUnit the_unit (rows_of (λ b. (⟦<dyn Device as Device>⟧ b.vtable).device_state b.value) table.old) (rows_of (λ b. (⟦<dyn Device as Device>⟧ b.vtable).device_state b.value) table.new) CalledUnlessMarked }
 {
     table.back_unit(3)
 }
 
-/// REWIND of unit 3, with the same where the device fails.
+/// REWIND of unit 3, by one call of its device, with the same where the device fails.
 pub fn rewind_or_fail(table: &mut UnitTable) -> Result<(), UnitRefusal>
     requires { is_connected the_unit (rows_of (λ b. (⟦<dyn Device as Device>⟧ b.vtable).device_state b.value) table.old) ≡ true }
     ensures failed { IsErrOf result UnitRefusal.Failed → AtUnit the_unit (rows_of (λ b. (⟦<dyn Device as Device>⟧ b.vtable).device_state b.value) table.old) (rows_of (λ b. (⟦<dyn Device as Device>⟧ b.vtable).device_state b.value) table.new) LeftByFailure }
+    ensures called { AtUnit the_unit (rows_of (λ b. (⟦<dyn Device as Device>⟧ b.vtable).device_state b.value) table.old) (rows_of (λ b. (⟦<dyn Device as Device>⟧ b.vtable).device_state b.value) table.new) CalledOnce }
 {
     table.rewind_unit(3)
 }
 
-/// ENDFILE of unit 3, with the same where the device fails.
+/// ENDFILE of unit 3, by one call of its device, and by none where the end mark stands, with the same where the device fails.
 pub fn end_or_fail(table: &mut UnitTable) -> Result<(), UnitRefusal>
     requires { is_connected the_unit (rows_of (λ b. (⟦<dyn Device as Device>⟧ b.vtable).device_state b.value) table.old) ≡ true }
     ensures failed { IsErrOf result UnitRefusal.Failed → AtUnit the_unit (rows_of (λ b. (⟦<dyn Device as Device>⟧ b.vtable).device_state b.value) table.old) (rows_of (λ b. (⟦<dyn Device as Device>⟧ b.vtable).device_state b.value) table.new) LeftByFailure }
+    ensures called { AtUnit the_unit (rows_of (λ b. (⟦<dyn Device as Device>⟧ b.vtable).device_state b.value) table.old) (rows_of (λ b. (⟦<dyn Device as Device>⟧ b.vtable).device_state b.value) table.new) CalledUnlessMarked }
 {
     table.end_unit(3)
 }
 
-/// CLOSE of unit 3, with the same where the device fails: the unit keeps its device.
+/// CLOSE of unit 3, with the same where the device fails: the unit keeps its device, with the records and the position that it had.
 pub fn close_or_fail(table: &mut UnitTable) -> Result<(), UnitRefusal>
     requires { is_connected the_unit (rows_of (λ b. (⟦<dyn Device as Device>⟧ b.vtable).device_state b.value) table.old) ≡ true }
     ensures failed { IsErrOf result UnitRefusal.Failed → AtUnit the_unit (rows_of (λ b. (⟦<dyn Device as Device>⟧ b.vtable).device_state b.value) table.old) (rows_of (λ b. (⟦<dyn Device as Device>⟧ b.vtable).device_state b.value) table.new) LeftByFailure }
+    ensures finish { IsErrOf result UnitRefusal.Failed → AtUnit the_unit (rows_of (λ b. (⟦<dyn Device as Device>⟧ b.vtable).device_state b.value) table.old) (rows_of (λ b. (⟦<dyn Device as Device>⟧ b.vtable).device_state b.value) table.new) LeftByFinish }
 {
     match table.close_unit(3) {
         Ok(_) => Ok(()),

@@ -1,9 +1,10 @@
 //! How devices come into a table: connected to a unit, or into the drawer.
 
-ghost use Rattle.std.specs.Prelude.{◌≡◌, [], ◌∷◌, true, false, IfOk, IfErr, IsErr, IsOk};
+ghost use Rattle.std.specs.Prelude.{◌≡◌, [], ◌∷◌, ◌++◌, true, false, Option, is_some, IfOk, IfErr, OnOk, OnErr, IsErr, IsOk};
 ghost use Rattle.f2c_outside.specs.Rows.{rows_of};
-ghost use Rattle.f2c_outside.specs.Table.{is_connected};
-ghost use Rattle.unit_table_rows.specs.Ends.{the_unit, IsTaken};
+ghost use Rattle.f2c_outside.specs.Table.{is_connected, Connects};
+ghost use Rattle.run_state.specs.Units.{UnitState, zero_blanks_of};
+ghost use Rattle.unit_table_rows.specs.Ends.{Has, the_unit, IsTaken, IsUnplaced};
 
 use crate::programs::{Opened, open_first};
 use f2c_outside::devices::Device;
@@ -22,7 +23,29 @@ pub fn connect_again(table: &mut UnitTable, device: Box<dyn Device>) -> Result<(
     table.connect(3, device)
 }
 
-/// Which units are connected in a new table, and whether blanks are zeros there.
+/// A device for a unit that is free is connected to it, in the last row, without an end mark and with blanks that are ignored;
+/// or it comes back for want of memory, and the table is as before.
+pub fn connect_free(table: &mut UnitTable, device: Box<dyn Device>) -> Result<(), NotPlaced>
+    requires { is_connected the_unit (rows_of (λ b. (⟦<dyn Device as Device>⟧ b.vtable).device_state b.value) table.old) ≡ false }
+    ensures placed { OnOk result (rows_of (λ b. (⟦<dyn Device as Device>⟧ b.vtable).device_state b.value) table.new ≡ rows_of (λ b. (⟦<dyn Device as Device>⟧ b.vtable).device_state b.value) table.old ++ Connects the_unit ((⟦<dyn Device as Device>⟧ device.vtable).device_state device.value) false false ∷ []) }
+    ensures back { IfErr result (IsUnplaced device) }
+    ensures kept { OnErr result (rows_of (λ b. (⟦<dyn Device as Device>⟧ b.vtable).device_state b.value) table.new ≡ rows_of (λ b. (⟦<dyn Device as Device>⟧ b.vtable).device_state b.value) table.old) }
+{
+    table.connect(3, device)
+}
+
+/// Whether unit 3 is connected, and whether blanks are zeros on it, as its state says.
+pub fn look(table: &UnitTable) -> Fresh
+    ensures connected { (state : Option UnitState) → Has (rows_of (λ b. (⟦<dyn Device as Device>⟧ b.vtable).device_state b.value) table.now) the_unit state → result.is_connected ≡ is_some state }
+    ensures zeros { (state : Option UnitState) → Has (rows_of (λ b. (⟦<dyn Device as Device>⟧ b.vtable).device_state b.value) table.now) the_unit state → result.zeros ≡ zero_blanks_of state }
+{
+    Fresh {
+        is_connected: table.is_connected(3),
+        zeros: table.zero_blanks(3),
+    }
+}
+
+/// Whether unit 3 is connected, and whether blanks are zeros there.
 #[derive(Clone, Copy)]
 pub struct Fresh {
     /// Whether unit 3 is connected.

@@ -1,0 +1,3 @@
+mod OwnStorage
+mod Phases
+mod Whole

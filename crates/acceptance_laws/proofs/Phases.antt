@@ -1,0 +1,166 @@
+-- The phases that the verdict of a translation and the whole table have in common, and that a first refusal of one is a first refusal of the other.
+use Rattle.std.specs.Prelude.{◌≡◌, ◌≢◌, ◌<◌, Bool, true, false, List, [], ◌∷◌, ◌++◌, Option, Some, None, if◌then◌else◌}
+use Rattle.std.proofs.Common.{refl, sym, ap, ◌∙◌, subst, arith}
+use Rattle.f_tree.specs.declared.names.Options.{Options}
+use Rattle.f_tree.specs.declared.refusals.Kind.TheVariants.{NotBuiltYet}
+use Rattle.f_tree.specs.declared.refusals.Refusal.{Refusal}
+use Rattle.f_tree.specs.declared.statements.Stmt.{Stmt}
+use Rattle.f_tree.specs.declared.units.File.{File}
+use Rattle.f_tree.specs.declared.units.FileSet.{FileSet}
+use Rattle.f_tree.specs.declared.units.Unit.{Unit as WrittenUnit}
+use Rattle.f_tree.specs.RefusalRows.{IsNotAfter}
+use Rattle.f_tree.specs.Setting.{IsIn, first_in, later_in}
+use Rattle.c_tree.specs.declared.file.CFile.{CFile}
+use Rattle.declaration_rows.specs.SetRows.{set_faults}
+use Rattle.source_acceptance.specs.SourceFiles.{Source}
+use Rattle.source_acceptance.specs.Acceptance as table
+use Rattle.source_acceptance.specs.Acceptance.{tree_faults}
+use Rattle.translated_forms.specs.TranslatedForms.{is_translated_form, form_row, row_unless, unit_file, unit_not_translated, others_not_translated, units_not_translated, files_not_translated}
+use Rattle.source_verdict.specs.SourceRows.{Phase, Cards, Syntax, Nesting, Declarations, Forms, place_of, Fault, of_declarations, of_forms, IsFirstRefusal}
+use Rattle.source_verdict.proofs.EarlyPhases.{cards_down, syntax_down, nests_down, cards_up, syntax_up, nests_up}
+use Rattle.acceptance_laws.specs.WholeTable.{EachEarlierRefusalIsFirst}
+
+-- ## Declarations
+
+declared_tree : (options : Options) (set : FileSet) (r : Refusal) → IsIn r (set_faults options set) → IsIn r (tree_faults table.Declarations options set)
+unfolding tree_faults
+declared_tree options set r among = among
+
+declared_set : (options : Options) (set : FileSet) (r : Refusal) → IsIn r (tree_faults table.Declarations options set) → IsIn r (set_faults options set)
+unfolding tree_faults
+declared_set options set r among = among
+
+pub declarations_up : (options : Options) (source : Source) (r : Refusal) → Fault options source Declarations r → table.Fault options source table.Declarations r
+declarations_up options source r (of_declarations set _ spells among) = table.of_trees table.Declarations set r spells (declared_tree options set r among)
+
+pub declarations_down : (options : Options) (source : Source) (r : Refusal) → table.Fault options source table.Declarations r → Fault options source Declarations r
+declarations_down options source r (table.of_trees _ set _ spells among) = of_declarations set r spells (declared_set options set r among)
+
+-- ## Forms that are not translated
+
+in_either : {A : Type 0} {P : Type 0} (x : A) (xs ys : List A) → (IsIn x xs → P) → (IsIn x ys → P) → IsIn x (xs ++ ys) → P
+in_either x [] ys one other among = other among
+in_either x (_ ∷ xs) ys one other first_in = one first_in
+in_either x (y ∷ xs) ys one other (later_in among) = in_either x xs ys (λ its. one (later_in its)) other among
+
+abbrev IsForm : Refusal → Type 0
+IsForm r = r.kind ≡ NotBuiltYet
+
+either_is : (t : Bool) (r q : Refusal) → IsForm r → IsForm q → IsForm (if t then r else q)
+either_is true r q one other = one
+either_is false r q one other = other
+
+form_row_is : (u : WrittenUnit) (ss : List Stmt) → IsForm (form_row u ss)
+unfolding form_row
+form_row_is u [] = refl
+form_row_is u (s ∷ ss) = either_is (is_translated_form s.body) (form_row u ss) _ (form_row_is u ss) refl
+
+row_unless_is : (file : Option CFile) (r q : Refusal) → IsForm r → IsIn q (row_unless file r) → IsForm q
+unfolding row_unless
+row_unless_is None r _ is first_in = is
+row_unless_is None r q is (later_in among) = elim among [ ]
+row_unless_is (Some file) r q is among = elim among [ ]
+
+others_are : (us : List WrittenUnit) (q : Refusal) → IsIn q (others_not_translated us) → IsForm q
+unfolding others_not_translated
+others_are [] q among = elim among [ ]
+others_are (u ∷ us) _ first_in = refl
+others_are (u ∷ us) q (later_in among) = others_are us q among
+
+units_are : (options : Options) (us : List WrittenUnit) (q : Refusal) → IsIn q (units_not_translated options us) → IsForm q
+unfolding units_not_translated unit_not_translated
+units_are options [] _ first_in = refl
+units_are options [] q (later_in among) = elim among [ ]
+units_are options (u ∷ us) q among =
+    in_either q (row_unless (unit_file options u) (form_row u u.statements)) (others_not_translated us)
+    (row_unless_is (unit_file options u) (form_row u u.statements) q (form_row_is u u.statements)) (others_are us q) among
+
+files_are : (options : Options) (fs : List File) (q : Refusal) → IsIn q (files_not_translated options fs) → IsForm q
+unfolding files_not_translated
+files_are options [] q among = elim among [ ]
+files_are options (f ∷ fs) q among = in_either q (units_not_translated options f.units) (files_not_translated options fs) (units_are options f.units q) (files_are options fs q) among
+
+forms_are : (options : Options) (source : Source) (r : Refusal) → Fault options source Forms r → IsForm r
+forms_are options source r (of_forms set _ spells among) = files_are options set.files r among
+
+-- ## First refusals
+
+module _ (options : Options) (source : Source) (r : Refusal) (first : IsFirstRefusal options source r) where
+  holds_at : (phase : Phase) → first.phase ≡ phase → Fault options source phase r
+  holds_at phase is = subst (λ p. Fault options source p r) is first.holds
+
+  least_at : (phase : Phase) → first.phase ≡ phase → (q : Refusal) → Fault options source phase q → IsNotAfter r q
+  least_at phase is = subst (λ p. (q : Refusal) → Fault options source p q → IsNotAfter r q) is first.least
+
+  clear_at : (phase earlier : Phase) → first.phase ≡ phase → place_of earlier < place_of phase → (q : Refusal) → Fault options source earlier q → ⊥
+  clear_at phase earlier is before q h = first.read earlier q (subst (λ p. place_of earlier < place_of p) (sym is) before) h
+
+  by_cards : first.phase ≡ Cards → table.IsFirstRefusal options source r
+  unfolding table.place_of
+  by_cards is = record {
+    phase = table.Cards;
+    read = λ earlier q before h. absurd (let below : table.place_of earlier < 0 = before in omega (arith, below));
+    holds = cards_up options source r (holds_at Cards is);
+    least = λ q h. least_at Cards is q (cards_down options source q h);
+  }
+
+  before_syntax : first.phase ≡ Syntax → table.IsRead options source table.Syntax
+  unfolding table.place_of place_of
+  before_syntax is table.Cards q before h = clear_at Syntax Cards is (omega arith) q (cards_down options source q h)
+  before_syntax is table.Syntax q before h = absurd (omega (arith, before))
+  before_syntax is table.Nesting q before h = absurd (omega (arith, before))
+  before_syntax is table.Declarations q before h = absurd (omega (arith, before))
+  before_syntax is table.Storage q before h = absurd (omega (arith, before))
+  before_syntax is table.Sharing q before h = absurd (omega (arith, before))
+
+  by_syntax : first.phase ≡ Syntax → table.IsFirstRefusal options source r
+  by_syntax is = record {
+    phase = table.Syntax;
+    read = before_syntax is;
+    holds = syntax_up options source r (holds_at Syntax is);
+    least = λ q h. least_at Syntax is q (syntax_down options source q h);
+  }
+
+  before_nests : first.phase ≡ Nesting → table.IsRead options source table.Nesting
+  unfolding table.place_of place_of
+  before_nests is table.Cards q before h = clear_at Nesting Cards is (omega arith) q (cards_down options source q h)
+  before_nests is table.Syntax q before h = clear_at Nesting Syntax is (omega arith) q (syntax_down options source q h)
+  before_nests is table.Nesting q before h = absurd (omega (arith, before))
+  before_nests is table.Declarations q before h = absurd (omega (arith, before))
+  before_nests is table.Storage q before h = absurd (omega (arith, before))
+  before_nests is table.Sharing q before h = absurd (omega (arith, before))
+
+  by_nests : first.phase ≡ Nesting → table.IsFirstRefusal options source r
+  by_nests is = record {
+    phase = table.Nesting;
+    read = before_nests is;
+    holds = nests_up options source r (holds_at Nesting is);
+    least = λ q h. least_at Nesting is q (nests_down options source q h);
+  }
+
+  before_declarations : first.phase ≡ Declarations → table.IsRead options source table.Declarations
+  unfolding table.place_of place_of
+  before_declarations is table.Cards q before h = clear_at Declarations Cards is (omega arith) q (cards_down options source q h)
+  before_declarations is table.Syntax q before h = clear_at Declarations Syntax is (omega arith) q (syntax_down options source q h)
+  before_declarations is table.Nesting q before h = clear_at Declarations Nesting is (omega arith) q (nests_down options source q h)
+  before_declarations is table.Declarations q before h = absurd (omega (arith, before))
+  before_declarations is table.Storage q before h = absurd (omega (arith, before))
+  before_declarations is table.Sharing q before h = absurd (omega (arith, before))
+
+  by_declarations : first.phase ≡ Declarations → table.IsFirstRefusal options source r
+  by_declarations is = record {
+    phase = table.Declarations;
+    read = before_declarations is;
+    holds = declarations_up options source r (holds_at Declarations is);
+    least = λ q h. least_at Declarations is q (declarations_down options source q h);
+  }
+
+  by_phase : r.kind ≢ NotBuiltYet → (phase : Phase) → first.phase ≡ phase → table.IsFirstRefusal options source r
+  by_phase other Cards is = by_cards is
+  by_phase other Syntax is = by_syntax is
+  by_phase other Nesting is = by_nests is
+  by_phase other Declarations is = by_declarations is
+  by_phase other Forms is = absurd (other (forms_are options source r (holds_at Forms is)))
+
+pub refused_first : EachEarlierRefusalIsFirst
+refused_first options source r other first = by_phase options source r first other first.phase refl

@@ -1,0 +1,5 @@
+use Rattle.acceptance_laws.proofs.Phases.{refused_first}
+use Rattle.acceptance_laws.proofs.laws.earlier_refusals_are_first.Goals as goal
+
+pub returns : goal.returns
+returns c = refused_first

@@ -1,0 +1,247 @@
+-- How what readers say of tokens is put together: one reader behind another, a token before what is read, and what is said at once.
+use Rattle.std.proofs.Common.{◌≡◌, refl, sym, ap, ◌∙◌, subst, ℕ, suc, ◌+◌, ◌≤◌, le_trans, [], ◌∷◌, ◌++◌, length, append_assoc, length-append, Option, Some, None, Ok, Err, arith}
+use Rattle.c_tree.specs.Tokens.{Token}
+use Rattle.c_readers.specs.Readers.{Tokens, Outcome, Reader, found, refused, ◌>>=◌}
+use Rattle.c_grammar_laws.specs.Exactness.{head, Filled, Took, Stopped, Judged, Good}
+
+-- the same token stands first behind a front
+pub head-behind : (front one other : Tokens) → head one ≡ head other → head (front ++ one) ≡ head (front ++ other)
+head-behind [] one other h = h
+head-behind (token ∷ front) one other h = refl
+
+pub length-front : (front rest whole : Tokens) → whole ≡ front ++ rest → length rest ≤ length whole
+length-front front rest whole h = subst (λ z. length rest ≤ length z) (sym h) (subst (λ z. length rest ≤ z) (sym (length-append front rest)) (omega arith))
+
+-- ## One reader behind another
+
+module _ {A B : Type 0} (First : A → Tokens → Tokens → Type 0) (Next : A → B → Tokens → Tokens → Type 0) (Whole : B → Tokens → Tokens → Type 0)
+    (joins : (x : A) (y : B) (p q r : Tokens) → First x p q → Next x y q r → Whole y p r) where
+  pub filled-then : (front : Tokens) (f : Filled First front) → Filled (Next f.tree) [] → Filled Whole front
+  filled-then front f g = record {
+    later = f.later ++ g.later;
+    tree = g.tree;
+    spelled = λ behind.
+        joins f.tree g.tree (front ++ ((f.later ++ g.later) ++ behind)) (g.later ++ behind) behind
+        (subst (λ z. First f.tree (front ++ z) (g.later ++ behind)) (sym (append_assoc f.later g.later behind)) (f.spelled (g.later ++ behind)))
+        (g.spelled behind);
+  }
+
+  behind-none : (nests fewer : ℕ) (tokens mid front : Tokens) → tokens ≡ front ++ mid → (length mid ≤ length tokens → fewer ≤ length mid → nests ≤ length tokens)
+      → fewer ≤ length mid → nests ≤ length tokens
+  behind-none nests fewer tokens mid front whole bound h = bound (length-front front mid tokens whole) h
+
+  behind-found : (x : A) (more : Reader A) (next : A → Reader B) (tokens mid : Tokens) (y : B) (rest : Tokens)
+      → Took First more tokens x mid → Took (Next x) (next x) mid y rest → Took Whole (λ ts. more ts >>= next) tokens y rest
+  behind-found x more next tokens mid y rest one other = record {
+    front = one.front ++ other.front;
+    whole = one.whole ∙ (ap (λ z. one.front ++ z) other.whole ∙ sym (append_assoc one.front other.front rest));
+    spelled = λ behind.
+        joins x y ((one.front ++ other.front) ++ behind) (other.front ++ behind) behind
+        (subst (λ z. First x z (other.front ++ behind)) (sym (append_assoc one.front other.front behind)) (one.spelled (other.front ++ behind)))
+        (other.spelled behind);
+    local = λ behind h.
+        ap (λ z. more z >>= next) (append_assoc one.front other.front behind)
+        ∙ (ap (λ z. z >>= next)
+        (one.local (other.front ++ behind) (head-behind other.front behind rest h ∙ ap head (sym other.whole)))
+        ∙ other.local behind h);
+  }
+
+  behind-stopped : (x : A) (more : Reader A) (next : A → Reader B) (tokens mid : Tokens) (rest : Tokens)
+      → Took First more tokens x mid → Stopped (Next x) (next x) mid rest → Stopped Whole (λ ts. more ts >>= next) tokens rest
+  behind-stopped x more next tokens mid rest one other = let f : Filled (Next x) other.front = other.filled in record {
+    front = one.front ++ other.front;
+    whole = one.whole ∙ (ap (λ z. one.front ++ z) other.whole ∙ sym (append_assoc one.front other.front rest));
+    filled = record {
+      later = f.later;
+      tree = f.tree;
+      spelled = λ behind.
+          joins x f.tree ((one.front ++ other.front) ++ (f.later ++ behind)) (other.front ++ (f.later ++ behind)) behind
+          (subst (λ z. First x z (other.front ++ (f.later ++ behind))) (sym (append_assoc one.front other.front (f.later ++ behind)))
+          (one.spelled (other.front ++ (f.later ++ behind))))
+          (f.spelled behind);
+    };
+    local = λ behind h.
+        ap (λ z. more z >>= next) (append_assoc one.front other.front behind)
+        ∙ (ap (λ z. z >>= next)
+        (one.local (other.front ++ behind) (head-behind other.front behind rest h ∙ ap head (sym other.whole)))
+        ∙ other.local behind h);
+  }
+
+  behind-judged : (nests fewer : ℕ) (x : A) (more : Reader A) (next : A → Reader B) (tokens mid : Tokens)
+      → (length mid ≤ length tokens → fewer ≤ length mid → nests ≤ length tokens) → Took First more tokens x mid
+      → (outcome : Option (Outcome B)) → Judged fewer (Next x) (next x) mid outcome → Judged nests Whole (λ ts. more ts >>= next) tokens outcome
+  behind-judged nests fewer x more next tokens mid bound one None h = behind-none nests fewer tokens mid one.front one.whole bound h
+  behind-judged nests fewer x more next tokens mid bound one (Some (Ok p)) h = behind-found x more next tokens mid p.0 p.1 one h
+  behind-judged nests fewer x more next tokens mid bound one (Some (Err rest)) h = behind-stopped x more next tokens mid rest one h
+
+  -- what is said of one reader behind another; the first may take what the number of nests falls by
+  pub judged-then-by : (nests fewer : ℕ) (more : Reader A) (next above : A → Reader B) (tokens : Tokens)
+      → ((x : A) (p q : Tokens) → First x p q → Good fewer (Next x) (next x) (above x))
+      → ((x : A) (q : Tokens) → First x tokens q → length q ≤ length tokens → fewer ≤ length q → nests ≤ length tokens)
+      → (outcome : Option (Outcome A)) → Judged nests First more tokens outcome → Judged nests Whole (λ ts. more ts >>= above) tokens (outcome >>= next)
+  judged-then-by nests fewer more next above tokens good bound None h = h
+  judged-then-by nests fewer more next above tokens good bound (Some (Err rest)) h = record {
+    front = h.front;
+    whole = h.whole;
+    filled = filled-then h.front h.filled (good h.filled.tree (h.front ++ (h.filled.later ++ [])) [] (h.filled.spelled [])).able;
+    local = λ behind same. ap (λ z. z >>= above) (h.local behind same);
+  }
+  judged-then-by nests fewer more next above tokens good bound (Some (Ok p)) h =
+      let first : First p.0 tokens p.1 = subst (λ z. First p.0 z p.1) (sym h.whole) (h.spelled p.1) in
+      behind-judged nests fewer p.0 more above tokens p.1 (λ shorter given. bound p.0 p.1 first shorter given) h (next p.0 p.1)
+      ((good p.0 tokens p.1 first).judged p.1)
+
+  pub judged-then : (nests : ℕ) (more : Reader A) (next above : A → Reader B) (tokens : Tokens)
+      → ((x : A) (p q : Tokens) → First x p q → Good nests (Next x) (next x) (above x))
+      → (outcome : Option (Outcome A)) → Judged nests First more tokens outcome → Judged nests Whole (λ ts. more ts >>= above) tokens (outcome >>= next)
+  judged-then nests more next above tokens good = judged-then-by nests nests more next above tokens good (λ x q first shorter given. le_trans given shorter)
+
+  -- one good reader behind another
+  pub good-then : (nests : ℕ) (read more : Reader A) (next above : A → Reader B) → Good nests First read more
+      → ((x : A) (p q : Tokens) → First x p q → Good nests (Next x) (next x) (above x))
+      → Good nests Whole (λ ts. read ts >>= next) (λ ts. more ts >>= above)
+  good-then nests read more next above first good = record {
+    able = filled-then [] first.able (good first.able.tree (first.able.later ++ []) [] (first.able.spelled [])).able;
+    judged = λ tokens. judged-then nests more next above tokens good (read tokens) (first.judged tokens);
+  }
+
+-- What is to be shown of a second reader: what both read is the whole.
+abbrev pub Onto : {A B : Type 0} → (A → Tokens → Tokens → Type 0) → (B → Tokens → Tokens → Type 0) → A → B → Tokens → Tokens → Type 0
+Onto First Whole x y q r = (p : Tokens) → First x p q → Whole y p r
+
+pub in_turn : {A B : Type 0} {First : A → Tokens → Tokens → Type 0} {Whole : B → Tokens → Tokens → Type 0} {nests : ℕ} {read more : Reader A} {next above : A → Reader B}
+    → Good nests First read more → ((x : A) → Good nests (Onto First Whole x) (next x) (above x))
+    → Good nests Whole (λ ts. read ts >>= next) (λ ts. more ts >>= above)
+in_turn {First = First} {Whole = Whole} {nests = nests} {read = read} {more = more} {next = next} {above = above} first later =
+    good-then First (Onto First Whole) Whole (λ x y p q r f n. n p f) nests read more next above first (λ x p q f. later x)
+
+-- a reader of a form reads another that follows from it
+pub filled-as : {A : Type 0} {Spelled Other : A → Tokens → Tokens → Type 0} (front : Tokens) → ((x : A) (p q : Tokens) → Spelled x p q → Other x p q)
+    → Filled Spelled front → Filled Other front
+filled-as front as_other f = record {
+  later = f.later;
+  tree = f.tree;
+  spelled = λ behind. as_other f.tree (front ++ (f.later ++ behind)) behind (f.spelled behind);
+}
+
+pub judged-as : {A : Type 0} {Spelled Other : A → Tokens → Tokens → Type 0} (nests : ℕ) (more : Reader A) (tokens : Tokens)
+    → ((x : A) (p q : Tokens) → Spelled x p q → Other x p q) → (outcome : Option (Outcome A)) → Judged nests Spelled more tokens outcome
+    → Judged nests Other more tokens outcome
+judged-as nests more tokens as_other None h = h
+judged-as nests more tokens as_other (Some (Ok x)) h = record {
+  front = h.front;
+  whole = h.whole;
+  spelled = λ behind. as_other x.0 (h.front ++ behind) behind (h.spelled behind);
+  local = h.local;
+}
+judged-as nests more tokens as_other (Some (Err rest)) h =
+    record { front = h.front; whole = h.whole; filled = filled-as h.front as_other h.filled; local = h.local }
+
+pub good-as : {A : Type 0} {Spelled Other : A → Tokens → Tokens → Type 0} {nests : ℕ} {read more : Reader A}
+    → ((x : A) (p q : Tokens) → Spelled x p q → Other x p q) → Good nests Spelled read more → Good nests Other read more
+good-as {nests = nests} {read = read} {more = more} as_other g = record {
+  able = record {
+    later = g.able.later;
+    tree = g.able.tree;
+    spelled = λ behind. as_other g.able.tree (g.able.later ++ behind) behind (g.able.spelled behind);
+  };
+  judged = λ tokens. judged-as nests more tokens as_other (read tokens) (g.judged tokens);
+}
+
+-- ## What is said at once
+
+-- what holds where the same token stands first
+pub at-the-token : (P : Tokens → Type 0) (token : Token) → ((p : Tokens) → P (token ∷ p)) → (behind : Tokens) → head behind ≡ Some token → P behind
+at-the-token P token says [] same = absurd (let h : None ≡ Some token = same in cc)
+at-the-token P token says (other ∷ p) same = subst (λ z. P (z ∷ p)) (let h : Some other ≡ Some token = same in cc) (says p)
+
+pub at-the-end : (P : Tokens → Type 0) → P [] → (behind : Tokens) → head behind ≡ None → P behind
+at-the-end P says [] same = says
+at-the-end P says (other ∷ p) same = absurd (let h : Some other ≡ None = same in cc)
+
+-- the token that stands first is refused
+pub refuses : {A : Type 0} {Spelled : A → Tokens → Tokens → Type 0} {more : Reader A} (nests : ℕ) (token : Token) (behind : Tokens) → Filled Spelled []
+    → ((p : Tokens) → more (token ∷ p) ≡ refused (token ∷ p)) → Judged nests Spelled more (token ∷ behind) (refused (token ∷ behind))
+refuses {more = more} nests token behind able says =
+    record { front = []; whole = refl; filled = able; local = at-the-token (λ ts. more ts ≡ refused ts) token says }
+
+-- no tokens are left
+pub refuses-end : {A : Type 0} {Spelled : A → Tokens → Tokens → Type 0} {more : Reader A} (nests : ℕ) → Filled Spelled []
+    → more [] ≡ refused [] → Judged nests Spelled more [] (refused [])
+refuses-end {more = more} nests able says =
+    record { front = []; whole = refl; filled = able; local = at-the-end (λ ts. more ts ≡ refused ts) says }
+
+-- the reader stops before the token that stands first
+pub stays : {A : Type 0} {Spelled : A → Tokens → Tokens → Type 0} {more : Reader A} (nests : ℕ) (x : A) (token : Token) (behind : Tokens)
+    → ((p : Tokens) → Spelled x p p) → ((p : Tokens) → more (token ∷ p) ≡ found x (token ∷ p))
+    → Judged nests Spelled more (token ∷ behind) (found x (token ∷ behind))
+stays {more = more} nests x token behind spells says =
+    record { front = []; whole = refl; spelled = spells; local = at-the-token (λ ts. more ts ≡ found x ts) token says }
+
+pub stays-end : {A : Type 0} {Spelled : A → Tokens → Tokens → Type 0} {more : Reader A} (nests : ℕ) (x : A)
+    → ((p : Tokens) → Spelled x p p) → more [] ≡ found x [] → Judged nests Spelled more [] (found x [])
+stays-end {more = more} nests x spells says =
+    record { front = []; whole = refl; spelled = spells; local = at-the-end (λ ts. more ts ≡ found x ts) says }
+
+-- the reader takes the token that stands first, and no other
+pub takes-one : {A : Type 0} {Spelled : A → Tokens → Tokens → Type 0} {more : Reader A} (nests : ℕ) (x : A) (token : Token) (behind : Tokens)
+    → ((p : Tokens) → Spelled x (token ∷ p) p) → ((p : Tokens) → more (token ∷ p) ≡ found x p)
+    → Judged nests Spelled more (token ∷ behind) (found x behind)
+takes-one nests x token behind spells says =
+    record { front = token ∷ []; whole = refl; spelled = λ p. spells p; local = λ p same. says p }
+
+-- nothing has to be read
+pub good-found : {A : Type 0} {Spelled : A → Tokens → Tokens → Type 0} {nests : ℕ} (x : A) → ((p : Tokens) → Spelled x p p) → Good nests Spelled (found x) (found x)
+good-found x spells = record {
+  able = record { later = []; tree = x; spelled = spells };
+  judged = λ tokens. record { front = []; whole = refl; spelled = spells; local = λ behind same. refl };
+}
+
+-- ## A token before what is read
+
+pub behind-token : {A : Type 0} (Inner Spelled : A → Tokens → Tokens → Type 0) (inner more : Reader A) (fewer : ℕ) (token : Token) (tokens : Tokens)
+    → ((x : A) (p q : Tokens) → Inner x p q → Spelled x (token ∷ p) q) → ((p : Tokens) → more (token ∷ p) ≡ inner p) → (outcome : Option (Outcome A))
+    → Judged fewer Inner inner tokens outcome → Judged (suc fewer) Spelled more (token ∷ tokens) outcome
+behind-token Inner Spelled inner more fewer token tokens joins says None h = omega (arith, h)
+behind-token Inner Spelled inner more fewer token tokens joins says (Some (Ok x)) h = record {
+  front = token ∷ h.front;
+  whole = ap (λ z. token ∷ z) h.whole;
+  spelled = λ behind. joins x.0 (h.front ++ behind) behind (h.spelled behind);
+  local = λ behind same. says (h.front ++ behind) ∙ h.local behind same;
+}
+behind-token Inner Spelled inner more fewer token tokens joins says (Some (Err rest)) h = let f = h.filled in record {
+  front = token ∷ h.front;
+  whole = ap (λ z. token ∷ z) h.whole;
+  filled = record { later = f.later; tree = f.tree; spelled = λ behind. joins f.tree (h.front ++ (f.later ++ behind)) behind (f.spelled behind) };
+  local = λ behind same. says (h.front ++ behind) ∙ h.local behind same;
+}
+
+-- fewer nests, or another name of the reader
+pub judged-fewer : {A : Type 0} (Spelled : A → Tokens → Tokens → Type 0) (more : Reader A) (fewer nests : ℕ) (tokens : Tokens) → fewer ≤ nests → (outcome : Option (Outcome A))
+    → Judged nests Spelled more tokens outcome → Judged fewer Spelled more tokens outcome
+judged-fewer Spelled more fewer nests tokens least None h = le_trans least h
+judged-fewer Spelled more fewer nests tokens least (Some (Ok x)) h = h
+judged-fewer Spelled more fewer nests tokens least (Some (Err rest)) h = h
+
+pub good-fewer : {A : Type 0} {Spelled : A → Tokens → Tokens → Type 0} {read more : Reader A} (fewer nests : ℕ) → fewer ≤ nests → Good nests Spelled read more
+    → Good fewer Spelled read more
+good-fewer {Spelled = Spelled} {read = read} {more = more} fewer nests least g =
+    record { able = g.able; judged = λ tokens. judged-fewer Spelled more fewer nests tokens least (read tokens) (g.judged tokens) }
+
+-- a reader that reads the same where the same token stands first
+pub judged-also : {A : Type 0} (Spelled : A → Tokens → Tokens → Type 0) {more other : Reader A} (nests : ℕ) (tokens : Tokens)
+    → ((p : Tokens) → head p ≡ head tokens → other p ≡ more p) → (outcome : Option (Outcome A)) → Judged nests Spelled more tokens outcome
+    → Judged nests Spelled other tokens outcome
+judged-also Spelled nests tokens same None h = h
+judged-also Spelled nests tokens same (Some (Ok x)) h = record {
+  front = h.front;
+  whole = h.whole;
+  spelled = h.spelled;
+  local = λ behind first. same (h.front ++ behind) (head-behind h.front behind x.1 first ∙ ap head (sym h.whole)) ∙ h.local behind first;
+}
+judged-also Spelled nests tokens same (Some (Err rest)) h = record {
+  front = h.front;
+  whole = h.whole;
+  filled = h.filled;
+  local = λ behind first. same (h.front ++ behind) (head-behind h.front behind rest first ∙ ap head (sym h.whole)) ∙ h.local behind first;
+}

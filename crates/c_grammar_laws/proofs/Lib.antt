@@ -1,0 +1,12 @@
+pub mod CallComplete
+pub mod CallGood
+pub mod ExpressionComplete
+pub mod ExpressionExact
+pub mod ExpressionGood
+pub mod ExpressionSteps
+pub mod ExpressionTables
+pub mod ExpressionRowLaws
+pub mod GoodExact
+pub mod Judging
+pub mod ListGood
+pub mod TokenGood

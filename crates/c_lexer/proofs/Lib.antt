@@ -1,0 +1,6 @@
+pub mod HeadLemmas
+pub mod NumberLemmas
+pub mod PartLemmas
+pub mod ReaderLemmas
+pub mod SignLemmas
+pub mod StringLemmas

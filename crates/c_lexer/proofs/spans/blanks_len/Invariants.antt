@@ -1,0 +1,13 @@
+use Rattle.std.proofs.Common.{◌≡◌, ◌+◌, length}
+use Rattle.std.specs.List.{prefix_len}
+use Rattle.c_tree.specs.Tokens.{is_blank}
+use Rattle.c_lexer.proofs.spans.blanks_len.Given as goal
+
+abbrev pub invariant-loop-rest : goal.invariant-loop-rest
+invariant-loop-rest l = record {
+  start : prefix_len is_blank l.fn.text ≡ l.passed + prefix_len is_blank l.rest;
+  counted : l.passed + length l.rest ≡ length l.fn.text;
+}
+
+abbrev pub decreases-loop-rest : goal.decreases-loop-rest
+decreases-loop-rest l = length l.rest

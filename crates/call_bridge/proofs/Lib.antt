@@ -1,0 +1,4 @@
+pub mod LinkedUnits
+pub mod Beginning
+pub mod Standing
+pub mod Together

@@ -1,0 +1,107 @@
+-- A set of program units that call each other and the linked program of their C texts: what is asked of each unit and its function, of their names, and of
+-- the objects before the first step, and that then each run of the units is the run of the texts. ANSI X3.9-1978, sections 2.4, 12.8, 14 and 15; C89,
+-- 3.1.2.2.
+use Rattle.std.specs.Prelude.{◌≡◌, ℕ, ◌<◌, ◌≤◌, nat_lt, Bool, true, false, not, List, length, Option, Some, None, slice_get}
+use Rattle.simulation.specs.LocalSimulation.{Local}
+use Rattle.simulation.specs.Law.{Linking}
+use Rattle.simulation.specs.Composition.{composite_kit, composite_pairing}
+use Rattle.run_state.specs.Units.{Units}
+use Rattle.f_tree.specs.Values.{NoMeaning}
+use Rattle.f_tree.specs.Facts.{Home, Member, ProgramUnit, Frame}
+use Rattle.f_tree.specs.Setting.{Setting, HasUnit, IsIn, unit_home}
+use Rattle.f_tree.specs.World.{Called, TheMain}
+use Rattle.f_tree.specs.Meaning as source
+use Rattle.f_tree.specs.Meaning.{found_from, facts_at, start_world, ftn, act_of}
+use Rattle.l_core.specs.Pures.{Temporaries}
+use Rattle.l_core.specs.Steps.{Text}
+use Rattle.l_core.specs.Costs.{rest}
+use Rattle.lowering_laws.specs.Layer.{lower_kit, lower_pairing, lower_couple}
+use Rattle.c_tree.specs.declared.file.CFile.{CFile}
+use Rattle.c_tree.specs.declared.file.CFunction.{CFunction}
+use Rattle.c_tree.specs.Objects.{Object}
+use Rattle.c_tree.specs.Linking as linking
+use Rattle.c_tree.specs.Meaning.{machine, text_of, main_number, step_factor}
+use Rattle.faithful.specs.StorageImage.{NamesStand, function_number}
+use Rattle.faithful.specs.FrameImage.{ProcedureStands}
+use Rattle.faithful.specs.SameState.{is_inner}
+use Rattle.faithful.specs.Faithful.{SameRuns}
+use Rattle.c_image.specs.World.{World}
+use Rattle.c_image.specs.Standing.{Stands}
+use Rattle.c_emit_laws.specs.EmittedNumbers.{IsKnown}
+use Rattle.emitted_texts.specs.SecondLayer.{Surroundings, Emission, IsFree}
+use Rattle.procedure_emission.specs.CallLayer.{CallWorld, IsFrameOf, call_kit, call_pairing, call_couple}
+
+-- of each unit its lowered text, what the steps of that cost, and its function
+pub record Translation : Type 0 where
+  pub surroundings : Surroundings
+  pub texts : ℕ → Text
+  pub costs : ℕ → List ℕ
+  pub emissions : ℕ → Emission
+  -- the unit of each function
+  pub owner : ℕ → ℕ
+
+-- a unit that may be called: BLOCK DATA is none
+abbrev pub MayRun : List ProgramUnit → ℕ → Type 0
+MayRun S i = (name : Called) × (found_from 0 S name ≡ Some i)
+
+-- is a function one that only hands on a call of another name
+unfoldable pub is_wrapper : Option CFunction → Bool
+is_wrapper None = false
+is_wrapper (Some function) = not (is_inner (Some function))
+
+-- the units of a program with their functions, through the lowered texts
+abbrev pub linking_of : (g : Setting) (S : List ProgramUnit) (files : List CFile) (t : Translation) → Linking (composite_kit lower_kit (call_kit t.surroundings)) (source.program g S) (machine (linking.program files))
+linking_of g S files t = record {
+  Known = MayRun S;
+  pairing = λ i. composite_pairing (lower_pairing (t.texts i)) (call_pairing t.surroundings i (t.emissions i));
+  image = λ i. (t.emissions i).number;
+  width = λ i. rest (t.costs i) 0;
+  wrapper = λ i n. None;
+  inner = λ i. (t.emissions i).number;
+  outer = λ k. is_wrapper (slice_get (linking.all_functions files) k);
+  owner = t.owner;
+}
+
+-- what belongs to an active procedure stands in its frame: where its function knows its names
+abbrev pub FramesStand : List ProgramUnit → List CFile → ℕ → Emission → Type 0
+FramesStand S files i e = (μ : CallWorld) (ν : World) (f : Frame) (kept : Temporaries) (objects : List Object) → IsFrameOf e.writing.facts.program μ f → IsKnown ν e.writing f kept →
+    ((k : ℕ) (object : Object) → ν.frozen k ≡ Some object → slice_get objects k ≡ Some object) → ProcedureStands S files ν.homes objects i f
+
+-- one unit and its function
+pub record UnitIsTranslated (g : Setting) (S : List ProgramUnit) (files : List CFile) (t : Translation) (i : ℕ) : Type 0 where
+  pub unit : ProgramUnit
+  pub has : HasUnit S i unit
+  pub facts : (t.texts i).facts ≡ facts_at g i (Some unit)
+  -- both layers
+  pub upper : Local (lower_couple i (t.texts i) (t.costs i))
+  pub lower : Local (call_couple t.surroundings i (t.texts i) (t.costs i) (t.emissions i))
+  pub narrow : rest (t.costs i) 0 ≤ step_factor files
+  -- its function is one of the program, no wrapper, and that of its name
+  pub function : text_of (linking.program files).functions (t.emissions i).number ≡ (t.emissions i).function
+  pub own : nat_lt (t.emissions i).number (length (linking.program files).functions) ≡ true
+  pub inner : is_inner (slice_get (linking.all_functions files) (t.emissions i).number) ≡ true
+  pub named : function_number files unit ≡ Some (t.emissions i).number
+  pub called : (name : Called) → found_from 0 S name ≡ Some i → t.surroundings.numbers name ≡ Some (t.emissions i).number
+  -- before the first step its frame is nobody's
+  pub idle : IsFree (t.surroundings.rooms i) t.surroundings.first
+  pub frames : FramesStand S files i (t.emissions i)
+
+-- The set and its texts. Units that are no part of a run have numbers too, behind those of all functions.
+pub record IsTranslated (g : Setting) (S : List ProgramUnit) (files : List CFile) (t : Translation) : Type 0 where
+  pub units : (i : ℕ) → MayRun S i → UnitIsTranslated g S files t i
+  pub owned : (i : ℕ) → t.owner (t.emissions i).number ≡ i
+  pub no_wrapper : (i : ℕ) → is_wrapper (slice_get (linking.all_functions files) (t.emissions i).number) ≡ false
+  pub some_step : 1 ≤ step_factor files
+  -- the main program is the function of its name
+  pub main : (i : ℕ) → found_from 0 S TheMain ≡ Some i → main_number (linking.program files) ≡ (t.emissions i).number
+  -- the store before the first step, with what DATA defines, stands in the objects with their images
+  pub stands : (units : Units) → Stands t.surroundings.first (start_world g S units).store (linking.program files).objects
+  pub as_many : length (linking.program files).objects ≡ t.surroundings.objects
+  -- each stored name stands in its object
+  pub names : NamesStand S g files t.surroundings.first.homes
+  pub low : (k : ℕ) (unit : ProgramUnit) (member : Member) (home : Home) → HasUnit S k unit → IsIn member unit.stored → unit_home g k unit member.name ≡ Some home → home.sequence < t.surroundings.first.height
+
+-- THE BRIDGE: each run of the units that comes to no form without meaning is the run of the texts.
+abbrev pub CallsRunAlike : Type 0
+CallsRunAlike = (g : Setting) (S : List ProgramUnit) (files : List CFile) (t : Translation) → IsTranslated g S files t → (units : Units) (n : ℕ) →
+    (act_of (ftn g S units n) ≡ Some NoMeaning → ⊥) → SameRuns S g files units n

@@ -1,0 +1,17 @@
+pub mod KeptNumbers
+pub mod Transfers
+pub mod Begins
+pub mod Dummies
+pub mod Known
+pub mod Passing
+pub mod Arguments
+pub mod Transferring
+pub mod Steering
+pub mod Answering
+pub mod Calling
+pub mod Opening
+pub mod Simulated
+pub mod ExampleLaws
+pub mod ReadNumbers
+pub mod StepsOverNumbers
+pub mod MainUnits

@@ -1,0 +1,79 @@
+-- The function of a unit simulates its lowered text.
+use Rattle.std.specs.Prelude.{◌≡◌, ℕ, Bool, true, false, List, Option, Some, None, slice_get}
+use Rattle.std.proofs.Common.{refl, sym, subst}
+use Rattle.simulation.specs.LocalSimulation.{Meets, Local}
+use Rattle.f_tree.specs.World as fortran
+use Rattle.f_tree.specs.Association as association
+use Rattle.l_core.specs.Steps.{Step, Keep, Put, PutText, PutLabel, Compute, Unless, AgainIf, Skip, Again, Jump, Select, JumpBy, Pass, CallFor, CallSub, Branch, Back, BackBy, Halt, Acts, Text}
+use Rattle.l_core.specs.Machine.{View, done, step}
+use Rattle.l_core.specs.Machine as lower
+use Rattle.l_core.specs.Costs.{cost}
+use Rattle.c_tree.specs.Terms.{Term}
+use Rattle.c_tree.specs.Flat.{Flat}
+use Rattle.c_tree.specs.World as c
+use Rattle.c_tree.specs.Steps as c_steps
+use Rattle.c_emit.specs.Numbers.{if_number}
+use Rattle.c_emit.specs.Flats.{assigned, flat_of}
+use Rattle.c_emit_laws.specs.EmittedFlats.{by_put, by_test, by_test_back, by_skip, by_return, by_jump, by_pass}
+use Rattle.c_emit_laws.proofs.Choices.{some_same}
+use Rattle.emitted_texts.specs.SecondLayer.{Surroundings, Emission}
+use Rattle.procedure_emission.specs.ProcedureItems.{procedure_item}
+use Rattle.procedure_emission.specs.CallLayer.{CallWorld, IsAtStep, call_couple}
+use Rattle.procedure_emission.specs.EmittedUnits.{IsItem, IsEmittedUnit}
+use Rattle.emitted_procedures.specs.SimulatedUnits.{UnitsAreSimulated}
+use Rattle.emitted_procedures.proofs.Answering.{answers, answers_by}
+use Rattle.emitted_procedures.proofs.Calling.{calls_function, calls_subroutine}
+use Rattle.emitted_procedures.proofs.Opening.{opened}
+use Rattle.emitted_procedures.proofs.Steering.{steered, keeps}
+use Rattle.emitted_procedures.proofs.Transferring.{halted, acted}
+
+module _ (s : Surroundings) (number : ℕ) (u : Text) (costs : List ℕ) (e : Emission) (is : IsEmittedUnit s number u costs e) where
+  numeric_by : (holds : Bool) (target value : Option Term) (item : Flat) → assigned (if_number holds target) value ≡ Some item → holds ≡ true
+  unfolding assigned if_number
+  numeric_by true target value item emitted = refl
+  numeric_by false target value item emitted = absurd (cc)
+
+  none_emitted : {A : Type 0} (item : Flat) → None ≡ Some item → A
+  none_emitted item emitted = absurd (cc)
+
+  each : (μ : CallWorld) (v : View) (x : fortran.World) (w : c_steps.View) (y : c.World) → IsAtStep s number e μ v x w y → (st : Step) → slice_get u.steps v.at ≡ Some st → IsItem s u e v.at st
+      → Meets (call_couple s number u costs e) μ w y (cost costs v.at) (step u v x)
+  unfolding procedure_item flat_of
+  each μ v x w y now (Put place p) at item = steered s number u costs e is μ v x w y now (Put place p) at item (by_put place p) item.emitted (step u v x) refl
+  each μ v x w y now (Unless p n) at item = steered s number u costs e is μ v x w y now (Unless p n) at item (by_test p n) item.emitted (step u v x) refl
+  each μ v x w y now (AgainIf p n) at item = steered s number u costs e is μ v x w y now (AgainIf p n) at item (by_test_back p n) item.emitted (step u v x) refl
+  each μ v x w y now (Skip n) at item = steered s number u costs e is μ v x w y now (Skip n) at item (by_skip n) item.emitted (step u v x) refl
+  each μ v x w y now (Again n) at item = steered s number u costs e is μ v x w y now (Again n) at item (by_return n) item.emitted (step u v x) refl
+  each μ v x w y now (Jump label) at item = steered s number u costs e is μ v x w y now (Jump label) at item (by_jump label) item.emitted (step u v x) refl
+  each μ v x w y now Pass at item = steered s number u costs e is μ v x w y now Pass at item by_pass item.emitted (step u v x) refl
+  each μ v x w y now (Keep k p) at item =
+      keeps s number u costs e is μ v x w y now (Keep k p) at item k p refl (numeric_by (e.writing.is_number k) _ _ item.item item.emitted) item.emitted (step u v x) refl
+  each μ v x w y now Back at item = answers s number u costs e is μ v x w y now Back at item refl
+  each μ v x w y now (BackBy p) at item = answers_by s number u costs e is μ v x w y now (BackBy p) at item p refl
+  each μ v x w y now (CallFor k callee ps) at item = calls_function s number u costs e is μ v x w y now (CallFor k callee ps) at item k callee ps refl
+  each μ v x w y now (CallSub k name ps) at item = calls_subroutine s number u costs e is μ v x w y now (CallSub k name ps) at item k name ps refl
+  each μ v x w y now (PutText place ps) at item = none_emitted item.item item.emitted
+  each μ v x w y now (PutLabel place label) at item = none_emitted item.item item.emitted
+  each μ v x w y now (Compute k function ps) at item = none_emitted item.item item.emitted
+  each μ v x w y now (Select p labels) at item = none_emitted item.item item.emitted
+  each μ v x w y now (JumpBy p labels) at item = none_emitted item.item item.emitted
+  each μ v x w y now (Branch k) at item = none_emitted item.item item.emitted
+  each μ v x w y now (Halt text) at item = halted s number u costs e is μ v x w y now (Halt text) at item text refl (sym (some_same _ item.item item.emitted))
+  each μ v x w y now (Acts act ps n) at item = acted s number u costs e is μ v x w y now (Acts act ps n) at item act ps n refl item.emitted
+
+  follows : (μ : CallWorld) (v : View) (x : fortran.World) (w : c_steps.View) (y : c.World) → IsAtStep s number e μ v x w y → (found : Option Step) → slice_get u.steps v.at ≡ found
+      → Meets (call_couple s number u costs e) μ w y (cost costs v.at) (step u v x)
+  unfolding step done
+  follows μ v x w y now None at = subst (λ o. Meets (call_couple s number u costs e) μ w y (cost costs v.at) (done u v x o)) (sym at) (λ claimed. absurd claimed)
+  follows μ v x w y now (Some st) at = each μ v x w y now st at (is.items v.at st at)
+
+  pub simulates : Local (call_couple s number u costs e)
+  unfolding lower.start
+  simulates = record {
+    starts = λ μ x n a y n' values houses idle calls. opened s number u costs e is μ x n a y n' values houses idle calls (association.start u.facts n a x) refl;
+    refuses = λ n a x act h claimed. claimed;
+    follows = λ μ v x w y matched. follows μ v x w y matched (slice_get u.steps v.at) refl;
+  }
+
+pub units_are_simulated : UnitsAreSimulated
+units_are_simulated s number u costs e is = simulates s number u costs e is

@@ -1,0 +1,3 @@
+pub mod SimulatedUnits
+pub mod MainUnits
+pub mod Example

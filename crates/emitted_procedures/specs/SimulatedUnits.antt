@@ -1,0 +1,11 @@
+-- LAW: the C function of a unit simulates its lowered text. ANSI X3.9-1978, sections 14 and 15; C89, 3.3.2.2 and 3.6.6.4.
+use Rattle.std.specs.Prelude.{ℕ, List}
+use Rattle.simulation.specs.LocalSimulation.{Local}
+use Rattle.l_core.specs.Steps.{Text}
+use Rattle.emitted_texts.specs.SecondLayer.{Surroundings, Emission}
+use Rattle.procedure_emission.specs.CallLayer.{call_couple}
+use Rattle.procedure_emission.specs.EmittedUnits.{IsEmittedUnit}
+
+-- The function of a main program, a subroutine or a function of numbers simulates its lowered text, where each step is emitted.
+abbrev pub UnitsAreSimulated : Type 0
+UnitsAreSimulated = (s : Surroundings) (number : ℕ) (u : Text) (costs : List ℕ) (e : Emission) → IsEmittedUnit s number u costs e → Local (call_couple s number u costs e)

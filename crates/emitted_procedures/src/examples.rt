@@ -1,0 +1,12 @@
+//! An instance of what the law asks for.
+
+ghost use Rattle.procedure_emission.specs.EmittedUnits.{IsEmittedUnit};
+ghost use Rattle.emitted_procedures.specs.Example.{its_surroundings, its_costs, main_text, main_emission, function_text, function_emission, other_text, other_emission};
+
+/// What is asked of the function of a unit is met, in one program, by that of a main program that calls a function with a number and a function, by that
+/// of the function, which calls the one that it is passed, and by that of the one that is passed.
+pub fn examples_are_emitted()
+    ensures main { IsEmittedUnit its_surroundings 0 main_text its_costs main_emission }
+    ensures function { IsEmittedUnit its_surroundings 1 function_text its_costs function_emission }
+    ensures other { IsEmittedUnit its_surroundings 2 other_text its_costs other_emission }
+{}

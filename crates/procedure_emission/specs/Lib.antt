@@ -1,0 +1,4 @@
+pub mod ProcedureItems
+pub mod Reading
+pub mod CallLayer
+pub mod EmittedUnits

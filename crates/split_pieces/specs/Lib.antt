@@ -1,0 +1,3 @@
+pub mod ChosenNames
+pub mod Pieces
+pub mod WantedNames

@@ -1,0 +1,190 @@
+-- The C file of a set of program units: its constants, and a function for each unit, in their order, with its parameters, the variable for its result,
+-- temporaries, the functions that it calls, variables and control lists; where the objects of each function stand among those of the program, and what
+-- each function goes by. ANSI X3.9-1978, sections 2.4, 8.3, 14, 15.5, 15.6 and 15.9; C89, 3.5, 3.5.4.3 and 3.7.1; CSTR 149.
+use Rattle.std.specs.Prelude.{ℕ, zero, suc, ◌+◌, nat_eq, nat_lt, ℤ, List, [], ◌∷◌, ◌++◌, map, length, position, Option, Some, None, is_some, unwrap_or, slice_get, bytes_eq}
+use Rattle.std.specs.Ordering.{int_eq}
+use Rattle.f_tree.specs.declared.names.Basic.{Basic}
+use Rattle.f_tree.specs.declared.names.Class.{Class}
+use Rattle.f_tree.specs.declared.names.Class.TheVariants as class
+use Rattle.f_tree.specs.Values.{Bytes}
+use Rattle.f_tree.specs.Facts.{Facts}
+use Rattle.f_tree.specs.CNames.{variable_name, made_name, FunctionResult}
+use Rattle.c_tree.specs.declared.types.NumberType.{NumberType}
+use Rattle.c_tree.specs.declared.types.ResultType.{ResultType}
+use Rattle.c_tree.specs.declared.types.ParameterType.{ParameterType}
+use Rattle.c_tree.specs.declared.types.ArgumentType.{ArgumentType}
+use Rattle.c_tree.specs.declared.statement.CStmt.{CStmt}
+use Rattle.c_tree.specs.declared.declaration.CParam.{CParam}
+use Rattle.c_tree.specs.declared.declaration.CLocal.{CLocal}
+use Rattle.c_tree.specs.declared.declaration.CLocal.TheVariants as local
+use Rattle.c_tree.specs.declared.file.CFile.{CFile}
+use Rattle.c_tree.specs.declared.file.CFunction.{CFunction}
+use Rattle.c_image.specs.Addresses.{Address, Alone, Through}
+use Rattle.c_emit.specs.Numbers.{Writing}
+pub use Rattle.main_file.specs.MainFile.{Variable, Listing, Bases, constant_for, variable_for, lists_from, temporaries_from, place_or_none, lower_of, size_of}
+use Rattle.main_file.specs.MainFile.{list_names, temporary_names}
+
+-- ## What a function has
+
+-- a dummy argument, by its parameter
+pub record Parameter : Type 0 where
+  pub name : Bytes
+  pub type : ParameterType
+
+-- a function that is called: one of the library, or that of another unit
+pub record Callee : Type 0 where
+  pub name : List ℕ
+  pub result : ResultType
+  pub arguments : List ArgumentType
+
+pub record Inventory : Type 0 where
+  -- the name of the function in C, and what it gives
+  pub name : List ℕ
+  pub result : ResultType
+  -- its dummy arguments in their order; an alternate return is none
+  pub parameters : List Parameter
+  -- the type of the variable for the result of a function of numbers
+  pub returned : Option NumberType
+  pub variables : List Variable
+  pub lists : List Listing
+  -- how many temporaries, which hold numbers
+  pub temporaries : ℕ
+  pub calls : List Callee
+  -- the strings that steps pass, each with its step, in their order
+  pub strings : List ℕ
+  pub texts : ℕ → List ℕ
+
+-- ## Its declarations
+
+abbrev pub parameter_for : Parameter → CParam
+parameter_for p = record { of = p.type; name = variable_name p.name }
+
+abbrev pub result_local : Option NumberType → List CLocal
+result_local None = []
+result_local (Some type) = local.Number type (made_name FunctionResult) ∷ []
+
+abbrev pub extern_for : Callee → CLocal
+extern_for call = local.Extern call.result call.name call.arguments
+
+abbrev pub unit_locals : Inventory → List CLocal
+unit_locals v = result_local v.returned ++ (temporaries_from 1 v.temporaries ++ (map extern_for v.calls ++ (map variable_for v.variables ++ lists_from 1 v.lists)))
+
+-- a function, and the statements of its body
+pub record WrittenUnit : Type 0 where
+  pub inventory : Inventory
+  pub body : List CStmt
+
+abbrev pub unit_function : WrittenUnit → CFunction
+unit_function w = record { result = w.inventory.result; name = w.inventory.name; params = map parameter_for w.inventory.parameters; locals = unit_locals w.inventory; body = w.body }
+
+-- the constants that are passed by their address, once for all functions, and the functions in the order of the units
+abbrev pub units_file : List ℤ → List WrittenUnit → CFile
+units_file constants ws = record { objects = []; constants = map constant_for constants; functions = map unit_function ws }
+
+-- ## How many objects it has
+
+abbrev pub result_count : Option NumberType → ℕ
+result_count None = 0
+result_count (Some type) = 1
+
+-- of its frame: parameters, the result, and temporaries
+abbrev pub frame_count : Inventory → ℕ
+frame_count v = length v.parameters + (result_count v.returned + v.temporaries)
+
+-- of all: variables, control lists, strings and the frame
+abbrev pub object_count : Inventory → ℕ
+object_count v = length v.variables + (length v.lists + (length v.strings + frame_count v))
+
+-- ## Where they stand
+
+-- the first object of the function of a unit, where the functions have theirs one behind the other from a number on
+abbrev pub first_object : ℕ → List Inventory → ℕ → ℕ
+first_object first [] j = first
+first_object first (v ∷ vs) zero = first
+first_object first (v ∷ vs) (suc j) = first_object (first + object_count v) vs j
+
+-- the functions of the program are those of the file, and its first objects the constants
+abbrev pub bases_at : List ℤ → List Inventory → ℕ → Bases
+bases_at constants vs j = record { own = length vs; file = 0; function = first_object (length constants) vs j }
+
+abbrev pub first_list : Inventory → Bases → ℕ
+first_list v b = b.function + length v.variables
+
+abbrev pub first_string : Inventory → Bases → ℕ
+first_string v b = first_list v b + length v.lists
+
+abbrev pub first_parameter : Inventory → Bases → ℕ
+first_parameter v b = first_string v b + length v.strings
+
+abbrev pub result_object : Inventory → Bases → ℕ
+result_object v b = first_parameter v b + length v.parameters
+
+abbrev pub first_temporary : Inventory → Bases → ℕ
+first_temporary v b = result_object v b + result_count v.returned
+
+abbrev pub place_of_constant : List ℤ → ℤ → Option ℕ
+place_of_constant constants z = position (int_eq z) constants
+
+abbrev pub place_of_variable : Inventory → Bytes → Option ℕ
+place_of_variable v x = position (λ (one : Variable). bytes_eq x one.name) v.variables
+
+abbrev pub place_of_parameter : Inventory → Bytes → Option ℕ
+place_of_parameter v x = position (λ (one : Parameter). bytes_eq x one.name) v.parameters
+
+abbrev pub place_of_list : Inventory → ℕ → Option ℕ
+place_of_list v n = position (λ (l : Listing). nat_eq n l.step) v.lists
+
+abbrev pub place_of_string : Inventory → ℕ → Option ℕ
+place_of_string v n = position (nat_eq n) v.strings
+
+-- ## Their names
+
+abbrev pub lasting_names : Inventory → List (List ℕ)
+lasting_names v = map (λ (one : Variable). variable_name one.name) v.variables ++ list_names 1 v.lists
+
+abbrev pub result_names : Option NumberType → List (List ℕ)
+result_names None = []
+result_names (Some type) = made_name FunctionResult ∷ []
+
+-- those of its frame
+abbrev pub framed_names : Inventory → List (List ℕ)
+framed_names v = map (λ (one : Parameter). variable_name one.name) v.parameters ++ (result_names v.returned ++ temporary_names 1 v.temporaries)
+
+-- ## What the function goes by
+
+-- the parameter of a dummy argument; one that is not listed has none in the frame
+abbrev pub parameter_object : Inventory → Bases → Bytes → ℕ
+parameter_object v b x = first_parameter v b + unwrap_or (place_of_parameter v x) (frame_count v)
+
+-- a dummy argument by its parameter, the result by its variable, and all else by an object of its own
+unfoldable pub address_in : Inventory → Bases → Bytes → Class → Address
+address_in v b x class.Dummy = Through (parameter_object v b x)
+address_in v b x class.DummyProcedure = Through (parameter_object v b x)
+address_in v b x class.Result = Alone (result_object v b)
+address_in v b x other = Alone (b.function + place_or_none (place_of_variable v x))
+
+-- given the constants of the file, the facts of the unit, and of what type a temporary is before a step
+abbrev pub writing_of : List ℤ → Inventory → Bases → Facts → (ℕ → ℕ → Option Basic) → Writing
+writing_of constants v b facts kind = record {
+  naming = record {
+    address = λ x. address_in v b x (facts.program.attribute x).class;
+    length = λ x. first_temporary v b + v.temporaries;
+    lower = λ x k. lower_of (slice_get (facts.program.attribute x).bounds k);
+    size = λ x k. size_of (slice_get (facts.program.attribute x).bounds k);
+    temporary = λ k. first_temporary v b + k;
+  };
+  facts = facts;
+  is_number = λ k. nat_lt k v.temporaries;
+  kind = kind;
+  library = record {
+    own = b.own;
+    has = λ z. is_some (place_of_constant constants z);
+    constant = λ z. b.file + place_or_none (place_of_constant constants z);
+    list = λ n. first_list v b + place_or_none (place_of_list v n);
+    text = λ n. first_string v b + place_or_none (place_of_string v n);
+  };
+}
+
+unfoldable pub unit_file_opened : Unit {0}
+unfolding address_in
+unit_file_opened = tt
