@@ -94,7 +94,9 @@ integer i_indx(char *text, char *wanted, ftnlen size, ftnlen wanted_size)
 integer pow_ii(integer *base, integer *exponent)
 {
     integer power = 1;
-    for (int i = 0; i < *exponent; i++)
+    if (*exponent < 0 && *base != 1 && *base != -1)
+        return 1 / (*base == 0 ? 0 : 2);
+    for (int i = *exponent; i != 0; i += i < 0 ? 1 : -1)
         power *= *base;
     return power;
 }
@@ -108,6 +110,47 @@ integer i_sign(integer *number, integer *sign)
 integer i_dim(integer *left, integer *right)
 {
     return *left > *right ? *left - *right : 0;
+}
+
+integer i_or(integer *left, integer *right)
+{
+    return *left | *right;
+}
+
+integer i_and(integer *left, integer *right)
+{
+    return *left & *right;
+}
+
+integer i_eor(integer *left, integer *right)
+{
+    return *left ^ *right;
+}
+
+integer i_not(integer *number)
+{
+    return ~*number;
+}
+
+integer i_shft(integer *number, integer *count)
+{
+    unsigned long long bits = (unsigned)*number;
+    return (unsigned)(*count < 0 ? bits >> -*count : bits << *count);
+}
+
+logical b_test(integer *number, integer *place)
+{
+    return (unsigned)*number >> *place & 1;
+}
+
+integer b_set(integer *number, integer *place)
+{
+    return *number | (integer)(1u << *place);
+}
+
+integer b_clr(integer *number, integer *place)
+{
+    return *number & ~(integer)(1u << *place);
 }
 
 int s_stop(char *text, ftnlen size)

@@ -1,6 +1,7 @@
--- The flat C items for the steps of a list-directed output of numbers on a unit that is written as a constant, and for STOP: calls of the library.
--- ANSI X3.9-1978, sections 11.12, 12.8 and 13.6; CSTR 149, on the run time library.
-use Rattle.std.specs.Prelude.{ℕ, ◌+◌, ℤ, pos, Bool, true, false, ◌&&◌, List, [], ◌∷◌, length, position, Option, Some, None, is_none, option_and_then, unwrap_or, bytes_eq, codes, if◌then◌else◌}
+-- The flat C items that are calls of the library: those for the steps of a list-directed output of numbers on a unit that is written as a constant, for STOP,
+-- and for a function of numbers that C has in its library. ANSI X3.9-1978, sections 6.1.2.1, 11.12, 12.8, 13.6 and 15.10; MIL-STD-1753; CSTR 149, on the run
+-- time library.
+use Rattle.std.specs.Prelude.{ℕ, ◌+◌, ℤ, pos, Bool, true, false, ◌&&◌, List, [], ◌∷◌, map, length, position, Option, Some, None, is_none, option_and_then, unwrap_or, bytes_eq, codes, if◌then◌else◌}
 use Rattle.f_tree.specs.declared.names.Basic.{Basic}
 use Rattle.f_tree.specs.declared.names.Basic.TheVariants.{Integer, Logical}
 use Rattle.f_tree.specs.Values.{Bytes, Datum, IsInt, IsLog, in_range}
@@ -12,14 +13,19 @@ use Rattle.c_tree.specs.declared.expression.UnaryOp.TheVariants as prefix
 use Rattle.c_tree.specs.Access.{ToNumber, ToChar, ToList}
 use Rattle.c_tree.specs.Terms as c
 use Rattle.c_tree.specs.Terms.{Term}
-use Rattle.c_tree.specs.Flat.{Flat, Invoke, Ignored, Direct}
+use Rattle.c_tree.specs.Flat.{Flat, Invoke, Ignored, Kept, Direct}
 use Rattle.c_tree.specs.Builtins.{builtin_names}
-use Rattle.c_emit.specs.Numbers.{Writing, place_term, if_number}
+use Rattle.c_emit.specs.Numbers.{Writing, one_more, place_term, if_number}
+use Rattle.c_emit.specs.LibraryFunctions.{LibraryFunction}
 use Rattle.c_emit.specs.Types.{type_of}
+
+-- the number of a function of the library
+abbrev pub routine_of : Writing → List ℕ → ℕ
+routine_of w name = w.library.own + unwrap_or (position (bytes_eq name) builtin_names) 0
 
 -- a call of a function of the library, whose value is not used
 unfoldable pub call_of : Writing → List ℕ → List Term → Flat
-call_of w name arguments = Invoke Ignored (Direct (w.library.own + unwrap_or (position (bytes_eq name) builtin_names) 0)) arguments
+call_of w name arguments = Invoke Ignored (Direct (routine_of w name)) arguments
 
 abbrev pub address_of : Term → Term
 address_of term = c.Prefixed prefix.Address term
@@ -62,6 +68,16 @@ held_term w (Temporary k) = if_number (w.is_number k) (Some (c.Variable (w.namin
 held_term w (Load p) = place_term w p
 held_term w p = None
 
+-- what holds each of some values
+unfoldable pub held_terms : Writing → Pures → Option (List Term)
+held_terms w NoPure = Some []
+held_terms w (AndPure p ps) = one_more (held_term w p) (held_terms w ps)
+
+-- a function of numbers, of operands that are held: what it gives is kept
+unfoldable pub computed_item : Writing → Option Term → Option LibraryFunction → Option (List Term) → Option Flat
+computed_item w (Some target) (Some function) (Some terms) = Some (Invoke (Kept target) (Direct (routine_of w function.name)) (map address_of terms))
+computed_item w target function terms = None
+
 -- the number that the library has for a type
 unfoldable pub kind_number : Basic → Option ℤ
 kind_number Integer = Some (pos 3)
@@ -90,5 +106,5 @@ unfoldable pub stop_item : Writing → ℕ → Bytes → Flat
 stop_item w n text = call_of w (codes "s_stop") (c.Array (w.library.text n) ToChar ∷ c.Cast to.Length (c.Constant (pos (length text))) ∷ [])
 
 unfoldable pub calls_opened : Unit {0}
-unfolding call_of is_unit_alone is_plain start_on start_item unit_of if_held constant_held held_term kind_number item_by takes_item finish_item stop_item
+unfolding call_of is_unit_alone is_plain start_on start_item unit_of if_held constant_held held_term held_terms computed_item kind_number item_by takes_item finish_item stop_item
 calls_opened = tt

@@ -1,6 +1,6 @@
 -- The flat C item for a lowered step over numbers: assignments, tests, jumps, the return of what is no function, and the
--- calls of the library for list-directed output and STOP. One item for each step; none for a step that is not emitted
--- yet. ANSI X3.9-1978, sections 10 and 11; C89, 3.3.16, 3.6.4 and 3.6.6.
+-- calls of the library for functions of numbers, list-directed output and STOP. One item for each step; none for a step
+-- that is not emitted yet. ANSI X3.9-1978, sections 10, 11 and 15.10; C89, 3.3.2.2, 3.3.16, 3.6.4 and 3.6.6.
 use Rattle.std.specs.Prelude.{ℕ, zero, suc, ◌+◌, ◌-◌, pos, Option, Some, None, option_map}
 use Rattle.f_tree.specs.Facts.{Output, Listed, UnitKind, MainProgram, SubroutineUnit}
 use Rattle.l_core.specs.Steps as step
@@ -9,7 +9,8 @@ use Rattle.c_tree.specs.Access.{ToNumber}
 use Rattle.c_tree.specs.Terms.{Term, Constant, Variable}
 use Rattle.c_tree.specs.Flat.{Flat, Assign, Branch, Jump, Return, Nothing}
 use Rattle.c_emit.specs.Numbers.{Writing, value_term, place_term, if_number}
-use Rattle.c_emit.specs.Calls.{start_item, takes_item, finish_item, stop_item}
+use Rattle.c_emit.specs.LibraryFunctions.{library_function}
+use Rattle.c_emit.specs.Calls.{start_item, takes_item, finish_item, stop_item, held_terms, computed_item}
 
 unfoldable pub assigned : Option Term → Option Term → Option Flat
 assigned (Some target) (Some value) = Some (Assign target value)
@@ -30,6 +31,7 @@ returned_by _ = None
 unfoldable pub flat_of : Writing → (ℕ → ℕ) → (ℕ → Option ℕ) → ℕ → Step → Option Flat
 flat_of w place label n (step.Put target p) = assigned (place_term w target) (value_term w p)
 flat_of w place label n (step.Keep k p) = assigned (if_number (w.is_number k) (Some (Variable (w.naming.temporary k) ToNumber))) (value_term w p)
+flat_of w place label n (step.Compute k f ps) = computed_item w (if_number (w.is_number k) (Some (Variable (w.naming.temporary k) ToNumber))) (library_function f) (held_terms w ps)
 flat_of w place label n (step.Unless p m) = option_map (λ test. Branch test (place (suc n)) (place (suc n + m))) (value_term w p)
 flat_of w place label n (step.AgainIf p m) = option_map (λ test. Branch test (place (n - m)) (place (suc n))) (value_term w p)
 flat_of w place label n (step.Skip m) = Some (Jump (place (suc n + m)))

@@ -1,4 +1,5 @@
 pub mod Numbers
+pub mod LibraryFunctions
 pub mod Types
 pub mod Calls
 pub mod Flats

@@ -1,5 +1,5 @@
 -- The example is known, and its values are written as it says.
-use Rattle.std.specs.Prelude.{◌≡◌, ℕ, zero, suc, pos, true, Some, slice_get, List, []}
+use Rattle.std.specs.Prelude.{◌≡◌, ℕ, zero, suc, pos, true, Some, None, slice_get, List, []}
 use Rattle.std.proofs.Common.{refl, sym, ap, ◌∙◌, subst, arith}
 use Rattle.f_tree.specs.declared.names.Basic.TheVariants.{Integer}
 use Rattle.f_tree.specs.Values.{Bytes, Spot, Datum, IsInt, IsSpot, Gives, in_range, values_opened}
@@ -12,8 +12,11 @@ use Rattle.c_image_laws.specs.Example.{two_homes, two_sequences, three_objects}
 use Rattle.c_image_laws.specs.Meanings.{Means}
 use Rattle.c_image_laws.proofs.ExampleStands.{example_stands}
 use Rattle.c_emit.specs.Numbers.{value_term, place_term, numbers_opened}
+use Rattle.c_emit.specs.LibraryFunctions.{library_functions_opened}
+use Rattle.c_emit.specs.Calls.{calls_opened}
+use Rattle.c_emit.specs.Flats.{flat_of, flats_opened}
 use Rattle.c_emit_laws.specs.EmittedNumbers.{IsKnown}
-use Rattle.c_emit_laws.specs.Example.{its_writing, its_frame, holds_five, one_integer, a_sum, its_term, writing_by, lower_bounds, sizes, array_writing, an_element, its_place, a_relation, its_test}
+use Rattle.c_emit_laws.specs.Example.{its_writing, its_frame, holds_five, one_integer, a_sum, its_term, writing_by, lower_bounds, sizes, array_writing, an_element, its_place, a_relation, its_test, a_power, its_call}
 use Rattle.c_emit_laws.proofs.NumberLaws.{numbers_are_emitted}
 
 abbrev its_spot : Spot
@@ -80,6 +83,10 @@ element_written = refl
 pub relation_written : value_term (writing_by (Through 6) lower_bounds sizes) a_relation ≡ Some its_test
 unfolding numbers_opened values_opened
 relation_written = refl
+
+pub call_written : flat_of its_writing (λ n. n) (λ label. None) 0 a_power ≡ Some its_call
+unfolding flats_opened calls_opened numbers_opened library_functions_opened
+call_written = refl
 
 sum_meant : meant one_integer its_frame holds_five two_sequences a_sum ≡ Gives (IsInt (pos 7))
 unfolding pures_opened valuing_opened values_opened store_opened

@@ -1,27 +1,40 @@
 -- The flat C items for steps that keep numbers go on where the steps do, and what is known then is so.
-use Rattle.std.specs.Prelude.{◌≡◌, ℕ, suc, ◌+◌, nat_eq, Bool, true, false, List, length, Option, Some, slice_set, if◌then◌else◌}
+use Rattle.std.specs.Prelude.{◌≡◌, ℕ, suc, ◌+◌, nat_eq, Bool, true, false, List, map, length, position, Option, Some, None, bytes_eq, slice_set, unwrap_or, if◌then◌else◌}
 use Rattle.std.proofs.Common.{refl, sym, ap, ◌∙◌, subst}
 use Rattle.simulation.specs.Machine.{Goes}
-use Rattle.f_tree.specs.Values.{Datum, Checked, Gives, Fails}
-use Rattle.f_tree.specs.Store.{Whole}
+use Rattle.f_tree.specs.declared.names.Basic.{Basic}
+use Rattle.f_tree.specs.declared.names.Basic.TheVariants.{Integer, Logical}
+use Rattle.f_tree.specs.Values.{Datum, IsInt, IsLog, Checked, Gives, Fails, given_that}
+use Rattle.f_tree.specs.Store.{Whole, Truth, Number as ANumber}
 use Rattle.f_tree.specs.Facts.{Frame}
+use Rattle.f_tree.specs.Valuing.{applied}
 use Rattle.f_tree.specs.World as fortran
-use Rattle.l_core.specs.Pures.{Temporaries, with_kept, meant}
+use Rattle.l_core.specs.Pures.{Temporaries, with_kept, meant, all_meant}
 use Rattle.l_core.specs.Machine.{View, onward, keeping, done, step}
 use Rattle.c_tree.specs.Access.{ToNumber}
 use Rattle.c_tree.specs.Objects as objects_of
 use Rattle.c_tree.specs.Flat as flat
 use Rattle.c_tree.specs.Terms.{Term, Variable}
+use Rattle.c_tree.specs.Builtins.{builtin_names}
+use Rattle.c_tree.specs.Steps.{WantsNothing}
 use Rattle.c_image.specs.World.{World, changed, with_held}
 use Rattle.c_image.specs.Standing.{Stands}
 use Rattle.c_image.specs.Held.{whole_for, BeginWith}
 use Rattle.c_image.specs.Knowing.{Knows, IsApart}
+use Rattle.c_image_laws.proofs.Keeping.{number_kept}
 use Rattle.c_image_laws.proofs.Knowledge.{knows_kept}
 use Rattle.c_emit.specs.Numbers.{Writing, if_number, value_term}
+use Rattle.c_emit.specs.Types.{HasType}
+use Rattle.c_emit.specs.LibraryFunctions.{LibraryFunction, library_function}
+use Rattle.c_emit.specs.Calls.{address_of, routine_of, held_terms, computed_item}
 use Rattle.c_emit.specs.Flats.{flat_of}
 use Rattle.c_emit_laws.specs.EmittedNumbers.{IsKnown}
-use Rattle.c_emit_laws.specs.EmittedFlats.{KeepsAlike, KeptFlatsGoOn}
-use Rattle.c_emit_laws.proofs.Choices.{some_same}
+use Rattle.c_emit_laws.specs.EmittedFlats.{KeepsAlike, KeptFlatsGoOn, ComputedFlatsGoOn}
+use Rattle.c_emit_laws.proofs.Choices.{some_same, got}
+use Rattle.c_emit_laws.proofs.ComputedNumbers.{computed_by, integers_of}
+use Rattle.c_emit_laws.proofs.ComputedLaws.{computed_goes}
+use Rattle.c_emit_laws.proofs.FittingNumbers.{FitsUnit, fits_whole}
+use Rattle.c_emit_laws.proofs.HeldNumbers.{values_hold}
 use Rattle.c_emit_laws.proofs.FlatLaws.{IsTo, to_by, assigned_by}
 use Rattle.c_emit_laws.proofs.NumberLaws.{numbers_are_emitted}
 use Rattle.c_emit_laws.proofs.StepLaws.{keeps_are_emitted}
@@ -88,8 +101,68 @@ kept_flats_go_on u v v' x x' μ w place function view world k old p item facts a
       same = kept.goes.world;
       bytes = keeps.bytes;
       same_size = keeps.same_size;
+      wants = view.wants;
       goes = keeps.stored
           ∙ ap (λ n. Goes (record view { position = n }) (record world { objects = slice_set world.objects (w.naming.temporary k) (objects_of.Bytes keeps.bytes) })) (follows ∙ ap (λ (y : View). place y.at) (sym kept.goes.view));
+      stands = subst (λ (y : fortran.World). Stands (with_held μ (w.naming.temporary k) (Some (objects_of.Bytes keeps.bytes))) y.store (slice_set world.objects (w.naming.temporary k) (objects_of.Bytes keeps.bytes))) (sym kept.goes.world) keeps.stands;
+      known = subst (λ (y : View). IsKnown (with_held μ (w.naming.temporary k) (Some (objects_of.Bytes keeps.bytes))) w y.frame y.kept) (sym kept.goes.view) behind;
+    })
+
+-- ## Functions of the library
+
+-- what is emitted for one
+pub record IsCalled (w : Writing) (x : Option Term) (o : Option LibraryFunction) (xs : Option (List Term)) (item : flat.Flat) : Type 0 where
+  pub target : Term
+  pub one : LibraryFunction
+  pub terms : List Term
+  pub target_is : x ≡ Some target
+  pub one_is : o ≡ Some one
+  pub terms_are : xs ≡ Some terms
+  pub is : flat.Invoke (flat.Kept target) (flat.Direct (routine_of w one.name)) (map address_of terms) ≡ item
+
+pub called_by : (w : Writing) (x : Option Term) (o : Option LibraryFunction) (xs : Option (List Term)) (item : flat.Flat) → computed_item w x o xs ≡ Some item → IsCalled w x o xs item
+unfolding computed_item
+called_by w (Some target) (Some one) (Some terms) item h = record { target = target; one = one; terms = terms; target_is = refl; one_is = refl; terms_are = refl; is = some_same _ item h }
+called_by w (Some target) (Some one) None item h = absurd (cc)
+called_by w (Some target) None xs item h = absurd (cc)
+called_by w None o xs item h = absurd (cc)
+
+-- what is computed is a number
+record IsCounted (d : Datum) : Type 0 where
+  whole : Whole
+  is : whole_for d ≡ Some whole
+
+counted : (basic : Basic) (d : Datum) → HasType basic d → IsCounted d
+counted Integer (IsInt z) typed = record { whole = ANumber z; is = refl }
+counted Logical (IsLog b) typed = record { whole = Truth b; is = refl }
+counted _ _ typed = absurd (typed)
+
+pub computed_flats_go_on : ComputedFlatsGoOn
+unfolding step flat_of done
+computed_flats_go_on u v v' x x' μ w place function view world k old f ps item facts at emitted here next stands known calls frozen room homeless apart goes =
+    let m = called_by w (if_number (w.is_number k) (Some (Variable (w.naming.temporary k) ToNumber))) (library_function f) (held_terms w ps) item emitted in
+    let done_is : keeping k v x (given_that (all_meant u.facts v.frame v.kept x.store ps) (applied f)) ≡ Goes v' x' = sym (ap (done u v x) at) ∙ goes in
+    let kept = kept_by k v x v' x' (given_that (all_meant u.facts v.frame v.kept x.store ps) (applied f)) done_is in
+    let values = got (all_meant u.facts v.frame v.kept x.store ps) (applied f) kept.value kept.gives in
+    let computed = computed_by f m.one values.value kept.value m.one_is values.gives in
+    let means = counted m.one.gives kept.value computed.typed in
+    let held = values_hold μ x.store world.objects w v.frame v.kept stands known calls.constants ps values.value m.terms (integers_of m.one.takes values.value computed.operands) (ap (λ c. all_meant c v.frame v.kept x.store ps) facts ∙ values.is) m.terms_are in
+    let keeps = number_kept μ x.store world.objects (w.naming.temporary k) old kept.value means.whole stands frozen room homeless means.is (fits_whole kept.value means.whole computed.fits means.is) in
+    let stored = computed_goes function view world w.library.own (w.naming.temporary k) f m.one m.terms values.value kept.value means.whole _ calls.own m.one_is computed.operands held values.gives means.is keeps.stored in
+    let target : Variable (w.naming.temporary k) ToNumber ≡ m.target = temporary_is (w.is_number k) (Variable (w.naming.temporary k) ToNumber) m.target m.target_is in
+    let follows : view.position + 1 ≡ place (suc v.at) = ap (λ n. n + 1) here ∙ sym next in
+    let item_is : flat.Invoke (flat.Kept (Variable (w.naming.temporary k) ToNumber)) (flat.Direct (routine_of w m.one.name)) (map address_of m.terms) ≡ item =
+    ap (λ t. flat.Invoke (flat.Kept t) (flat.Direct (routine_of w m.one.name)) (map address_of m.terms)) target ∙ m.is in
+    let behind = known_behind μ w v.frame v.kept k kept.value means.whole keeps.bytes known apart keeps.begins means.is in
+    subst (λ i. KeepsAlike μ v v' x x' w k (length old) place function view world i) item_is (record {
+      frame = ap (λ (y : View). y.frame) kept.goes.view;
+      height = ap (λ (y : View). y.height) kept.goes.view;
+      same = kept.goes.world;
+      bytes = keeps.bytes;
+      same_size = keeps.same_size;
+      wants = WantsNothing;
+      goes = stored
+          ∙ ap (λ n. Goes (record view { position = n; wants = WantsNothing }) (record world { objects = slice_set world.objects (w.naming.temporary k) (objects_of.Bytes keeps.bytes) })) (follows ∙ ap (λ (y : View). place y.at) (sym kept.goes.view));
       stands = subst (λ (y : fortran.World). Stands (with_held μ (w.naming.temporary k) (Some (objects_of.Bytes keeps.bytes))) y.store (slice_set world.objects (w.naming.temporary k) (objects_of.Bytes keeps.bytes))) (sym kept.goes.world) keeps.stands;
       known = subst (λ (y : View). IsKnown (with_held μ (w.naming.temporary k) (Some (objects_of.Bytes keeps.bytes))) w y.frame y.kept) (sym kept.goes.view) behind;
     })

@@ -2,7 +2,10 @@ pub mod Choices
 pub mod ExampleLaws
 pub mod FlatLaws
 pub mod KeptLaws
+pub mod ComputedNumbers
+pub mod ComputedLaws
 pub mod FittingNumbers
+pub mod HeldNumbers
 pub mod NumberLaws
 pub mod SubscriptLaws
 pub mod StepLaws

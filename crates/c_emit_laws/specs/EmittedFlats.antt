@@ -1,21 +1,24 @@
 -- What the flat C items for lowered steps do, one for each step. ANSI X3.9-1978, sections 10 and 11; C89, 3.6.
-use Rattle.std.specs.Prelude.{◌≡◌, ℕ, suc, ◌+◌, ◌≤◌, List, length, Option, Some, slice_get, slice_set}
+use Rattle.std.specs.Prelude.{◌≡◌, ℕ, suc, ◌+◌, ◌≤◌, ℤ, true, List, length, Option, Some, slice_get, slice_set}
 use Rattle.simulation.specs.Machine.{Goes}
+use Rattle.f_tree.specs.Values.{IsInt}
+use Rattle.f_tree.specs.Terms.{Function}
 use Rattle.f_tree.specs.World as fortran
-use Rattle.l_core.specs.Pures.{Pure}
-use Rattle.l_core.specs.Steps.{Step, Put, Keep, Unless, AgainIf, Skip, Again, Jump, Pass, Text}
+use Rattle.l_core.specs.Pures.{Pure, Pures}
+use Rattle.l_core.specs.Steps.{Step, Put, Keep, Compute, Unless, AgainIf, Skip, Again, Jump, Pass, Text}
 use Rattle.l_core.specs.Machine.{View, step}
 use Rattle.c_tree.specs.Objects as objects_of
 use Rattle.c_tree.specs.Flat.{Flat}
 use Rattle.c_tree.specs.World as c
 use Rattle.c_tree.specs.Linking as linking
 use Rattle.c_tree.specs.Steps as c_steps
-use Rattle.c_tree.specs.Steps.{deed}
+use Rattle.c_tree.specs.Steps.{Wants, deed}
 use Rattle.c_image.specs.World.{World, with_held, IsHomeless}
 use Rattle.c_image.specs.Standing.{Stands}
+use Rattle.c_image.specs.Held.{Holds}
 use Rattle.c_image.specs.Knowing.{IsApart}
 use Rattle.c_image_laws.specs.Meanings.{StandsAfter}
-use Rattle.c_emit.specs.Numbers.{Writing}
+use Rattle.c_emit.specs.Numbers.{Writing, Library}
 use Rattle.c_emit.specs.Flats.{flat_of}
 use Rattle.c_emit_laws.specs.EmittedNumbers.{IsKnown}
 
@@ -52,8 +55,9 @@ pub record KeepsAlike (μ : World) (v v' : View) (x x' : fortran.World) (w : Wri
   pub same : x' ≡ x
   pub bytes : List (Option ℕ)
   pub same_size : length bytes ≡ size
+  pub wants : Wants
   pub goes : deed function view world item ≡
-      Goes (record view { position = place v'.at }) (record world { objects = slice_set world.objects (w.naming.temporary k) (objects_of.Bytes bytes) })
+      Goes (record view { position = place v'.at; wants = wants }) (record world { objects = slice_set world.objects (w.naming.temporary k) (objects_of.Bytes bytes) })
   pub stands : Stands (with_held μ (w.naming.temporary k) (Some (objects_of.Bytes bytes))) x'.store (slice_set world.objects (w.naming.temporary k) (objects_of.Bytes bytes))
   pub known : IsKnown (with_held μ (w.naming.temporary k) (Some (objects_of.Bytes bytes))) w v'.frame v'.kept
 
@@ -62,5 +66,19 @@ abbrev pub KeptFlatsGoOn : Type 0
 KeptFlatsGoOn = (u : Text) (v v' : View) (x x' : fortran.World) (μ : World) (w : Writing) (place : ℕ → ℕ) (function : linking.Function) (view : c_steps.View) (world : c.World) (k : ℕ) (old : List (Option ℕ)) (p : Pure) (item : Flat) →
     w.facts ≡ u.facts → slice_get u.steps v.at ≡ Some (Keep k p) → flat_of w place u.position v.at (Keep k p) ≡ Some item →
     view.position ≡ place v.at → place (suc v.at) ≡ place v.at + 1 → Stands μ x.store world.objects → IsKnown μ w v.frame v.kept →
+    μ.frozen (w.naming.temporary k) ≡ Some (objects_of.Bytes old) → 4 ≤ length old → IsHomeless μ (w.naming.temporary k) → IsApart w.naming k → step u v x ≡ Goes v' x' →
+    KeepsAlike μ v v' x x' w k (length old) place function view world item
+
+-- what a function calls of the library is behind its program's functions, and the objects of its constants hold them
+pub record CallsLibrary (μ : World) (library : Library) (function : linking.Function) : Type 0 where
+  pub own : library.own ≡ function.own
+  pub constants : (z : ℤ) → library.has z ≡ true → Holds (μ.frozen (library.constant z)) (IsInt z)
+
+-- A step that computes a function of numbers which C has in its library, and goes on, is the one call that is emitted for it. Where the function has no value
+-- (a power past 32 bits, a shift by 33) nothing is owed.
+abbrev pub ComputedFlatsGoOn : Type 0
+ComputedFlatsGoOn = (u : Text) (v v' : View) (x x' : fortran.World) (μ : World) (w : Writing) (place : ℕ → ℕ) (function : linking.Function) (view : c_steps.View) (world : c.World) (k : ℕ) (old : List (Option ℕ)) (f : Function) (ps : Pures) (item : Flat) →
+    w.facts ≡ u.facts → slice_get u.steps v.at ≡ Some (Compute k f ps) → flat_of w place u.position v.at (Compute k f ps) ≡ Some item →
+    view.position ≡ place v.at → place (suc v.at) ≡ place v.at + 1 → Stands μ x.store world.objects → IsKnown μ w v.frame v.kept → CallsLibrary μ w.library function →
     μ.frozen (w.naming.temporary k) ≡ Some (objects_of.Bytes old) → 4 ≤ length old → IsHomeless μ (w.naming.temporary k) → IsApart w.naming k → step u v x ≡ Goes v' x' →
     KeepsAlike μ v v' x x' w k (length old) place function view world item

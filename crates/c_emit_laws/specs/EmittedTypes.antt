@@ -1,12 +1,14 @@
 -- The type that a lowered value is given is the type of its datum. ANSI X3.9-1978, sections 4 and 6.
-use Rattle.std.specs.Prelude.{◌≡◌, ℕ, Some}
+use Rattle.std.specs.Prelude.{◌≡◌, ℕ, List, Some}
 use Rattle.f_tree.specs.declared.names.Basic.{Basic}
 use Rattle.f_tree.specs.Values.{Bytes, Spot, Datum, IsSpot, Gives}
+use Rattle.f_tree.specs.Terms.{Function}
 use Rattle.f_tree.specs.Store.{Store}
 use Rattle.f_tree.specs.Facts.{Frame}
-use Rattle.f_tree.specs.Valuing.{whole}
+use Rattle.f_tree.specs.Valuing.{whole, applied}
 use Rattle.l_core.specs.Pures.{Pure, Temporaries, meant}
 use Rattle.c_emit.specs.Numbers.{Writing}
+use Rattle.c_emit.specs.LibraryFunctions.{library_type}
 use Rattle.c_emit.specs.Types.{HasType, type_of}
 
 -- what the temporaries hold before a step is of the types that are said
@@ -20,3 +22,7 @@ PlacesAreTyped w frame = (x : Bytes) (p : Spot) → whole w.facts frame x ≡ Gi
 abbrev pub TypesAreRight : Type 0
 TypesAreRight = (w : Writing) (n : ℕ) (frame : Frame) (temporaries : Temporaries) (s : Store) (p : Pure) (d : Datum) (basic : Basic) → PlacesAreTyped w frame → AreTyped w n temporaries →
     type_of w n p ≡ Some basic → meant w.facts frame temporaries s p ≡ Gives d → HasType basic d
+
+-- and that of what a function of the library gives
+abbrev pub LibraryTypesAreRight : Type 0
+LibraryTypesAreRight = (f : Function) (ds : List Datum) (d : Datum) (basic : Basic) → library_type f ≡ Some basic → applied f ds ≡ Gives d → HasType basic d

@@ -4,14 +4,16 @@ use Rattle.std.specs.Prelude.{ℕ, zero, suc, pos, negsuc, true, false, [], ◌�
 use Rattle.f_tree.specs.declared.names.Basic.TheVariants.{Integer}
 use Rattle.f_tree.specs.declared.names.Class.TheVariants as class
 use Rattle.f_tree.specs.Values.{IsInt}
-use Rattle.f_tree.specs.Terms.{Add, IsLess, Negate, Remainder}
+use Rattle.f_tree.specs.Terms.{Add, IsLess, Negate, Remainder, Power}
 use Rattle.f_tree.specs.Facts.{MainProgram, Attribute, Facts, Frame}
 use Rattle.l_core.specs.Pures.{Pure, Constant, Temporary, Load, Name, ElementOf, Prefixed, Operated, Applied, NoPure, AndPure, Temporaries}
+use Rattle.l_core.specs.Steps.{Step, Compute}
 use Rattle.c_tree.specs.Access.{ToNumber, ToPointer}
 use Rattle.c_tree.specs.declared.expression.BinaryOp.TheVariants as op
 use Rattle.c_tree.specs.declared.expression.UnaryOp.TheVariants as prefix
 use Rattle.c_tree.specs.Terms as c
 use Rattle.c_tree.specs.Terms.{Term}
+use Rattle.c_tree.specs.Flat.{Flat, Invoke, Kept, Direct}
 use Rattle.c_image.specs.Addresses.{Address, Alone, Inside}
 use Rattle.c_image.specs.Elements.{Quantity, Written, Saved}
 use Rattle.c_emit.specs.Numbers.{Writing}
@@ -104,3 +106,10 @@ abbrev pub its_test : Term
 its_test =
     let dummy = c.Prefixed prefix.Deref (c.Variable 6 (ToPointer ToNumber)) in
     c.Between op.Less (c.Between op.Remainder (c.Prefixed prefix.Minus dummy) (c.Constant (pos 7))) dummy
+
+-- I ** 5, where 5 is kept: the power goes into the same temporary
+abbrev pub a_power : Step
+a_power = Compute 0 Power (AndPure (Load a_name) (AndPure (Temporary 0) NoPure))
+
+abbrev pub its_call : Flat
+its_call = Invoke (Kept (c.Variable 2 ToNumber)) (Direct 5) (c.Prefixed prefix.Address (c.Variable 0 ToNumber) ∷ c.Prefixed prefix.Address (c.Variable 2 ToNumber) ∷ [])

@@ -1,11 +1,13 @@
 //! The flat C items for lowered steps, as the contract of a call that does nothing.
 
-ghost use Rattle.c_emit_laws.specs.EmittedFlats.{FlatsGoOn, KeptFlatsGoOn};
+ghost use Rattle.c_emit_laws.specs.EmittedFlats.{FlatsGoOn, KeptFlatsGoOn, ComputedFlatsGoOn};
 
 /// Each lowered step that puts a number at a place, tests a condition, jumps, goes back or does nothing, and goes on, is the one C item that is
 /// emitted for it: the C function goes on at the item of the step that is next, and the store behind the step stands in its objects. So is each step that
-/// keeps a number in a temporary whose object is its own; what the function knows then is so.
+/// keeps a number in a temporary whose object is its own, or there the value of a function of numbers that is called from the library; what the function
+/// knows then is so.
 pub fn flats_go_on()
     ensures steer { FlatsGoOn }
     ensures keep { KeptFlatsGoOn }
+    ensures compute { ComputedFlatsGoOn }
 {}

@@ -5,14 +5,14 @@ ghost use Rattle.c_tree.specs.Tokens.{is_letter, is_word_byte, is_space, is_blan
 
 /// Whether a byte is a letter or an underscore.
 #[tactic(auto, using(std::proofs::lemmas::Bool::Decides::nat_tests))]
-pub(crate) fn is_letter(byte: u8) -> bool
+pub fn is_letter(byte: u8) -> bool
     ensures { result ≡ is_letter byte }
 {
     matches!(byte, b'a'..=b'z' | b'A'..=b'Z' | b'_')
 }
 
 /// Whether a byte may stand in a name behind its first letter.
-pub(crate) fn is_word_byte(byte: u8) -> bool
+pub fn is_word_byte(byte: u8) -> bool
     ensures { result ≡ is_word_byte byte }
 {
     is_letter(byte) || byte.is_ascii_digit()

@@ -9,10 +9,9 @@ mod reader;
 mod sign;
 mod spans;
 mod strings;
-#[cfg(test)]
-mod tests;
 mod token;
 
+pub use classes::{is_letter, is_word_byte};
 pub use reader::tokens;
 pub use spans::last_line;
 pub use token::{CSign, CToken, PlacedCToken};

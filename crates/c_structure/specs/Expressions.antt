@@ -1,5 +1,5 @@
 -- The C expression for a linked one: objects and functions by their names. None where there is none: a negative constant, which C writes with a
--- sign, a name that is not declared, a function as a value. C89, 3.3.
+-- sign, and a name that is not declared. C89, 3.3.
 use Rattle.std.specs.Prelude.{ℕ, ℤ, pos, negsuc, nat_le, List, [], ◌∷◌, ◌++◌, Option, Some, None, option_map, if◌then◌else◌}
 use Rattle.c_tree.specs.declared.expression.CExpr.{CExpr}
 use Rattle.c_tree.specs.declared.expression.CExpr.TheVariants as expr
@@ -31,7 +31,7 @@ unfoldable pub expr_for : Names → Term → Option CExpr
 expr_for names (Constant z) = number_expr z
 expr_for names (Variable k access) = Some (expr.Name (names.object k))
 expr_for names (Array k access) = Some (array_expr (names.string k) (names.object k))
-expr_for names (Routine k) = None
+expr_for names (Routine k) = Some (expr.Name (names.routine k))
 expr_for names Unknown = None
 expr_for names (Prefixed op t) = option_map (expr.Unary op) (expr_for names t)
 expr_for names (Cast type t) = option_map (expr.Cast type) (expr_for names t)

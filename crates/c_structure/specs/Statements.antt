@@ -1,7 +1,7 @@
 -- Structured C statements whose flat form is a given list of items: a test that passes the items behind it is an `if`, with an `else` where it is said
 -- that the last of them passes the other arm; a loop that is said to begin at an item is a `for`; labels stand where it is said that they do. None for
 -- items that have no statement of their own. C89, 3.6.
-use Rattle.std.specs.Prelude.{ℕ, zero, suc, ◌+◌, ◌-◌, pos, nat_eq, nat_le, Bool, false, ◌&&◌, List, [], ◌∷◌, ◌++◌, length, take, drop, Option, Some, None, is_none, option_map, slice_get, if◌then◌else◌}
+use Rattle.std.specs.Prelude.{ℕ, zero, suc, ◌+◌, ◌-◌, pos, nat_eq, nat_le, Bool, true, false, ◌&&◌, List, [], ◌∷◌, ◌++◌, length, take, drop, Option, Some, None, is_none, option_map, slice_get, if◌then◌else◌}
 use Rattle.c_tree.specs.declared.expression.CExpr.{CExpr}
 use Rattle.c_tree.specs.declared.expression.BinaryOp.TheVariants as op
 use Rattle.c_tree.specs.declared.expression.UnaryOp.TheVariants as prefix
@@ -9,9 +9,9 @@ use Rattle.c_tree.specs.declared.statement.CNext.{CNext}
 use Rattle.c_tree.specs.declared.statement.CNext.TheVariants as next
 use Rattle.c_tree.specs.declared.statement.CStmt.{CStmt}
 use Rattle.c_tree.specs.declared.statement.CStmt.TheVariants as stmt
-use Rattle.c_tree.specs.Access.{ToNumber, ToPointer}
+use Rattle.c_tree.specs.Access.{ToNumber, ToPointer, ToFunction}
 use Rattle.c_tree.specs.Terms.{Term, Constant, Variable, Array, Prefixed, Between, Element}
-use Rattle.c_tree.specs.Flat.{Flat, Assign, Branch, Jump, Invoke, Return, Nothing, Ignored, Direct}
+use Rattle.c_tree.specs.Flat.{Flat, Assign, Branch, Jump, Invoke, Return, Nothing, Ignored, Kept, Direct, Through}
 use Rattle.c_structure.specs.Expressions.{Names, expr_for, exprs_for, strings_in, strings_in_all}
 
 -- what is known besides the items: names, the label before the item at a position, whether an item is the jump at the end of an arm, and how many items
@@ -26,14 +26,22 @@ unfoldable pub set_by : Option CExpr → Option CExpr → Option CStmt
 set_by (Some a) (Some b) = Some (stmt.Set a b)
 set_by _ _ = None
 
-unfoldable pub call_by : List ℕ → Option (List CExpr) → Option CStmt
-call_by name arguments = option_map (λ es. stmt.Call (record { through = false; name = name; arguments = es })) arguments
+-- a call of a function by its name, or through a parameter that points to one; its value is not used, or is stored
+unfoldable pub call_by : Bool → List ℕ → Option (List CExpr) → Option CStmt
+call_by through name arguments = option_map (λ es. stmt.Call (record { through = through; name = name; arguments = es })) arguments
+
+unfoldable pub set_call_by : Bool → List ℕ → Option CExpr → Option (List CExpr) → Option CStmt
+set_call_by through name (Some target) (Some es) = Some (stmt.SetCall target (record { through = through; name = name; arguments = es }))
+set_call_by through name _ _ = None
 
 -- the statement of one item
 unfoldable pub statement_of : Outline → Flat → Option CStmt
 statement_of o (Assign t u) = set_by (expr_for o.names t) (expr_for o.names u)
 statement_of o (Jump position) = option_map stmt.Goto (o.label position)
-statement_of o (Invoke Ignored (Direct k) arguments) = call_by (o.names.routine k) (exprs_for o.names arguments)
+statement_of o (Invoke Ignored (Direct k) arguments) = call_by false (o.names.routine k) (exprs_for o.names arguments)
+statement_of o (Invoke Ignored (Through (Variable k ToFunction)) arguments) = call_by true (o.names.object k) (exprs_for o.names arguments)
+statement_of o (Invoke (Kept t) (Direct k) arguments) = set_call_by false (o.names.routine k) (expr_for o.names t) (exprs_for o.names arguments)
+statement_of o (Invoke (Kept t) (Through (Variable k ToFunction)) arguments) = set_call_by true (o.names.object k) (expr_for o.names t) (exprs_for o.names arguments)
 statement_of o (Return None) = Some (stmt.Return None)
 statement_of o (Return (Some t)) = option_map (λ e. stmt.Return (Some e)) (expr_for o.names t)
 statement_of o Nothing = Some stmt.Empty
@@ -43,7 +51,8 @@ statement_of o item = None
 unfoldable pub strings_of_item : Names → Flat → List ℕ
 strings_of_item names (Assign t u) = strings_in names t ++ strings_in names u
 strings_of_item names (Branch test on off) = strings_in names test
-strings_of_item names (Invoke Ignored (Direct k) arguments) = strings_in_all names arguments
+strings_of_item names (Invoke Ignored callee arguments) = strings_in_all names arguments
+strings_of_item names (Invoke (Kept t) callee arguments) = strings_in names t ++ strings_in_all names arguments
 strings_of_item names (Return (Some t)) = strings_in names t
 strings_of_item names item = []
 
@@ -160,5 +169,5 @@ statements_for o zero n (item ∷ later) = None
 statements_for o (suc turns) n (item ∷ later) = part_for o (statements_for o turns) (o.loop n) n item later
 
 unfoldable pub statements_opened : Unit {0}
-unfolding set_by call_by statement_of strings_of_item strings_of_items with_label before if_by if_else_by end_of_arm if_for if_else_for arms_for branch_for item_for same_place added_by next_by next_for for_by goes_back is_loop loop_for part_for statements_for
+unfolding set_by call_by set_call_by statement_of strings_of_item strings_of_items with_label before if_by if_else_by end_of_arm if_for if_else_for arms_for branch_for item_for same_place added_by next_by next_for for_by goes_back is_loop loop_for part_for statements_for
 statements_opened = tt

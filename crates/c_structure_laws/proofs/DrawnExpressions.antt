@@ -117,7 +117,8 @@ expr_drawn scope names (Variable k access) e h knows =
     subst (λ x. IsDrawn names scope [] (linked x) (Variable k access)) (some_same (expr.Name (names.object k)) e h) (drawn_name names scope (names.object k) (Variable k access) knows)
 expr_drawn scope names (Array k access) e h knows =
     subst (λ x. IsDrawn names scope (string_at (names.string k) k) (linked x) (Array k access)) (some_same (array_expr (names.string k) (names.object k)) e h) (array_drawn names scope (names.string k) k access refl knows)
-expr_drawn scope names (Routine k) e h knows = absurd (cc)
+expr_drawn scope names (Routine k) e h knows =
+    subst (λ x. IsDrawn names scope [] (linked x) (Routine k)) (some_same (expr.Name (names.routine k)) e h) (drawn_name names scope (names.routine k) (Routine k) knows)
 expr_drawn scope names Unknown e h knows = absurd (cc)
 expr_drawn scope names (Prefixed op t) e h knows =
     let m = mapped_by (expr.Unary op) (expr_for names t) e h in

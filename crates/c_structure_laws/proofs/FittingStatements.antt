@@ -4,23 +4,24 @@ use Rattle.std.proofs.Common.{refl, sym, ap, ◌∙◌, subst, arith}
 use Rattle.std.proofs.lemmas.Bool.{eqb-true, leb-true}
 use Rattle.std.proofs.lemmas.List.{append-nil, append_assoc, length-append, length-take-le, take-append-drop}
 use Rattle.c_tree.specs.declared.expression.CExpr.{CExpr}
+use Rattle.c_tree.specs.declared.expression.CCall.{CCall}
 use Rattle.c_tree.specs.declared.expression.BinaryOp.TheVariants as op
 use Rattle.c_tree.specs.declared.expression.UnaryOp.TheVariants as prefix
 use Rattle.c_tree.specs.declared.statement.CNext.{CNext}
 use Rattle.c_tree.specs.declared.statement.CNext.TheVariants as next
 use Rattle.c_tree.specs.declared.statement.CStmt.{CStmt}
 use Rattle.c_tree.specs.declared.statement.CStmt.TheVariants as stmt
-use Rattle.c_tree.specs.Access.{ToNumber, ToPointer}
+use Rattle.c_tree.specs.Access.{ToNumber, ToPointer, ToFunction}
 use Rattle.c_tree.specs.Terms.{Term, Constant, Variable, Array, Routine, Prefixed, Between, Element}
-use Rattle.c_tree.specs.Flat.{Flat, Assign, Branch, Select, Jump, Invoke, Return, ReturnAnswer, Nothing, Lost, Ignored, Kept, Returned, Direct, Through, Nowhere}
+use Rattle.c_tree.specs.Flat.{Flat, Assign, Branch, Select, Jump, Invoke, Return, ReturnAnswer, Nothing, Lost, Ignored, Kept, Returned, Callee, Direct, Through, Nowhere}
 use Rattle.c_tree.specs.Drafts.{Scope, Draft, bare, drafted, joined}
 use Rattle.c_tree.specs.LinkedExpressions.{linked, name_of, linked_all, Calling, called, linked_call}
 use Rattle.c_tree.specs.FlatForm as code
 use Rattle.c_tree.specs.FlatForm.{LabelAt, Labels, Body, sequence, one, marked, if_only, if_else, jump_to, next_item, tested, for_loop, body, body_of_all}
 use Rattle.c_laws.proofs.TreeEquations.{body-Label, body-If, body-IfElse, body-For}
 use Rattle.c_structure.specs.Expressions.{Names, expr_for, exprs_for, string_at, strings_in, strings_in_all}
-use Rattle.c_structure.specs.Statements.{Outline, set_by, call_by, statement_of, strings_of_item, strings_of_items, with_label, before, if_by, if_else_by, end_of_arm, Writer, if_for, if_else_for, arms_for, branch_for, item_for, same_place, added_by, next_by, next_for, for_by, goes_back, is_loop, loop_for, part_for, statements_for}
-use Rattle.c_structure_laws.specs.Fitting.{KnowsArray, Knows, KnowsAll, KnowsItem, KnowsItems, AreNumbered, AreBytesOf, IsDrawn, mark_at, marks_from, Fits, AreLabels, StatementsAreTheirs}
+use Rattle.c_structure.specs.Statements.{Outline, set_by, call_by, set_call_by, statement_of, strings_of_item, strings_of_items, with_label, before, if_by, if_else_by, end_of_arm, Writer, if_for, if_else_for, arms_for, branch_for, item_for, same_place, added_by, next_by, next_for, for_by, goes_back, is_loop, loop_for, part_for, statements_for}
+use Rattle.c_structure_laws.specs.Fitting.{KnowsArray, Knows, KnowsAll, KnowsCallee, KnowsItem, KnowsItems, AreNumbered, AreBytesOf, IsDrawn, mark_at, marks_from, Fits, AreLabels, StatementsAreTheirs}
 use Rattle.c_structure_laws.proofs.DrawnExpressions.{bytes_both, numbered_left, behind_both, drawn_bare, drawn_name, drawn_by, drawn_both, some_same, mapped_by, expr_drawn, exprs_drawn}
 
 plus_one : (n : ℕ) → n + 1 ≡ suc n
@@ -145,16 +146,46 @@ module _ (o : Outline) (scope : Scope) (labels : Labels) (are : AreLabels o labe
       subst (λ z. FitsUnlabelled n (Jump position) [] (body z)) m.is
       (record { size = refl; strings = refl; marks = refl; drawn = λ first are'. ap (λ r. jump_to r ∷ []) found })
 
-  call_fits : (n k : ℕ) (arguments : List Term) (s : CStmt) → call_by (o.names.routine k) (exprs_for o.names arguments) ≡ Some s → (scope (o.names.routine k) ≡ Routine k) × KnowsAll scope o.names arguments
-      → FitsUnlabelled n (Invoke Ignored (Direct k) arguments) [] (body s)
+  -- a call by a name that stands for what it is taken to stand for
+  calling_drawn : (through : Bool) (name : List ℕ) (term : Term) (arguments : List Term) (es : List CExpr) → scope name ≡ term → exprs_for o.names arguments ≡ Some es → KnowsAll scope o.names arguments
+      → IsDrawn o.names scope (strings_in_all o.names arguments) (linked_call (record { through = through; name = name; arguments = es })) (record { callee = called through term; arguments = arguments })
+  calling_drawn through name term arguments es stands made knows =
+      let make : Term → List Term → Calling = λ callee later. record { callee = called through callee; arguments = later } in
+      drawn_both o.names scope [] (strings_in_all o.names arguments) make (name_of name) (linked_all es) term arguments (drawn_name o.names scope name term stands) (exprs_drawn scope o.names arguments es made knows)
+
+  call_fits : (n : ℕ) (through : Bool) (name : List ℕ) (term : Term) (arguments : List Term) (s : CStmt) → call_by through name (exprs_for o.names arguments) ≡ Some s → scope name ≡ term → KnowsAll scope o.names arguments
+      → FitsUnlabelled n (Invoke Ignored (called through term) arguments) [] (body s)
   unfolding call_by strings_of_item
-  call_fits n k arguments s h knows =
-      let m = mapped_by (λ es. stmt.Call (record { through = false; name = o.names.routine k; arguments = es })) (exprs_for o.names arguments) s h in
-      let make : Term → List Term → Calling = λ term later. record { callee = called false term; arguments = later } in
-      subst (λ z. FitsUnlabelled n (Invoke Ignored (Direct k) arguments) [] (body z)) m.is
-      (one_fits n (Invoke Ignored (Direct k) arguments) (drafted (code.invoked Ignored) (linked_call (record { through = false; name = o.names.routine k; arguments = m.one })))
-      (drawn_by o.names scope (strings_in_all o.names arguments) (code.invoked Ignored) (linked_call (record { through = false; name = o.names.routine k; arguments = m.one })) (make (Routine k) arguments)
-      (drawn_both o.names scope [] (strings_in_all o.names arguments) make (name_of (o.names.routine k)) (linked_all m.one) (Routine k) arguments (drawn_name o.names scope (o.names.routine k) (Routine k) knows.0) (exprs_drawn scope o.names arguments m.one m.one_is knows.1))))
+  call_fits n through name term arguments s h stands knows =
+      let m = mapped_by (λ es. stmt.Call (record { through = through; name = name; arguments = es })) (exprs_for o.names arguments) s h in
+      subst (λ z. FitsUnlabelled n (Invoke Ignored (called through term) arguments) [] (body z)) m.is
+      (one_fits n (Invoke Ignored (called through term) arguments) (drafted (code.invoked Ignored) (linked_call (record { through = through; name = name; arguments = m.one })))
+      (drawn_by o.names scope (strings_in_all o.names arguments) (code.invoked Ignored) (linked_call (record { through = through; name = name; arguments = m.one })) (record { callee = called through term; arguments = arguments })
+      (calling_drawn through name term arguments m.one stands m.one_is knows)))
+
+  record IsSetCall (through : Bool) (name : List ℕ) (x : Option CExpr) (xs : Option (List CExpr)) (s : CStmt) : Type 0 where
+    target : CExpr
+    arguments : List CExpr
+    target_is : x ≡ Some target
+    arguments_are : xs ≡ Some arguments
+    is : stmt.SetCall target (record { through = through; name = name; arguments = arguments }) ≡ s
+
+  set_call_of : (through : Bool) (name : List ℕ) (x : Option CExpr) (xs : Option (List CExpr)) (s : CStmt) → set_call_by through name x xs ≡ Some s → IsSetCall through name x xs s
+  unfolding set_call_by
+  set_call_of through name (Some e) (Some es) s h = record { target = e; arguments = es; target_is = refl; arguments_are = refl; is = cc }
+  set_call_of through name (Some e) None s h = absurd (cc)
+  set_call_of through name None xs s h = absurd (cc)
+
+  set_call_fits : (n : ℕ) (through : Bool) (name : List ℕ) (term t : Term) (arguments : List Term) (s : CStmt) → set_call_by through name (expr_for o.names t) (exprs_for o.names arguments) ≡ Some s → scope name ≡ term
+      → Knows scope o.names t → KnowsAll scope o.names arguments → FitsUnlabelled n (Invoke (Kept t) (called through term) arguments) [] (body s)
+  unfolding strings_of_item
+  set_call_fits n through name term t arguments s h stands target knows =
+      let m = set_call_of through name (expr_for o.names t) (exprs_for o.names arguments) s h in
+      let call : CCall = record { through = through; name = name; arguments = m.arguments } in
+      subst (λ z. FitsUnlabelled n (Invoke (Kept t) (called through term) arguments) [] (body z)) m.is
+      (one_fits n (Invoke (Kept t) (called through term) arguments) (code.set_call m.target call)
+      (drawn_both o.names scope (strings_in o.names t) (strings_in_all o.names arguments) (λ place calling. code.invoked (Kept place) calling) (linked m.target) (linked_call call) t (record { callee = called through term; arguments = arguments })
+      (expr_drawn scope o.names t m.target m.target_is target) (calling_drawn through name term arguments m.arguments stands m.arguments_are knows)))
 
   return_fits : (n : ℕ) (t : Term) (s : CStmt) → option_map (λ e. stmt.Return (Some e)) (expr_for o.names t) ≡ Some s → Knows scope o.names t → FitsUnlabelled n (Return (Some t)) [] (body s)
   unfolding strings_of_item
@@ -167,7 +198,10 @@ module _ (o : Outline) (scope : Scope) (labels : Labels) (are : AreLabels o labe
   unfolding statement_of strings_of_item
   statement_fits n (Assign t u) s h knows = set_fits n t u s h knows
   statement_fits n (Jump position) s h knows = goto_fits n position s h
-  statement_fits n (Invoke Ignored (Direct k) arguments) s h knows = call_fits n k arguments s h knows
+  statement_fits n (Invoke Ignored (Direct k) arguments) s h knows = call_fits n false (o.names.routine k) (Routine k) arguments s h knows.0 knows.1
+  statement_fits n (Invoke Ignored (Through (Variable k ToFunction)) arguments) s h knows = call_fits n true (o.names.object k) (Variable k ToFunction) arguments s h knows.0 knows.1
+  statement_fits n (Invoke (Kept t) (Direct k) arguments) s h knows = set_call_fits n false (o.names.routine k) (Routine k) t arguments s h knows.1 knows.0 knows.2
+  statement_fits n (Invoke (Kept t) (Through (Variable k ToFunction)) arguments) s h knows = set_call_fits n true (o.names.object k) (Variable k ToFunction) t arguments s h knows.1 knows.0 knows.2
   statement_fits n (Return None) s h knows = subst (λ z. FitsUnlabelled n (Return None) [] (body z)) (some_same (stmt.Return None) s h) (one_fits n (Return None) (bare (Return None)) (drawn_bare o.names scope (Return None)))
   statement_fits n (Return (Some t)) s h knows = return_fits n t s h knows
   statement_fits n Nothing s h knows = subst (λ z. FitsUnlabelled n Nothing [] (body z)) (some_same stmt.Empty s h) (one_fits n Nothing (bare Nothing) (drawn_bare o.names scope Nothing))
@@ -175,7 +209,8 @@ module _ (o : Outline) (scope : Scope) (labels : Labels) (are : AreLabels o labe
   statement_fits n (Select t cases otherwise) s h knows = absurd (cc)
   statement_fits n (Invoke Ignored (Through t) arguments) s h knows = absurd (cc)
   statement_fits n (Invoke Ignored Nowhere arguments) s h knows = absurd (cc)
-  statement_fits n (Invoke (Kept t) callee arguments) s h knows = absurd (cc)
+  statement_fits n (Invoke (Kept t) (Through t') arguments) s h knows = absurd (cc)
+  statement_fits n (Invoke (Kept t) Nowhere arguments) s h knows = absurd (cc)
   statement_fits n (Invoke Returned callee arguments) s h knows = absurd (cc)
   statement_fits n ReturnAnswer s h knows = absurd (cc)
   statement_fits n Lost s h knows = absurd (cc)

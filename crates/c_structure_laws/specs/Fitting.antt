@@ -4,7 +4,7 @@ use Rattle.c_tree.specs.declared.expression.CExpr.{CExpr}
 use Rattle.c_tree.specs.declared.statement.CStmt.{CStmt}
 use Rattle.c_tree.specs.Access.{Access, ToChar}
 use Rattle.c_tree.specs.Terms.{Term, Variable, Array, Routine, Prefixed, Cast, Between, Choice, Element, Field, Most, Magnitude}
-use Rattle.c_tree.specs.Flat.{Flat, Assign, Branch, Invoke, Return, Ignored, Direct}
+use Rattle.c_tree.specs.Flat.{Flat, Assign, Branch, Invoke, Return, Ignored, Kept, Callee, Direct, Through}
 use Rattle.c_tree.specs.Drafts.{Scope, Draft}
 use Rattle.c_tree.specs.LinkedExpressions.{linked}
 use Rattle.c_tree.specs.FlatForm.{LabelAt, Labels, Body, body_of_all}
@@ -22,6 +22,7 @@ KnowsArray scope name (Some bytes) k access = access ≡ ToChar
 abbrev pub Knows : Scope → Names → Term → Type 0
 Knows scope names (Variable k access) = scope (names.object k) ≡ Variable k access
 Knows scope names (Array k access) = KnowsArray scope (names.object k) (names.string k) k access
+Knows scope names (Routine k) = scope (names.routine k) ≡ Routine k
 Knows scope names (Prefixed op t) = Knows scope names t
 Knows scope names (Cast type t) = Knows scope names t
 Knows scope names (Between op t u) = Knows scope names t × Knows scope names u
@@ -36,11 +37,18 @@ abbrev pub KnowsAll : Scope → Names → List Term → Type 0
 KnowsAll scope names [] = Unit {0}
 KnowsAll scope names (t ∷ ts) = Knows scope names t × KnowsAll scope names ts
 
+-- the function that is called, or the parameter that points to it
+abbrev pub KnowsCallee : Scope → Names → Callee → Type 0
+KnowsCallee scope names (Direct k) = scope (names.routine k) ≡ Routine k
+KnowsCallee scope names (Through t) = Knows scope names t
+KnowsCallee scope names other = Unit {0}
+
 -- and for the objects and functions of an item
 abbrev pub KnowsItem : Scope → Names → Flat → Type 0
 KnowsItem scope names (Assign t u) = Knows scope names t × Knows scope names u
 KnowsItem scope names (Branch test on off) = Knows scope names test
-KnowsItem scope names (Invoke Ignored (Direct k) arguments) = (scope (names.routine k) ≡ Routine k) × KnowsAll scope names arguments
+KnowsItem scope names (Invoke Ignored callee arguments) = KnowsCallee scope names callee × KnowsAll scope names arguments
+KnowsItem scope names (Invoke (Kept t) callee arguments) = Knows scope names t × KnowsCallee scope names callee × KnowsAll scope names arguments
 KnowsItem scope names (Return (Some t)) = Knows scope names t
 KnowsItem scope names other = Unit {0}
 

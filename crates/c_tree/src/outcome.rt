@@ -98,20 +98,3 @@ pub enum Stopped {
     /// At a place outside its declared bounds.
     Range(Report),
 }
-
-#[cfg(test)]
-mod tests {
-    use super::*;
-
-    #[test]
-    fn faults_are_printed_by_their_names(rt: HostRuntime) {
-        assert!(rt; CFault::Overflow.name() == b"Overflow".as_slice());
-        assert!(rt; CFault::ZeroDivide.name() == b"ZeroDivide".as_slice());
-        assert!(rt; CFault::Unset.name() == b"Unset".as_slice());
-        assert!(rt; CFault::Outside.name() == b"Outside".as_slice());
-        assert!(rt; CFault::Kind.name() == b"Kind".as_slice());
-        assert!(rt; CFault::Disagree.name() == b"Disagree".as_slice());
-        assert!(rt; CFault::Active.name() == b"Active".as_slice());
-        assert!(rt; CFault::Library.name() == b"Library".as_slice());
-    }
-}

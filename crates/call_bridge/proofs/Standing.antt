@@ -4,6 +4,7 @@ use Rattle.std.proofs.Common.{refl, sym, ◌∙◌, subst}
 use Rattle.simulation.specs.Machine.{Frame, Has}
 use Rattle.simulation.specs.Law.{Grown, unchanged, by, WaitingFrames, none, text, wrapper}
 use Rattle.f_tree.specs.Values.{Spot}
+use Rattle.f_tree.specs.Facts as fortran_facts
 use Rattle.f_tree.specs.Facts.{ProgramUnit}
 use Rattle.f_tree.specs.Setting.{Setting}
 use Rattle.f_tree.specs.World as fortran
@@ -22,10 +23,10 @@ use Rattle.faithful.specs.SameTransfer.{SameMedium, on_unit, in_file, SameTransf
 use Rattle.c_image.specs.World.{World, Extends}
 use Rattle.c_image_laws.proofs.Growing.{extends_itself, extends_through}
 use Rattle.c_emit_laws.specs.EmittedNumbers.{IsKnown}
-use Rattle.emitted_texts.specs.SecondLayer.{TransfersStand}
+use Rattle.emitted_texts.specs.SecondLayer.{Surroundings, Emission, TransfersStand}
 use Rattle.emitted_texts.proofs.Known.{known_later}
 use Rattle.procedure_emission.specs.Reading.{numbers_kept}
-use Rattle.procedure_emission.specs.CallLayer.{CallWorld, IsFrameOf, call_kit}
+use Rattle.procedure_emission.specs.CallLayer.{CallWorld, IsFrameOf, AreProceduresHeld, function_object, call_kit}
 use Rattle.call_bridge.specs.CallBridge.{Translation, MayRun, linking_of, IsTranslated}
 
 -- ## Transfers
@@ -49,6 +50,12 @@ same_later μ ν _ _ grown low (both one other agree) =
 pub transfers_later : (μ ν : World) (one : Option fortran.Transfer) (other : Option c.Transfer) → Extends μ ν → TransfersStand μ one other → SameTransfer ν.homes one other
 transfers_later μ ν one other grown stand = same_later μ ν one other grown stand.below stand.same
 
+-- what parameters hold of procedures stays as it is
+procedures_later : (s : Surroundings) (e : Emission) (μ ν : World) (f : fortran_facts.Frame) → Extends μ ν → AreProceduresHeld s e μ f → AreProceduresHeld s e ν f
+procedures_later s e μ ν f grown procedures x d parameter own bound address =
+    let one = procedures x d parameter own bound address in
+    (one.0, one.1, one.2, one.3, grown.frozen parameter (function_object one.1) one.4)
+
 module _ (g : Setting) (S : List ProgramUnit) (files : List CFile) (t : Translation) (is : IsTranslated g S files t) where
   -- ## Stored names
 
@@ -69,9 +76,9 @@ module _ (g : Setting) (S : List ProgramUnit) (files : List CFile) (t : Translat
 
   module _ (ν : World) (objects : List Object) (held : (k : ℕ) (object : Object) → ν.frozen k ≡ Some object → slice_get objects k ≡ Some object) where
     pub procedure_stands : (i : ℕ) (μ : CallWorld) (v : fortran.View) (x : View) → MayRun S i → v.frame ≡ x.frame → IsFrameOf (t.emissions i).writing.facts.program μ x.frame → IsKnown ν (t.emissions i).writing x.frame (numbers_kept x.kept)
-        → ProcedureStands S files ν.homes objects i v.frame
-    procedure_stands i μ v x known same frame knows =
-        subst (ProcedureStands S files ν.homes objects i) (sym same) ((is.units i known).frames μ ν x.frame (numbers_kept x.kept) objects frame knows held)
+        → AreProceduresHeld t.surroundings (t.emissions i) ν x.frame → ProcedureStands S files ν.homes objects i v.frame
+    procedure_stands i μ v x known same frame knows procedures =
+        subst (ProcedureStands S files ν.homes objects i) (sym same) ((is.units i known).frames μ ν x.frame (numbers_kept x.kept) objects frame knows procedures held)
 
     pub waiting_stand : {μ : (composite_kit lower_kit (call_kit t.surroundings)).World} {us : List (Frame fortran_sorts)} {fs : List (Frame c_steps.sorts)} → Extends μ.1.image ν → WaitingFrames (linking_of g S files t) μ us fs
         → Each (FrameStands S files ν.homes objects) us
@@ -80,6 +87,7 @@ module _ (g : Setting) (S : List ProgramUnit) (files : List CFile) (t : Translat
         let wait = waits.2 in
         let up : Extends wait.now ν = extends_through wait.now μ'.1.image ν wait.grows (extends_through μ'.1.image μ.1.image ν (grown_extends later) grown) in
         each.more (Has j v) us
-        (procedure_stands j μ₀.1 v waits.0 known waits.1 wait.frame (known_later wait.now ν (t.emissions j).writing waits.0.frame (numbers_kept waits.0.kept) up wait.known))
+        (procedure_stands j μ₀.1 v waits.0 known waits.1 wait.frame (known_later wait.now ν (t.emissions j).writing waits.0.frame (numbers_kept waits.0.kept) up wait.known)
+        (procedures_later t.surroundings (t.emissions j) wait.now ν waits.0.frame up wait.procedures))
         (waiting_stand grown rest)
     waiting_stand grown (wrapper named rest) = waiting_stand grown rest

@@ -118,7 +118,7 @@ module _ (g : Setting) (S : List ProgramUnit) (files : List CFile) (t : Translat
       let upper = matched.2 in
       let waiting = below_waits (linking_of g S files t) below unchanged in
       let frame : v.frame ≡ matched.0.frame = sym (ap (λ (view : View). view.frame) upper.seen) in
-      let here = procedure_stands g S files t is active.now z.objects active.both.stands.held i μ.1 v matched.0 known frame active.frame active.known in
+      let here = procedure_stands g S files t is active.now z.objects active.both.stands.held i μ.1 v matched.0 known frame active.frame active.known active.procedures in
       let below' = waiting_stand g S files t is active.now z.objects active.both.stands.held active.both.extends waiting in
       let texts = same_texts (linking_of g S files t) (step_factor files) (linked g S files t is) (running {w = w} {t = z} known home matched below) in
       same.running i v us s (t.emissions i).number w fs z
@@ -128,7 +128,7 @@ module _ (g : Setting) (S : List ProgramUnit) (files : List CFile) (t : Translat
   alike_same main may (over {μ = μ} {i = i} {e = e} {v = v} {s = s} {w = w} {t = z} {us = us} {fs = fs} known home halted below) going =
       let active = halted.3 in
       let waiting = below_waits (linking_of g S files t) below unchanged in
-      let here = procedure_stands g S files t is active.now z.objects active.both.stands.held i μ.1 v halted.0 known halted.2.1 active.frame active.known in
+      let here = procedure_stands g S files t is active.now z.objects active.both.stands.held i μ.1 v halted.0 known halted.2.1 active.frame active.known active.procedures in
       let below' = waiting_stand g S files t is active.now z.objects active.both.stands.held active.both.extends waiting in
       let texts = same_texts (linking_of g S files t) (step_factor files) (linked g S files t is) (over {e = e} {w = w} {t = z} known home halted below) in
       same.ended e (Has i v ∷ us) s (Has (t.emissions i).number w ∷ fs) z

@@ -29,7 +29,7 @@ use Rattle.c_image.specs.World.{World}
 use Rattle.c_image.specs.Standing.{Stands}
 use Rattle.c_emit_laws.specs.EmittedNumbers.{IsKnown}
 use Rattle.emitted_texts.specs.SecondLayer.{Surroundings, Emission, IsFree}
-use Rattle.procedure_emission.specs.CallLayer.{CallWorld, IsFrameOf, call_kit, call_pairing, call_couple}
+use Rattle.procedure_emission.specs.CallLayer.{CallWorld, IsFrameOf, AreProceduresHeld, call_kit, call_pairing, call_couple}
 
 -- of each unit its lowered text, what the steps of that cost, and its function
 pub record Translation : Type 0 where
@@ -62,9 +62,9 @@ linking_of g S files t = record {
   owner = t.owner;
 }
 
--- what belongs to an active procedure stands in its frame: where its function knows its names
-abbrev pub FramesStand : List ProgramUnit → List CFile → ℕ → Emission → Type 0
-FramesStand S files i e = (μ : CallWorld) (ν : World) (f : Frame) (kept : Temporaries) (objects : List Object) → IsFrameOf e.writing.facts.program μ f → IsKnown ν e.writing f kept →
+-- what belongs to an active procedure stands in its frame: where its function knows its names, and its parameters hold the procedures that were passed
+abbrev pub FramesStand : List ProgramUnit → List CFile → Surroundings → ℕ → Emission → Type 0
+FramesStand S files s i e = (μ : CallWorld) (ν : World) (f : Frame) (kept : Temporaries) (objects : List Object) → IsFrameOf e.writing.facts.program μ f → IsKnown ν e.writing f kept → AreProceduresHeld s e ν f →
     ((k : ℕ) (object : Object) → ν.frozen k ≡ Some object → slice_get objects k ≡ Some object) → ProcedureStands S files ν.homes objects i f
 
 -- one unit and its function
@@ -84,7 +84,7 @@ pub record UnitIsTranslated (g : Setting) (S : List ProgramUnit) (files : List C
   pub called : (name : Called) → found_from 0 S name ≡ Some i → t.surroundings.numbers name ≡ Some (t.emissions i).number
   -- before the first step its frame is nobody's
   pub idle : IsFree (t.surroundings.rooms i) t.surroundings.first
-  pub frames : FramesStand S files i (t.emissions i)
+  pub frames : FramesStand S files t.surroundings i (t.emissions i)
 
 -- The set and its texts. Units that are no part of a run have numbers too, behind those of all functions.
 pub record IsTranslated (g : Setting) (S : List ProgramUnit) (files : List CFile) (t : Translation) : Type 0 where

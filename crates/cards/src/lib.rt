@@ -9,8 +9,6 @@ mod kinds;
 mod lines;
 mod pass;
 mod reader;
-#[cfg(test)]
-mod tests;
 
 pub use fortran_text::{CardKind, Statement};
 pub use kinds::{card_kind, is_end, says_end};

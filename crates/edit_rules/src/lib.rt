@@ -17,8 +17,6 @@ mod list_scan;
 pub mod list_writer;
 pub mod read_back;
 pub mod take;
-#[cfg(test)]
-mod tests;
 pub mod walk_answers;
 
 pub use edit::{edit_int, edit_logical, edit_text};

@@ -1,5 +1,5 @@
 -- The names in emitted items.
-use Rattle.std.specs.Prelude.{◌≡◌, ℕ, zero, suc, ◌+◌, ◌-◌, ℤ, pos, Bool, true, false, ◌&&◌, List, [], ◌∷◌, ◌++◌, Option, Some, None, option_map, option_and_then, codes, if◌then◌else◌}
+use Rattle.std.specs.Prelude.{◌≡◌, ℕ, zero, suc, ◌+◌, ◌-◌, ℤ, pos, Bool, true, false, ◌&&◌, List, [], ◌∷◌, ◌++◌, map, Option, Some, None, option_map, option_and_then, codes, if◌then◌else◌}
 use Rattle.std.proofs.Common.{refl, sym, ◌∙◌, subst}
 use Rattle.std.proofs.lemmas.List.{append-nil}
 use Rattle.f_tree.specs.Values.{Bytes, Datum, IsInt, IsLog, in_range}
@@ -14,25 +14,26 @@ use Rattle.c_tree.specs.declared.expression.UnaryOp.TheVariants as prefix
 use Rattle.c_tree.specs.Access.{ToNumber, ToChar, ToList}
 use Rattle.c_tree.specs.Terms as c
 use Rattle.c_tree.specs.Terms.{Term}
-use Rattle.c_tree.specs.Flat.{Flat, Assign, Branch, Jump, Return, Nothing}
+use Rattle.c_tree.specs.Flat.{Flat, Assign, Branch, Jump, Invoke, Kept, Direct, Return, Nothing}
 use Rattle.c_tree.specs.Drafts.{Scope}
 use Rattle.c_structure.specs.Expressions.{Names, strings_in, strings_in_all}
 use Rattle.c_structure.specs.Statements.{strings_of_item}
 use Rattle.c_structure_laws.specs.Fitting.{Knows, KnowsAll, KnowsItem}
-use Rattle.c_emit.specs.Numbers.{Writing, if_number, value_term, place_term}
+use Rattle.c_emit.specs.Numbers.{Writing, one_more, if_number, value_term, place_term}
+use Rattle.c_emit.specs.LibraryFunctions.{LibraryFunction, library_function}
 use Rattle.c_emit.specs.Types.{type_of}
-use Rattle.c_emit.specs.Calls.{call_of, address_of, is_plain, start_on, start_item, if_held, constant_held, held_term, kind_number, item_by, takes_item, finish_item, stop_item}
+use Rattle.c_emit.specs.Calls.{call_of, address_of, is_plain, start_on, start_item, if_held, constant_held, held_term, held_terms, routine_of, computed_item, kind_number, item_by, takes_item, finish_item, stop_item}
 use Rattle.c_emit.specs.Flats.{assigned, jump_to, returned_by, flat_of}
-use Rattle.emitted_names.specs.KnownNames.{IsPlain, IsKnownBy, Calls, KnowsStep, strings_of_step, ItemIsKnown, EmittedNamesAreKnown}
+use Rattle.emitted_names.specs.KnownNames.{IsPlain, IsKnownBy, Calls, CallsFunction, KnowsStep, strings_of_step, ItemIsKnown, EmittedNamesAreKnown}
 use Rattle.emitted_names.proofs.TermNames.{some_same, ArePlain, no_terms, and_term, prefixed_plain, cast_plain, held_plain, value_plain, target_plain}
 
 module _ (scope : Scope) (names : Names) where
   -- an item without strings
-  record IsPlainItem (item : Flat) : Type 0 where
-    knows : KnowsItem scope names item
-    no_strings : strings_of_item names item ≡ []
+  pub record IsPlainItem (item : Flat) : Type 0 where
+    pub knows : KnowsItem scope names item
+    pub no_strings : strings_of_item names item ≡ []
 
-  plain_all : (ts : List Term) → ArePlain scope names ts → KnowsAll scope names ts × (strings_in_all names ts ≡ [])
+  pub plain_all : (ts : List Term) → ArePlain scope names ts → KnowsAll scope names ts × (strings_in_all names ts ≡ [])
   unfolding strings_in_all
   plain_all [] no_terms = (tt, refl)
   plain_all (t ∷ ts) (and_term one rest) =
@@ -65,7 +66,7 @@ module _ (scope : Scope) (names : Names) where
   goto_plain place (Some n) item h = subst IsPlainItem (some_same (Jump (place n)) item h) (jump_plain (place n))
   goto_plain place None item h = absurd (cc)
 
-  return_plain : (kind : UnitKind) (item : Flat) → returned_by kind ≡ Some item → IsPlainItem item
+  pub return_plain : (kind : UnitKind) (item : Flat) → returned_by kind ≡ Some item → IsPlainItem item
   unfolding returned_by strings_of_item strings_in
   return_plain facts.MainProgram item h = subst IsPlainItem (some_same (Return (Some (c.Constant (pos 0)))) item h) (record { knows = tt; no_strings = refl })
   return_plain facts.SubroutineUnit item h = subst IsPlainItem (some_same (Return (Some (c.Constant (pos 0)))) item h) (record { knows = tt; no_strings = refl })
@@ -76,7 +77,7 @@ module _ (scope : Scope) (names : Names) where
   unfolding call_of strings_of_item
   call_plain w name ts calls are = let all = plain_all ts are in record { knows = (calls, all.0); no_strings = all.1 }
 
-  address_plain : (t : Term) → IsPlain scope names t → IsPlain scope names (address_of t)
+  pub address_plain : (t : Term) → IsPlain scope names t → IsPlain scope names (address_of t)
   address_plain t is = prefixed_plain scope names prefix.Address t is
 
   size_plain : IsPlain scope names (c.Cast to.Length c.Size)
@@ -107,12 +108,41 @@ module _ (scope : Scope) (names : Names) where
     held_constant (IsLog false) t h = constant_plain (pos 0) t h
     held_constant d t h = absurd (cc)
 
-    held_is : (p : Pure) (t : Term) → held_term w p ≡ Some t → IsPlain scope names t
+    pub held_is : (p : Pure) (t : Term) → held_term w p ≡ Some t → IsPlain scope names t
     unfolding held_term
     held_is (Constant d) t h = held_constant d t h
     held_is (Temporary k) t h = held_plain scope names (w.is_number k) (c.Variable (w.naming.temporary k) ToNumber) t h (known.temporaries k)
     held_is (Load p) t h = target_plain scope names w known p t h
     held_is p t h = absurd (cc)
+
+    addresses_plain : (ts : List Term) → ArePlain scope names ts → ArePlain scope names (map address_of ts)
+    addresses_plain [] no_terms = no_terms
+    addresses_plain (t ∷ ts) (and_term one rest) = and_term (address_plain t one) (addresses_plain ts rest)
+
+    held_before : (x : Option Term) (xs : Option (List Term)) (ts : List Term) → one_more x xs ≡ Some ts → ((t : Term) → x ≡ Some t → IsPlain scope names t) → ((later : List Term) → xs ≡ Some later → ArePlain scope names later) → ArePlain scope names ts
+    unfolding one_more
+    held_before (Some t) (Some later) ts h one others = subst (ArePlain scope names) (some_same (t ∷ later) ts h) (and_term (one t refl) (others later refl))
+    held_before (Some t) None ts h one others = absurd (cc)
+    held_before None xs ts h one others = absurd (cc)
+
+    held_are : (ps : Pures) (ts : List Term) → held_terms w ps ≡ Some ts → ArePlain scope names ts
+    unfolding held_terms
+    held_are NoPure ts h = subst (ArePlain scope names) (some_same [] ts h) no_terms
+    held_are (AndPure p ps) ts h = held_before (held_term w p) (held_terms w ps) ts h (held_is p) (held_are ps)
+
+    -- a call whose value is kept
+    kept_plain : (name : List ℕ) (t : Term) (ts : List Term) → Calls scope names w name → IsPlain scope names t → ArePlain scope names ts → IsPlainItem (Invoke (Kept t) (Direct (routine_of w name)) ts)
+    unfolding strings_of_item
+    kept_plain name t ts calls one are = let all = plain_all ts are in record { knows = (one.knows, calls, all.0); no_strings = (λ i. one.no_strings i ++ all.1 i) }
+
+    computed : (x : Option Term) (o : Option LibraryFunction) (xs : Option (List Term)) (item : Flat) → computed_item w x o xs ≡ Some item → CallsFunction scope names w o → ((t : Term) → x ≡ Some t → IsPlain scope names t)
+        → ((ts : List Term) → xs ≡ Some ts → ArePlain scope names ts) → IsPlainItem item
+    unfolding computed_item
+    computed (Some t) (Some one) (Some ts) item h calls target are =
+        subst IsPlainItem (some_same (Invoke (Kept t) (Direct (routine_of w one.name)) (map address_of ts)) item h) (kept_plain one.name t (map address_of ts) calls (target t refl) (addresses_plain ts (are ts refl)))
+    computed (Some t) (Some one) None item h calls target are = absurd (cc)
+    computed (Some t) None xs item h calls target are = absurd (cc)
+    computed None o xs item h calls target are = absurd (cc)
 
     passed : (kind : ℤ) (term : Term) (b : Bool) (item : Flat) → w.library.has kind && w.library.has (pos 1) ≡ b
         → (if b then Some (call_of w (codes "do_lio") (address_of (c.Variable (w.library.constant kind) ToNumber) ∷ address_of (c.Variable (w.library.constant (pos 1)) ToNumber) ∷ c.Cast to.Chars (address_of term) ∷ c.Cast to.Length c.Size ∷ [])) else None) ≡ Some item
@@ -163,6 +193,9 @@ module _ (scope : Scope) (names : Names) where
     whole place label n (step.Keep k p) item knows h =
         plainly n (step.Keep k p) item refl (assigned_plain (if_number (w.is_number k) (Some (c.Variable (w.naming.temporary k) ToNumber))) (value_term w p) item h
         (λ t is. held_plain scope names (w.is_number k) (c.Variable (w.naming.temporary k) ToNumber) t is (known.temporaries k)) (value_plain scope names w known p))
+    whole place label n (step.Compute k f ps) item knows h =
+        plainly n (step.Compute k f ps) item refl (computed (if_number (w.is_number k) (Some (c.Variable (w.naming.temporary k) ToNumber))) (library_function f) (held_terms w ps) item h knows
+        (λ t is. held_plain scope names (w.is_number k) (c.Variable (w.naming.temporary k) ToNumber) t is (known.temporaries k)) (held_are ps))
     whole place label n (step.Unless p m) item knows h = plainly n (step.Unless p m) item refl (branch_plain (place (suc n)) (place (suc n + m)) (value_term w p) item h (value_plain scope names w known p))
     whole place label n (step.AgainIf p m) item knows h = plainly n (step.AgainIf p m) item refl (branch_plain (place (n - m)) (place (suc n)) (value_term w p) item h (value_plain scope names w known p))
     whole place label n (step.Skip m) item knows h = plainly n (step.Skip m) item refl (subst IsPlainItem (some_same (Jump (place (suc n + m))) item h) (jump_plain (place (suc n + m))))

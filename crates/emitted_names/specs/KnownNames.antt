@@ -2,7 +2,7 @@
 -- the library. C89, 3.1.2.1.
 use Rattle.std.specs.Prelude.{◌≡◌, ℕ, ◌+◌, ℤ, true, List, [], position, Option, Some, None, unwrap_or, bytes_eq, codes}
 use Rattle.f_tree.specs.Values.{Bytes}
-use Rattle.l_core.specs.Steps.{Starts, Takes, Finishes, Step, Acts, Halt}
+use Rattle.l_core.specs.Steps.{Starts, Takes, Finishes, Step, Compute, Acts, Halt}
 use Rattle.c_tree.specs.declared.types.ListType.TheVariants as list_type
 use Rattle.c_tree.specs.Access.{ToNumber, ToChar, ToList, ToPointer}
 use Rattle.c_tree.specs.Terms.{Term, Variable, Array, Routine}
@@ -15,6 +15,7 @@ use Rattle.c_structure.specs.Expressions.{Names, strings_in}
 use Rattle.c_structure.specs.Statements.{strings_of_item}
 use Rattle.c_structure_laws.specs.Fitting.{Knows, KnowsItem}
 use Rattle.c_emit.specs.Numbers.{Writing, is_scalar, is_array}
+use Rattle.c_emit.specs.LibraryFunctions.{LibraryFunction, library_function}
 use Rattle.c_emit.specs.Flats.{flat_of}
 
 -- a term whose names are known, and that has no strings
@@ -49,11 +50,17 @@ number_of w name = w.library.own + unwrap_or (position (bytes_eq name) builtin_n
 abbrev pub Calls : Scope → Names → Writing → List ℕ → Type 0
 Calls scope names w name = scope (names.routine (number_of w name)) ≡ Routine (number_of w name)
 
+-- a function of numbers
+abbrev pub CallsFunction : Scope → Names → Writing → Option LibraryFunction → Type 0
+CallsFunction scope names w None = Unit {0}
+CallsFunction scope names w (Some one) = Calls scope names w one.name
+
 abbrev pub KnowsStep : Scope → Names → Writing → ℕ → Step → Type 0
 KnowsStep scope names w n (Acts (Starts way layout controls) ps m) = Calls scope names w (codes "s_wsle") × IsPlain scope names (Variable (w.library.list n) (ToList list_type.Transfer))
 KnowsStep scope names w n (Acts Takes ps m) = Calls scope names w (codes "do_lio")
 KnowsStep scope names w n (Acts Finishes ps m) = Calls scope names w (codes "e_wsle")
 KnowsStep scope names w n (Halt text) = Calls scope names w (codes "s_stop") × Knows scope names (Array (w.library.text n) ToChar)
+KnowsStep scope names w n (Compute k f ps) = CallsFunction scope names w (library_function f)
 KnowsStep scope names w n st = Unit {0}
 
 -- the strings that a step passes

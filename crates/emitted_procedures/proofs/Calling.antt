@@ -377,7 +377,7 @@ module _ (s : Surroundings) (number : ℕ) (u : Text) (costs : List ℕ) (e : Em
             are_passed = all_passed s number active.now x.store are.arguments are.values high are.given;
             values_are = sym (append-nil are.values) ∙ ap (λ more. are.values ++ more) (sym (no_lengths s number active.now x.store are.arguments are.values are.given));
           };
-          waits = record { now = active.now; grown = active.both.extends; grows = grown; frame = active.frame; known = active.known };
+          waits = record { now = active.now; grown = active.both.extends; grows = grown; frame = active.frame; known = active.known; procedures = active.procedures };
           resumes = resumes;
         })
 

@@ -16,9 +16,10 @@ use Rattle.c_tree.specs.Terms as c
 use Rattle.c_tree.specs.Terms.{Term}
 use Rattle.c_image.specs.Operations.{prefix_for, operator_for, function_term}
 use Rattle.c_emit.specs.Numbers.{Writing, with_two, with_three, one_more, element_value, applied_value, if_number, is_array, value_term, place_term, value_terms}
-use Rattle.c_emit.specs.Calls.{held_term}
+use Rattle.c_emit.specs.Calls.{held_term, held_terms}
 use Rattle.c_emit.specs.Types.{HasType}
 use Rattle.c_emit_laws.proofs.Choices.{got, mapped_by}
+use Rattle.c_emit_laws.proofs.HeldNumbers.{AreIntegers, more_integers}
 use Rattle.procedure_emission.specs.Reading.{IsPlain, plain_number, plain_truth, plain_nothing, number_kept, numbers_kept}
 
 pub data IsRead (r : Checked Datum) (d : Datum) : Type 0 where
@@ -28,6 +29,10 @@ pub data IsRead (r : Checked Datum) (d : Datum) : Type 0 where
 pub data AreRead (r : Checked (List Datum)) (ds : List Datum) : Type 0 where
   all_same : r ≡ Gives ds → AreRead r ds
   one_lost : IsIn Nothing ds → AreRead r ds
+
+pub integer_read : (r : Checked Datum) (z : ℤ) → IsRead r (IsInt z) → r ≡ Gives (IsInt z)
+integer_read r z (the_same is) = is
+integer_read r z (no_value is) = absurd (cc)
 
 given_same : {A : Type 0} (a b : A) → Gives a ≡ Gives b → a ≡ b
 given_same a b h = cc
@@ -350,6 +355,27 @@ module _ (w : Writing) (f : Frame) (m : Temporaries) (s : Store) (plain : (k : �
   held_read (Applied function ps) term d emitted h = absurd (cc)
   held_read (Chosen p q r) term d emitted h = absurd (cc)
 
+  -- integers that are held, one after the other
+  integers_before : (r : Checked Datum) (rs : Checked (List Datum)) (ds : List Datum) (d : Datum) (later : List Datum) → d ∷ later ≡ ds → AreIntegers ds → IsRead r d → (AreIntegers later → rs ≡ Gives later)
+      → given_that r (λ e. given_that rs (λ es. Gives (e ∷ es))) ≡ Gives ds
+  unfolding given_that
+  integers_before r rs _ d later same (more_integers z ds are) read others =
+      let first : d ≡ IsInt z = cc in
+      let rest : later ≡ ds = cc in
+      ap (λ x. given_that x (λ e. given_that rs (λ es. Gives (e ∷ es)))) (integer_read r z (subst (IsRead r) first read))
+      ∙ ap (λ x. given_that x (λ es. Gives (IsInt z ∷ es))) (others (subst AreIntegers (sym rest) are) ∙ ap Gives rest)
+  integers_before r rs [] d later same are read others = absurd (cc)
+
+  pub integers_held : (ps : Pures) (terms : List Term) (ds : List Datum) → AreIntegers ds → held_terms w ps ≡ Some terms → all_meant w.facts f m s ps ≡ Gives ds → all_meant w.facts f (numbers_kept m) s ps ≡ Gives ds
+  unfolding held_terms all_meant
+  integers_held NoPure terms ds are emitted h = h
+  integers_held (AndPure p ps) terms ds are emitted h =
+      let e = more_by (held_term w p) (held_terms w ps) terms emitted in
+      let g = got (meant w.facts f m s p) (λ d. given_that (all_meant w.facts f m s ps) (λ later. Gives (d ∷ later))) ds h in
+      let rest = got (all_meant w.facts f m s ps) (λ later. Gives (g.value ∷ later)) ds g.gives in
+      integers_before (meant w.facts f (numbers_kept m) s p) (all_meant w.facts f (numbers_kept m) s ps) ds g.value rest.value (given_same (g.value ∷ rest.value) ds rest.gives) are (held_read p e.first g.value e.first_is g.is)
+      (λ later. integers_held ps e.later rest.value later e.later_is rest.is)
+
 -- ## What is a number
 
 pub typed_plain : (b : Basic) (d : Datum) → HasType b d → IsPlain d
@@ -370,10 +396,6 @@ nothing_typed b d is typed = by b (subst (HasType b) (sym is) typed)
 pub typed_read : (r : Checked Datum) (b : Basic) (d : Datum) → HasType b d → IsRead r d → r ≡ Gives d
 typed_read r b d typed (the_same is) = is
 typed_read r b d typed (no_value is) = nothing_typed b d is typed
-
-pub integer_read : (r : Checked Datum) (z : ℤ) → IsRead r (IsInt z) → r ≡ Gives (IsInt z)
-integer_read r z (the_same is) = is
-integer_read r z (no_value is) = absurd (cc)
 
 pub truth_read : (r : Checked Datum) (b : Bool) → IsRead r (IsLog b) → r ≡ Gives (IsLog b)
 truth_read r b (the_same is) = is

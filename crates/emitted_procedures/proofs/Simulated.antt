@@ -12,7 +12,9 @@ use Rattle.c_tree.specs.Terms.{Term}
 use Rattle.c_tree.specs.Flat.{Flat}
 use Rattle.c_tree.specs.World as c
 use Rattle.c_tree.specs.Steps as c_steps
-use Rattle.c_emit.specs.Numbers.{if_number}
+use Rattle.c_emit.specs.Numbers.{Writing, if_number}
+use Rattle.c_emit.specs.LibraryFunctions.{LibraryFunction}
+use Rattle.c_emit.specs.Calls.{computed_item}
 use Rattle.c_emit.specs.Flats.{assigned, flat_of}
 use Rattle.c_emit_laws.specs.EmittedFlats.{by_put, by_test, by_test_back, by_skip, by_return, by_jump, by_pass}
 use Rattle.c_emit_laws.proofs.Choices.{some_same}
@@ -24,7 +26,7 @@ use Rattle.emitted_procedures.specs.SimulatedUnits.{UnitsAreSimulated}
 use Rattle.emitted_procedures.proofs.Answering.{answers, answers_by}
 use Rattle.emitted_procedures.proofs.Calling.{calls_function, calls_subroutine}
 use Rattle.emitted_procedures.proofs.Opening.{opened}
-use Rattle.emitted_procedures.proofs.Steering.{steered, keeps}
+use Rattle.emitted_procedures.proofs.Steering.{steered, keeps, computes}
 use Rattle.emitted_procedures.proofs.Transferring.{halted, acted}
 
 module _ (s : Surroundings) (number : ℕ) (u : Text) (costs : List ℕ) (e : Emission) (is : IsEmittedUnit s number u costs e) where
@@ -32,6 +34,11 @@ module _ (s : Surroundings) (number : ℕ) (u : Text) (costs : List ℕ) (e : Em
   unfolding assigned if_number
   numeric_by true target value item emitted = refl
   numeric_by false target value item emitted = absurd (cc)
+
+  computed_number : (w : Writing) (holds : Bool) (target : Option Term) (o : Option LibraryFunction) (terms : Option (List Term)) (item : Flat) → computed_item w (if_number holds target) o terms ≡ Some item → holds ≡ true
+  unfolding computed_item if_number
+  computed_number w true target o terms item emitted = refl
+  computed_number w false target o terms item emitted = absurd (cc)
 
   none_emitted : {A : Type 0} (item : Flat) → None ≡ Some item → A
   none_emitted item emitted = absurd (cc)
@@ -47,14 +54,15 @@ module _ (s : Surroundings) (number : ℕ) (u : Text) (costs : List ℕ) (e : Em
   each μ v x w y now (Jump label) at item = steered s number u costs e is μ v x w y now (Jump label) at item (by_jump label) item.emitted (step u v x) refl
   each μ v x w y now Pass at item = steered s number u costs e is μ v x w y now Pass at item by_pass item.emitted (step u v x) refl
   each μ v x w y now (Keep k p) at item =
-      keeps s number u costs e is μ v x w y now (Keep k p) at item k p refl (numeric_by (e.writing.is_number k) _ _ item.item item.emitted) item.emitted (step u v x) refl
+      keeps s number u costs e is μ v x w y now (Keep k p) at item k p refl (numeric_by (e.writing.is_number k) _ _ item.item item.emitted) item.emitted
   each μ v x w y now Back at item = answers s number u costs e is μ v x w y now Back at item refl
   each μ v x w y now (BackBy p) at item = answers_by s number u costs e is μ v x w y now (BackBy p) at item p refl
   each μ v x w y now (CallFor k callee ps) at item = calls_function s number u costs e is μ v x w y now (CallFor k callee ps) at item k callee ps refl
   each μ v x w y now (CallSub k name ps) at item = calls_subroutine s number u costs e is μ v x w y now (CallSub k name ps) at item k name ps refl
   each μ v x w y now (PutText place ps) at item = none_emitted item.item item.emitted
   each μ v x w y now (PutLabel place label) at item = none_emitted item.item item.emitted
-  each μ v x w y now (Compute k function ps) at item = none_emitted item.item item.emitted
+  each μ v x w y now (Compute k f ps) at item =
+      computes s number u costs e is μ v x w y now (Compute k f ps) at item k f ps refl (computed_number e.writing (e.writing.is_number k) _ _ _ item.item item.emitted) item.emitted
   each μ v x w y now (Select p labels) at item = none_emitted item.item item.emitted
   each μ v x w y now (JumpBy p labels) at item = none_emitted item.item item.emitted
   each μ v x w y now (Branch k) at item = none_emitted item.item item.emitted

@@ -7,13 +7,15 @@ use Rattle.std.proofs.lemmas.Bool.{eqb-true, eq-eqb}
 use Rattle.simulation.specs.Machine.{Goes, Ends, Calls, Answers, Breaks}
 use Rattle.simulation.specs.LocalSimulation.{last, Meets}
 use Rattle.f_tree.specs.declared.names.Basic.{Basic}
-use Rattle.f_tree.specs.Values.{Datum, IsInt, IsLog, IsText, IsSpot, IsProc, IsLabel, Nothing, Checked, Gives, Fails}
+use Rattle.f_tree.specs.Values.{Datum, IsInt, IsLog, IsText, IsSpot, IsProc, IsLabel, Nothing, Checked, Gives, Fails, given_that}
+use Rattle.f_tree.specs.Terms.{Function}
+use Rattle.f_tree.specs.Valuing.{applied}
 use Rattle.f_tree.specs.Store.{Store}
 use Rattle.f_tree.specs.Facts.{Frame}
 use Rattle.f_tree.specs.Setting.{IsIn, first_in}
 use Rattle.f_tree.specs.World as fortran
-use Rattle.l_core.specs.Pures.{Pure, Temporaries, with_kept, meant}
-use Rattle.l_core.specs.Steps.{Step, Keep, Text}
+use Rattle.l_core.specs.Pures.{Pure, Pures, Temporaries, with_kept, meant, all_meant}
+use Rattle.l_core.specs.Steps.{Step, Keep, Compute, Text}
 use Rattle.l_core.specs.Machine.{View, Doing, onward, past, to, to_place, jump, keeping, storing, testing, done, step}
 use Rattle.l_core.specs.Costs.{cost}
 use Rattle.c_tree.specs.Objects as objects_of
@@ -27,14 +29,17 @@ use Rattle.c_image_laws.proofs.IdleFrames.{idle_beside_object}
 use Rattle.c_tree.specs.Access.{ToNumber}
 use Rattle.c_tree.specs.Terms.{Variable}
 use Rattle.c_emit.specs.Numbers.{Writing, if_number, value_term}
+use Rattle.c_emit.specs.LibraryFunctions.{library_function, library_type}
+use Rattle.c_emit.specs.Calls.{held_terms}
 use Rattle.c_emit.specs.Flats.{flat_of}
 use Rattle.c_emit.specs.Types.{HasType, type_of}
 use Rattle.c_emit_laws.specs.EmittedNumbers.{IsKnown}
 use Rattle.c_emit_laws.specs.EmittedTypes.{AreTyped}
-use Rattle.c_emit_laws.specs.EmittedFlats.{Steers, by_put, by_test, by_test_back, by_skip, by_return, by_jump, by_pass}
-use Rattle.c_emit_laws.proofs.Choices.{some_same}
+use Rattle.c_emit_laws.specs.EmittedFlats.{KeepsAlike, CallsLibrary, Steers, by_put, by_test, by_test_back, by_skip, by_return, by_jump, by_pass}
+use Rattle.c_emit_laws.proofs.Choices.{got, some_same}
+use Rattle.c_emit_laws.proofs.ComputedNumbers.{computed_by, integers_of, library_types_are_right}
 use Rattle.c_emit_laws.proofs.FlatLaws.{to_by, assigned_by, flats_go_on}
-use Rattle.c_emit_laws.proofs.KeptLaws.{kept_flats_go_on}
+use Rattle.c_emit_laws.proofs.KeptLaws.{called_by, kept_flats_go_on, computed_flats_go_on}
 use Rattle.c_emit_laws.proofs.TypeLaws.{types_are_right}
 use Rattle.emitted_texts.specs.SecondLayer.{Room, Surroundings, Emission, IsFree, IsTemporary, TransfersStand}
 use Rattle.emitted_texts.specs.Emitted.{leads, stage_behind}
@@ -44,7 +49,7 @@ use Rattle.procedure_emission.specs.Reading.{IsPlain, kind_after, numbers_kept}
 use Rattle.procedure_emission.specs.CallLayer.{CallWorld, IsFrameOf, AreProceduresHeld, IsActive, IsStaged, IsAtStep, call_couple}
 use Rattle.procedure_emission.specs.EmittedUnits.{leads_on, IsItem, IsMadeAnew, IsOfRoom, IsEmittedUnit}
 use Rattle.emitted_procedures.proofs.KeptNumbers.{whole_number, numbers_behind}
-use Rattle.emitted_procedures.proofs.ReadNumbers.{typed_plain, typed_read, value_read}
+use Rattle.emitted_procedures.proofs.ReadNumbers.{typed_plain, typed_read, value_read, integers_held}
 use Rattle.emitted_procedures.proofs.StepsOverNumbers.{same_done}
 use Rattle.emitted_procedures.proofs.Passing.{IsFar}
 
@@ -110,6 +115,11 @@ steering_keeps u v v' x x' _ by_pass e = ap (λ (z : View). z.kept) (to_by (suc 
 kept_itself : (k : ℕ) (d : Datum) (m : Temporaries) → with_kept k d m k ≡ Some d
 unfolding with_kept
 kept_itself k d m = ap (λ b. if b then Some d else m k) (eq-eqb k k refl)
+
+-- what is computed of the same values
+same_applied : (r : Checked (List Datum)) (ds : List Datum) (f : Function) (d : Datum) → r ≡ Gives ds → applied f ds ≡ Gives d → given_that r (applied f) ≡ Gives d
+unfolding given_that
+same_applied r ds f d is gives = ap (λ x. given_that x (applied f)) is ∙ gives
 
 goes_view : (a b : View) (x y : fortran.World) (ev : Doing) → ev ≡ Goes a x → ev ≡ Goes b y → a ≡ b
 goes_view a b x y ev one other = let both : Goes a x ≡ Goes b y = sym one ∙ other in cc
@@ -250,49 +260,44 @@ module _ (s : Surroundings) (number : ℕ) (u : Text) (costs : List ℕ) (e : Em
     plain_behind true j value d plain holds = subst IsPlain (some_same value d holds) plain
     plain_behind false j value d plain holds = now'.plain j d holds
 
-    pub keeps : (k : ℕ) (p : Pure) → st ≡ Keep k p → e.writing.is_number k ≡ true → flat_of e.writing e.place u.position v.at (Keep k p) ≡ Some item.item → (ev : Doing) → step u v x ≡ ev → Meets (call_couple s number u costs e) μ w y (cost costs v.at) ev
-    unfolding done GoesOrBreaks leads leads_on stage_behind kind_after with_kept keeping onward to flat_of
-    keeps k p keep numeric emitted (Goes v' x') h =
-        let there : slice_get u.steps v.at ≡ Some (Keep k p) = at ∙ ap Some keep in
-        let done' : keeping k v x (meant u.facts v.frame v.kept x.store p) ≡ Goes v' x' = ap (λ o. done u v x (Some o)) (sym keep) ∙ done_is (Goes v' x') h in
-        let kept = kept_by k v v' x x' (meant u.facts v.frame v.kept x.store p) done' in
-        let m = assigned_by (if_number (e.writing.is_number k) (Some (Variable (e.writing.naming.temporary k) ToNumber))) (value_term e.writing p) item.item emitted in
-        let kind = is.fit.keeps v.at k p there in
-        let meant' : meant e.writing.facts v.frame v.kept x.store p ≡ Gives kept.value = ap (λ f. meant f v.frame v.kept x.store p) is.facts ∙ kept.gives in
-        let has_type = types_are_right e.writing v.at v.frame v.kept x.store p kept.value kind.0 active.known.types now'.typed kind.1 meant' in
-        let gives : meant u.facts v.frame (numbers_kept v.kept) x.store p ≡ Gives kept.value =
-        ap (λ f. meant f v.frame (numbers_kept v.kept) x.store p) (sym is.facts)
-        ∙ typed_read (meant e.writing.facts v.frame (numbers_kept v.kept) x.store p) kind.0 kept.value has_type (value_read e.writing v.frame v.kept x.store now'.plain p m.value kept.value m.value_is meant') in
+    -- a step that keeps a value of a type, where its item keeps it too, also over the numbers that are kept
+    keeps_on : (k : ℕ) (r over : Checked Datum) (type : Option Basic) (numeric : e.writing.is_number k ≡ true) → done u v x (Some st) ≡ keeping k v x r
+        → done u (record v { kept = numbers_kept v.kept }) x (Some st) ≡ keeping k (record v { kept = numbers_kept v.kept }) x over → leads_on u v.at st ≡ suc v.at ∷ []
+        → ((j : ℕ) → kind_after e.writing v.at st j ≡ (if nat_eq j k then type else e.writing.kind v.at j)) → stage_behind (e.stage v.at) st ≡ e.stage v.at
+        → ((value : Datum) → r ≡ Gives value → over ≡ Gives value) → ((value : Datum) → r ≡ Gives value → IsPlain value) → ((value : Datum) (basic : Basic) → r ≡ Gives value → type ≡ Some basic → HasType basic value)
+        → ((later : View) → step u (record v { kept = numbers_kept v.kept }) x ≡ Goes later x →
+        KeepsAlike active.now (record v { kept = numbers_kept v.kept }) later x x e.writing k (length (active.temporaries k numeric).bytes) e.place e.function w y item.item)
+        → (ev : Doing) → step u v x ≡ ev → Meets (call_couple s number u costs e) μ w y (cost costs v.at) ev
+    unfolding GoesOrBreaks with_kept keeping onward to
+    keeps_on k r over type numeric keep keep_over leading kinds stages same plains types alikes (Goes v' x') h =
+        let done' : keeping k v x r ≡ Goes v' x' = sym keep ∙ done_is (Goes v' x') h in
+        let kept = kept_by k v v' x x' r done' in
         let later : View = record v { kept = with_kept k kept.value (numbers_kept v.kept); at = suc v.at } in
-        let over : step u (record v { kept = numbers_kept v.kept }) x ≡ Goes later x =
-        step_over (Goes later x) (ap (λ o. done u (record v { kept = numbers_kept v.kept }) x (Some o)) keep ∙ ap (keeping k (record v { kept = numbers_kept v.kept }) x) gives) in
+        let over_is : step u (record v { kept = numbers_kept v.kept }) x ≡ Goes later x = step_over (Goes later x) (keep_over ∙ ap (keeping k (record v { kept = numbers_kept v.kept }) x) (same kept.value kept.gives)) in
         let mine = active.temporaries k numeric in
-        let alike = kept_flats_go_on u (record v { kept = numbers_kept v.kept }) later x x active.now e.writing e.place e.function w y k mine.bytes p item.item is.facts there emitted position (is.in_order v.at st at) active.both.stands active.known
-        mine.holds mine.room mine.homeless (is.apart k numeric) over in
-        let led : IsIn v'.at (leads_on u v.at st) = subst (λ o. IsIn v'.at (leads_on u v.at o)) (sym keep) (subst (λ n. IsIn n (suc v.at ∷ [])) (sym kept.at) first_in) in
+        let alike = alikes later over_is in
+        let led : IsIn v'.at (leads_on u v.at st) = subst (IsIn v'.at) (sym leading) (subst (λ n. IsIn n (suc v.at ∷ [])) (sym kept.at) first_in) in
         let room : 4 ≤ length alike.bytes = subst (λ n. 4 ≤ n) (sym alike.same_size) mine.room in
         let whole = alike.known.numbers k kept.value (kept_itself k kept.value (numbers_kept v.kept)) numeric in
         let behind : View = record v { kept = with_kept k kept.value v.kept; at = suc v.at } in
-        let goes_to : keeping k v x (meant u.facts v.frame v.kept x.store p) ≡ Goes behind x = ap (keeping k v x) kept.gives in
-        let view_is : behind ≡ v' = goes_view behind v' x x' (keeping k v x (meant u.facts v.frame v.kept x.store p)) goes_to done' in
-        let world_is : x' ≡ x = goes_world behind v' x x' (keeping k v x (meant u.facts v.frame v.kept x.store p)) goes_to done' in
+        let goes_to : keeping k v x r ≡ Goes behind x = ap (keeping k v x) kept.gives in
+        let view_is : behind ≡ v' = goes_view behind v' x x' (keeping k v x r) goes_to done' in
+        let world_is : x' ≡ x = goes_world behind v' x x' (keeping k v x r) goes_to done' in
         let numbers : with_kept k kept.value (numbers_kept v.kept) ≡ numbers_kept v'.kept = sym (numbers_behind k kept.value v.kept (whole_number kept.value whole.0 whole.1)) ∙ ap numbers_kept (sym kept.kept) in
         record {
           count = 1;
-          view = record w { position = e.place v'.at };
+          view = record w { position = e.place v'.at; wants = alike.wants };
           shared = record y { objects = slice_set y.objects (e.writing.naming.temporary k) (objects_of.Bytes alike.bytes) };
           does = last (step_at e.function w y item.item here ∙ alike.goes
-              ∙ ap (λ n. Goes (record w { position = e.place n }) (record y { objects = slice_set y.objects (e.writing.naming.temporary k) (objects_of.Bytes alike.bytes) })) (sym kept.at)) refl;
+              ∙ ap (λ n. Goes (record w { position = e.place n; wants = alike.wants }) (record y { objects = slice_set y.objects (e.writing.naming.temporary k) (objects_of.Bytes alike.bytes) })) (sym kept.at)) refl;
           few = is.positive v.at st at;
           matched = record {
             position = refl;
-            plain = λ j d holds. plain_behind (nat_eq j k) j kept.value d (typed_plain kind.0 kept.value has_type) (sym (ap (λ m. m j) kept.kept) ∙ holds);
-            typed = λ j d basic holds kind. typed_behind (nat_eq j k) j k (type_of e.writing v.at p) kept.value d basic (sym (ap (λ m. m j) kept.kept) ∙ holds)
-                (ap (λ o. kind_after e.writing v.at o j) (sym keep) ∙ is.fit.kinds v.at st v'.at at led j basic kind)
-                (λ typed. types_are_right e.writing v.at v.frame v.kept x.store p kept.value basic active.known.types now'.typed typed (ap (λ f. meant f v.frame v.kept x.store p) is.facts ∙ kept.gives));
+            plain = λ j d holds. plain_behind (nat_eq j k) j kept.value d (plains kept.value kept.gives) (sym (ap (λ m. m j) kept.kept) ∙ holds);
+            typed = λ j d basic holds kind. typed_behind (nat_eq j k) j k type kept.value d basic (sym (ap (λ m. m j) kept.kept) ∙ holds) (sym (kinds j) ∙ is.fit.kinds v.at st v'.at at led j basic kind) (types kept.value basic kept.gives);
             staged = staged_on μ x x' y (record y { objects = slice_set y.objects (e.writing.naming.temporary k) (objects_of.Bytes alike.bytes) }) (e.stage v'.at)
                 (ap (λ (z : fortran.World). z.transfer) world_is) (ap (λ (z : fortran.World). z.units) world_is) refl refl
-                (subst (IsStaged μ x y) (sym (is.fit.stages v.at st v'.at at led ∙ ap (stage_behind (e.stage v.at)) keep)) now'.staged);
+                (subst (IsStaged μ x y) (sym (is.fit.stages v.at st v'.at at led ∙ stages)) now'.staged);
             active = record {
               now = with_held active.now (e.writing.naming.temporary k) (Some (objects_of.Bytes alike.bytes));
               housed = active.housed;
@@ -315,7 +320,54 @@ module _ (s : Surroundings) (number : ℕ) (u : Text) (costs : List ℕ) (e : Em
             };
           };
         }
-    keeps k p keep numeric emitted (Breaks act) h = λ claimed. absurd claimed
-    keeps k p keep numeric emitted (Ends z v' x') h = absurd (subst GoesOrBreaks (ap (λ o. done u v x (Some o)) (sym keep) ∙ done_is (Ends z v' x') h) (keeping_goes k v x _))
-    keeps k p keep numeric emitted (Calls v' x' n a) h = absurd (subst GoesOrBreaks (ap (λ o. done u v x (Some o)) (sym keep) ∙ done_is (Calls v' x' n a) h) (keeping_goes k v x _))
-    keeps k p keep numeric emitted (Answers x' d) h = absurd (subst GoesOrBreaks (ap (λ o. done u v x (Some o)) (sym keep) ∙ done_is (Answers x' d) h) (keeping_goes k v x _))
+    keeps_on k r over type numeric keep keep_over leading kinds stages same plains types alikes (Breaks act) h = λ claimed. absurd claimed
+    keeps_on k r over type numeric keep keep_over leading kinds stages same plains types alikes (Ends z v' x') h = absurd (subst GoesOrBreaks (sym keep ∙ done_is (Ends z v' x') h) (keeping_goes k v x r))
+    keeps_on k r over type numeric keep keep_over leading kinds stages same plains types alikes (Calls v' x' n a) h = absurd (subst GoesOrBreaks (sym keep ∙ done_is (Calls v' x' n a) h) (keeping_goes k v x r))
+    keeps_on k r over type numeric keep keep_over leading kinds stages same plains types alikes (Answers x' d) h = absurd (subst GoesOrBreaks (sym keep ∙ done_is (Answers x' d) h) (keeping_goes k v x r))
+
+    pub keeps : (k : ℕ) (p : Pure) → st ≡ Keep k p → e.writing.is_number k ≡ true → flat_of e.writing e.place u.position v.at (Keep k p) ≡ Some item.item → Meets (call_couple s number u costs e) μ w y (cost costs v.at) (step u v x)
+    unfolding done leads leads_on stage_behind kind_after flat_of
+    keeps k p keep numeric emitted =
+        let there : slice_get u.steps v.at ≡ Some (Keep k p) = at ∙ ap Some keep in
+        let m = assigned_by (if_number (e.writing.is_number k) (Some (Variable (e.writing.naming.temporary k) ToNumber))) (value_term e.writing p) item.item emitted in
+        let kind = is.fit.keeps v.at k p there in
+        let mine = active.temporaries k numeric in
+        let meant' : (value : Datum) → meant u.facts v.frame v.kept x.store p ≡ Gives value → meant e.writing.facts v.frame v.kept x.store p ≡ Gives value = λ value gives. ap (λ f. meant f v.frame v.kept x.store p) is.facts ∙ gives in
+        let typed : (value : Datum) (basic : Basic) → meant u.facts v.frame v.kept x.store p ≡ Gives value → type_of e.writing v.at p ≡ Some basic → HasType basic value =
+        λ value basic gives type. types_are_right e.writing v.at v.frame v.kept x.store p value basic active.known.types now'.typed type (meant' value gives) in
+        keeps_on k (meant u.facts v.frame v.kept x.store p) (meant u.facts v.frame (numbers_kept v.kept) x.store p) (type_of e.writing v.at p) numeric (ap (λ o. done u v x (Some o)) keep)
+        (ap (λ o. done u (record v { kept = numbers_kept v.kept }) x (Some o)) keep) (ap (leads_on u v.at) keep) (λ j. ap (λ o. kind_after e.writing v.at o j) keep) (ap (stage_behind (e.stage v.at)) keep)
+        (λ value gives. ap (λ f. meant f v.frame (numbers_kept v.kept) x.store p) (sym is.facts)
+        ∙ typed_read (meant e.writing.facts v.frame (numbers_kept v.kept) x.store p) kind.0 value (typed value kind.0 gives kind.1) (value_read e.writing v.frame v.kept x.store now'.plain p m.value value m.value_is (meant' value gives)))
+        (λ value gives. typed_plain kind.0 value (typed value kind.0 gives kind.1)) typed
+        (λ later h. kept_flats_go_on u (record v { kept = numbers_kept v.kept }) later x x active.now e.writing e.place e.function w y k mine.bytes p item.item is.facts there emitted position (is.in_order v.at st at) active.both.stands active.known
+        mine.holds mine.room mine.homeless (is.apart k numeric) h)
+        (step u v x) refl
+
+    -- what is called of the library is there, and the constants are held now
+    calls_library : CallsLibrary active.now e.writing.library e.function
+    calls_library = record {
+      own = is.fit.own;
+      constants = λ z has.
+          let held = is.fit.constants z has in
+          record { bytes = held.bytes; is = active.both.extends.frozen _ (objects_of.Bytes held.bytes) (active.housed.frozen _ (objects_of.Bytes held.bytes) held.is); begins = held.begins };
+    }
+
+    pub computes : (k : ℕ) (f : Function) (ps : Pures) → st ≡ Compute k f ps → e.writing.is_number k ≡ true → flat_of e.writing e.place u.position v.at (Compute k f ps) ≡ Some item.item
+        → Meets (call_couple s number u costs e) μ w y (cost costs v.at) (step u v x)
+    unfolding done leads leads_on stage_behind kind_after flat_of
+    computes k f ps compute numeric emitted =
+        let there : slice_get u.steps v.at ≡ Some (Compute k f ps) = at ∙ ap Some compute in
+        let m = called_by e.writing (if_number (e.writing.is_number k) (Some (Variable (e.writing.naming.temporary k) ToNumber))) (library_function f) (held_terms e.writing ps) item.item emitted in
+        let mine = active.temporaries k numeric in
+        keeps_on k (given_that (all_meant u.facts v.frame v.kept x.store ps) (applied f)) (given_that (all_meant u.facts v.frame (numbers_kept v.kept) x.store ps) (applied f)) (library_type f) numeric (ap (λ o. done u v x (Some o)) compute)
+        (ap (λ o. done u (record v { kept = numbers_kept v.kept }) x (Some o)) compute) (ap (leads_on u v.at) compute) (λ j. ap (λ o. kind_after e.writing v.at o j) compute) (ap (stage_behind (e.stage v.at)) compute)
+        (λ value gives. let values = got (all_meant u.facts v.frame v.kept x.store ps) (applied f) value gives in
+        let computed = computed_by f m.one values.value value m.one_is values.gives in
+        let read = integers_held e.writing v.frame v.kept x.store now'.plain ps m.terms values.value (integers_of m.one.takes values.value computed.operands) m.terms_are (ap (λ c. all_meant c v.frame v.kept x.store ps) is.facts ∙ values.is) in
+        same_applied (all_meant u.facts v.frame (numbers_kept v.kept) x.store ps) values.value f value (ap (λ c. all_meant c v.frame (numbers_kept v.kept) x.store ps) (sym is.facts) ∙ read) values.gives)
+        (λ value gives. let values = got (all_meant u.facts v.frame v.kept x.store ps) (applied f) value gives in typed_plain m.one.gives value (computed_by f m.one values.value value m.one_is values.gives).typed)
+        (λ value basic gives type. let values = got (all_meant u.facts v.frame v.kept x.store ps) (applied f) value gives in library_types_are_right f values.value value basic type values.gives)
+        (λ later h. computed_flats_go_on u (record v { kept = numbers_kept v.kept }) later x x active.now e.writing e.place e.function w y k mine.bytes f ps item.item is.facts there emitted position (is.in_order v.at st at) active.both.stands active.known
+        calls_library mine.holds mine.room mine.homeless (is.apart k numeric) h)
+        (step u v x) refl

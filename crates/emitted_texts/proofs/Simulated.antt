@@ -7,16 +7,18 @@ use Rattle.std.proofs.lemmas.Bool.{eqb-true, eq-eqb}
 use Rattle.simulation.specs.Machine.{Goes, Ends, Calls, Answers, Breaks, Entry, Enters, Refused}
 use Rattle.simulation.specs.LocalSimulation.{last, Meets, Opened, Local}
 use Rattle.f_tree.specs.declared.names.Basic.{Basic}
-use Rattle.f_tree.specs.Values.{Datum, Nothing}
+use Rattle.f_tree.specs.Values.{Datum, Nothing, Checked, Gives, given_that}
+use Rattle.f_tree.specs.Terms.{Function}
 use Rattle.f_tree.specs.Facts.{EntryPoint, Facts}
 use Rattle.f_tree.specs.Setting.{IsIn, first_in}
+use Rattle.f_tree.specs.Valuing.{applied}
 use Rattle.f_tree.specs.World as fortran
 use Rattle.f_tree.specs.World.{Called, Passed, fortran_sorts}
 use Rattle.f_tree.specs.Association as association
 use Rattle.f_tree.specs.Association.{answer}
-use Rattle.l_core.specs.Pures.{Pure, Temporaries, none_kept, with_kept, meant}
+use Rattle.l_core.specs.Pures.{Pure, Pures, Temporaries, none_kept, with_kept, meant, all_meant}
 use Rattle.l_core.specs.Steps.{Step, Keep, Put, PutText, PutLabel, Compute, Unless, AgainIf, Skip, Again, Jump, Select, JumpBy, Pass, CallFor, CallSub, Branch, Back, BackBy, Halt, Acts, Text}
-use Rattle.l_core.specs.Machine.{View, Doing, resting, answering, done, step, begun}
+use Rattle.l_core.specs.Machine.{View, Doing, resting, answering, keeping, done, step, begun}
 use Rattle.l_core.specs.Machine as lower
 use Rattle.l_core.specs.Costs.{cost}
 use Rattle.c_tree.specs.declared.outcome.CValue.{CValue}
@@ -36,16 +38,19 @@ use Rattle.c_image.specs.World.{World, with_held, framed, Extends, IsIdle}
 use Rattle.c_image_laws.proofs.Growing.{changed_there, changed_elsewhere, extends_through, extends_framed}
 use Rattle.c_image_laws.proofs.CallsStand.{begins_stand}
 use Rattle.c_image_laws.proofs.Parameters.{temporary_at}
-use Rattle.c_emit.specs.Numbers.{if_number}
+use Rattle.c_emit.specs.Numbers.{Writing, if_number}
+use Rattle.c_emit.specs.LibraryFunctions.{LibraryFunction, library_type}
+use Rattle.c_emit.specs.Calls.{computed_item}
 use Rattle.c_emit.specs.Flats.{assigned, returned_by, flat_of}
 use Rattle.c_emit.specs.Types.{HasType, type_of}
 use Rattle.c_emit_laws.specs.EmittedTypes.{AreTyped}
 use Rattle.c_emit_laws.proofs.TypeLaws.{types_are_right}
 use Rattle.c_emit_laws.specs.EmittedNumbers.{IsKnown}
-use Rattle.c_emit_laws.specs.EmittedFlats.{Steers, by_put, by_test, by_test_back, by_skip, by_return, by_jump, by_pass}
-use Rattle.c_emit_laws.proofs.Choices.{some_same}
+use Rattle.c_emit_laws.specs.EmittedFlats.{KeepsAlike, CallsLibrary, Steers, by_put, by_test, by_test_back, by_skip, by_return, by_jump, by_pass}
+use Rattle.c_emit_laws.proofs.Choices.{got, some_same}
+use Rattle.c_emit_laws.proofs.ComputedNumbers.{library_types_are_right}
 use Rattle.c_emit_laws.proofs.FlatLaws.{flats_go_on}
-use Rattle.c_emit_laws.proofs.KeptLaws.{kept_flats_go_on}
+use Rattle.c_emit_laws.proofs.KeptLaws.{kept_flats_go_on, computed_flats_go_on}
 use Rattle.emitted_texts.specs.SecondLayer.{Room, Surroundings, Emission, IsFree, IsTemporary, IsFrameOf, IsActive, IsAtStep, BothStand, TransfersStand, ArePassed, none_passed, place_passed, procedure_passed, label_passed, ResultIsPassed, lengths_of, CallsAlike, emit_couple}
 use Rattle.emitted_texts.specs.Emitted.{leads, kind_behind, stage_behind, IsItem, IsInFrame, IsEmittedMain, MainsAreSimulated}
 use Rattle.emitted_texts.proofs.Worlds.{plain_length, framed_length, extends_changed}
@@ -155,36 +160,37 @@ module _ (s : Surroundings) (number : ℕ) (u : Text) (costs : List ℕ) (e : Em
             not_equal : (j k : ℕ) → nat_eq j k ≡ false → j ≡ k → ⊥
             not_equal j k apart same = absurd (cc (apart, eq-eqb j k same))
 
-    -- what is kept has the type of its value
-    typed_behind : (b : Bool) (j k : ℕ) (p : Pure) (value d : Datum) (basic : Basic) → nat_eq j k ≡ b → (if b then Some value else v.kept j) ≡ Some d → (if b then type_of e.writing v.at p else e.writing.kind v.at j) ≡ Some basic
-        → (type_of e.writing v.at p ≡ Some basic → HasType basic value) → HasType basic d
-    typed_behind true j k p value d basic same holds kind typed = subst (HasType basic) (some_same value d holds) (typed kind)
-    typed_behind false j k p value d basic same holds kind typed = now'.typed j d basic holds kind
+    -- what is kept has the type that is said
+    typed_behind : (b : Bool) (j k : ℕ) (type : Option Basic) (value d : Datum) (basic : Basic) → nat_eq j k ≡ b → (if b then Some value else v.kept j) ≡ Some d → (if b then type else e.writing.kind v.at j) ≡ Some basic
+        → (type ≡ Some basic → HasType basic value) → HasType basic d
+    typed_behind true j k type value d basic same holds kind typed = subst (HasType basic) (some_same value d holds) (typed kind)
+    typed_behind false j k type value d basic same holds kind typed = now'.typed j d basic holds kind
 
-    keeps : (k : ℕ) (p : Pure) → st ≡ Keep k p → e.writing.is_number k ≡ true → (ev : Doing) → step u v x ≡ ev → Meets (emit_couple s number u costs e) μ w y (cost costs v.at) ev
-    unfolding done GoesOrBreaks leads stage_behind kind_behind with_kept
-    keeps k p keep numeric (Goes v' x') h =
-        let there : slice_get u.steps v.at ≡ Some (Keep k p) = at ∙ ap Some keep in
-        let emitted : flat_of e.writing e.place u.position v.at (Keep k p) ≡ Some item.item = ap (flat_of e.writing e.place u.position v.at) (sym keep) ∙ item.emitted in
+    -- a step that keeps a value of a type, where its item keeps it too
+    keeps_on : (k : ℕ) (r : Checked Datum) (type : Option Basic) (numeric : e.writing.is_number k ≡ true) → done u v x (Some st) ≡ keeping k v x r → leads u v.at st ≡ suc v.at ∷ []
+        → ((j : ℕ) → kind_behind e.writing v.at st j ≡ (if nat_eq j k then type else e.writing.kind v.at j)) → stage_behind (e.stage v.at) st ≡ e.stage v.at
+        → ((value : Datum) (basic : Basic) → r ≡ Gives value → type ≡ Some basic → HasType basic value)
+        → ((v' : View) (x' : fortran.World) → step u v x ≡ Goes v' x' → KeepsAlike active.now v v' x x' e.writing k (length (active.temporaries k numeric).bytes) e.place e.function w y item.item)
+        → (ev : Doing) → step u v x ≡ ev → Meets (emit_couple s number u costs e) μ w y (cost costs v.at) ev
+    unfolding GoesOrBreaks with_kept
+    keeps_on k r type numeric keep leading kinds stages types alikes (Goes v' x') h =
         let mine = active.temporaries k numeric in
-        let alike = kept_flats_go_on u v v' x x' active.now e.writing e.place e.function w y k mine.bytes p item.item is.facts there emitted position (is.in_order v.at st at) active.both.stands active.known mine.holds mine.room mine.homeless
-        (is.apart k numeric) h in
-        let kept = kept_by k v v' x x' (meant u.facts v.frame v.kept x.store p) (ap (λ o. done u v x (Some o)) (sym keep) ∙ done_is (Goes v' x') h) in
-        let led : IsIn v'.at (leads u v.at st) = subst (λ o. IsIn v'.at (leads u v.at o)) (sym keep) (subst (λ n. IsIn n (suc v.at ∷ [])) (sym kept.at) first_in) in
+        let alike = alikes v' x' h in
+        let kept = kept_by k v v' x x' r (sym keep ∙ done_is (Goes v' x') h) in
+        let led : IsIn v'.at (leads u v.at st) = subst (IsIn v'.at) (sym leading) (subst (λ n. IsIn n (suc v.at ∷ [])) (sym kept.at) first_in) in
         let room : 4 ≤ length alike.bytes = subst (λ n. 4 ≤ n) (sym alike.same_size) mine.room in
         record {
           count = 1;
-          view = record w { position = e.place v'.at };
+          view = record w { position = e.place v'.at; wants = alike.wants };
           shared = record y { objects = slice_set y.objects (e.writing.naming.temporary k) (objects_of.Bytes alike.bytes) };
           does = last (step_at e.function w y item.item here ∙ alike.goes) refl;
           few = is.positive v.at st at;
           matched = record {
             position = refl;
-            typed = λ j d basic holds kind. typed_behind (nat_eq j k) j k p kept.value d basic refl (sym (ap (λ m. m j) kept.kept) ∙ holds) (ap (λ o. kind_behind e.writing v.at o j) (sym keep) ∙ is.calls.kinds v.at st v'.at at led j basic kind)
-                (λ typed. types_are_right e.writing v.at v.frame v.kept x.store p kept.value basic active.known.types now'.typed typed (ap (λ f. meant f v.frame v.kept x.store p) is.facts ∙ kept.gives));
+            typed = λ j d basic holds kind. typed_behind (nat_eq j k) j k type kept.value d basic refl (sym (ap (λ m. m j) kept.kept) ∙ holds) (sym (kinds j) ∙ is.calls.kinds v.at st v'.at at led j basic kind) (types kept.value basic kept.gives);
             staged = λ unit staged. output_on x x' y (record y { objects = slice_set y.objects (e.writing.naming.temporary k) (objects_of.Bytes alike.bytes) }) unit
                 (ap (λ (z : fortran.World). z.transfer) alike.same) (ap (λ (z : fortran.World). z.units) alike.same) refl refl
-                (now'.staged unit (ap (stage_behind (e.stage v.at)) (sym keep) ∙ is.calls.stages v.at st v'.at at led unit staged));
+                (now'.staged unit (sym stages ∙ is.calls.stages v.at st v'.at at led unit staged));
             active = record {
               now = with_held active.now (e.writing.naming.temporary k) (Some (objects_of.Bytes alike.bytes));
               housed = active.housed;
@@ -202,10 +208,44 @@ module _ (s : Surroundings) (number : ℕ) (u : Text) (costs : List ℕ) (e : Em
             };
           };
         }
-    keeps k p keep numeric (Breaks act) h = λ claimed. absurd claimed
-    keeps k p keep numeric (Ends z v' x') h = absurd (subst GoesOrBreaks (ap (λ o. done u v x (Some o)) (sym keep) ∙ done_is (Ends z v' x') h) (keeping_goes k v x _))
-    keeps k p keep numeric (Calls v' x' n a) h = absurd (subst GoesOrBreaks (ap (λ o. done u v x (Some o)) (sym keep) ∙ done_is (Calls v' x' n a) h) (keeping_goes k v x _))
-    keeps k p keep numeric (Answers x' d) h = absurd (subst GoesOrBreaks (ap (λ o. done u v x (Some o)) (sym keep) ∙ done_is (Answers x' d) h) (keeping_goes k v x _))
+    keeps_on k r type numeric keep leading kinds stages types alikes (Breaks act) h = λ claimed. absurd claimed
+    keeps_on k r type numeric keep leading kinds stages types alikes (Ends z v' x') h = absurd (subst GoesOrBreaks (sym keep ∙ done_is (Ends z v' x') h) (keeping_goes k v x r))
+    keeps_on k r type numeric keep leading kinds stages types alikes (Calls v' x' n a) h = absurd (subst GoesOrBreaks (sym keep ∙ done_is (Calls v' x' n a) h) (keeping_goes k v x r))
+    keeps_on k r type numeric keep leading kinds stages types alikes (Answers x' d) h = absurd (subst GoesOrBreaks (sym keep ∙ done_is (Answers x' d) h) (keeping_goes k v x r))
+
+    keeps : (k : ℕ) (p : Pure) → st ≡ Keep k p → e.writing.is_number k ≡ true → Meets (emit_couple s number u costs e) μ w y (cost costs v.at) (step u v x)
+    unfolding done leads stage_behind kind_behind
+    keeps k p keep numeric =
+        let there : slice_get u.steps v.at ≡ Some (Keep k p) = at ∙ ap Some keep in
+        let emitted : flat_of e.writing e.place u.position v.at (Keep k p) ≡ Some item.item = ap (flat_of e.writing e.place u.position v.at) (sym keep) ∙ item.emitted in
+        let mine = active.temporaries k numeric in
+        keeps_on k (meant u.facts v.frame v.kept x.store p) (type_of e.writing v.at p) numeric (ap (λ o. done u v x (Some o)) keep) (ap (leads u v.at) keep) (λ j. ap (λ o. kind_behind e.writing v.at o j) keep) (ap (stage_behind (e.stage v.at)) keep)
+        (λ value basic gives typed. types_are_right e.writing v.at v.frame v.kept x.store p value basic active.known.types now'.typed typed (ap (λ f. meant f v.frame v.kept x.store p) is.facts ∙ gives))
+        (λ v' x' h. kept_flats_go_on u v v' x x' active.now e.writing e.place e.function w y k mine.bytes p item.item is.facts there emitted position (is.in_order v.at st at) active.both.stands active.known mine.holds mine.room mine.homeless
+        (is.apart k numeric) h)
+        (step u v x) refl
+
+    -- what is called of the library is there, and the constants are held now
+    calls_library : CallsLibrary active.now e.writing.library e.function
+    calls_library = record {
+      own = is.calls.own;
+      constants = λ z has.
+          let held = is.calls.constants z has in
+          record { bytes = held.bytes; is = active.both.extends.frozen _ (objects_of.Bytes held.bytes) (active.housed.frozen _ (objects_of.Bytes held.bytes) held.is); begins = held.begins };
+    }
+
+    computes : (k : ℕ) (f : Function) (ps : Pures) → st ≡ Compute k f ps → e.writing.is_number k ≡ true → Meets (emit_couple s number u costs e) μ w y (cost costs v.at) (step u v x)
+    unfolding done leads stage_behind kind_behind
+    computes k f ps compute numeric =
+        let there : slice_get u.steps v.at ≡ Some (Compute k f ps) = at ∙ ap Some compute in
+        let emitted : flat_of e.writing e.place u.position v.at (Compute k f ps) ≡ Some item.item = ap (flat_of e.writing e.place u.position v.at) (sym compute) ∙ item.emitted in
+        let mine = active.temporaries k numeric in
+        keeps_on k (given_that (all_meant u.facts v.frame v.kept x.store ps) (applied f)) (library_type f) numeric (ap (λ o. done u v x (Some o)) compute) (ap (leads u v.at) compute) (λ j. ap (λ o. kind_behind e.writing v.at o j) compute)
+        (ap (stage_behind (e.stage v.at)) compute)
+        (λ value basic gives typed. let values = got (all_meant u.facts v.frame v.kept x.store ps) (applied f) value gives in library_types_are_right f values.value value basic typed values.gives)
+        (λ v' x' h. computed_flats_go_on u v v' x x' active.now e.writing e.place e.function w y k mine.bytes f ps item.item is.facts there emitted position (is.in_order v.at st at) active.both.stands active.known calls_library mine.holds mine.room
+        mine.homeless (is.apart k numeric) h)
+        (step u v x) refl
 
     -- the end of the main program
     answers : st ≡ Back → Meets (emit_couple s number u costs e) μ w y (cost costs v.at) (step u v x)
@@ -232,6 +272,11 @@ module _ (s : Surroundings) (number : ℕ) (u : Text) (costs : List ℕ) (e : Em
   numeric_by true target value item emitted = refl
   numeric_by false target value item emitted = absurd (cc)
 
+  computed_number : (w : Writing) (holds : Bool) (target : Option Term) (o : Option LibraryFunction) (terms : Option (List Term)) (item : Flat) → computed_item w (if_number holds target) o terms ≡ Some item → holds ≡ true
+  unfolding computed_item if_number
+  computed_number w true target o terms item emitted = refl
+  computed_number w false target o terms item emitted = absurd (cc)
+
   none_emitted : {A : Type 0} (item : Flat) → None ≡ Some item → A
   none_emitted item emitted = absurd (cc)
 
@@ -246,11 +291,11 @@ module _ (s : Surroundings) (number : ℕ) (u : Text) (costs : List ℕ) (e : Em
   each μ v x w y now' (Jump label) at item = steered μ v x w y now' (Jump label) at item (by_jump label) (step u v x) refl
   each μ v x w y now' Pass at item = steered μ v x w y now' Pass at item by_pass (step u v x) refl
   each μ v x w y now' (Keep k p) at item =
-      keeps μ v x w y now' (Keep k p) at item k p refl (numeric_by (e.writing.is_number k) _ _ item.item item.emitted) (step u v x) refl
+      keeps μ v x w y now' (Keep k p) at item k p refl (numeric_by (e.writing.is_number k) _ _ item.item item.emitted)
   each μ v x w y now' Back at item = answers μ v x w y now' Back at item refl
   each μ v x w y now' (PutText place ps) at item = none_emitted item.item item.emitted
   each μ v x w y now' (PutLabel place label) at item = none_emitted item.item item.emitted
-  each μ v x w y now' (Compute k function ps) at item = none_emitted item.item item.emitted
+  each μ v x w y now' (Compute k f ps) at item = computes μ v x w y now' (Compute k f ps) at item k f ps refl (computed_number e.writing (e.writing.is_number k) _ _ _ item.item item.emitted)
   each μ v x w y now' (Select p labels) at item = none_emitted item.item item.emitted
   each μ v x w y now' (JumpBy p labels) at item = none_emitted item.item item.emitted
   each μ v x w y now' (CallFor k callee ps) at item = none_emitted item.item item.emitted

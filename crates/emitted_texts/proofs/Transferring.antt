@@ -50,7 +50,7 @@ use Rattle.c_image.specs.Standing.{Stands}
 use Rattle.c_image.specs.Held.{whole_for, Holds}
 use Rattle.c_image_laws.specs.Meanings.{Means, IsPlace}
 use Rattle.c_image_laws.proofs.AddressValues.{Address-points}
-use Rattle.c_image_laws.proofs.Keeping.{held_means, held_text}
+use Rattle.c_image_laws.proofs.Keeping.{held_number, held_text}
 use Rattle.c_image_laws.proofs.TextValues.{length_is}
 use Rattle.c_emit.specs.Numbers.{Writing, value_term, place_term, if_number}
 use Rattle.c_emit.specs.Types.{HasType, type_of}
@@ -58,7 +58,7 @@ use Rattle.c_emit.specs.Calls.{call_of, address_of, is_unit_alone, is_plain, sta
 use Rattle.c_emit.specs.Flats.{flat_of}
 use Rattle.c_emit_laws.specs.EmittedNumbers.{IsKnown}
 use Rattle.c_emit_laws.proofs.Choices.{got, some_same}
-use Rattle.c_emit_laws.proofs.NumberLaws.{numbers_are_emitted, places_are_emitted}
+use Rattle.c_emit_laws.proofs.HeldNumbers.{number_there, value_holds}
 use Rattle.c_emit_laws.proofs.TypeLaws.{types_are_right}
 use Rattle.output_laws.specs.ListedOutputs.{fortran_listing, c_listing, list_object, unit_alone, s_wsle, e_wsle, GoOnOrStop, go_on, stop, EndOrStop, end', stopped as both_stopped, IsItem, an_integer, a_truth}
 use Rattle.output_laws.proofs.ListedActs.{starts_are_alike, items_are_alike, ends_are_alike}
@@ -160,25 +160,7 @@ unfolding finish_item
 finish_by w NoPure item h = record { operands = refl; is = sym (some_same _ item h) }
 finish_by w (AndPure p ps) item h = absurd (cc)
 
--- ## What holds a value
-
-pub record IsHeldBy (objects : List Object) (term : Term) (z : ℤ) : Type 0 where
-  pub object : ℕ
-  pub offset : ℕ
-  pub named : IsPlace objects term object offset ToNumber
-  pub holds : fetched objects (record { at = Pointer object offset; access = ToNumber }) ≡ Ok (plain (Number z))
-
-variable_place : (objects : List Object) (k : ℕ) → IsPlace objects (c_term.Variable k ToNumber) k 0 ToNumber
-unfolding c_values.seen
-variable_place objects k = record { names = refl; holds = refl }
-
-held_by : (objects : List Object) (term : Term) (object offset : ℕ) (d : Datum) (whole : Whole) → IsPlace objects term object offset ToNumber → Means objects term d → whole_for d ≡ Some whole → IsHeldBy objects term (number_for whole)
-held_by objects term object offset d whole named means is =
-    let same : means.whole ≡ whole = some_same means.whole whole (sym means.is ∙ is) in
-    record { object = object; offset = offset; named = named; holds = sym named.holds ∙ means.counts ∙ ap (λ v. Ok (plain (Number (number_for v)))) same }
-
-number_there : (objects : List Object) (object offset : ℕ) (z : ℤ) → fetched objects (record { at = Pointer object offset; access = ToNumber }) ≡ Ok (plain (Number z)) → number_through objects (Pointer object offset) ≡ Ok z
-number_there objects object offset z holds = ap (λ r. after r λ typed. as_number typed.value) holds
+-- ## What is passed
 
 -- the address of what holds it, as a pointer to characters
 chars_at : (objects : List Object) (term : Term) (object offset : ℕ) → IsPlace objects term object offset ToNumber → value_of objects (c_term.Cast cast_to.Chars (address_of term)) ≡ Ok (Pointer object offset)
@@ -186,87 +168,24 @@ unfolding c_values.seen
 chars_at objects term object offset named =
     ap (λ found. after (after found (c_values.cast cast_to.Chars)) λ typed. Ok typed.value) (Address-points objects term object offset ToNumber named)
 
-module _ (μ : World) (x : fortran.World) (objects : List Object) (w : Writing) (v : View) (stands : Stands μ x.store objects) (known : IsKnown μ w v.frame v.kept)
-    (constants : (z : ℤ) → w.library.has z ≡ true → Holds (μ.frozen (w.library.constant z)) (IsInt z)) where
-  constant_at : (holds : Bool) (z : ℤ) (term : Term) → w.library.has z ≡ holds → if_number holds (Some (c_term.Variable (w.library.constant z) ToNumber)) ≡ Some term → IsHeldBy objects term z
-  unfolding if_number
-  constant_at true z term has h =
-      subst (λ t. IsHeldBy objects t z) (some_same (c_term.Variable (w.library.constant z) ToNumber) term h)
-      (held_by objects (c_term.Variable (w.library.constant z) ToNumber) (w.library.constant z) 0 (IsInt z) (ANumber z) (variable_place objects (w.library.constant z))
-      (held_means μ x.store objects (w.library.constant z) (IsInt z) (ANumber z) stands (constants z has) refl) refl)
-  constant_at false z term has h = absurd (cc)
-
-  whole_of_type : (b : Basic) (d : Datum) (kind : ℤ) → kind_number b ≡ Some kind → HasType b d → (value : ListedValue) × (whole : Whole) × (whole_for d ≡ Some whole) × IsItem d kind value (number_for whole)
-  unfolding kind_number
-  whole_of_type basic.Integer (IsInt z) kind is typed = (Int z, ANumber z, refl, subst (λ k. IsItem (IsInt z) k (Int z) z) (some_same (pos 3) kind is) (an_integer z))
-  whole_of_type basic.Logical (IsLog b) kind is typed = (Logical b, Truth b, refl, subst (λ k. IsItem (IsLog b) k (Logical b) (number_for (Truth b))) (some_same (pos 8) kind is) (a_truth b))
-  whole_of_type basic.Integer (IsLog b) kind is typed = absurd typed
-  whole_of_type basic.Integer (IsText cs) kind is typed = absurd typed
-  whole_of_type basic.Integer (IsSpot p) kind is typed = absurd typed
-  whole_of_type basic.Integer (fortran_values.IsProc y) kind is typed = absurd typed
-  whole_of_type basic.Integer (fortran_values.IsLabel l) kind is typed = absurd typed
-  whole_of_type basic.Integer fortran_values.Nothing kind is typed = absurd typed
-  whole_of_type basic.Logical (IsInt z) kind is typed = absurd typed
-  whole_of_type basic.Logical (IsText cs) kind is typed = absurd typed
-  whole_of_type basic.Logical (IsSpot p) kind is typed = absurd typed
-  whole_of_type basic.Logical (fortran_values.IsProc y) kind is typed = absurd typed
-  whole_of_type basic.Logical (fortran_values.IsLabel l) kind is typed = absurd typed
-  whole_of_type basic.Logical fortran_values.Nothing kind is typed = absurd typed
-  whole_of_type basic.Character d kind is typed = absurd (cc)
-  whole_of_type basic.Untyped d kind is typed = absurd (cc)
-
-  constant_holds : (e d : Datum) (whole : Whole) (term : Term) → e ≡ d → whole_for d ≡ Some whole → constant_held w e ≡ Some term → IsHeldBy objects term (number_for whole)
-  unfolding constant_held if_held
-  constant_holds (IsInt z) d whole term same is h =
-      let found : ANumber z ≡ whole = some_same (ANumber z) whole (ap whole_for same ∙ is) in
-      subst (λ v. IsHeldBy objects term (number_for v)) found (constant_at (w.library.has z) z term refl h)
-  constant_holds (IsLog true) d whole term same is h =
-      let found : Truth true ≡ whole = some_same (Truth true) whole (ap whole_for same ∙ is) in
-      subst (λ v. IsHeldBy objects term (number_for v)) found (constant_at (w.library.has (pos 1)) (pos 1) term refl h)
-  constant_holds (IsLog false) d whole term same is h =
-      let found : Truth false ≡ whole = some_same (Truth false) whole (ap whole_for same ∙ is) in
-      subst (λ v. IsHeldBy objects term (number_for v)) found (constant_at (w.library.has (pos 0)) (pos 0) term refl h)
-  constant_holds (IsText cs) d whole term same is h = absurd (cc)
-  constant_holds (IsSpot p) d whole term same is h = absurd (cc)
-  constant_holds (fortran_values.IsProc y) d whole term same is h = absurd (cc)
-  constant_holds (fortran_values.IsLabel l) d whole term same is h = absurd (cc)
-  constant_holds fortran_values.Nothing d whole term same is h = absurd (cc)
-
-  gives_same : (a b : Datum) → Gives a ≡ Gives b → a ≡ b
-  gives_same a b h = cc
-
-  kept_holds : (k : ℕ) (found : Option Datum) (holds : Bool) (d : Datum) (whole : Whole) (term : Term) → v.kept k ≡ found → whole_for d ≡ Some whole → if_number holds (Some (c_term.Variable (w.naming.temporary k) ToNumber)) ≡ Some term
-      → if_kept found ≡ Gives d → IsHeldBy objects term (number_for whole)
-  unfolding if_number if_kept
-  kept_holds k (Some e) true d whole term has is h gives =
-      subst (λ t. IsHeldBy objects t (number_for whole)) (some_same (c_term.Variable (w.naming.temporary k) ToNumber) term h)
-      (held_by objects (c_term.Variable (w.naming.temporary k) ToNumber) (w.naming.temporary k) 0 d whole (variable_place objects (w.naming.temporary k))
-      (held_means μ x.store objects (w.naming.temporary k) d whole stands (known.knows.kept k d (has ∙ ap Some (gives_same e d gives))) is) is)
-  kept_holds k (Some e) false d whole term has is h gives = absurd (cc)
-  kept_holds k None holds d whole term has is h gives = absurd (cc)
-
-  place_holds : (p : Pure) (d : Datum) (whole : Whole) (term : Term) → whole_for d ≡ Some whole → place_term w p ≡ Some term → given_that (meant w.facts v.frame v.kept x.store p) (valuing.fetched x.store) ≡ Gives d → IsHeldBy objects term (number_for whole)
-  unfolding value_term meant
-  place_holds p d whole term is emitted gives =
-      let spot = got (meant w.facts v.frame v.kept x.store p) (valuing.fetched x.store) d gives in
-      let at = places_are_emitted μ x.store objects w v.frame v.kept p term spot.value stands known emitted spot.is in
-      held_by objects term at.object at.place.first d whole at.named (numbers_are_emitted μ x.store objects w v.frame v.kept (Load p) term d stands known emitted gives) is
-
-  pub value_holds : (p : Pure) (d : Datum) (whole : Whole) (term : Term) → meant w.facts v.frame v.kept x.store p ≡ Gives d → whole_for d ≡ Some whole → held_term w p ≡ Some term → IsHeldBy objects term (number_for whole)
-  unfolding held_term meant
-  value_holds (Constant e) d whole term gives is h = constant_holds e d whole term (gives_same e d gives) is h
-  value_holds (Temporary k) d whole term gives is h = kept_holds k (v.kept k) (w.is_number k) d whole term refl is h gives
-  value_holds (Load p) d whole term gives is h = place_holds p d whole term is h gives
-  value_holds (Name y) d whole term gives is h = absurd (cc)
-  value_holds (AllOf y) d whole term gives is h = absurd (cc)
-  value_holds (ElementOf y ps) d whole term gives is h = absurd (cc)
-  value_holds (FirstOf p) d whole term gives is h = absurd (cc)
-  value_holds (Substring y p from upto) d whole term gives is h = absurd (cc)
-  value_holds (Concatenated ps) d whole term gives is h = absurd (cc)
-  value_holds (Prefixed op p) d whole term gives is h = absurd (cc)
-  value_holds (Operated op p q) d whole term gives is h = absurd (cc)
-  value_holds (Applied f ps) d whole term gives is h = absurd (cc)
-  value_holds (Chosen p q r) d whole term gives is h = absurd (cc)
+whole_of_type : (b : Basic) (d : Datum) (kind : ℤ) → kind_number b ≡ Some kind → HasType b d → (value : ListedValue) × (whole : Whole) × (whole_for d ≡ Some whole) × IsItem d kind value (number_for whole)
+unfolding kind_number
+whole_of_type basic.Integer (IsInt z) kind is typed = (Int z, ANumber z, refl, subst (λ k. IsItem (IsInt z) k (Int z) z) (some_same (pos 3) kind is) (an_integer z))
+whole_of_type basic.Logical (IsLog b) kind is typed = (Logical b, Truth b, refl, subst (λ k. IsItem (IsLog b) k (Logical b) (number_for (Truth b))) (some_same (pos 8) kind is) (a_truth b))
+whole_of_type basic.Integer (IsLog b) kind is typed = absurd typed
+whole_of_type basic.Integer (IsText cs) kind is typed = absurd typed
+whole_of_type basic.Integer (IsSpot p) kind is typed = absurd typed
+whole_of_type basic.Integer (fortran_values.IsProc y) kind is typed = absurd typed
+whole_of_type basic.Integer (fortran_values.IsLabel l) kind is typed = absurd typed
+whole_of_type basic.Integer fortran_values.Nothing kind is typed = absurd typed
+whole_of_type basic.Logical (IsInt z) kind is typed = absurd typed
+whole_of_type basic.Logical (IsText cs) kind is typed = absurd typed
+whole_of_type basic.Logical (IsSpot p) kind is typed = absurd typed
+whole_of_type basic.Logical (fortran_values.IsProc y) kind is typed = absurd typed
+whole_of_type basic.Logical (fortran_values.IsLabel l) kind is typed = absurd typed
+whole_of_type basic.Logical fortran_values.Nothing kind is typed = absurd typed
+whole_of_type basic.Character d kind is typed = absurd (cc)
+whole_of_type basic.Untyped d kind is typed = absurd (cc)
 
 array_is : (objects : List Object) (k : ℕ) → value_of objects (c_term.Array k ToChar) ≡ Ok (Pointer k 0)
 unfolding c_values.seen
@@ -461,11 +380,8 @@ module _ (s : Surroundings) (number : ℕ) (u : Text) (costs : List ℕ) (e : Em
   constants z has = let held = is.calls.constants z has in record { bytes = held.bytes; is = still (e.writing.library.constant z) (Stored held.bytes) held.is; begins = held.begins }
 
   constant_read : (z : ℤ) → e.writing.library.has z ≡ true → number_through y.objects (Pointer (e.writing.library.constant z) 0) ≡ Ok z
-  unfolding held_by
   constant_read z has =
-      let held = held_by y.objects (c_term.Variable (e.writing.library.constant z) ToNumber) (e.writing.library.constant z) 0 (IsInt z) (ANumber z) (variable_place y.objects (e.writing.library.constant z))
-      (held_means now.active.now x.store y.objects (e.writing.library.constant z) (IsInt z) (ANumber z) stands (constants z has) refl) refl in
-      number_there y.objects (e.writing.library.constant z) 0 z held.holds
+      number_there y.objects (e.writing.library.constant z) 0 z (held_number now.active.now x.store y.objects (e.writing.library.constant z) (IsInt z) (ANumber z) stands (constants z has) refl)
 
   taken_by : (ps : Pures) (m : ℕ) → st ≡ Acts Takes ps m → (one : IsItemOf e.writing v.at ps item.item) → (found : Checked Datum) → meant u.facts v.frame v.kept x.store one.value ≡ found → Meets (emit_couple s number u costs e) μ w y (cost costs v.at) (step u v x)
   unfolding done acting coursing course_of onward to all_meant given_that leads stage_behind kind_behind is_of_output
@@ -480,8 +396,8 @@ module _ (s : Surroundings) (number : ℕ) (u : Text) (costs : List ℕ) (e : Em
       ∙ ap (λ r. acting u m v x Takes (given_that r (λ d. given_that (Gives []) (λ ds. Gives (d ∷ ds))))) found in
       let gives : meant e.writing.facts v.frame v.kept x.store one.value ≡ Gives d = ap (λ f. meant f v.frame v.kept x.store one.value) is.facts ∙ found in
       let typed = types_are_right e.writing v.at v.frame v.kept x.store one.value d one.type now.active.known.types now.typed one.typed gives in
-      let value = whole_of_type now.active.now x y.objects e.writing v stands now.active.known constants one.type d one.kind one.kind_is typed in
-      let holds = value_holds now.active.now x y.objects e.writing v stands now.active.known constants one.value d value.1 one.term gives value.2 one.held in
+      let value = whole_of_type one.type d one.kind one.kind_is typed in
+      let holds = value_holds now.active.now x.store y.objects e.writing v.frame v.kept stands now.active.known constants one.value d value.1 one.term gives value.2 one.held in
       let on = on_it (ap is_of_output form) in
       let valued = item_values y.objects (e.writing.library.constant one.kind) (e.writing.library.constant (pos 1)) one.term holds.object holds.offset holds.named in
       let values = Pointer (e.writing.library.constant one.kind) 0 ∷ Pointer (e.writing.library.constant (pos 1)) 0 ∷ Pointer holds.object holds.offset ∷ Number (pos 4) ∷ [] in

@@ -9,7 +9,7 @@ use Rattle.f_tree.specs.Facts.{Direction, Layout, Controls, Bounds, MainProgram,
 use Rattle.f_tree.specs.Setting.{IsIn}
 use Rattle.f_tree.specs.Valuing.{whole, size_of_dimension}
 use Rattle.l_core.specs.Pures.{Pures}
-use Rattle.l_core.specs.Steps.{Starts, Takes, Finishes, Step, Keep, Unless, AgainIf, Skip, Again, Jump, Back, Halt, Acts, Text}
+use Rattle.l_core.specs.Steps.{Starts, Takes, Finishes, Step, Keep, Compute, Unless, AgainIf, Skip, Again, Jump, Back, Halt, Acts, Text}
 use Rattle.l_core.specs.Costs.{cost}
 use Rattle.c_tree.specs.declared.types.ResultType.TheVariants as result
 use Rattle.c_tree.specs.Objects as objects_of
@@ -19,6 +19,7 @@ use Rattle.c_image.specs.Elements.{Written}
 use Rattle.c_image.specs.Held.{Holds}
 use Rattle.c_image.specs.Knowing.{IsApart}
 use Rattle.c_emit.specs.Numbers.{Writing}
+use Rattle.c_emit.specs.LibraryFunctions.{library_type}
 use Rattle.c_emit.specs.Types.{type_of}
 use Rattle.c_emit.specs.Calls.{unit_of}
 use Rattle.c_emit.specs.Flats.{flat_of}
@@ -58,6 +59,7 @@ leads u n st = suc n ∷ []
 -- the type of what a temporary holds behind a step, and the unit of the output that is in progress then
 unfoldable pub kind_behind : Writing → ℕ → Step → ℕ → Option Basic
 kind_behind w n (Keep j p) k = if nat_eq k j then type_of w n p else w.kind n k
+kind_behind w n (Compute j f ps) k = if nat_eq k j then library_type f else w.kind n k
 kind_behind w n st k = w.kind n k
 
 unfoldable pub stage_behind : Option ℤ → Step → Option ℤ

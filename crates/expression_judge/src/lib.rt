@@ -7,8 +7,6 @@ mod judging;
 mod names;
 mod operand;
 mod steps;
-#[cfg(test)]
-mod tests;
 
 pub use intrinsics::{Intrinsic, intrinsic_named};
 pub use judging::{judge, judge_name};

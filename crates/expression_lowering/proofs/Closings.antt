@@ -20,18 +20,21 @@ pub kept-steps : (q : low.Purpose) (k : ℕ) (p : core.Pure) → low.is_kept q �
 unfolding expressions_opened
 kept-steps low.ForUse k p h = absurd (cc)
 kept-steps low.ForCall k p h = refl
+kept-steps low.ForReading k p h = refl
 kept-steps low.ForLater k p h = refl
 
 kept-value : (q : low.Purpose) (k : ℕ) (p : core.Pure) → low.is_kept q ≡ true → low.kept_value q k p ≡ core.Temporary k
 unfolding expressions_opened
 kept-value low.ForUse k p h = absurd (cc)
 kept-value low.ForCall k p h = refl
+kept-value low.ForReading k p h = refl
 kept-value low.ForLater k p h = refl
 
 kept-free : (q : low.Purpose) (k n : ℕ) → low.is_kept q ≡ true → low.kept_free q k n ≡ suc k
 unfolding expressions_opened
 kept-free low.ForUse k n h = absurd (cc)
 kept-free low.ForCall k n h = refl
+kept-free low.ForReading k n h = refl
 kept-free low.ForLater k n h = refl
 
 pub temporary-kept : (q : low.Purpose) (k n : ℕ) (p : core.Pure) (before after : List Step) (r : Result Lowered AllocError) → low.is_kept q ≡ true →
@@ -47,17 +50,18 @@ pub used-kept : (q : low.Purpose) (k : ℕ) (before : List Step) (l : Lowered) �
 unfolding expressions_opened
 used-kept low.ForUse k before l h = record { steps = sym (append-nil (steps_of before)); value = refl; free = refl }
 used-kept low.ForCall k before l h = absurd (cc)
+used-kept low.ForReading k before l h = absurd (cc)
 used-kept low.ForLater k before l h = absurd (cc)
 
 -- THE SHAPES
-pub closed-Fetch : (q : low.Purpose) (k n : ℕ) (p v : core.Pure) (before after : List Step) (r : Result Lowered AllocError) → p ≡ core.Load v →
-    IfOk r (IsKept q k n p before after) → IfOk r (IsClosed low.AsFetch q k n (core.AndPure v core.NoPure) before after)
+pub closed-Fetch : (q wanted : low.Purpose) (k n : ℕ) (p v : core.Pure) (before after : List Step) (r : Result Lowered AllocError) → wanted ≡ low.for_fetch q → p ≡ core.Load v →
+    IfOk r (IsKept wanted k n p before after) → IfOk r (IsClosed low.AsFetch q k n (core.AndPure v core.NoPure) before after)
 unfolding expressions_opened
-closed-Fetch q k n p v before after (Err e) is h = h
-closed-Fetch q k n p v before after (Ok l) is h = record {
-  steps = h.steps ∙ ap (λ p. steps_of before ++ low.kept_steps q k p) is;
-  value = h.value ∙ ap (low.kept_value q k) is;
-  free = h.free;
+closed-Fetch q wanted k n p v before after (Err e) as_wanted is h = h
+closed-Fetch q wanted k n p v before after (Ok l) as_wanted is h = record {
+  steps = h.steps ∙ ap (λ w. steps_of before ++ low.kept_steps w k p) as_wanted ∙ ap (λ p. steps_of before ++ low.kept_steps (low.for_fetch q) k p) is;
+  value = h.value ∙ ap (λ w. low.kept_value w k p) as_wanted ∙ ap (low.kept_value (low.for_fetch q) k) is;
+  free = h.free ∙ ap (λ w. low.kept_free w k n) as_wanted;
 }
 
 pub closed-Before : (op : Prefix) (q : low.Purpose) (k n : ℕ) (p v : core.Pure) (before after : List Step) (r : Result Lowered AllocError) →

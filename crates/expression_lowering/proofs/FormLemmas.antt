@@ -82,7 +82,7 @@ of-planned (plan.Between op) table q k a b before between behind after one other
     behind-lowered (low.AsBetween (operator_of op)) q k (lowered table Value (low.ahead low.ForUse (has_reference table b)) k a) (λ n. lowered table Value low.ForUse n b) before between behind after
     one other r first second h
 of-planned plan.Power table q k a b before between behind after one other r first second h =
-    behind-lowered (low.AsFunction Power) q k (lowered table Value (low.ahead low.ForCall (has_reference table b)) k a) (λ n. lowered table Value low.ForCall n b) before between behind after
+    behind-lowered (low.AsFunction Power) q k (lowered table Value (low.ahead low.ForReading (has_reference table b)) k a) (λ n. lowered table Value low.ForReading n b) before between behind after
     one other r first second h
 
 -- the plan of a form makes that form

@@ -245,7 +245,7 @@ power-lowered : (table : NameFacts) (q : low.Purpose) (k : ℕ) (a b : Expr) →
     low.lower core.NoPure q k (term.Intrinsically Power (More (reading table a).value (More (reading table b).value NoMore))) ≡ power_form table q k a b
 unfolding terms_opened expressions_opened aspect_term lowered has_reference power_form two_operands
 power-lowered table q k a b =
-    ap (λ r. low.shaped (low.AsFunction Power) q k (low.and_then (lowered table Value (low.ahead low.ForCall r) k a) (λ n. low.and_then (lowered table Value low.ForCall n b) low.no_operand)))
+    ap (λ r. low.shaped (low.AsFunction Power) q k (low.and_then (lowered table Value (low.ahead low.ForReading r) k a) (λ n. low.and_then (lowered table Value low.ForReading n b) low.no_operand)))
     (or-false (refers (reading table b).value))
 
 decided-lowered : (g : Bool) (table : NameFacts) (o : Operator) (q : low.Purpose) (k : ℕ) (a b : Expr) →

@@ -156,7 +156,7 @@ two_operands table purpose k a b =
 
 -- a power is a function of its two operands
 unfoldable pub power_form : NameFacts → low.Purpose → ℕ → Expr → Expr → low.Lowered Pure
-power_form table purpose k a b = low.shaped (low.AsFunction Power) purpose k (two_operands table low.ForCall k a b)
+power_form table purpose k a b = low.shaped (low.AsFunction Power) purpose k (two_operands table low.ForReading k a b)
 
 -- an operator between two operands that are both valued
 unfoldable pub operated_form : NameFacts → Operator → low.Purpose → ℕ → Expr → Expr → low.Lowered Pure
@@ -220,11 +220,11 @@ plan_of table form.Concatenation b = plan.Power
 unfoldable pub left_for : Plan → Bool → low.Purpose
 left_for (plan.Guarded op) refers' = low.ForUse
 left_for (plan.Between op) refers' = low.ahead low.ForUse refers'
-left_for plan.Power refers' = low.ahead low.ForCall refers'
+left_for plan.Power refers' = low.ahead low.ForReading refers'
 
 -- what the right operand is for
 unfoldable pub right_for : Plan → low.Purpose
-right_for plan.Power = low.ForCall
+right_for plan.Power = low.ForReading
 right_for _ = low.ForUse
 
 -- the first temporary of the right operand, given those that are free before the left one and behind it

@@ -11,6 +11,7 @@ use Rattle.expression_lowering.specs.declared.purpose.Aspect.TheVariants as aspe
 abbrev pub purpose_of : Purpose → low.Purpose
 purpose_of purpose.ForUse = low.ForUse
 purpose_of purpose.ForCall = low.ForCall
+purpose_of purpose.ForReading = low.ForReading
 purpose_of purpose.ForLater = low.ForLater
 
 -- an expression by its value, or as an actual argument

@@ -13,7 +13,7 @@ ghost use Rattle.expression_lowering.specs.Outcomes.{IsPlain, IsKept, IsClosed, 
 use crate::answers::{Lowered, Operands};
 use crate::intrinsics::is_library;
 use crate::operators::Plan;
-use crate::purpose::{Purpose, is_kept};
+use crate::purpose::{Purpose, for_fetch, is_kept};
 use lowered_tree::{Callee, Function, Operator, Prefix, Pure, Step, Wanted};
 use name_facts::NameFacts;
 use plain_data::{Boxed, Items};
@@ -82,7 +82,7 @@ pub(crate) fn load(
     ensures { IfOk result (IsClosed low.AsFetch (purpose_of purpose) first place.free (core.AndPure (pure_of place.value) core.NoPure) steps.old.items steps.new.items) }
 {
     let value = Pure::Load(Boxed::new(alloc, place.value)?);
-    keep(purpose, first, value, place.free, steps)
+    keep(for_fetch(purpose), first, value, place.free, steps)
 }
 
 /// An operator before its operand.

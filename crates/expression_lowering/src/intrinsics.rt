@@ -150,7 +150,7 @@ pub fn function_named(name: &[u8]) -> Option<Function>
     function_in(&FUNCTIONS, name)
 }
 
-/// Whether a function is called from C's library: its operands go by address.
+/// Whether a function is called from C's library, which reads its operands by address.
 #[tactic(auto, unfolding(lowering::specs::Expressions::is_library))]
 pub(crate) fn is_library(function: Function) -> bool
     ensures { result ≡ low.is_library (function_of function) }
@@ -160,12 +160,12 @@ pub(crate) fn is_library(function: Function) -> bool
         Function::IndexOf => true,
         Function::LexicallyGreaterOrEqual | Function::LexicallyGreater => true,
         Function::LexicallyLessOrEqual | Function::LexicallyLess => true,
+        Function::InclusiveOr | Function::LogicalProduct | Function::ExclusiveOr => true,
+        Function::BitComplement | Function::BitShift | Function::BitTest => true,
+        Function::BitSet | Function::BitClear => true,
         Function::Truncation | Function::Magnitude | Function::Remainder => false,
         Function::Largest | Function::Smallest => false,
         Function::CharacterCode | Function::CharacterOfCode | Function::TextLength => false,
         Function::Front(_) | Function::Fitted(_) => false,
-        Function::InclusiveOr | Function::LogicalProduct | Function::ExclusiveOr => false,
-        Function::BitComplement | Function::BitShift | Function::BitTest => false,
-        Function::BitSet | Function::BitClear => false,
     }
 }

@@ -73,7 +73,7 @@ pub(crate) fn left_for(plan: Plan, refers: bool) -> Purpose
     match plan {
         Plan::Guarded(_) => Purpose::ForUse,
         Plan::Between(_) => ahead(Purpose::ForUse, refers),
-        Plan::Power => ahead(Purpose::ForCall, refers),
+        Plan::Power => ahead(Purpose::ForReading, refers),
     }
 }
 
@@ -84,7 +84,7 @@ pub(crate) fn right_for(plan: Plan) -> Purpose
 {
     match plan {
         Plan::Guarded(_) | Plan::Between(_) => Purpose::ForUse,
-        Plan::Power => Purpose::ForCall,
+        Plan::Power => Purpose::ForReading,
     }
 }
 

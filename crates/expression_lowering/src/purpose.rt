@@ -11,6 +11,8 @@ pub enum Purpose {
     ForUse,
     /// It is handed on by its address.
     ForCall,
+    /// It is read through its address.
+    ForReading,
     /// It is used behind further steps.
     ForLater,
 }
@@ -39,7 +41,7 @@ pub(crate) fn for_place(purpose: Purpose) -> Purpose
 {
     match purpose {
         Purpose::ForLater => Purpose::ForLater,
-        Purpose::ForUse | Purpose::ForCall => Purpose::ForUse,
+        Purpose::ForUse | Purpose::ForCall | Purpose::ForReading => Purpose::ForUse,
     }
 }
 
@@ -49,9 +51,20 @@ pub(crate) fn for_function(is_library: bool) -> Purpose
     ensures { purpose_of result ≡ low.for_function is_library }
 {
     if is_library {
-        Purpose::ForCall
+        Purpose::ForReading
     } else {
         Purpose::ForUse
+    }
+}
+
+/// What the value at a place is for: what stands there may be read there.
+#[tactic(auto, unfolding(lowering::specs::Expressions::for_fetch))]
+pub(crate) fn for_fetch(purpose: Purpose) -> Purpose
+    ensures { purpose_of result ≡ low.for_fetch (purpose_of purpose) }
+{
+    match purpose {
+        Purpose::ForReading => Purpose::ForUse,
+        Purpose::ForUse | Purpose::ForCall | Purpose::ForLater => purpose,
     }
 }
 
@@ -62,6 +75,6 @@ pub(crate) fn is_kept(purpose: Purpose) -> bool
 {
     match purpose {
         Purpose::ForUse => false,
-        Purpose::ForCall | Purpose::ForLater => true,
+        Purpose::ForCall | Purpose::ForReading | Purpose::ForLater => true,
     }
 }

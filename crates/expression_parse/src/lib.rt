@@ -5,8 +5,6 @@ mod expressions;
 mod failure;
 mod forms;
 mod marks;
-#[cfg(test)]
-mod tests;
 mod texts;
 
 pub use expressions::{parse_expression, parse_place, read_expression, read_place};

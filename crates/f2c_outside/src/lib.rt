@@ -10,7 +10,5 @@ pub mod memory_device;
 pub mod memory_shelf;
 mod plan;
 pub mod shelves;
-#[cfg(test)]
-mod tests;
 pub mod texts;
 pub mod unit_table;

@@ -1,7 +1,9 @@
 mod MessageLemmas
+mod OriginLemmas
 mod ReadLemmas
 mod Rows
 mod SourceLemmas
+mod SplitRowLemmas
 mod TextLemmas
+mod ToldLemmas
 mod WordLemmas
-mod Writing

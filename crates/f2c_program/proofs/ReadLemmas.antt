@@ -9,7 +9,7 @@ use Rattle.f2c_outside.specs.Shelf.{ShelfState, Contents, Rose, Lacks, bytes_of}
 use Rattle.f2c_outside.specs.Texts.{IsName}
 use Rattle.f2c_program.specs.declared.sources.IncludedFail.{IncludedFail}
 use Rattle.f2c_program.specs.declared.sources.IncludedFail.TheVariants as why
-use Rattle.f2c_program.specs.ShelfLoops.{IsKept, IsRead}
+use Rattle.shelf_texts.specs.ShelfLoops.{IsKept, IsRead}
 use Rattle.f2c_program.specs.SourceOnShelf.{IsThere}
 use Rattle.f2c_program.specs.SourceReads.{IsFrontOf, AreFronts, AreRead, IsFirstLacking, IsNameOf, IsUnreadFile, AreUnread}
 use Rattle.f2c_program.proofs.SourceLemmas.{there_all}

@@ -4,7 +4,6 @@ use Rattle.std.specs.Prelude.{IfSome}
 use Rattle.f2c_outside.specs.declared.shelves.Place.{Place}
 use Rattle.f2c_outside.specs.declared.shelves.Place.TheVariants.{Input, Output, Fault}
 use Rattle.f2c_outside.specs.Shelf.{ShelfState, Contents, Rose, Quiet, IsFile, Lacks, bytes_of, begun, added}
-use Rattle.f2c_outside.proofs.ShelfLaws.{told-nil}
 use Rattle.f_tree.specs.declared.names.Options.{Options}
 use Rattle.f_tree.specs.declared.refusals.Refusal.{Refusal}
 use Rattle.fortran_text.specs.FirstFault.{most_bytes, FaultOfFile, IsSound}
@@ -23,109 +22,24 @@ use Rattle.f2c_program.specs.declared.command.Command.{Command}
 use Rattle.f2c_program.specs.declared.command.Command.TheVariants as command
 use Rattle.f2c_program.specs.declared.outcome.Outcome.{Outcome}
 use Rattle.f2c_program.specs.declared.outcome.Outcome.TheVariants as outcome
+use Rattle.f2c_program.specs.CommandWords.{place_from}
 use Rattle.f2c_program.specs.Outcomes.{status_of}
 use Rattle.f2c_program.specs.Lines.{shown, line_of, refusal_line, bad_word_line, not_there_line, shelf_fault_line, no_memory_line}
-use Rattle.f2c_program.specs.declared.shelf_loops.ReadFail.{ReadFail}
-use Rattle.f2c_program.specs.declared.shelf_loops.ReadFail.TheVariants as read_fail
+use Rattle.shelf_texts.specs.declared.loops.ReadFail.{ReadFail}
+use Rattle.shelf_texts.specs.declared.loops.ReadFail.TheVariants as read_fail
 use Rattle.f2c_program.specs.SourceOnShelf.{mentions, name_of_file, AreThere, included_on, source_on, set_of, IsTextOf, IsTranslated, IsRefused, IsMissing}
 use Rattle.f2c_program.specs.SourceReads.{AreFronts, AreRead, IsAmong, IsFirstLacking, IsSourceUnread}
 use Rattle.f2c_program.specs.SourceTexts.{IsNotThereOrNoMemory, TranslatedSource, TranslatedBytes, unread, translated}
-use Rattle.f2c_program.specs.ShelfLoops.{Both, IsFront, IsKept, IsRead, IsUnreadFor, IsWritten, IsUnwritten, IsFrontWritten, written}
-use Rattle.f2c_program.specs.Messages.{Said, Gained}
+use Rattle.shelf_texts.specs.ShelfLoops.{Both, IsFront, IsKept, IsRead, IsUnreadFor, IsWritten, IsUnwritten, IsFrontWritten, written}
+use Rattle.shelf_texts.specs.Messages.{Said, Gained}
 use Rattle.f2c_program.specs.TranslateRows.{WroteText, EndedDone, EndedRefused, IsNotThere, IsIncludedNotThere, EndedNotThere, of_place, of_included, IsOfSource, the_place, an_included, EndedUnread, EndedUnwritten, TranslateEnded, RefusedRow, TranslatedRow, MissingRow, UnreadRow, UnwrittenRow, FaultRow, HasMissing, TranslateRows}
 use Rattle.f2c_program.specs.TranslateRows as rows
 use Rattle.f2c_program.specs.TopCall.{Ran, Commanded, HelpRows, BadWordRows, BadWordEnded}
 use Rattle.f2c_program.specs.Usage.{usage}
-use Rattle.f2c_program.proofs.Writing as writing
+use Rattle.shelf_texts.proofs.Writing as writing
+use Rattle.f2c_program.proofs.ToldLemmas.{some_at, for_some, both_then, both_mapped, gained, said-nil, both-map, not_both}
+use Rattle.f2c_program.proofs.SplitRowLemmas.{rows-split}
 use Rattle.f2c_program.proofs.SourceLemmas.{most_is, fronts_on, there_all, there_at, FileCase, read_whole, has_fault, file_case, refused_on, named_on, named_read, none_missing}
-
--- a fact of what is told, where something is
-some_at : {A : Type 0} (told : Option A) (Q : A → Type 0) (x : A) → told ≡ Some x → IfSome told Q → Q x
-some_at None Q x is fact = absurd (cc)
-some_at (Some y) Q x is fact = let same : y ≡ x = cc in subst Q same fact
-
-for_some : {A : Type 0} (told : Option A) (Q : A → Type 0) → ((x : A) → told ≡ Some x → Q x) → IfSome told Q
-for_some None Q h = tt
-for_some (Some x) Q h = h x refl
-
-both_then :
-    {A : Type 0} (told told' : Option A) (P Q : A → A → Type 0)
-    → Both told told' P
-    → ((x y : A) → told ≡ Some x → P x y → Q x y)
-    → Both told told' Q
-both_then None None P Q fact h = tt
-both_then (Some x) (Some y) P Q fact h = h x y refl fact
-both_then None (Some y) P Q fact h = absurd fact
-both_then (Some x) None P Q fact h = absurd fact
-
-both_mapped :
-    {A : Type 0} (f : A → A) (told told' : Option A) (P Q : A → A → Type 0)
-    → Both (option_map f told) told' P
-    → ((x y : A) → told ≡ Some x → P (f x) y → Q x y)
-    → Both told told' Q
-both_mapped f None None P Q fact h = tt
-both_mapped f (Some x) (Some y) P Q fact h = h x y refl fact
-both_mapped f None (Some y) P Q fact h = absurd fact
-both_mapped f (Some x) None P Q fact h = absurd fact
-
-gained-told :
-    (line part : List ℕ) (before middle after : ℕ) (told told' : Option Contents)
-    → IsFront part line
-    → told' ≡ option_map (added Fault part) told
-    → (Quiet middle after → told' ≡ option_map (added Fault line) told)
-    → before ≤ middle
-    → middle ≤ after
-    → Both told told' (Gained line before after)
-gained-told line part before middle after None None front put whole first last = tt
-gained-told line part before middle after (Some x) (Some y) front put whole first last =
-    record {
-      part = part;
-      front = front;
-      put = cc;
-      whole = λ quiet.
-          let below : after + 1 < 2 ^ 64 = quiet.below
-          in let same : after ≡ middle = omega (arith, quiet.same)
-          in let q : Quiet middle after = record { below = below; same = same }
-          in let e : Some y ≡ Some (added Fault line x) = whole q in cc;
-    }
-gained-told line part before middle after None (Some y) front put whole first last = absurd (cc)
-gained-told line part before middle after (Some x) None front put whole first last = absurd (cc)
-
--- what a message that follows on a state with these contents leaves
-gained :
-    (line : List ℕ) (told : Option Contents) (before : ℕ) (m a : ShelfState)
-    → m.told ≡ told
-    → before ≤ m.faults
-    → Said line m a
-    → Both told a.told (Gained line before a.faults)
-gained line told before m a is first said =
-    subst (λ (t : Option Contents). Both t a.told (Gained line before a.faults)) is
-    (gained-told line said.part before m.faults a.faults m.told a.told said.front said.put said.whole first said.later)
-
-front-nil : (part : List ℕ) → IsFront part [] → part ≡ []
-front-nil [] front = refl
-front-nil (x ∷ part) front = let e : x ∷ (part ++ front.rest) ≡ [] = front.is in absurd (cc)
-
--- an empty message changes nothing
-said-nil : (b a : ShelfState) → Said [] b a → a.told ≡ b.told
-said-nil b a said =
-    said.put
-    ∙ ap (λ (part : List ℕ). option_map (added Fault part) b.told) (front-nil said.part said.front)
-    ∙ told-nil Fault b.told
-
-both-map :
-    {A : Type 0} (f : A → A) (told told' : Option A) (P : A → A → Type 0)
-    → told' ≡ option_map f told
-    → ((x : A) → told ≡ Some x → P x (f x))
-    → Both told told' P
-both-map f None None P is h = tt
-both-map f (Some x) (Some y) P is h = let e : f x ≡ y = cc in subst (P x) e (h x refl)
-both-map f None (Some y) P is h = absurd (cc)
-both-map f (Some x) None P is h = absurd (cc)
-
-not_both : (before after : ℕ) → Rose before after → Quiet before after → ⊥
-not_both before after rose quiet =
-    let less : before < after = rose quiet.below in let same : after ≡ before = quiet.same in omega arith
 
 -- a source with a text is not refused
 text_is_not_refused : (options : Options) (source : Source) (text : List ℕ) (refusal : Refusal) → IsTextOf options source text → IsFirstRefusal options source refusal → ⊥
@@ -370,6 +284,7 @@ rows-translate options words from to b m a (outcome.BadWord number) ran said sil
 rows-translate options words from to b m a (outcome.NotThere name) ran said silent = rows-not_there options from to name b m a ran said
 rows-translate options words from to b m a (outcome.Unread place) ran said silent = rows-unread options from to place b m a ran said
 rows-translate options words from to b m a (outcome.Unwritten place) ran said silent = rows-unwritten options from to place b m a ran said
+rows-translate options words from to b m a (outcome.NoFreeName number) ran said silent = absurd ran
 rows-translate options words from to b m a outcome.NoMemory ran said silent = rows-no_memory options from to b m a ran said
 
 rows-bad_word :
@@ -411,15 +326,17 @@ rows-help words b m a (outcome.Refused refusal name) ran said silent = absurd ra
 rows-help words b m a (outcome.BadWord number) ran said silent = absurd ran
 rows-help words b m a (outcome.NotThere name) ran said silent = absurd ran
 rows-help words b m a (outcome.Unread place) ran said silent = absurd ran
+rows-help words b m a (outcome.NoFreeName number) ran said silent = absurd ran
 rows-help words b m a outcome.NoMemory ran said silent = absurd ran
 
 pub commanded :
     (words : List (List ℕ)) (asked : Command) (b m a : ShelfState) (ended : Outcome)
-    → Ran asked b m ended
+    → Ran words asked b m ended
     → Said (line_of words ended) m a
     → (ended ≡ outcome.Done → a ≡ m)
     → Commanded words asked b a (status_of ended)
 commanded words (command.Translate options) b m a ended ran said silent = rows-translate options words Input Output b m a ended ran said silent
+commanded words (command.Split origin) b m a ended ran said silent = rows-split (place_from words origin) words b m a ended ran said silent
 commanded words command.Help b m a ended ran said silent = rows-help words b m a ended ran said silent
 commanded words (command.BadWord number) b m a ended ran said silent = rows-bad_word words number b m a ended ran said
 
@@ -589,6 +506,7 @@ source_whole options from to most b m k a bytes named texts ended is read is_nam
     by (outcome.BadWord number) never = absurd never
     by (outcome.NotThere name) never = absurd never
     by (outcome.Unread place) never = absurd never
+    by (outcome.NoFreeName number) never = absurd never
 
 -- a source of which a file was not read
 among_of : (names : List (List ℕ)) (name : List ℕ) (others : List (List ℕ)) → names ≡ others → IsAmong names name → IsAmong others name
@@ -668,6 +586,7 @@ unread_whole options from to most b m a bytes outcome.Done is read never = absur
 unread_whole options from to most b m a bytes (outcome.Refused refusal name) is read never = absurd never
 unread_whole options from to most b m a bytes (outcome.BadWord number) is read never = absurd never
 unread_whole options from to most b m a bytes (outcome.Unwritten place) is read never = absurd never
+unread_whole options from to most b m a bytes (outcome.NoFreeName number) is read never = absurd never
 
 pub translated_whole :
     (options : Options) (from to : Place) (b m a : ShelfState) (bytes : List ℕ) (ended : Outcome)
@@ -688,6 +607,7 @@ place_missing options from to b a (outcome.Refused refusal name) kept file lacks
 place_missing options from to b a (outcome.BadWord number) kept file lacks never = absurd never
 place_missing options from to b a (outcome.Unread place) kept file lacks never = absurd never
 place_missing options from to b a (outcome.Unwritten place) kept file lacks never = absurd never
+place_missing options from to b a (outcome.NoFreeName number) kept file lacks never = absurd never
 
 -- and it was not read, for a fault
 pub place_unread : (options : Options) (from : Place) (b a : ShelfState) (why : ReadFail) → why ≡ read_fail.Failed → IsUnreadFor why from b a → EndedUnread options from from b a

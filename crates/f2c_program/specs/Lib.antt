@@ -5,8 +5,8 @@ pub mod Usage
 pub mod SourceOnShelf
 pub mod SourceReads
 pub mod SourceTexts
-pub mod ShelfLoops
-pub mod Messages
 pub mod TranslateRows
+pub mod SplitOutcomes
+pub mod SplitRows
 pub mod TopCall
 pub mod Program

@@ -3,10 +3,11 @@ use Rattle.std.specs.Prelude.{ℕ, List, [], ◌∷◌, ◌++◌, Option, Some, 
 use Rattle.f2c_outside.specs.declared.shelves.Place.{Place}
 use Rattle.f2c_outside.specs.declared.shelves.Place.TheVariants.{Input, Output, Fault, File}
 use Rattle.f2c_outside.specs.Texts.{word_at}
+use Rattle.shelf_texts.specs.ShelfLoops.{joined}
 use Rattle.f_tree.specs.declared.refusals.Refusal.{Refusal}
 use Rattle.f_tree.specs.RefusalRows.{number_of, text_of}
 use Rattle.f2c_program.specs.declared.outcome.Outcome.{Outcome}
-use Rattle.f2c_program.specs.declared.outcome.Outcome.TheVariants.{Done, Refused, BadWord, NotThere, Unread, Unwritten, NoMemory}
+use Rattle.f2c_program.specs.declared.outcome.Outcome.TheVariants.{Done, Refused, BadWord, NotThere, Unread, Unwritten, NoFreeName, NoMemory}
 
 -- a place as a message names it: a file by its name, a stream in angle brackets
 abbrev pub shown : Place → List ℕ
@@ -28,11 +29,6 @@ word_shown None = codes "missing"
 -- what stands before the number of a row of refusals, so that it has two digits at least
 abbrev pub row_start : ℕ → List ℕ
 row_start number = if nat_lt number 10 then codes ": F0" else codes ": F"
-
--- the pieces of a line, one after the other
-abbrev pub joined : List (List ℕ) → List ℕ
-joined [] = []
-joined (piece ∷ others) = piece ++ joined others
 
 -- f2c: FILE:CARD: F11 TEXT
 abbrev pub refusal_line : Option (List ℕ) → Refusal → List ℕ
@@ -62,6 +58,10 @@ not_there_line name = joined (codes "f2c: " ∷ name ∷ codes ": not there\n" �
 abbrev pub shelf_fault_line : Place → List ℕ
 shelf_fault_line place = joined (codes "f2c: " ∷ shown place ∷ codes ": shelf fault\n" ∷ [])
 
+-- f2c: no free name for piece K
+abbrev pub no_free_name_line : ℕ → List ℕ
+no_free_name_line number = joined (codes "f2c: no free name for piece " ∷ decimal number ∷ codes "\n" ∷ [])
+
 -- f2c: out of memory
 abbrev pub no_memory_line : List ℕ
 no_memory_line = joined (codes "f2c: out of memory\n" ∷ [])
@@ -74,4 +74,5 @@ line_of words (BadWord number) = bad_word_line words number
 line_of words (NotThere name) = not_there_line name
 line_of words (Unread place) = shelf_fault_line place
 line_of words (Unwritten place) = shelf_fault_line place
+line_of words (NoFreeName number) = no_free_name_line number
 line_of words NoMemory = no_memory_line

@@ -12,7 +12,7 @@ use Rattle.f2c_program.specs.declared.sources.IncludedFail.{IncludedFail}
 use Rattle.f2c_program.specs.declared.sources.IncludedFail.TheVariants.{NoMemory, NotThere, Unread}
 use Rattle.f2c_program.specs.declared.sources.SourceRead.{SourceRead}
 use Rattle.f2c_program.specs.SourceOnShelf.{IsThere, AreThere}
-use Rattle.f2c_program.specs.ShelfLoops.{IsKept}
+use Rattle.shelf_texts.specs.ShelfLoops.{IsKept}
 
 -- the front of a file of this name was read
 pub record IsFrontOf (most : ℕ) (name text : List ℕ) (contents : Contents) : Type 0 where
@@ -109,3 +109,4 @@ IsSourceUnread options bytes b a outcome.Done = ⊥
 IsSourceUnread options bytes b a (outcome.Refused refusal included) = ⊥
 IsSourceUnread options bytes b a (outcome.BadWord number) = ⊥
 IsSourceUnread options bytes b a (outcome.Unwritten place) = ⊥
+IsSourceUnread options bytes b a (outcome.NoFreeName number) = ⊥

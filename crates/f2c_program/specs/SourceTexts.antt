@@ -16,7 +16,7 @@ use Rattle.f2c_program.specs.declared.outcome.Outcome.TheVariants as outcome
 use Rattle.f2c_program.specs.declared.sources.SourceRead.{SourceRead}
 use Rattle.f2c_program.specs.SourceOnShelf.{name_of_file, IsTextOf}
 use Rattle.f2c_program.specs.SourceReads.{IsSourceRead, IsSourceUnread}
-use Rattle.f2c_program.specs.ShelfLoops.{IsKept, IsWritten, IsUnwritten}
+use Rattle.shelf_texts.specs.ShelfLoops.{IsKept, IsWritten, IsUnwritten}
 
 -- the printed text of the last of some C files, which is the first of one
 abbrev pub IsFirstText : List CFile → List ℕ → Type 0
@@ -40,6 +40,7 @@ IsRefusedIn names refusal (outcome.BadWord number) = ⊥
 IsRefusedIn names refusal (outcome.NotThere name) = ⊥
 IsRefusedIn names refusal (outcome.Unread place) = ⊥
 IsRefusedIn names refusal (outcome.Unwritten place) = ⊥
+IsRefusedIn names refusal (outcome.NoFreeName number) = ⊥
 
 -- a source whose files were read was translated onto a place, or refused
 abbrev pub TranslatedSource : Options → List ℕ → List (List ℕ) → List (List ℕ) → Place → ShelfState → ShelfState → Outcome → Type 0
@@ -52,6 +53,7 @@ TranslatedSource options bytes names included to b a outcome.NoMemory = IsKept b
 TranslatedSource options bytes names included to b a (outcome.BadWord number) = ⊥
 TranslatedSource options bytes names included to b a (outcome.NotThere name) = ⊥
 TranslatedSource options bytes names included to b a (outcome.Unread place) = ⊥
+TranslatedSource options bytes names included to b a (outcome.NoFreeName number) = ⊥
 
 -- the files of a source, of which the first has these bytes, were read and translated, or not read
 pub data TranslatedBytes (options : Options) (bytes : List ℕ) (to : Place) (b a : ShelfState) (ended : Outcome) : Type 0 where
@@ -68,3 +70,4 @@ IsNotThereOrNoMemory shown (outcome.Refused refusal included) = ⊥
 IsNotThereOrNoMemory shown (outcome.BadWord number) = ⊥
 IsNotThereOrNoMemory shown (outcome.Unread place) = ⊥
 IsNotThereOrNoMemory shown (outcome.Unwritten place) = ⊥
+IsNotThereOrNoMemory shown (outcome.NoFreeName number) = ⊥

@@ -6,12 +6,14 @@ use Rattle.f2c_program.specs.declared.command.Command.{Command}
 use Rattle.f2c_program.specs.declared.command.Command.TheVariants as command
 use Rattle.f2c_program.specs.declared.outcome.Outcome.{Outcome}
 use Rattle.f2c_program.specs.declared.outcome.Outcome.TheVariants as outcome
-use Rattle.f2c_program.specs.CommandWords.{command_of}
+use Rattle.f2c_program.specs.CommandWords.{command_of, place_from}
 use Rattle.f2c_program.specs.Outcomes.{status_of}
 use Rattle.f2c_program.specs.Lines.{line_of, bad_word_line}
-use Rattle.f2c_program.specs.ShelfLoops.{Both, IsKept, written}
-use Rattle.f2c_program.specs.Messages.{Said, Gained}
+use Rattle.shelf_texts.specs.ShelfLoops.{Both, IsKept, written}
+use Rattle.shelf_texts.specs.Messages.{Said, Gained}
 use Rattle.f2c_program.specs.TranslateRows.{WroteText, TranslateEnded, TranslateRows}
+use Rattle.f2c_program.specs.SplitOutcomes.{SplitRan}
+use Rattle.f2c_program.specs.SplitRows.{SplitRows}
 use Rattle.f2c_program.specs.Usage.{usage}
 
 -- no command goes on with the word of this number, and the shelf was not touched
@@ -20,16 +22,17 @@ pub record BadWordEnded (number : ℕ) (b a : ShelfState) (ended : Outcome) : Ty
   pub kept : IsKept b a
 
 -- how each command ends, before its message is written
-abbrev pub Ran : Command → ShelfState → ShelfState → Outcome → Type 0
-Ran (command.Translate options) b a ended = TranslateEnded options Input Output b a ended
-Ran command.Help b a ended = WroteText Output usage b a ended
-Ran (command.BadWord number) b a ended = BadWordEnded number b a ended
+abbrev pub Ran : List (List ℕ) → Command → ShelfState → ShelfState → Outcome → Type 0
+Ran words (command.Translate options) b a ended = TranslateEnded options Input Output b a ended
+Ran words (command.Split origin) b a ended = SplitRan (place_from words origin) b a ended
+Ran words command.Help b a ended = WroteText Output usage b a ended
+Ran words (command.BadWord number) b a ended = BadWordEnded number b a ended
 
 -- the command came to an outcome, which decides the message and the status; one that did its work has no message
 pub record Concluded (words : List (List ℕ)) (b a : ShelfState) (status : ℕ) : Type 0 where
   pub ended : Outcome
   pub middle : ShelfState
-  pub ran : Ran (command_of words) b middle ended
+  pub ran : Ran words (command_of words) b middle ended
   pub said : Said (line_of words ended) middle a
   pub silent : ended ≡ outcome.Done → a ≡ middle
   pub status_is : status ≡ status_of ended
@@ -49,5 +52,6 @@ pub record HelpRows (b a : ShelfState) (status : ℕ) : Type 0 where
 -- what the exit status says of each command
 abbrev pub Commanded : List (List ℕ) → Command → ShelfState → ShelfState → ℕ → Type 0
 Commanded words (command.Translate options) b a status = TranslateRows options Input Output b a status
+Commanded words (command.Split origin) b a status = SplitRows (place_from words origin) b a status
 Commanded words command.Help b a status = HelpRows b a status
 Commanded words (command.BadWord number) b a status = BadWordRows words number b a status

@@ -10,11 +10,11 @@ use Rattle.source_acceptance.specs.SourceFiles.{Included, Source}
 use Rattle.source_verdict.specs.SourceRows.{IsFirstRefusal}
 use Rattle.source_verdict.specs.Fronts.{IsFirstOfAll}
 use Rattle.f2c_program.specs.declared.outcome.Outcome.{Outcome}
-use Rattle.f2c_program.specs.declared.outcome.Outcome.TheVariants.{Done, Refused, BadWord, NotThere, Unread, Unwritten, NoMemory}
+use Rattle.f2c_program.specs.declared.outcome.Outcome.TheVariants.{Done, Refused, BadWord, NotThere, Unread, Unwritten, NoFreeName, NoMemory}
 use Rattle.f2c_program.specs.Lines.{shown, refusal_line, not_there_line, shelf_fault_line, no_memory_line}
 use Rattle.f2c_program.specs.SourceOnShelf.{mentions, name_of_file, source_on, IsAccepted, IsTextOf, IsTranslated, IsRefused, IsMissing}
-use Rattle.f2c_program.specs.ShelfLoops.{Both, IsKept, IsWritten, IsUnwritten, IsFront}
-use Rattle.f2c_program.specs.Messages.{Gained}
+use Rattle.shelf_texts.specs.ShelfLoops.{Both, IsKept, IsWritten, IsUnwritten, IsFront}
+use Rattle.shelf_texts.specs.Messages.{Gained}
 
 -- a text was written to its place, or not for a fault
 abbrev pub WroteText : Place → List ℕ → ShelfState → ShelfState → Outcome → Type 0
@@ -24,6 +24,7 @@ WroteText to text b a (Refused refusal included) = ⊥
 WroteText to text b a (BadWord number) = ⊥
 WroteText to text b a (NotThere name) = ⊥
 WroteText to text b a (Unread place) = ⊥
+WroteText to text b a (NoFreeName number) = ⊥
 WroteText to text b a NoMemory = ⊥
 
 -- a source was read and accepted, and its translation stands in `to`; where the shelf tells, it is that of `from`
@@ -98,6 +99,7 @@ TranslateEnded options from to b a (BadWord number) = ⊥
 TranslateEnded options from to b a (NotThere name) = EndedNotThere options from name b a
 TranslateEnded options from to b a (Unread place) = EndedUnread options from place b a
 TranslateEnded options from to b a (Unwritten place) = EndedUnwritten options from to place b a
+TranslateEnded options from to b a (NoFreeName number) = ⊥
 TranslateEnded options from to b a NoMemory = IsKept b a
 
 -- status 1: there is a first refusal, its line is on Fault and names its file, and nothing else changed

@@ -1,16 +1,17 @@
 -- What `-h` and `--help` put on Output: every word that a command takes has a line.
 use Rattle.std.specs.Prelude.{ℕ, List, [], ◌∷◌, codes}
-use Rattle.f2c_program.specs.Lines.{joined}
+use Rattle.shelf_texts.specs.ShelfLoops.{joined}
 
 abbrev pub usage : List ℕ
 usage =
     joined
-    (codes "usage: f2c [-72] <FILE.f >FILE.c\n"
+    (codes "usage: f2c [-72] <FILE.f >FILE.c\n       f2c -split [FILE.f]\n"
     ∷ codes "Translates the FORTRAN 77 file on standard input to C on standard output.\n"
     ∷ codes "\n"
     ∷ codes "  -72         refuses text past column 72\n"
+    ∷ codes "  -split      writes each program unit of FILE.f, or of standard input, to a new file of its own,\n              and the names of these files on standard output\n"
     ∷ codes "  -h, --help  puts this on standard output, and reads nothing\n"
     ∷ codes "\n"
     ∷ codes "Status 0: it is done. 1: the source is refused, and a line says at which card and why.\n"
-    ∷ codes "2: a line names a word that is none of those above, or not beside the others.\n3: an included file is not there, or a stream failed. 5: out of memory.\n"
+    ∷ codes "2: a line names a word that is none of those above, or not beside the others.\n3: a file is not there, or a stream failed. 5: out of memory.\n13: no name is free for a program unit, and a line says for which.\n"
     ∷ [])

@@ -7,11 +7,22 @@ ghost use Rattle.f2c_program.specs.CommandWords as words_of;
 use f_tree::names::Options;
 use f2c_outside::texts::Words;
 
+/// Where a command reads.
+#[derive(Clone, Copy)]
+pub enum Origin {
+    /// Input.
+    Input,
+    /// The file that the word of this number, counted from 1, names.
+    Word(usize),
+}
+
 /// What is to be done.
 #[derive(Clone, Copy)]
 pub enum Command {
     /// Read Input to its end and write its translation on Output, under these options.
     Translate(Options),
+    /// Cut what is read there into its pieces, one for each program unit, and write each to a file of its own.
+    Split(Origin),
     /// Write the usage on Output.
     Help,
     /// Nothing: with the word of this number, counted from 1, no command goes on.
@@ -30,6 +41,26 @@ fn is_long_cards(word: &[u8]) -> bool
     ensures { result ≡ words_of.is_long_cards word.now }
 {
     word == b"-72".as_slice()
+}
+
+/// Whether a word asks that what is read be split.
+fn is_split(word: &[u8]) -> bool
+    ensures { result ≡ words_of.is_split word.now }
+{
+    word == b"-split".as_slice()
+}
+
+/// The fewest bytes of the name of a FORTRAN file: one, and `.f`.
+const SHORTEST_FILE: usize = 3;
+
+/// The most bytes of a name.
+const LONGEST_FILE: usize = 255;
+
+/// Whether a word names a FORTRAN file.
+fn is_fortran_file(word: &[u8]) -> bool
+    ensures { result ≡ words_of.is_fortran_file word.now }
+{
+    SHORTEST_FILE <= word.len() && word.len() <= LONGEST_FILE && word.ends_with(b".f")
 }
 
 /// The options of a translation, where text past column 72 is refused or not.
@@ -79,13 +110,26 @@ fn translation_by(words: &Words) -> Command
     }
 }
 
-/// The command that the words ask for: translation where there is no word or options alone, and the usage where `-h` or
-/// `--help` is the only one. No other command has a word yet.
+/// Splitting, by the words behind the first.
+fn split_by(words: &Words) -> Command
+    ensures { result ≡ words_of.split_by (word_at 2 words.now) words.now }
+{
+    match words.get(2) {
+        None => Command::Split(Origin::Input),
+        Some(file) if !is_fortran_file(file) => Command::BadWord(2),
+        Some(_) if words.len() == 2 => Command::Split(Origin::Word(2)),
+        Some(_) => Command::BadWord(3),
+    }
+}
+
+/// The command that the words ask for: translation where there is no word or options alone, splitting where `-split` is the first and a FORTRAN
+/// file at most stands behind it, and the usage where `-h` or `--help` is the only one. No other command has a word yet.
 pub fn command_of_words(words: &Words) -> Command
     ensures { result ≡ words_of.command_of words.now }
 {
     match words.get(1) {
         None => Command::Translate(options_with(false)),
+        Some(first) if is_split(first) => split_by(words),
         Some(first) if !is_help(first) => translation_by(words),
         Some(_) if words.len() == 1 => Command::Help,
         Some(_) => Command::BadWord(2),

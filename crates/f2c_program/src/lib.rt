@@ -5,12 +5,8 @@ mod command;
 mod message;
 mod outcome;
 mod program;
-mod shelf_loops;
-#[cfg(test)]
-mod source_tests;
 mod sources;
-#[cfg(test)]
-mod tests;
+mod splitting;
 mod top_call;
 mod translation;
 mod usage;

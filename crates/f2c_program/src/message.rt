@@ -1,16 +1,16 @@
 //! The lines that outcomes write on Fault. They are put in pieces, so that a message takes no memory.
 
 ghost use Rattle.std.specs.Prelude.{◌≡◌};
-ghost use Rattle.f2c_program.specs.Lines.{shown, file_shown, word_shown, row_start, refusal_line, bad_word_line, line_of};
-ghost use Rattle.f2c_program.specs.Messages.{Said};
+ghost use Rattle.f2c_program.specs.Lines.{shown, file_shown, word_shown, row_start, refusal_line, bad_word_line, no_free_name_line, line_of};
+ghost use Rattle.shelf_texts.specs.Messages.{Said};
 ghost use Rattle.f2c_outside.specs.Texts.{word_at};
 
 use crate::outcome::Outcome;
-use crate::shelf_loops::{say, say_two};
 use f_tree::{Refusal, Text};
 use f2c_outside::shelves::{Place, Shelf};
 use f2c_outside::texts::Words;
 use itoa::Buffer;
+use shelf_texts::{say, say_two};
 
 /// A place as a message names it: a file by its name, a stream in angle brackets.
 pub(crate) fn place_shown(place: &Place) -> &[u8]
@@ -86,6 +86,19 @@ fn say_bad_word<H: Shelf>(shelf: &mut H, words: &Words, number: usize)
     say(shelf, &pieces);
 }
 
+/// Says `f2c: no free name for piece K`.
+fn say_no_free_name<H: Shelf>(shelf: &mut H, number: usize)
+    ensures { Said (no_free_name_line number) (H.state shelf.old) (H.state shelf.new) }
+{
+    let mut printed = Buffer::new();
+    let pieces: [&[u8]; 3] = [
+        b"f2c: no free name for piece ",
+        printed.format(number).as_bytes(),
+        b"\n",
+    ];
+    say(shelf, &pieces);
+}
+
 /// Says the line of an outcome. A command that did its work has none.
 pub(crate) fn say_outcome<H: Shelf>(shelf: &mut H, words: &Words, outcome: &Outcome)
     ensures said { Said (line_of words.now outcome.now) (H.state shelf.old) (H.state shelf.new) }
@@ -95,6 +108,7 @@ pub(crate) fn say_outcome<H: Shelf>(shelf: &mut H, words: &Words, outcome: &Outc
         Outcome::Done => {}
         Outcome::Refused(refusal, included) => say_refusal(shelf, refusal, included),
         Outcome::BadWord(number) => say_bad_word(shelf, words, *number),
+        Outcome::NoFreeName(number) => say_no_free_name(shelf, *number),
         Outcome::NotThere(name) => {
             let pieces: [&[u8]; 3] = [b"f2c: ", name.as_slice(), b": not there\n"];
             say(shelf, &pieces);

@@ -17,17 +17,19 @@ pub enum Outcome {
     BadWord(usize),
     /// The file of this name is to be read and is not on the shelf.
     NotThere(Text),
-    /// The shelf failed while this place was being read.
+    /// The shelf failed while this place was being read, or asked for.
     Unread(Place),
     /// The shelf failed while this place was being written.
     Unwritten(Place),
+    /// No number is free for the name of the piece with this number, counted from 1.
+    NoFreeName(usize),
     /// Memory ran out.
     NoMemory,
 }
 
 impl Outcome {
     /// The exit status: 0, 1 for a refusal, 2 for bad words, 3 for a file that is not there or a shelf
-    /// that failed, 5 where memory ran out.
+    /// that failed, 5 where memory ran out, 13 where a piece gets no name.
     pub fn status(&self) -> u8
         ensures { result ≡ status_of self.now }
     {
@@ -37,6 +39,7 @@ impl Outcome {
             Outcome::BadWord(_) => 2,
             Outcome::NotThere(_) | Outcome::Unread(_) | Outcome::Unwritten(_) => 3,
             Outcome::NoMemory => 5,
+            Outcome::NoFreeName(_) => 13,
         }
     }
 }

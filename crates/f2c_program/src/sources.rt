@@ -7,12 +7,12 @@ ghost use Rattle.f2c_outside.specs.declared.shelves.Place.TheVariants as place_o
 ghost use Rattle.f2c_program.specs.SourceReads.{AreRead, AreUnread, IsNameOf, IsSourceRead, IsSourceUnread, IsUnreadFile};
 
 use crate::outcome::Outcome;
-use crate::shelf_loops::{ReadFail, read_place};
 use f_tree::Text;
 use f_tree::names::Options;
 use f2c_outside::shelves::{Place, Shelf};
 use f2c_outside::texts::{Name, NameFail};
 use plain_data::Items;
+use shelf_texts::{ReadFail, read_place};
 use source_reader::{NamedFiles, read_files};
 use std::alloc::{AllocError, Global};
 

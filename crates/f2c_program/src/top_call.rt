@@ -13,8 +13,8 @@ ghost use Rattle.f2c_program.specs.TopCall.{Ran, Concluded, Commanded};
 use crate::command::{Command, command_of_words};
 use crate::message::{place_shown, say_outcome};
 use crate::outcome::Outcome;
-use crate::shelf_loops::{ReadFail, read_place, write_place};
 use crate::sources::{MOST_BYTES, SourceRead, read_source};
+use crate::splitting::split;
 use crate::translation::translation;
 use crate::usage::write_usage;
 use f_tree::names::Options;
@@ -23,6 +23,7 @@ use f2c_outside::shelves::{Place, Shelf};
 use f2c_outside::texts::Words;
 use f2c_outside::unit_table::UnitTable;
 use plain_data::Items;
+use shelf_texts::{ReadFail, read_place, write_place};
 use std::alloc::{AllocError, Global};
 
 /// How a call of `f2c` ended.
@@ -105,7 +106,7 @@ fn translate_bytes<H: Shelf>(
 }
 
 /// That a place is not there.
-fn place_not_there(alloc: Global, place: &Place) -> Outcome
+pub(crate) fn place_not_there(alloc: Global, place: &Place) -> Outcome
     ensures { IsNotThereOrNoMemory (shown place.now) result }
 {
     match Items::from_slice(alloc, place_shown(place)) {
@@ -136,12 +137,13 @@ fn translate_place<H: Shelf>(
 
 /// Does what the words ask for.
 fn carry_out<H: Shelf>(alloc: Global, words: &Words, shelf: &mut H) -> Outcome
-    ensures { Ran (command_of words.now) (H.state shelf.old) (H.state shelf.new) result }
+    ensures { Ran words.now (command_of words.now) (H.state shelf.old) (H.state shelf.new) result }
 {
     match command_of_words(words) {
         Command::Translate(options) => {
             translate_place(alloc, &options, shelf, Place::Input, Place::Output)
         },
+        Command::Split(origin) => split(alloc, words, shelf, origin),
         Command::Help => write_usage(shelf),
         Command::BadWord(number) => Outcome::BadWord(number),
     }
@@ -150,11 +152,13 @@ fn carry_out<H: Shelf>(alloc: Global, words: &Words, shelf: &mut H) -> Outcome
 /// Does what the words of a command line ask for, on a shelf and the units that are handed in.
 ///
 /// With no word it reads Input to its end, and each file that an INCLUDE statement there names, and writes the C text that is the
-/// translation on Output; with the one word `-h` or `--help` it writes the usage there. The status is 0 where that was done, and then
-/// no call of the shelf failed; 1 exactly where the source has a first refusal, and the line on Fault names it and its file; 2 exactly where
-/// the words are others, and the line names the first with which no command goes on (`--help` lists those that do); 3 only where a file
-/// that is included is not there, and the line names it, or the shelf failed, and the line names the place that was being read or
-/// written; 5 where memory ran out. After 1, 2 and 5 nothing but the line on Fault was put anywhere.
+/// translation on Output; with `-split` it writes each program unit of Input, or of the file that the next word names, to a new file of its own, and
+/// their names on Output; with the one word `-h` or `--help` it writes the usage there. The status is 0 where that was done, and then
+/// no call of the shelf failed; 1 exactly where the source has a first refusal, which is that it is too long where it is split, and the line on
+/// Fault names it and its file; 2 exactly where the words are others, and the line names the first with which no command goes on (`--help` lists
+/// those that do); 3 only where a file that is read is not there, and the line names it, or the shelf failed, and the line names the place that was
+/// being read or written; 5 where memory ran out; 13 exactly where no number is free for the name of a piece, and the line says for which. After 1,
+/// 2, 5 and 13 nothing but the line on Fault was put anywhere.
 pub fn f2c<H: Shelf>(alloc: Global, words: &Words, shelf: &mut H, units: UnitTable) -> Ended
     ensures concluded { Concluded words.now (H.state shelf.old) (H.state shelf.new) result.status }
     ensures commanded { Commanded words.now (command_of words.now) (H.state shelf.old) (H.state shelf.new) result.status }

@@ -18,6 +18,3 @@ pub use statements::{
     Stmt, TypeSpec, UnitKind, UpperBound,
 };
 pub use units::{File, FileSet, Part, Unit};
-
-#[cfg(test)]
-mod tests;

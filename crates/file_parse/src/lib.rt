@@ -8,8 +8,6 @@ mod mentions;
 mod nests;
 mod splices;
 mod statements;
-#[cfg(test)]
-mod tests;
 mod units;
 
 pub use files::{parse_file, parse_part};

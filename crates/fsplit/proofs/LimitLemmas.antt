@@ -57,7 +57,7 @@ lines_drop zero xs = omega arith
 lines_drop (suc n) [] = omega arith
 lines_drop (suc n) (b ∷ rest) = omega (arith, lines_drop n rest, lines_less b rest (cases_Bool (b == 10)))
 
-lines_take : (n : ℕ) (xs : List ℕ) → length (lines (take n xs)) ≤ length (lines xs)
+pub lines_take : (n : ℕ) (xs : List ℕ) → length (lines (take n xs)) ≤ length (lines xs)
 lines_take n xs = subst (λ l. length (lines (take n xs)) ≤ length (lines l)) (take-append-drop n xs) (lines_grow (take n xs) (drop n xs))
 
 pub short_front : (n : ℕ) (xs : List ℕ) → too_long xs ≡ None → too_long (take n xs) ≡ None

@@ -5,8 +5,6 @@
 mod cutting;
 mod extents;
 mod pieces;
-#[cfg(test)]
-mod tests;
 mod texts;
 mod wanted;
 

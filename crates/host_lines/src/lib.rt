@@ -4,8 +4,6 @@
 
 mod ends;
 mod reading;
-#[cfg(test)]
-mod tests;
 mod writing;
 
 pub use reading::{Found, line_at, line_before, lines_from, read_line};

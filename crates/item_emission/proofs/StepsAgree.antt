@@ -3,6 +3,7 @@ use Rattle.std.specs.Prelude.{◌≡◌, ℕ, zero, suc, ◌+◌, ◌-◌, nat_l
 use Rattle.std.proofs.Common.{refl, sym, ap, ◌∙◌, arith}
 use Rattle.f_tree.specs.declared.names.Basic.{Basic}
 use Rattle.f_tree.specs.Values.{Bytes, IsInt, IsLog, in_range}
+use Rattle.f_tree.specs.Terms as fortran
 use Rattle.f_tree.specs.Facts.{Bounds, Facts, Output, Listed, Controls, UnitKind, MainProgram, SubroutineUnit, FunctionUnit, BlockDataUnit}
 use Rattle.f_tree.specs.CNames.{variable_name, made_name, ConstantOf}
 use Rattle.l_core.specs.Pures.{Pure, Constant, Temporary, Load, Name, ElementOf, Pures, NoPure, AndPure}
@@ -20,18 +21,19 @@ use Rattle.c_tree.specs.Builtins.{builtin_names}
 use Rattle.c_structure.specs.Expressions.{Names, with_two, number_expr, array_expr, expr_for, one_more, exprs_for}
 use Rattle.c_image.specs.Elements.{quantity_term}
 use Rattle.c_emit.specs.Numbers.{if_number, value_term, place_term, is_scalar, is_array, has_number}
+use Rattle.c_emit.specs.LibraryFunctions.{LibraryFunction, pow_ii, i_sign, i_dim, i_or, i_and, i_eor, i_not, i_shft, b_test, b_set, b_clr, library_function}
 use Rattle.c_emit.specs.Types.{type_at, type_of}
-use Rattle.c_emit.specs.Calls.{call_of, is_plain, start_on, start_item, if_held, constant_held, held_term, kind_number, item_by, takes_item, finish_item, stop_item, address_of}
+use Rattle.c_emit.specs.Calls.{call_of, is_plain, start_on, start_item, if_held, constant_held, held_term, held_terms, computed_item, kind_number, item_by, takes_item, finish_item, stop_item, address_of, routine_of}
 use Rattle.c_emit.specs.Flats.{assigned, jump_to, returned_by, flat_of}
 use Rattle.main_file.specs.MainFile.{Inventory, Bases, place_of_constant, place_of_variable, place_of_list, place_of_string, place_or_none, object_name, string_at, first_string, first_temporary, names_of, lower_of, size_of, writing_of}
 use Rattle.named_items.specs.declared.item.Item.TheVariants as item
-use Rattle.named_items.specs.Items.{assign_by, item_for}
+use Rattle.named_items.specs.Items.{assign_by, set_call_by, item_for}
 use Rattle.item_emission.specs.declared.known.Dimension.{Dimension}
 use Rattle.item_emission.specs.NamedEmission as named
-use Rattle.item_emission.specs.NamedEmission.{Knowledge, constant_expr, dimension_at, variable_expr, expr_if, temporary_expr, value_expr, place_expr, type_in, constant_object, list_object, datum_held, held_expr, start_call, start_if, start_step, output_call, output_if, output_by, output_step, finish_step, stop_call, stop_step, branch_step, return_step, acting_step, item_step, address_expr}
+use Rattle.item_emission.specs.NamedEmission.{Knowledge, constant_expr, dimension_at, variable_expr, expr_if, temporary_expr, value_expr, place_expr, type_in, constant_object, list_object, datum_held, held_expr, held_exprs, computed_step, start_call, start_if, start_step, output_call, output_if, output_by, output_step, finish_step, stop_call, stop_step, branch_step, return_step, acting_step, item_step, address_expr}
 use Rattle.item_emission.specs.Agreeing.{dimension_of, gives_zero_in, known_in, NumbersAreListed, IsListed, EmissionsAgree}
 use Rattle.item_emission.proofs.TermNumbers.{constant-agrees}
-use Rattle.item_emission.proofs.ValuesAgree.{IsKnownBy, expr_of, temporary-agrees, value-agrees, place-agrees}
+use Rattle.item_emission.proofs.ValuesAgree.{IsKnownBy, expr_of, exprs_of, more-agrees, temporary-agrees, value-agrees, place-agrees}
 use Rattle.item_emission.proofs.ObjectNames.{variable_object, variable_is_no_string, temporary_is, constant_is, list_is, text_is}
 
 -- ## Bounds
@@ -95,6 +97,34 @@ return-agrees names MainProgram = refl
 return-agrees names SubroutineUnit = refl
 return-agrees names FunctionUnit = refl
 return-agrees names BlockDataUnit = refl
+
+address-before : (o : Option CExpr) (os : Option (List CExpr)) → one_more (option_map (expr.Unary prefix.Address) o) (option_map (map address_expr) os) ≡ option_map (map address_expr) (one_more o os)
+unfolding one_more
+address-before (Some e) (Some es) = refl
+address-before (Some e) None = refl
+address-before None os = refl
+
+addresses-agree : (names : Names) (ts : List Term) → exprs_for names (map address_of ts) ≡ option_map (map address_expr) (exprs_for names ts)
+unfolding exprs_for expr_for
+addresses-agree names [] = refl
+addresses-agree names (t ∷ ts) = ap (one_more (option_map (expr.Unary prefix.Address) (expr_for names t))) (addresses-agree names ts) ∙ address-before (expr_for names t) (exprs_for names ts)
+
+call-of : (function : LibraryFunction) (o : Option CExpr) (os : Option (List CExpr)) → set_call_by o function.name (option_map (map address_expr) os) ≡ computed_step o (Some function) os
+unfolding set_call_by computed_step
+call-of function (Some e) (Some es) = refl
+call-of function (Some e) None = refl
+call-of function None os = refl
+
+no-call : (o : Option CExpr) (function : LibraryFunction) → None ≡ computed_step o (Some function) None
+unfolding computed_step
+no-call (Some e) function = refl
+no-call None function = refl
+
+no-function : (o : Option CExpr) (os : Option (List CExpr)) → None ≡ computed_step o None os
+unfolding computed_step
+no-function (Some e) (Some es) = refl
+no-function (Some e) None = refl
+no-function None os = refl
 
 module _ (v : Inventory) (b : Bases) (facts : Facts) (kind : ℕ → ℕ → Option Basic) (label : ℕ → Option ℕ) (listed : NumbersAreListed v b (known_in v facts label)) where
   -- ## What is known
@@ -251,6 +281,51 @@ module _ (v : Inventory) (b : Bases) (facts : Facts) (kind : ℕ → ℕ → Opt
       (one_more (option_map (expr.Cast to.Length) (number_expr (pos (length text)))) (Some []))))
       ∙ stop-by text (number_expr (pos (length text)))
 
+  held-all-known : (ps : Pures) → exprs_of (names_of v b) (held_terms (writing_of v b facts kind) ps) ≡ held_exprs (known_in v facts label) ps
+  unfolding held_terms held_exprs exprs_for
+  held-all-known NoPure = refl
+  held-all-known (AndPure p ps) =
+      more-agrees (names_of v b) (held_term (writing_of v b facts kind) p) (held_terms (writing_of v b facts kind) ps) ∙ (λ j. one_more (held-known p j) (held-all-known ps j))
+
+  -- a function that has its name, of what is held
+  called-by : (function : LibraryFunction) (o : Option Term) (os : Option (List Term)) → (names_of v b).routine (routine_of (writing_of v b facts kind) function.name) ≡ function.name
+      → option_and_then (item_for (names_of v b)) (computed_item (writing_of v b facts kind) o (Some function) os) ≡ computed_step (expr_of (names_of v b) o) (Some function) (exprs_of (names_of v b) os)
+  unfolding computed_item computed_step item_for
+  called-by function (Some t) (Some ts) is =
+      (λ j. set_call_by (expr_for (names_of v b) t) (is j) (addresses-agree (names_of v b) ts j)) ∙ call-of function (expr_for (names_of v b) t) (exprs_for (names_of v b) ts)
+  called-by function (Some t) None is = no-call (expr_for (names_of v b) t) function
+  called-by function None os is = refl
+
+  none-called : (o : Option Term) (os : Option (List Term))
+      → option_and_then (item_for (names_of v b)) (computed_item (writing_of v b facts kind) o None os) ≡ computed_step (expr_of (names_of v b) o) None (exprs_of (names_of v b) os)
+  unfolding computed_item
+  none-called (Some t) (Some ts) = no-function (expr_for (names_of v b) t) (exprs_for (names_of v b) ts)
+  none-called (Some t) None = no-function (expr_for (names_of v b) t) None
+  none-called None os = no-function None (exprs_of (names_of v b) os)
+
+  function-called : (f : fortran.Function) (o : Option Term) (os : Option (List Term))
+      → option_and_then (item_for (names_of v b)) (computed_item (writing_of v b facts kind) o (library_function f) os) ≡ computed_step (expr_of (names_of v b) o) (library_function f) (exprs_of (names_of v b) os)
+  unfolding library_function
+  function-called fortran.Power o os = called-by pow_ii o os (routine-known 4)
+  function-called fortran.SignTransfer o os = called-by i_sign o os (routine-known 5)
+  function-called fortran.PositiveDifference o os = called-by i_dim o os (routine-known 6)
+  function-called fortran.InclusiveOr o os = called-by i_or o os (routine-known 35)
+  function-called fortran.LogicalProduct o os = called-by i_and o os (routine-known 36)
+  function-called fortran.ExclusiveOr o os = called-by i_eor o os (routine-known 37)
+  function-called fortran.BitComplement o os = called-by i_not o os (routine-known 38)
+  function-called fortran.BitShift o os = called-by i_shft o os (routine-known 39)
+  function-called fortran.BitTest o os = called-by b_test o os (routine-known 40)
+  function-called fortran.BitSet o os = called-by b_set o os (routine-known 41)
+  function-called fortran.BitClear o os = called-by b_clr o os (routine-known 42)
+  function-called f o os = none-called o os
+
+  computed-known : (k : ℕ) (f : fortran.Function) (ps : Pures)
+      → option_and_then (item_for (names_of v b)) (computed_item (writing_of v b facts kind) (if_number (nat_lt k v.temporaries) (Some (c.Variable (first_temporary v b + k) ToNumber))) (library_function f) (held_terms (writing_of v b facts kind) ps))
+      ≡ computed_step (temporary_expr (known_in v facts label) k) (library_function f) (held_exprs (known_in v facts label) ps)
+  computed-known k f ps =
+      function-called f (if_number (nat_lt k v.temporaries) (Some (c.Variable (first_temporary v b + k) ToNumber))) (held_terms (writing_of v b facts kind) ps)
+      ∙ (λ j. computed_step (temporary-known k j) (library_function f) (held-all-known ps j))
+
   pub step-known : (n : ℕ) (st : Step) → IsListed v n st → option_and_then (item_for (names_of v b)) (flat_of (writing_of v b facts kind) (λ m. m) label n st) ≡ item_step (known_in v facts label) (kind n) n st
   unfolding flat_of item_step acting_step item_for
   step-known n (step.Put target p) there =
@@ -258,6 +333,7 @@ module _ (v : Inventory) (b : Bases) (facts : Facts) (kind : ℕ → ℕ → Opt
   step-known n (step.Keep k p) there =
       assign-agrees (names_of v b) (if_number (nat_lt k v.temporaries) (Some (c.Variable (first_temporary v b + k) ToNumber))) (value_term (writing_of v b facts kind) p)
       ∙ (λ j. assign_by (temporary-known k j) (value-known p j))
+  step-known n (step.Compute k f ps) there = computed-known k f ps
   step-known n (step.Unless p m) there =
       branch-agrees (names_of v b) (suc n) (suc n + m) (value_term (writing_of v b facts kind) p) ∙ ap (λ o. branch_step o (suc n) (suc n + m)) (value-known p)
   step-known n (step.AgainIf p m) there =

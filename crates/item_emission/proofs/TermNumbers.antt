@@ -116,7 +116,7 @@ module _ (names : Names) where
   apart-number (Constant z) apart e h = absurd (apart z refl)
   apart-number (Variable k access) apart e h = itself (expr.Name (names.object k)) e h refl
   apart-number (Array k access) apart e h = itself (array_expr (names.string k) (names.object k)) e h (array-number (names.string k) (names.object k))
-  apart-number (Routine k) apart e h = absurd (cc)
+  apart-number (Routine k) apart e h = itself (expr.Name (names.routine k)) e h refl
   apart-number Unknown apart e h = absurd (cc)
   apart-number (Prefixed sign t) apart e h = mapped (expr.Unary sign) (λ x. refl) (expr_for names t) e h
   apart-number (Cast type t) apart e h = mapped (expr.Cast type) (λ x. refl) (expr_for names t) e h

@@ -93,7 +93,7 @@ three-agrees names f g h (Some t) (Some u) None = sym (three-none g (expr_for na
 three-agrees names f g h (Some t) None q = sym (three-middle g (expr_for names t) (expr_of names q))
 three-agrees names f g h None p q = refl
 
-more-agrees : (names : Names) (o : Option Term) (os : Option (List Term)) → exprs_of names (emit.one_more o os) ≡ one_more (expr_of names o) (exprs_of names os)
+pub more-agrees : (names : Names) (o : Option Term) (os : Option (List Term)) → exprs_of names (emit.one_more o os) ≡ one_more (expr_of names o) (exprs_of names os)
 unfolding one_more emit.one_more exprs_for
 more-agrees names (Some t) (Some ts) = refl
 more-agrees names (Some t) None = sym (more-none (expr_for names t))

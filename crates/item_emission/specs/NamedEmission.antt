@@ -1,6 +1,6 @@
 -- The C expressions and items for lowered values and steps over numbers, by names. None where a value is a text, takes a call of the library, or has a
--- number that C has no constant for, and for a step that is not emitted. ANSI X3.9-1978, sections 5.4, 6, 10, 11, 12 and 13; C89, 3.3 and 3.6.
-use Rattle.std.specs.Prelude.{ℕ, zero, suc, ◌+◌, ◌-◌, nat_eq, nat_lt, ℤ, pos, negsuc, ◌+ℤ◌, Bool, true, false, ◌&&◌, List, [], ◌∷◌, length, Option, Some, None, option_map, option_and_then, slice_get, unwrap_or, codes, if◌then◌else◌}
+-- number that C has no constant for, and for a step that is not emitted. ANSI X3.9-1978, sections 5.4, 6, 10, 11, 12, 13 and 15.10; C89, 3.3 and 3.6.
+use Rattle.std.specs.Prelude.{ℕ, zero, suc, ◌+◌, ◌-◌, nat_eq, nat_lt, ℤ, pos, negsuc, ◌+ℤ◌, Bool, true, false, ◌&&◌, List, [], ◌∷◌, map, length, Option, Some, None, option_map, option_and_then, slice_get, unwrap_or, codes, if◌then◌else◌}
 use Rattle.std.specs.Ordering.{int_eq}
 use Rattle.f_tree.specs.declared.names.Basic.{Basic}
 use Rattle.f_tree.specs.Values.{Bytes, Datum, IsInt, IsLog, in_range}
@@ -19,6 +19,7 @@ use Rattle.c_tree.specs.declared.expression.Extreme.{Extreme}
 use Rattle.c_tree.specs.declared.expression.Extreme.TheVariants as extreme
 use Rattle.c_structure.specs.Expressions.{number_expr, with_two, with_three, one_more}
 use Rattle.c_image.specs.Operations.{prefix_for, operator_for}
+use Rattle.c_emit.specs.LibraryFunctions.{LibraryFunction, library_function}
 use Rattle.c_emit.specs.Types.{type_of_datum, type_behind, type_between, type_by, if_numeric}
 use Rattle.c_emit.specs.Calls.{is_plain, kind_number}
 use Rattle.named_items.specs.declared.item.Item.{Item}
@@ -237,6 +238,16 @@ held_expr known (Temporary k) = temporary_expr known k
 held_expr known (Load p) = place_expr known p
 held_expr known p = None
 
+-- what holds each of some values
+unfoldable pub held_exprs : Knowledge → Pures → Option (List CExpr)
+held_exprs known NoPure = Some []
+held_exprs known (AndPure p ps) = one_more (held_expr known p) (held_exprs known ps)
+
+-- a function of numbers, of operands that are held: what it gives is kept
+unfoldable pub computed_step : Option CExpr → Option LibraryFunction → Option (List CExpr) → Option Item
+computed_step (Some target) (Some function) (Some es) = Some (item.SetCall target function.name (map address_expr es))
+computed_step target function es = None
+
 -- the start of an output, by its control list
 unfoldable pub start_call : ℕ → Item
 start_call k = item.Call (codes "s_wsle") (address_expr (list_object k) ∷ [])
@@ -301,6 +312,7 @@ acting_step known kind n what ps m = None
 unfoldable pub item_step : Knowledge → Kinds → ℕ → Step → Option Item
 item_step known kind n (step.Put target p) = assign_by (place_expr known target) (value_expr known p)
 item_step known kind n (step.Keep k p) = assign_by (temporary_expr known k) (value_expr known p)
+item_step known kind n (step.Compute k f ps) = computed_step (temporary_expr known k) (library_function f) (held_exprs known ps)
 item_step known kind n (step.Unless p m) = branch_step (value_expr known p) (suc n) (suc n + m)
 item_step known kind n (step.AgainIf p m) = branch_step (value_expr known p) (n - m) (suc n)
 item_step known kind n (step.Skip m) = Some (item.Jump (suc n + m))
@@ -313,5 +325,5 @@ item_step known kind n (step.Halt text) = stop_step text
 item_step known kind n _ = None
 
 unfoldable pub named_emission_opened : Unit {0}
-unfolding negative_expr constant_expr datum_expr is_the_number added_expr sum_by sum_expr difference_expr product_expr sum_of dimension_at distance_expr stepped_expr index_expr variable_expr element_expr extreme_expr first_extreme alone_expr remainder_expr function_expr applied_expr expr_if temporary_object temporary_expr value_expr place_expr value_exprs type_at type_in constant_object list_object constant_held datum_held held_expr start_call start_if start_step output_call output_if output_by output_step finish_step stop_call stop_step branch_step return_step acting_step item_step
+unfolding negative_expr constant_expr datum_expr is_the_number added_expr sum_by sum_expr difference_expr product_expr sum_of dimension_at distance_expr stepped_expr index_expr variable_expr element_expr extreme_expr first_extreme alone_expr remainder_expr function_expr applied_expr expr_if temporary_object temporary_expr value_expr place_expr value_exprs type_at type_in constant_object list_object constant_held datum_held held_expr held_exprs computed_step start_call start_if start_step output_call output_if output_by output_step finish_step stop_call stop_step branch_step return_step acting_step item_step
 named_emission_opened = tt

@@ -4,3 +4,4 @@ pub mod IndexWalks
 pub mod FunctionWalks
 pub mod StepForms
 pub mod CallForms
+pub mod LibraryForms

@@ -1,11 +1,15 @@
--- Acts of a transfer by their operands: the unit of one that begins, and what ends. ANSI X3.9-1978, sections 12.8 and 13.6.
-use Rattle.std.specs.Prelude.{ℕ, zero, suc, ℤ, ◌&&◌, Option, Some, None}
+-- Acts of a transfer by their operands: the unit of one that begins, and what ends; and the operands of functions of the library. ANSI X3.9-1978, sections
+-- 12.8, 13.6 and 15.10.
+use Rattle.std.specs.Prelude.{ℕ, zero, suc, ℤ, ◌&&◌, List, map, Option, Some, None, option_map}
 use Rattle.f_tree.specs.Values.{IsInt, in_range}
 use Rattle.f_tree.specs.Facts.{Direction, Output, Layout, Listed, Controls}
 use Rattle.l_core.specs.Pures.{Pure, Constant, Pures}
+use Rattle.c_tree.specs.declared.expression.CExpr.{CExpr}
+use Rattle.c_emit.specs.LibraryFunctions.{LibraryFunction}
 use Rattle.c_emit.specs.Calls.{is_plain}
 use Rattle.named_items.specs.declared.item.Item.{Item}
-use Rattle.item_emission.specs.NamedEmission.{Knowledge, start_if, start_step, finish_step}
+use Rattle.named_items.specs.declared.item.Item.TheVariants as item
+use Rattle.item_emission.specs.NamedEmission.{Knowledge, address_expr, held_expr, held_exprs, start_if, start_step, finish_step}
 
 -- the integer that a value is
 unfoldable pub integer_in : Pure → Option ℤ
@@ -27,6 +31,18 @@ unfoldable pub finish_at : ℕ → Pures → Option Item
 finish_at zero ps = finish_step ps
 finish_at (suc m) ps = None
 
+-- the address of what holds an operand of a function of the library, and those of the operands one after the other
+unfoldable pub passed_expr : Knowledge → Pure → Option CExpr
+passed_expr known p = option_map address_expr (held_expr known p)
+
+unfoldable pub passed_exprs : Knowledge → Pures → Option (List CExpr)
+passed_exprs known ps = option_map (map address_expr) (held_exprs known ps)
+
+-- a call of a function of the library whose value is stored, where there are a place for it, a function and arguments
+unfoldable pub called : Option CExpr → Option LibraryFunction → Option (List CExpr) → Option Item
+called (Some target) (Some function) (Some arguments) = Some (item.SetCall target function.name arguments)
+called target function arguments = None
+
 unfoldable pub operands_opened : Unit {0}
-unfolding integer_in start_unit begin_step finish_at
+unfolding integer_in start_unit begin_step finish_at passed_expr passed_exprs called
 operands_opened = tt

@@ -36,7 +36,7 @@ fn constant_object(alloc: Global, value: i32) -> Result<CExpr, AllocError>
 }
 
 /// The address of an object.
-fn address(alloc: Global, object: CExpr) -> Result<CExpr, AllocError>
+pub(crate) fn address(alloc: Global, object: CExpr) -> Result<CExpr, AllocError>
     ensures { IfOk result (λ e. e ≡ spec.address_expr object) }
 {
     prefixed(alloc, UnaryOp::Address, object)
@@ -76,7 +76,7 @@ fn literal_held(alloc: Global, known: &Known, value: &Literal) -> Result<Option<
 
 /// What holds a value: an object of a constant or of a temporary, or its place.
 #[tactic(auto, using(crate::proofs::StepForms::held_forms))]
-fn held(alloc: Global, known: &Known, source: &Pure) -> Result<Option<CExpr>, AllocError>
+pub(crate) fn held(alloc: Global, known: &Known, source: &Pure) -> Result<Option<CExpr>, AllocError>
     ensures { IfOk result (λ e. e ≡ spec.held_expr (known_of known.now) (pure_of source.now)) }
 {
     match source {

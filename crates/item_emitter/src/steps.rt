@@ -11,6 +11,7 @@ ghost use Rattle.item_emission.specs.NamedEmission as spec;
 
 use crate::calls::acting;
 use crate::known::Known;
+use crate::library::compute;
 use crate::stops::stop;
 use crate::values::{place, temporary, value};
 use c_tree::expression::CExpr;
@@ -165,6 +166,9 @@ pub fn emit_step(
     match step {
         Step::Put(target, source) => put(alloc, known, target, source),
         Step::Keep(number, source) => keep(alloc, known, *number, source),
+        Step::Compute(number, function, operands) => {
+            compute(alloc, known, *number, *function, operands.as_slice())
+        }
         Step::Unless(test, passed) => unless(alloc, known, position, test, *passed),
         Step::AgainIf(test, back) => again_if(alloc, known, position, test, *back),
         Step::Skip(passed) => skip(position, *passed),
@@ -184,7 +188,6 @@ pub fn emit_step(
         ),
         Step::PutText(_, _) => Ok(None),
         Step::PutLabel(_, _) => Ok(None),
-        Step::Compute(_, _, _) => Ok(None),
         Step::Select(_, _) => Ok(None),
         Step::JumpBy(_, _) => Ok(None),
         Step::CallFor(_, _, _) => Ok(None),

@@ -1,9 +1,6 @@
 //! Rows that stand where a condition does not hold, and the laws of the least row of a list.
 #![tactic(auto)]
 
-#[cfg(test)]
-mod tests;
-
 ghost use Rattle.std.specs.Prelude.{◌≡◌};
 ghost use Rattle.kind_order.specs.Unless as spec;
 

@@ -1,9 +1,9 @@
 -- The steps of an expression and its value behind them. Operands go from left to right; one is kept in a temporary where a later one has a
 -- reference to a function, and the right operand of .AND. and .OR. that takes steps is passed where the left one decides.
--- ANSI X3.9-1978, sections 5.4, 6, 15.2 to 15.5 and 15.10.
+-- ANSI X3.9-1978, sections 5.4, 6, 15.2 to 15.5 and 15.10; MIL-STD-1753 for the bit functions.
 use Rattle.std.specs.Prelude.{ℕ, zero, suc, Bool, true, false, ◌&&◌, ◌||◌, List, [], ◌∷◌, ◌++◌, length}
 use Rattle.f_tree.specs.Values.{Bytes, Nothing}
-use Rattle.f_tree.specs.Terms.{Prefix, Complement, Operator, Both, Either, Function, Power, SignTransfer, PositiveDifference, IndexOf, LexicallyGreaterOrEqual, LexicallyGreater, LexicallyLessOrEqual, LexicallyLess, Callee, Term, Val, Fetch, At, All, Element, Alone, Part, Joined, Before, Between, Intrinsically, Refer, Bind, Bound, Terms, NoMore, More, refers, any_refers}
+use Rattle.f_tree.specs.Terms.{Prefix, Complement, Operator, Both, Either, Function, Power, SignTransfer, PositiveDifference, IndexOf, LexicallyGreaterOrEqual, LexicallyGreater, LexicallyLessOrEqual, LexicallyLess, InclusiveOr, LogicalProduct, ExclusiveOr, BitComplement, BitShift, BitTest, BitSet, BitClear, Callee, Term, Val, Fetch, At, All, Element, Alone, Part, Joined, Before, Between, Intrinsically, Refer, Bind, Bound, Terms, NoMore, More, refers, any_refers}
 use Rattle.l_core.specs.Pures.{Pure, Constant, Temporary, Load, Name, AllOf, ElementOf, FirstOf, Substring, Concatenated, Prefixed, Operated, Applied, Pures, NoPure, AndPure}
 use Rattle.l_core.specs.Steps.{Step, Keep, Compute, Unless, CallFor}
 
@@ -13,6 +13,8 @@ pub data Purpose : Type 0 where
   ForUse : Purpose
   -- it is handed on by its address: of what is no place and no constant there is one once it is kept
   ForCall : Purpose
+  -- it is read through its address: a constant has one, and what stands at a place; of what is neither there is one once it is kept
+  ForReading : Purpose
   -- it is used behind further steps
   ForLater : Purpose
 
@@ -49,7 +51,7 @@ pub data Shape : Type 0 where
   AsFunction : Function → Shape
   AsReference : Callee → Shape
 
--- functions that C has in its library: their operands go by address (15.10, 6.1)
+-- functions that C has in its library, which reads their operands by address (15.10, 6.1; the bit functions)
 unfoldable pub is_library : Function → Bool
 is_library Power = true
 is_library SignTransfer = true
@@ -59,6 +61,14 @@ is_library LexicallyGreaterOrEqual = true
 is_library LexicallyGreater = true
 is_library LexicallyLessOrEqual = true
 is_library LexicallyLess = true
+is_library InclusiveOr = true
+is_library LogicalProduct = true
+is_library ExclusiveOr = true
+is_library BitComplement = true
+is_library BitShift = true
+is_library BitTest = true
+is_library BitSet = true
+is_library BitClear = true
 is_library _ = false
 
 -- the operands of a place are used when it is
@@ -67,8 +77,13 @@ for_place ForLater = ForLater
 for_place _ = ForUse
 
 unfoldable pub for_function : Bool → Purpose
-for_function true = ForCall
+for_function true = ForReading
 for_function false = ForUse
+
+-- what stands at a place may be read there
+unfoldable pub for_fetch : Purpose → Purpose
+for_fetch ForReading = ForUse
+for_fetch purpose = purpose
 
 unfoldable pub operand_purpose : Shape → Purpose → Purpose
 operand_purpose (AsElement x) purpose = for_place purpose
@@ -116,6 +131,7 @@ function_free false purpose k n = kept_free purpose k n
 
 -- what stands behind the operands of a form: places are settled where they are used, and their operands last as long as they do
 unfoldable pub closing : Shape → Purpose → ℕ → Pures → List Step
+closing AsFetch purpose k ps = kept_steps (for_fetch purpose) k (pure_of AsFetch ps)
 closing (AsElement x) purpose k ps = []
 closing AsAlone purpose k ps = []
 closing (AsPart x) purpose k ps = []
@@ -124,6 +140,7 @@ closing (AsReference callee) purpose k ps = CallFor k callee ps ∷ []
 closing shape purpose k ps = kept_steps purpose k (pure_of shape ps)
 
 unfoldable pub closed_value : Shape → Purpose → ℕ → Pures → Pure
+closed_value AsFetch purpose k ps = kept_value (for_fetch purpose) k (pure_of AsFetch ps)
 closed_value (AsElement x) purpose k ps = ElementOf x ps
 closed_value AsAlone purpose k ps = pure_of AsAlone ps
 closed_value (AsPart x) purpose k ps = pure_of (AsPart x) ps
@@ -132,6 +149,7 @@ closed_value (AsReference callee) purpose k ps = Temporary k
 closed_value shape purpose k ps = kept_value purpose k (pure_of shape ps)
 
 unfoldable pub closed_free : Shape → Purpose → ℕ → ℕ → ℕ
+closed_free AsFetch purpose k n = kept_free (for_fetch purpose) k n
 closed_free (AsElement x) purpose k n = n
 closed_free AsAlone purpose k n = n
 closed_free (AsPart x) purpose k n = n
@@ -153,6 +171,7 @@ is_kept _ = true
 
 -- does a form take steps, given whether its operands do
 unfoldable pub shape_takes : Shape → Purpose → Bool → Bool
+shape_takes AsFetch purpose operands = is_kept (for_fetch purpose) || operands
 shape_takes (AsElement x) purpose operands = operands
 shape_takes AsAlone purpose operands = operands
 shape_takes (AsPart x) purpose operands = operands
@@ -250,5 +269,5 @@ unfoldable mutual
   lower_all env purpose k (More t ts) = and_then (lower env (ahead purpose (any_refers ts)) k t) (λ n. lower_all env purpose n ts)
 
 unfoldable pub expressions_opened : Unit {0}
-unfolding plain and_then no_operand ahead is_library for_place for_function operand_purpose pure_of kept_steps kept_value kept_free function_steps function_value function_free closing closed_value closed_free shaped is_kept shape_takes takes_steps any_takes may_decide wanted_where guarded lowered_between argument in_order lower lower_all
+unfolding plain and_then no_operand ahead is_library for_place for_function for_fetch operand_purpose pure_of kept_steps kept_value kept_free function_steps function_value function_free closing closed_value closed_free shaped is_kept shape_takes takes_steps any_takes may_decide wanted_where guarded lowered_between argument in_order lower lower_all
 expressions_opened = tt

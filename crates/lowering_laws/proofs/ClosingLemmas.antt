@@ -11,10 +11,10 @@ use Rattle.f_tree.specs.World.{World}
 use Rattle.l_core.specs.Pures.{Pure, Temporary, Pures, NoPure, AndPure, Temporaries, with_kept, where_wanted, meant, all_meant}
 use Rattle.l_core.specs.Steps.{Keep, Compute, CallFor, Text}
 use Rattle.l_core.specs.Machine.{to, onward, keeping, done, step}
-use Rattle.lowering.specs.Expressions.{Purpose, ForUse, ForCall, ForLater, Shape, AsFetch, AsElement, AsAlone, AsPart, AsJoined, AsBefore, AsBetween, AsFunction, AsReference, is_library, for_place, operand_purpose, pure_of, kept_steps, kept_value, kept_free, function_steps, function_value, function_free, closing, closed_value, closed_free, may_decide, and_then, no_operand, plain, lower_all}
+use Rattle.lowering.specs.Expressions.{Purpose, ForUse, ForCall, ForReading, ForLater, Shape, AsFetch, AsElement, AsAlone, AsPart, AsJoined, AsBefore, AsBetween, AsFunction, AsReference, is_library, for_place, for_fetch, operand_purpose, pure_of, kept_steps, kept_value, kept_free, function_steps, function_value, function_free, closing, closed_value, closed_free, may_decide, and_then, no_operand, plain, lower_all}
 use Rattle.lowering_laws.specs.Walks.{Spans, at_step, IsOrdinary, stays, goes, SameBelow, Lasts, Comes, AllCome, Met}
 use Rattle.lowering_laws.specs.Midway.{finish, Fits, of_fetch, of_element, of_alone, of_part, of_joined, of_before, of_between, of_function, of_reference}
-use Rattle.lowering_laws.proofs.WalkLemmas.{spans_nothing, spans_one, ordinary_by, same_refl, kept_above, kept_there, all_last_now, temporary_lasts, at_its_end}
+use Rattle.lowering_laws.proofs.WalkLemmas.{spans_nothing, spans_one, ordinary_by, same_refl, kept_above, kept_there, all_last_now, temporary_lasts, said, at_its_end}
 use Rattle.lowering_laws.proofs.ShapeLemmas.{wants}
 
 -- ## The pure value of a form
@@ -150,6 +150,9 @@ module _ (u : Text) (f : Frame) (h : ℕ) (w : World) where
   value_met {Left = Left} ForCall k n q q' m p remains spans =
       let one = spans_one u spans in
       subst (λ z. Met u f h w k q m z (λ d m'. Comes u.facts f w.store ForCall (suc k) m' (Temporary k) d) Left (at_once (meant u.facts f m w.store p))) (sym one.1) (kept_at ForCall k q m p one.0)
+  value_met {Left = Left} ForReading k n q q' m p remains spans =
+      let one = spans_one u spans in
+      subst (λ z. Met u f h w k q m z (λ d m'. Comes u.facts f w.store ForReading (suc k) m' (Temporary k) d) Left (at_once (meant u.facts f m w.store p))) (sym one.1) (kept_at ForReading k q m p one.0)
   value_met {Left = Left} ForLater k n q q' m p remains spans =
       let one = spans_one u spans in
       subst (λ z. Met u f h w k q m z (λ d m'. Comes u.facts f w.store ForLater (suc k) m' (Temporary k) d) Left (at_once (meant u.facts f m w.store p))) (sym one.1) (kept_at ForLater k q m p one.0)
@@ -221,8 +224,9 @@ module _ (u : Text) (f : Frame) (h : ℕ) (w : World) where
       AllCome u.facts f w.store (operand_purpose shape purpose) n m ps ds → Spans u q (closing shape purpose k ps) q' →
       ((d : Datum) (m' : Temporaries) → Lasts u.facts f (closed_free shape purpose k n) m' (closed_value shape purpose k ps) d → Left (Val d) q' m') →
       Met u f h w k q m q' (λ d m'. Comes u.facts f w.store purpose (closed_free shape purpose k n) m' (closed_value shape purpose k ps) d) Left (finish u.facts f w.store shape ds)
-  unfolding closing closed_free closed_value operand_purpose pure_of
-  closing_met AsFetch purpose k n q q' m ps ds suit operands spans lefts = value_of_shape AsFetch purpose k n q q' m ps ds suit tt operands.now spans
+  unfolding closing closed_free closed_value operand_purpose pure_of for_fetch
+  closing_met AsFetch purpose k n q q' m ps ds suit operands spans lefts =
+      said u f h w (λ d m' same come. record { now = come.now; later = λ is. come.later (ap for_fetch is) }) (λ r q'' m' left. left) (value_of_shape AsFetch (for_fetch purpose) k n q q' m ps ds suit tt operands.now spans)
   closing_met (AsElement x) purpose k n q q' m ps ds suit operands spans lefts = same_place (AsElement x) purpose k n q q' m ps ds suit tt (λ s. refl) operands (spans_nothing u spans)
   closing_met AsAlone purpose k n q q' m ps ds suit operands spans lefts = same_place AsAlone purpose k n q q' m ps ds suit tt (λ s. alone_alike u.facts f s w.store ds) operands (spans_nothing u spans)
   closing_met (AsPart x) purpose k n q q' m ps ds suit operands spans lefts = same_place (AsPart x) purpose k n q q' m ps ds suit tt (λ s. part_alike u.facts f s w.store x ds) operands (spans_nothing u spans)

@@ -8,7 +8,7 @@ use Rattle.f_tree.specs.Store.{Store}
 use Rattle.f_tree.specs.Valuing.{Red, Valued, Bad, Asks, then_by, at_once, prefixed, operated, Left, Decided, Wants, Wrong, left_of, right_after, applied, element, alone, part, pieces, joined, fetched, bound_to, whole, array_whole, reduce, reduce_all}
 use Rattle.l_core.specs.Pures.{Pure, Temporary, Pures, NoPure}
 use Rattle.l_core.specs.Steps.{Step}
-use Rattle.lowering.specs.Expressions.{Purpose, ForUse, ForCall, ForLater, Lowered, plain, and_then, no_operand, ahead, Shape, AsFetch, AsElement, AsAlone, AsPart, AsJoined, AsBefore, AsBetween, AsFunction, AsReference, is_library, for_place, for_function, operand_purpose, kept_steps, kept_free, function_steps, function_free, closing, closed_free, shaped, is_kept, shape_takes, takes_steps, any_takes, may_decide, guarded, lowered_between, in_order, lower, lower_all}
+use Rattle.lowering.specs.Expressions.{Purpose, ForUse, ForCall, ForReading, ForLater, Lowered, plain, and_then, no_operand, ahead, Shape, AsFetch, AsElement, AsAlone, AsPart, AsJoined, AsBefore, AsBetween, AsFunction, AsReference, is_library, for_place, for_function, for_fetch, operand_purpose, kept_steps, kept_free, function_steps, function_free, closing, closed_free, shaped, is_kept, shape_takes, takes_steps, any_takes, may_decide, guarded, lowered_between, in_order, lower, lower_all}
 use Rattle.lowering_laws.proofs.WalkLemmas.{IsAtOnce}
 use Rattle.lowering_laws.specs.Midway.{formed, finish, Fits, of_fetch, of_element, of_alone, of_part, of_joined, of_before, of_between, of_function, of_reference}
 
@@ -31,6 +31,7 @@ kept_none : (purpose : Purpose) (o : Bool) (k : ℕ) (p : Pure) → (is_kept pur
 unfolding is_kept kept_steps
 kept_none ForUse o k p h = (refl, h)
 kept_none ForCall o k p h = absurd (true≢false h)
+kept_none ForReading o k p h = absurd (true≢false h)
 kept_none ForLater o k p h = absurd (true≢false h)
 
 function_none : (library : Bool) (function : Function) (purpose : Purpose) (o : Bool) (k : ℕ) (ps : Pures) (p : Pure) → (library || (is_kept purpose || o)) ≡ false → (function_steps library function purpose k ps ≡ []) × (o ≡ false)
@@ -40,7 +41,7 @@ function_none false function purpose o k ps p h = kept_none purpose o k _ h
 
 pub closing_none : (shape : Shape) (purpose : Purpose) (o : Bool) (k : ℕ) (ps : Pures) → shape_takes shape purpose o ≡ false → (closing shape purpose k ps ≡ []) × (o ≡ false)
 unfolding shape_takes closing
-closing_none AsFetch purpose o k ps h = kept_none purpose o k _ h
+closing_none AsFetch purpose o k ps h = kept_none (for_fetch purpose) o k _ h
 closing_none (AsElement x) purpose o k ps h = (refl, h)
 closing_none AsAlone purpose o k ps h = (refl, h)
 closing_none (AsPart x) purpose o k ps h = (refl, h)
@@ -225,6 +226,7 @@ kept_grows : (purpose : Purpose) (k n : ℕ) → k ≤ n → k ≤ kept_free pur
 unfolding kept_free
 kept_grows ForUse k n le = le
 kept_grows ForCall k n le = omega arith
+kept_grows ForReading k n le = omega arith
 kept_grows ForLater k n le = omega arith
 
 function_grows : (library : Bool) (purpose : Purpose) (k n : ℕ) → k ≤ n → k ≤ function_free library purpose k n
@@ -234,7 +236,7 @@ function_grows false purpose k n le = kept_grows purpose k n le
 
 pub closed_grows : (shape : Shape) (purpose : Purpose) (k n : ℕ) → k ≤ n → k ≤ closed_free shape purpose k n
 unfolding closed_free
-closed_grows AsFetch purpose k n le = kept_grows purpose k n le
+closed_grows AsFetch purpose k n le = kept_grows (for_fetch purpose) k n le
 closed_grows (AsElement x) purpose k n le = le
 closed_grows AsAlone purpose k n le = le
 closed_grows (AsPart x) purpose k n le = le

@@ -5,6 +5,7 @@ use Rattle.std.specs.Option.{option_flatten}
 use Rattle.std.proofs.Common.{refl, ap, sym, ◌∙◌, subst, drop, arith}
 use Rattle.std.proofs.lemmas.Bool.Decides.{nat_tests}
 use Rattle.std.proofs.lemmas.Grind.{fold-append}
+use Rattle.std.proofs.lemmas.List.{at_drop_more, at_drop_all}
 use Rattle.std.proofs.lemmas.Option.{slice_get-get_or}
 use Rattle.f_tree.specs.declared.names.Basic.{Basic}
 use Rattle.f_tree.specs.Values.{Datum, IsInt, IsLog, in_range}
@@ -13,6 +14,7 @@ use Rattle.l_core.specs.Pures as core
 use Rattle.l_core.specs.Steps as act
 use Rattle.l_core.specs.Steps.{Text, Takes, Acts}
 use Rattle.lowered_tree.specs.declared.pures.Literal.{Literal}
+use Rattle.lowered_tree.specs.declared.pures.Function.{Function}
 use Rattle.lowered_tree.specs.declared.pures.Pure.{Pure}
 use Rattle.lowered_tree.specs.declared.pures.Pure as tree
 use Rattle.lowered_tree.specs.declared.steps.Acting.{Acting}
@@ -25,7 +27,7 @@ use Rattle.lowered_text.specs.declared.kept.Kept.{Kept}
 use Rattle.lowered_text.specs.Texts.{kinds_of}
 use Rattle.c_emit.specs.Calls.{kind_number}
 use Rattle.main_translation.specs.Flow.{kept_type, kind_at}
-use Rattle.main_translation.specs.Contents.{with_new, own_value, item_type, kind_value, passed_by, passed_from, constants_of}
+use Rattle.main_translation.specs.Contents.{with_new, own_value, own_values, item_type, kind_value, passed_by, passed_from, constants_of}
 use Rattle.name_facts.specs.declared.table.NameFacts.{NameFacts}
 use Rattle.main_contents.specs.MainContents.{TellsTypes}
 use Rattle.main_contents.specs.Parts.{literal_value, item_type_by, item_values, list_values, acting_values, step_values}
@@ -138,13 +140,36 @@ pub step-Acts : (c : Facts) (kept : Option Kept) (s : Step) (what : Acting) (ps 
 unfolding step_values
 step-Acts c kept s what ps m is = sym (ap (λ r. step_values c kept (step_of r)) is)
 
-pub step-other : (c : Facts) (kept : Option Kept) (s : Step) → ((what : Acting) (ps : List Pure) (m : ℕ) → s ≡ step.Acts what ps m → ⊥) → [] ≡ step_values c kept (step_of s)
+pub step-Compute : (c : Facts) (kept : Option Kept) (s : Step) (k : ℕ) (f : Function) (ps : List Pure) → s ≡ step.Compute k f ps → own_values (pures_of ps) ≡ step_values c kept (step_of s)
 unfolding step_values
-step-other c kept (step.Acts what ps m) other = absurd (other what ps m refl)
-step-other c kept s other = refl
+step-Compute c kept s k f ps is = sym (ap (λ r. step_values c kept (step_of r)) is)
+
+pub step-other : (c : Facts) (kept : Option Kept) (s : Step) → ((what : Acting) (ps : List Pure) (m : ℕ) → s ≡ step.Acts what ps m → ⊥)
+    → ((k : ℕ) (f : Function) (ps : List Pure) → s ≡ step.Compute k f ps → ⊥) → [] ≡ step_values c kept (step_of s)
+unfolding step_values
+step-other c kept (step.Acts what ps m) acts computes = absurd (acts what ps m refl)
+step-other c kept (step.Compute k f ps) acts computes = absurd (computes k f ps refl)
+step-other c kept s acts computes = refl
 
 pub nothing_added : (zs values : List ℤ) → [] ≡ values → zs ≡ fold with_new zs values
 nothing_added zs values none = ap (fold with_new zs) none
+
+-- ## Operands of a function of the library
+
+pub owns_more : (ps : List Pure) (i : ℕ) (p : Pure) (own : Option ℤ) (before after all : List ℤ) → i < length ps → p ≡ slice_index_or ps i p → kind_value own ≡ own_value (pure_of p)
+    → after ≡ fold with_new before (kind_value own) → fold with_new before (own_values (pures_of (drop i ps))) ≡ all → fold with_new after (own_values (pures_of (drop (i + 1) ps))) ≡ all
+unfolding own_values pures_of
+owns_more ps i p own before after all inside is owned put known =
+    let later = own_values (pures_of (drop (i + 1) ps)) in
+    ap (λ zs. fold with_new zs later) (put ∙ ap (fold with_new before) owned) ∙ sym (fold-append with_new before (own_value (pure_of p)) later)
+    ∙ sym
+    (at_drop_more (λ qs. fold with_new before (own_values (pures_of qs))) ps i p inside
+    ∙ ap (λ q. fold with_new before (own_value (pure_of q) ++ later)) (sym is))
+    ∙ known
+
+pub owns_whole : (ps : List Pure) (i : ℕ) (values all : List ℤ) → length ps ≤ i → fold with_new values (own_values (pures_of (drop i ps))) ≡ all → values ≡ all
+unfolding own_values pures_of
+owns_whole ps i values all past known = sym (at_drop_all (λ qs. fold with_new values (own_values (pures_of qs))) ps i past) ∙ known
 
 -- ## One step more
 

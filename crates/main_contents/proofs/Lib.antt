@@ -7,4 +7,5 @@ pub mod KindLaws
 pub mod ConstantLaws
 pub mod FirstLaws
 pub mod LayoutLaws
+pub mod FunctionLaws
 pub mod WholeLaws

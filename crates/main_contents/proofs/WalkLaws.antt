@@ -3,7 +3,7 @@ use Rattle.std.specs.Prelude.{◌≡◌, ℕ, suc, ◌+◌, ◌<◌, ◌≤◌, 
 use Rattle.std.proofs.Common.{ap, sym, ◌∙◌, drop, arith, append_assoc}
 use Rattle.std.proofs.lemmas.List.{at_drop_more, at_drop_all, append-nil, map-append}
 use Rattle.l_core.specs.Steps as core
-use Rattle.l_core.specs.Steps.{Keep, Halt, Acts, Starts}
+use Rattle.l_core.specs.Steps.{Keep, Compute, Halt, Acts, Starts}
 use Rattle.lowered_tree.specs.declared.steps.Step.{Step}
 use Rattle.lowered_tree.specs.Shapes.{step_of, steps_of}
 use Rattle.main_file.specs.MainFile as file
@@ -28,6 +28,7 @@ no_step F steps i past = at_drop_all (λ ss. F (steps_of ss)) steps i past
 temporaries-split : (st : core.Step) (later : List core.Step) → temporaries_in (st ∷ later) ≡ max (temporaries_in (st ∷ [])) (temporaries_in later)
 unfolding temporaries_in
 temporaries-split (Keep k p) later = omega arith
+temporaries-split (Compute k f ps) later = omega arith
 temporaries-split st later = omega arith
 
 pub temporaries_more : (steps : List Step) (i : ℕ) (s : Step) (count by after all : ℕ) → i < length steps → s ≡ slice_index_or steps i s

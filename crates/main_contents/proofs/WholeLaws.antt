@@ -1,5 +1,4 @@
 -- The contents of a text from those of its parts.
-use Rattle.std.specs.List.{list_any}
 use Rattle.std.specs.Prelude.{◌≡◌, ℕ, ◌<◌, List, map, length}
 use Rattle.std.proofs.Common.{ap, sym, ◌∙◌, subst, arith}
 use Rattle.std.proofs.lemmas.Bool.{ltb-true}
@@ -13,10 +12,10 @@ use Rattle.lowered_text.specs.declared.text.LoweredText.{LoweredText}
 use Rattle.lowered_text.specs.Texts.{IsText}
 use Rattle.main_file.specs.MainItems.{stops_from}
 use Rattle.main_translation.specs.Flow.{are_on}
-use Rattle.main_translation.specs.Contents.{constants_of, listings_from, temporaries_in, begins_output, takes_item, ends_output, stops_run}
+use Rattle.main_translation.specs.Contents.{constants_of, listings_from, temporaries_in}
 use Rattle.name_facts.specs.declared.table.NameFacts.{NameFacts}
 use Rattle.main_contents.specs.declared.contents.Contents.{Contents}
-use Rattle.main_contents.specs.MainContents.{listing_of, TellsTypes, AreContents, AreContentsOf}
+use Rattle.main_contents.specs.MainContents.{listing_of, TellsTypes, AreCalls, AreContents, AreContentsOf}
 use Rattle.main_contents.specs.Tables.{text_of, AreKinds, AreLaidOut}
 
 -- the data determine a text, but for what its unit is and where its statements begin
@@ -31,10 +30,7 @@ pub record AreWalked (steps : List Step) (c : Contents) : Type 0 where
   pub lists : map listing_of c.lists.items ≡ listings_from 0 (steps_of steps)
   pub temporaries : c.temporaries ≡ temporaries_in (steps_of steps)
   pub strings : c.strings.items ≡ stops_from 0 (steps_of steps)
-  pub starts : c.calls.starts ≡ list_any begins_output (steps_of steps)
-  pub takes : c.calls.takes ≡ list_any takes_item (steps_of steps)
-  pub finishes : c.calls.finishes ≡ list_any ends_output (steps_of steps)
-  pub stops : c.calls.stops ≡ list_any stops_run (steps_of steps)
+  pub calls : AreCalls (steps_of steps) c.calls
 
 told_of : (table : NameFacts) (t : LoweredText) (c : Contents) (facts : Facts) (begins : ℕ → ℕ) → TellsTypes table facts → AreWalked t.steps.items c
     → c.constants.items ≡ constants_of (text_of t facts begins) → AreKinds table t c.kinds.items
@@ -43,7 +39,7 @@ told_of table t c facts begins tells walked constants kinds on laid = record {
   constants = constants;
   lists = walked.lists;
   temporaries = walked.temporaries;
-  calls = record { starts = walked.starts; takes = walked.takes; finishes = walked.finishes; stops = walked.stops };
+  calls = walked.calls;
   strings = walked.strings;
   kinds = λ n k h.
       let low : n < length (steps_of t.steps.items) = ltb-true n (length (steps_of t.steps.items)) h in

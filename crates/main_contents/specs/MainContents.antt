@@ -2,16 +2,18 @@
 -- 3.5 and 3.6.
 use Rattle.std.specs.List.{list_any}
 use Rattle.std.specs.Option.{option_flatten}
-use Rattle.std.specs.Prelude.{◌≡◌, ℕ, nat_lt, true, ◌&&◌, map, length, is_none, slice_get}
+use Rattle.std.specs.Prelude.{◌≡◌, ℕ, nat_lt, true, ◌&&◌, List, map, filter, length, is_none, slice_get}
 use Rattle.f_tree.specs.Values.{Bytes}
 use Rattle.f_tree.specs.Facts.{Facts}
-use Rattle.l_core.specs.Steps.{Text}
+use Rattle.l_core.specs.Steps.{Step, Text}
+use Rattle.c_emit.specs.LibraryFunctions.{LibraryFunction, library_functions}
+use Rattle.library_functions.specs.Described.{described}
 use Rattle.lowered_text.specs.declared.text.LoweredText.{LoweredText}
 use Rattle.lowered_text.specs.Texts.{IsText, kinds_of}
 use Rattle.main_file.specs.MainFile as file
 use Rattle.main_file.specs.MainItems.{stops_from}
 use Rattle.main_translation.specs.Flow.{kind_at, are_on}
-use Rattle.main_translation.specs.Contents.{constants_of, listings_from, temporaries_in, begins_output, takes_item, ends_output, stops_run}
+use Rattle.main_translation.specs.Contents.{constants_of, listings_from, temporaries_in, begins_output, takes_item, ends_output, stops_run, computes}
 use Rattle.main_translation.specs.Outlined.{label_at, passes_arms, loop_at}
 use Rattle.name_facts.specs.declared.table.NameFacts.{NameFacts}
 use Rattle.name_facts.specs.GivenFacts.{fact_in}
@@ -27,18 +29,23 @@ listing_of l = record { step = l.step; unit = l.unit }
 pub record TellsTypes (table : NameFacts) (facts : Facts) : Type 0 where
   pub basic : (x : Bytes) → (facts.program.attribute x).basic ≡ (fact_in table x).basic
 
+-- those of some functions of the library by which steps compute
+abbrev pub computed_in : List Step → List LibraryFunction → List LibraryFunction
+computed_in steps functions = filter (λ one. list_any (computes one) steps) functions
+
 -- which functions of the library are called
-pub record AreCalls (u : Text) (calls : Calls) : Type 0 where
-  pub starts : calls.starts ≡ list_any begins_output u.steps
-  pub takes : calls.takes ≡ list_any takes_item u.steps
-  pub finishes : calls.finishes ≡ list_any ends_output u.steps
-  pub stops : calls.stops ≡ list_any stops_run u.steps
+pub record AreCalls (steps : List Step) (calls : Calls) : Type 0 where
+  pub starts : calls.starts ≡ list_any begins_output steps
+  pub takes : calls.takes ≡ list_any takes_item steps
+  pub finishes : calls.finishes ≡ list_any ends_output steps
+  pub stops : calls.stops ≡ list_any stops_run steps
+  pub functions : map described calls.functions.items ≡ computed_in steps library_functions
 
 pub record AreContents (u : Text) (c : Contents) : Type 0 where
   pub constants : c.constants.items ≡ constants_of u
   pub lists : map listing_of c.lists.items ≡ listings_from 0 u.steps
   pub temporaries : c.temporaries ≡ temporaries_in u.steps
-  pub calls : AreCalls u c.calls
+  pub calls : AreCalls u.steps c.calls
   pub strings : c.strings.items ≡ stops_from 0 u.steps
   -- what is known before each step
   pub kinds : (n k : ℕ) → nat_lt n (length u.steps) ≡ true → kinds_of (option_flatten (slice_get c.kinds.items n)) k ≡ kind_at u n k

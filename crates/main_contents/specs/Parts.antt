@@ -5,12 +5,12 @@ use Rattle.f_tree.specs.declared.names.Basic.{Basic}
 use Rattle.f_tree.specs.Values.{Datum, IsInt, IsLog, in_range}
 use Rattle.f_tree.specs.Facts.{Facts}
 use Rattle.l_core.specs.Pures.{Pure, Constant, Temporary, Pures, NoPure, AndPure}
-use Rattle.l_core.specs.Steps.{Acting, Starts, Takes, Step, Acts}
+use Rattle.l_core.specs.Steps.{Acting, Starts, Takes, Step, Compute, Acts}
 use Rattle.c_emit.specs.Calls.{unit_of, kind_number}
 use Rattle.lowered_text.specs.declared.kept.Kept.{Kept}
 use Rattle.lowered_text.specs.Texts.{kinds_of}
 use Rattle.main_translation.specs.Flow.{kept_type}
-use Rattle.main_translation.specs.Contents.{own_value, kind_value}
+use Rattle.main_translation.specs.Contents.{own_value, own_values, kind_value}
 
 -- an integer that is written
 unfoldable pub integer_in : Datum → Option ℤ
@@ -56,4 +56,5 @@ acting_values c kept what ps = []
 
 unfoldable pub step_values : Facts → Option Kept → Step → List ℤ
 step_values c kept (Acts what ps m) = acting_values c kept what ps
+step_values c kept (Compute k f ps) = own_values ps
 step_values c kept st = []

@@ -5,7 +5,7 @@ ghost use Rattle.f_tree.specs.Facts.{Facts};
 ghost use Rattle.lowered_tree.specs.Shapes.{datum_of, pure_of, pures_of, acting_of, step_of};
 ghost use Rattle.lowered_text.specs.Texts.{kinds_of};
 ghost use Rattle.c_emit.specs.Calls.{kind_number};
-ghost use Rattle.main_translation.specs.Contents.{with_new, own_value, kind_value, constants_of};
+ghost use Rattle.main_translation.specs.Contents.{with_new, own_value, own_values, kind_value, constants_of};
 ghost use Rattle.main_contents.specs.MainContents.{TellsTypes};
 ghost use Rattle.main_contents.specs.Parts as spec;
 ghost use Rattle.main_contents.specs.Tables.{text_of, AreKinds};
@@ -146,6 +146,16 @@ fn add_acting(
     }
 }
 
+/// Adds the values of the operands of a function of the library that are constants.
+fn add_own_values(values: &mut BTreeSet<i32>, operands: &[Pure]) -> Result<(), AllocError>
+    ensures { OnOk result (values.new.keys ≡ fold with_new values.old.keys (own_values (pures_of operands.now))) }
+{
+    for operand in operands {
+        add_if(values, own_value(operand))?;
+    }
+    Ok(())
+}
+
 /// Adds what a step passes by the address of a constant.
 fn add_step(
     values: &mut BTreeSet<i32>,
@@ -159,6 +169,7 @@ fn add_step(
         Step::Acts(acting, operands, _) => {
             add_acting(values, table, kept, acting, operands.as_slice())
         }
+        Step::Compute(_, _, operands) => add_own_values(values, operands.as_slice()),
         _ => Ok(()),
     }
 }

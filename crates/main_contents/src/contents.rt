@@ -1,5 +1,6 @@
 //! What a file has.
 
+use library_functions::LibraryFunction;
 use lowered_text::Kept;
 use named_items::Layout;
 
@@ -13,7 +14,7 @@ pub struct Listing {
 }
 
 /// Which functions of the library are called.
-#[derive(Clone, Copy, Debug, PartialEq, Eq)]
+#[derive(Drop)]
 pub struct Calls {
     /// That which starts a list-directed output.
     pub starts: bool,
@@ -23,6 +24,8 @@ pub struct Calls {
     pub finishes: bool,
     /// That which stops the run.
     pub stops: bool,
+    /// Those of functions of numbers, in the order of the library.
+    pub functions: Vec<LibraryFunction>,
 }
 
 /// What the C file of a main program has.

@@ -1,4 +1,4 @@
-//! What is known before each step of the temporaries: the type of the value that the step before keeps. Sections 4.1, 6.1, 6.3, 6.4 and 15.10.
+//! What is known before each step of the temporaries: the type of the value that the step before keeps or computes. Sections 4.1, 6.1, 6.3, 6.4 and 15.10.
 
 ghost use Rattle.std.specs.Prelude.{◌≡◌, ℕ, false, Some, None, nat_eq, IfOk, if◌then◌else◌};
 ghost use Rattle.f_tree.specs.Facts.{Facts};
@@ -11,6 +11,7 @@ ghost use Rattle.main_contents.specs.MainContents.{TellsTypes};
 ghost use Rattle.main_contents.specs.Tables.{AreTargets, AreKinds};
 
 use f_tree::Basic;
+use library_functions::library_type;
 use lowered_text::{Kept, LoweredText};
 use lowered_tree::{Function, Literal, Operator, Prefix, Pure, Step};
 use name_facts::NameFacts;
@@ -128,6 +129,7 @@ fn kept_by(table: &NameFacts, step: &Step) -> Option<Kept>
 {
     match step {
         Step::Keep(temporary, value) => kept(*temporary, kept_type(table, value)),
+        Step::Compute(temporary, function, _) => kept(*temporary, library_type(*function)),
         _ => None,
     }
 }

@@ -32,7 +32,7 @@ pub fn contents_of(
     let constants = constants_of(alloc, table, text, kinds.as_slice())?;
     let lists = listings(alloc, steps)?;
     let temporaries = temporaries_in(steps)?;
-    let calls = calls_of(steps);
+    let calls = calls_of(alloc, steps)?;
     let strings = string_positions(alloc, steps)?;
     let are_outputs_on = are_on(text, targets.as_slice());
     let layout = layout(alloc, text)?;

@@ -1,11 +1,13 @@
 //! What single steps do.
 
-ghost use Rattle.std.specs.Prelude.{◌≡◌};
+ghost use Rattle.std.specs.Prelude.{◌≡◌, option_map};
 ghost use Rattle.lowered_tree.specs.Shapes.{datum_of, pure_of, pures_of, acting_of, step_of};
 ghost use Rattle.c_emit.specs.Calls.{unit_of};
-ghost use Rattle.main_translation.specs.Contents.{begins_output, takes_item, ends_output, stops_run};
+ghost use Rattle.library_functions.specs.Described.{described};
+ghost use Rattle.main_translation.specs.Contents.{begins_output, takes_item, ends_output, stops_run, is_function, computes};
 ghost use Rattle.main_contents.specs.Parts as spec;
 
+use library_functions::{LibraryFunction, library_function};
 use lowered_tree::{Acting, Literal, Pure, Step};
 
 /// The value of a literal that is an integer.
@@ -102,4 +104,26 @@ pub(crate) fn stops_run(step: &Step) -> bool
     ensures { result ≡ stops_run (step_of step.now) }
 {
     matches!(step, Step::Halt(_))
+}
+
+/// Whether a function of the library is the same as another, where there is that.
+#[tactic(auto, unfolding(main_translation::specs::Contents::is_function))]
+fn is_function(one: &LibraryFunction, other: Option<LibraryFunction>) -> bool
+    ensures { result ≡ is_function (described one.now) (option_map described other) }
+{
+    match other {
+        Some(other) => one.name == other.name,
+        None => false,
+    }
+}
+
+/// Whether a step computes by a function of the library.
+#[tactic(auto, unfolding(main_translation::specs::Contents::computes))]
+pub(crate) fn computes(one: &LibraryFunction, step: &Step) -> bool
+    ensures { result ≡ computes (described one.now) (step_of step.now) }
+{
+    match step {
+        Step::Compute(_, function, _) => is_function(one, library_function(*function)),
+        _ => false,
+    }
 }

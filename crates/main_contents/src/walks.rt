@@ -1,24 +1,34 @@
 //! What plain walks over the steps of a text find.
 
-ghost use Rattle.std.specs.Prelude.{◌≡◌, map, [], ◌∷◌, ◌++◌, OnOk, IfOk};
+ghost use Rattle.std.specs.Prelude.{◌≡◌, suc, map, [], ◌∷◌, ◌++◌, OnOk, IfOk};
 ghost use Rattle.std.specs.List.{list_any};
 ghost use Rattle.lowered_tree.specs.Shapes.{step_of, steps_of};
 ghost use Rattle.main_file.specs.MainItems.{stops_from};
 ghost use Rattle.main_translation.specs.Contents as spec;
-ghost use Rattle.main_contents.specs.MainContents.{listing_of};
+ghost use Rattle.library_functions.specs.Described.{described};
+ghost use Rattle.main_contents.specs.MainContents.{AreCalls, computed_in, listing_of};
 
 use crate::contents::{Calls, Listing};
-use crate::steps::{begins_output, begun_unit, ends_output, stops_run, takes_item};
+use crate::steps::{begins_output, begun_unit, computes, ends_output, stops_run, takes_item};
+use library_functions::{LibraryFunction, library_functions};
 use lowered_tree::Step;
 use std::alloc::{AllocError, Global};
 
-/// How many temporaries there are where no step but this one keeps a value. Fails where a temporary has no number.
+/// How many temporaries there are where a number is the greatest. Fails where the next has no number.
+fn counted(number: usize) -> Result<usize, AllocError>
+    ensures { IfOk result (λ count. count ≡ suc number) }
+{
+    number.checked_add(1).ok_or(AllocError)
+}
+
+/// How many temporaries there are where no step but this one keeps or computes a value. Fails where a temporary has no number.
 #[tactic(auto, unfolding(main_translation::specs::Contents::temporaries_in))]
 fn temporaries_by(step: &Step) -> Result<usize, AllocError>
     ensures { IfOk result (λ count. count ≡ spec.temporaries_in (step_of step.now ∷ [])) }
 {
     match step {
-        Step::Keep(number, _) => number.checked_add(1).ok_or(AllocError),
+        Step::Keep(number, _) => counted(*number),
+        Step::Compute(number, _, _) => counted(*number),
         _ => Ok(0),
     }
 }
@@ -68,17 +78,51 @@ pub(crate) fn listings(alloc: Global, steps: &[Step]) -> Result<Vec<Listing>, Al
     Ok(lists)
 }
 
-/// Which functions of the library the steps call.
-pub(crate) fn calls_of(steps: &[Step]) -> Calls
-    ensures starts { result.starts ≡ list_any spec.begins_output (steps_of steps.now) }
-    ensures takes { result.takes ≡ list_any spec.takes_item (steps_of steps.now) }
-    ensures finishes { result.finishes ≡ list_any spec.ends_output (steps_of steps.now) }
-    ensures stops { result.stops ≡ list_any spec.stops_run (steps_of steps.now) }
+/// Whether any step computes by a function of the library.
+fn any_computes(one: &LibraryFunction, steps: &[Step]) -> bool
+    ensures { result ≡ list_any (spec.computes (described one.now)) (steps_of steps.now) }
 {
-    Calls {
+    steps.iter().any(|step| computes(one, step))
+}
+
+/// Adds a function of the library, where steps compute by it.
+fn add_function(
+    found: &mut Vec<LibraryFunction>,
+    one: &LibraryFunction,
+    steps: &[Step],
+) -> Result<(), AllocError>
+    ensures { OnOk result (map described found.new.items ≡ map described found.old.items ++ computed_in (steps_of steps.now) (described one.now ∷ [])) }
+{
+    if any_computes(one, steps) {
+        found.push(*one)?;
+    }
+    Ok(())
+}
+
+/// Those of some functions of the library by which steps compute.
+fn computed_in(
+    alloc: Global,
+    functions: &[LibraryFunction],
+    steps: &[Step],
+) -> Result<Vec<LibraryFunction>, AllocError>
+    ensures { IfOk result (λ found. map described found.items ≡ computed_in (steps_of steps.now) (map described functions.now)) }
+{
+    let mut found = Vec::new(alloc);
+    for one in functions {
+        add_function(&mut found, one, steps)?;
+    }
+    Ok(found)
+}
+
+/// Which functions of the library the steps call.
+pub(crate) fn calls_of(alloc: Global, steps: &[Step]) -> Result<Calls, AllocError>
+    ensures { IfOk result (AreCalls (steps_of steps.now)) }
+{
+    Ok(Calls {
         starts: steps.iter().any(begins_output),
         takes: steps.iter().any(takes_item),
         finishes: steps.iter().any(ends_output),
         stops: steps.iter().any(stops_run),
-    }
+        functions: computed_in(alloc, library_functions(), steps)?,
+    })
 }

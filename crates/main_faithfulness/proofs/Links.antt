@@ -1,6 +1,5 @@
 -- The C file of a main program links: it has one function, the main program's, and each function that it declares and calls is one of the library.
 -- C89, 3.1.2.2 and 3.7.
-use Rattle.std.specs.List.{list_any}
 use Rattle.std.specs.Prelude.{◌≡◌, ℕ, zero, suc, Bool, true, false, ◌||◌, cond, nat_lt, List, [], ◌∷◌, ◌++◌, map, filter, Option, Some, None, is_none, bytes_eq}
 use Rattle.std.proofs.Common.{refl, sym, ap, ◌∙◌, subst}
 use Rattle.std.proofs.lemmas.Slice.Eq.{bytes_eq-Decides}
@@ -15,7 +14,9 @@ use Rattle.c_tree.specs.Linking as linking
 use Rattle.c_tree.specs.Linking.{Routines, any_of, main_name, first_broken_rule, broken_rule}
 use Rattle.faithful.specs.Faithful.{is_linked}
 use Rattle.main_file.specs.MainFile.{Inventory, Variable, Listing, Called, variable_by, variable_for, lists_from, temporaries_from, call_for, main_locals, called_names, main_file}
-use Rattle.main_translation.specs.Contents.{inventory_of, if_called, calls_of, start_output, output_item, end_output, stop_run, begins_output, takes_item, ends_output, stops_run}
+use Rattle.main_translation.specs.Contents.{inventory_of, calls_of, function_called}
+use Rattle.main_translation_laws.proofs.Lists.{IsPart, no_part, left_out, taken_too, part_map}
+use Rattle.main_translation_laws.proofs.Contents.{all_calls, calls_part}
 
 -- the functions of a program whose one function is the main program's
 abbrev main_routines : Routines
@@ -29,39 +30,22 @@ names_called calls = map (λ (call : Called). call.name) calls
 
 -- ## What is called is there
 
-if_there : (t : Bool) (call : Called) (later : List Called) → is_missing call.name ≡ false → any_of is_missing (names_called later) ≡ false →
-    any_of is_missing (names_called (if_called t call ++ later)) ≡ false
-unfolding if_called
-if_there true call later there rest = ap (λ t. t || any_of is_missing (names_called later)) there ∙ rest
-if_there false call later there rest = rest
+none_of_two : (a b : Bool) → (a || b) ≡ false → (a ≡ false) × (b ≡ false)
+none_of_two true b none = absurd (cc)
+none_of_two false b none = (refl, none)
 
-last_there : (t : Bool) (call : Called) → is_missing call.name ≡ false → any_of is_missing (names_called (if_called t call)) ≡ false
-unfolding if_called
-last_there true call there = ap (λ t. t || false) there
-last_there false call there = refl
+none_of_part : (some all : List (List ℕ)) → IsPart some all → any_of is_missing all ≡ false → any_of is_missing some ≡ false
+none_of_part _ _ no_part none = none
+none_of_part some _ (left_out y part) none = none_of_part some _ part (none_of_two (is_missing y) _ none).1
+none_of_part (_ ∷ some) (_ ∷ all) (taken_too y part) none =
+    let both = none_of_two (is_missing y) (any_of is_missing all) none in ap (λ t. t || any_of is_missing some) both.0 ∙ none_of_part some all part both.1
 
-start_there : is_missing start_output.name ≡ false
-start_there = refl
-
-item_there : is_missing output_item.name ≡ false
-item_there = refl
-
-end_there : is_missing end_output.name ≡ false
-end_there = refl
-
-stop_there : is_missing stop_run.name ≡ false
-stop_there = refl
+all_there : any_of is_missing (names_called all_calls) ≡ false
+unfolding function_called
+all_there = refl
 
 calls_there : (steps : List Step) → any_of is_missing (names_called (calls_of steps)) ≡ false
-unfolding calls_of
-calls_there steps =
-    let last = if_called (list_any stops_run steps) stop_run in
-    let two = if_called (list_any ends_output steps) end_output ++ last in
-    let three = if_called (list_any takes_item steps) output_item ++ two in
-    if_there (list_any begins_output steps) start_output three start_there
-    (if_there (list_any takes_item steps) output_item two item_there
-    (if_there (list_any ends_output steps) end_output last end_there
-    (last_there (list_any stops_run steps) stop_run stop_there)))
+calls_there steps = none_of_part (names_called (calls_of steps)) (names_called all_calls) (part_map (λ (call : Called). call.name) (calls_of steps) all_calls (calls_part steps)) all_there
 
 -- ## What is mentioned is called
 
@@ -69,10 +53,6 @@ calls_there steps =
 one_there : (t missing : Bool) (x name : List ℕ) (later : Bool) → bytes_eq name x ≡ t → is_missing x ≡ missing → (t || later) ≡ true → (later ≡ true → is_missing name ≡ false) → missing ≡ false → is_missing name ≡ false
 one_there true missing x name later same is one rest there = subst (λ (y : List ℕ). is_missing y ≡ false) (sym ((bytes_eq-Decides name x).0 same)) (is ∙ there)
 one_there false missing x name later same is one rest there = rest one
-
-none_of_two : (a b : Bool) → (a || b) ≡ false → (a ≡ false) × (b ≡ false)
-none_of_two true b none = absurd (cc)
-none_of_two false b none = (refl, none)
 
 among_there : (names : List (List ℕ)) → any_of is_missing names ≡ false → (name : List ℕ) → any_of (bytes_eq name) names ≡ true → is_missing name ≡ false
 among_there [] there name among = absurd (cc)

@@ -9,6 +9,7 @@ use Rattle.f_tree.specs.Valuing.{size_of_dimension}
 use Rattle.f_tree.specs.CNames.{variable_name, made_name, NumberTemporary, ControlList, ConstantOf}
 use Rattle.c_tree.specs.declared.types.NumberType.{NumberType}
 use Rattle.c_tree.specs.declared.types.NumberType.TheVariants as number_type
+use Rattle.c_tree.specs.declared.types.ResultType.{ResultType}
 use Rattle.c_tree.specs.declared.types.ResultType.TheVariants as result
 use Rattle.c_tree.specs.declared.types.ArgumentType.{ArgumentType}
 use Rattle.c_tree.specs.declared.types.ListType.TheVariants as list_type
@@ -42,6 +43,7 @@ pub record Listing : Type 0 where
 
 -- a function of the library that is called
 pub record Called : Type 0 where
+  pub result : ResultType
   pub name : List ℕ
   pub arguments : List ArgumentType
 
@@ -83,7 +85,7 @@ temporaries_from k zero = []
 temporaries_from k (suc n) = local.Number number_type.Integer (made_name (NumberTemporary k)) ∷ temporaries_from (suc k) n
 
 abbrev pub call_for : Called → CLocal
-call_for call = local.Extern result.Integer call.name call.arguments
+call_for call = local.Extern call.result call.name call.arguments
 
 abbrev pub main_locals : Inventory → List CLocal
 main_locals v = temporaries_from 1 v.temporaries ++ (map call_for v.calls ++ (map variable_for v.variables ++ lists_from 1 v.lists))

@@ -4,7 +4,8 @@ use Rattle.std.proofs.Common.{refl, sym, ap, ◌∙◌, subst, arith}
 use Rattle.std.proofs.lemmas.Bool.{eq-eqb, ne_eqb, lt-ltb, le-leb}
 use Rattle.std.proofs.lemmas.List.{append_assoc, length-append}
 use Rattle.f_tree.specs.declared.names.Basic.{Basic}
-use Rattle.l_core.specs.Steps.{Starts, Takes, Finishes, Step, Halt, Acts, Text}
+use Rattle.f_tree.specs.Terms as fortran
+use Rattle.l_core.specs.Steps.{Starts, Takes, Finishes, Step, Compute, Halt, Acts, Text}
 use Rattle.c_tree.specs.declared.statement.CStmt.{CStmt}
 use Rattle.c_tree.specs.Access.{ToChar}
 use Rattle.c_tree.specs.Flat.{Flat}
@@ -16,48 +17,49 @@ use Rattle.c_structure.specs.Expressions as written
 use Rattle.c_structure.specs.Statements.{strings_of_item, strings_of_items}
 use Rattle.c_structure_laws.specs.Fitting.{KnowsItems, KnowsArray, AreNumbered}
 use Rattle.c_emit.specs.Numbers.{Writing}
+use Rattle.c_emit.specs.LibraryFunctions.{library_function}
 use Rattle.c_emit.specs.Flats.{flat_of}
 use Rattle.linking_laws.specs.Linked as linked
 use Rattle.linking_laws.proofs.Places.{some_same, position_step, taken, skipped}
 use Rattle.linking_laws.proofs.BuiltCode.{code_is_theirs}
-use Rattle.emitted_names.specs.KnownNames.{KnowsStep}
+use Rattle.emitted_names.specs.KnownNames.{CallsFunction, KnowsStep}
 use Rattle.emitted_names.proofs.ItemNames.{emitted_names_are_known}
 use Rattle.main_file.specs.MainFile.{Inventory, Bases, main_function, main_file, first_string, first_temporary, place_or_none, place_of_string, names_of, string_at, writing_of}
 use Rattle.main_file_laws.specs.KnownFile.{NamesDiffer, VariablesAreListed, scope_in, FileIsKnown}
 use Rattle.main_file.specs.MainItems.{item_before, flats_from, stops_from}
-use Rattle.main_file_laws.specs.BuiltMain.{IsListed, AreListed, AreNumberedBuiltins, MainsHaveTheirItems}
+use Rattle.main_file_laws.specs.BuiltMain.{FunctionIsCalled, IsListed, AreListed, AreNumberedBuiltins, MainsHaveTheirItems}
 use Rattle.main_file_laws.proofs.Listed.{no_strings, statics_count}
 use Rattle.main_file_laws.proofs.Known.{main_files_are_known}
 
 -- ## Where a number stands in a list of greater ones behind lesser ones
 
-data AreBelow (n : ℕ) : List ℕ → Type 0 where
+pub data AreBelow (n : ℕ) : List ℕ → Type 0 where
   none_below : AreBelow n []
   and_below : {m : ℕ} {ms : List ℕ} → m < n → AreBelow n ms → AreBelow n (m ∷ ms)
 
-below_next : (n : ℕ) (ms : List ℕ) → AreBelow n ms → AreBelow (suc n) ms
+pub below_next : (n : ℕ) (ms : List ℕ) → AreBelow n ms → AreBelow (suc n) ms
 below_next n [] none_below = none_below
 below_next n (m ∷ ms) (and_below less rest) = and_below (omega (arith, less)) (below_next n ms rest)
 
-below_both : (n : ℕ) (ms : List ℕ) → AreBelow n ms → AreBelow (suc n) (ms ++ n ∷ [])
+pub below_both : (n : ℕ) (ms : List ℕ) → AreBelow n ms → AreBelow (suc n) (ms ++ n ∷ [])
 below_both n [] none_below = and_below (omega arith) none_below
 below_both n (m ∷ ms) (and_below less rest) = and_below (omega (arith, less)) (below_both n ms rest)
 
-place_behind : (n : ℕ) (before later : List ℕ) → AreBelow n before → position (nat_eq n) (before ++ n ∷ later) ≡ Some (length before)
+pub place_behind : (n : ℕ) (before later : List ℕ) → AreBelow n before → position (nat_eq n) (before ++ n ∷ later) ≡ Some (length before)
 place_behind n [] later none_below = position_step (nat_eq n) n later ∙ taken (nat_eq n n) (Some 0) (option_map suc (position (nat_eq n) later)) (eq-eqb n n refl)
 place_behind n (m ∷ before) later (and_below less rest) =
     position_step (nat_eq n) m (before ++ n ∷ later)
     ∙ skipped (nat_eq n m) (Some 0) (option_map suc (position (nat_eq n) (before ++ n ∷ later))) (ne_eqb n m (λ same. let no : ⊥ = omega (arith, same, less) in no))
     ∙ ap (option_map suc) (place_behind n before later rest)
 
-record AreBefore (x : Option Flat) (xs : Option (List Flat)) (items : List Flat) : Type 0 where
-  item : Flat
-  later : List Flat
-  item_is : x ≡ Some item
-  later_is : xs ≡ Some later
-  is : item ∷ later ≡ items
+pub record AreBefore (x : Option Flat) (xs : Option (List Flat)) (items : List Flat) : Type 0 where
+  pub item : Flat
+  pub later : List Flat
+  pub item_is : x ≡ Some item
+  pub later_is : xs ≡ Some later
+  pub is : item ∷ later ≡ items
 
-before_by : (x : Option Flat) (xs : Option (List Flat)) (items : List Flat) → item_before x xs ≡ Some items → AreBefore x xs items
+pub before_by : (x : Option Flat) (xs : Option (List Flat)) (items : List Flat) → item_before x xs ≡ Some items → AreBefore x xs items
 unfolding item_before
 before_by (Some item) (Some later) items h = record { item = item; later = later; item_is = refl; later_is = refl; is = cc }
 before_by (Some item) None items h = absurd (cc)
@@ -94,6 +96,22 @@ module _ (numbers : Routines) (objects : List ℕ → Option ℕ) (v : Inventory
       both_true true t h k = k
       both_true false t h k = absurd (cc)
 
+  -- a function of numbers
+  function_known : (f : fortran.Function) → FunctionIsCalled v (library_function f) → CallsFunction scope (names_of v b) (writing_of v b u.facts kind) (library_function f)
+  unfolding scope library_function
+  function_known fortran.Power calls = known.calls calls.0 4 (codes "pow_ii") calls.1 refl (builtins (codes "pow_ii") 4 calls refl)
+  function_known fortran.SignTransfer calls = known.calls calls.0 5 (codes "i_sign") calls.1 refl (builtins (codes "i_sign") 5 calls refl)
+  function_known fortran.PositiveDifference calls = known.calls calls.0 6 (codes "i_dim") calls.1 refl (builtins (codes "i_dim") 6 calls refl)
+  function_known fortran.InclusiveOr calls = known.calls calls.0 35 (codes "i_or") calls.1 refl (builtins (codes "i_or") 35 calls refl)
+  function_known fortran.LogicalProduct calls = known.calls calls.0 36 (codes "i_and") calls.1 refl (builtins (codes "i_and") 36 calls refl)
+  function_known fortran.ExclusiveOr calls = known.calls calls.0 37 (codes "i_eor") calls.1 refl (builtins (codes "i_eor") 37 calls refl)
+  function_known fortran.BitComplement calls = known.calls calls.0 38 (codes "i_not") calls.1 refl (builtins (codes "i_not") 38 calls refl)
+  function_known fortran.BitShift calls = known.calls calls.0 39 (codes "i_shft") calls.1 refl (builtins (codes "i_shft") 39 calls refl)
+  function_known fortran.BitTest calls = known.calls calls.0 40 (codes "b_test") calls.1 refl (builtins (codes "b_test") 40 calls refl)
+  function_known fortran.BitSet calls = known.calls calls.0 41 (codes "b_set") calls.1 refl (builtins (codes "b_set") 41 calls refl)
+  function_known fortran.BitClear calls = known.calls calls.0 42 (codes "b_clr") calls.1 refl (builtins (codes "b_clr") 42 calls refl)
+  function_known f calls = tt
+
   -- what each step asks for
   knows_step : (n : ℕ) (st : Step) → IsListed v n st → ((text : List ℕ) → st ≡ Halt text → (i : ℕ) × (i < length v.strings) × (place_of_string v n ≡ Some i)) → KnowsStep scope (names_of v b) (writing_of v b u.facts kind) n st
   unfolding scope
@@ -108,6 +126,7 @@ module _ (numbers : Routines) (objects : List ℕ → Option ℕ) (v : Inventory
         subst (λ p. KnowsArray scope ((names_of v b).object (first_string v b + place_or_none p)) (string_at v b (first_string v b + place_or_none p)) (first_string v b + place_or_none p) ToChar) (sym place.2)
             (subst (λ found. KnowsArray scope ((names_of v b).object (first_string v b + place.0)) found (first_string v b + place.0) ToChar) (sym string.1) refl),
       )
+  knows_step n (Compute k f ps) calls stop = function_known f calls
   knows_step n st calls stop = tt
 
   writing : Writing

@@ -1,13 +1,14 @@
 -- That the function of a main program has the items that are emitted for its lowered text, where its statements are built for them. C89, 3.6.
-use Rattle.std.specs.Prelude.{◌≡◌, ℕ, suc, ◌+◌, List, [], ◌∷◌, length, position, Option, Some, slice_get, bytes_eq, codes}
+use Rattle.std.specs.Prelude.{◌≡◌, ℕ, suc, ◌+◌, List, [], ◌∷◌, length, position, Option, Some, None, slice_get, bytes_eq, codes}
 use Rattle.f_tree.specs.declared.names.Basic.{Basic}
-use Rattle.l_core.specs.Steps.{Starts, Takes, Finishes, Step, Acts, Halt, Text}
+use Rattle.l_core.specs.Steps.{Starts, Takes, Finishes, Step, Compute, Acts, Halt, Text}
 use Rattle.c_tree.specs.declared.statement.CStmt.{CStmt}
 use Rattle.c_tree.specs.Flat.{Flat}
 use Rattle.c_tree.specs.Builtins.{builtin_names}
 use Rattle.c_tree.specs.FlatForm.{whole_body}
 use Rattle.c_tree.specs.Linking.{Routines, file_scope, linked_function}
 use Rattle.c_structure.specs.Statements.{Outline}
+use Rattle.c_emit.specs.LibraryFunctions.{LibraryFunction, library_function}
 use Rattle.linking_laws.specs.Linked.{IsBuilt}
 use Rattle.main_file.specs.MainFile.{Inventory, Bases, main_function, main_file, names_of, writing_of, called_names, place_of_list}
 use Rattle.main_file.specs.MainItems.{flats_from, stops_from}
@@ -17,11 +18,16 @@ use Rattle.main_file_laws.specs.KnownFile.{NamesDiffer, VariablesAreListed}
 abbrev pub IsCalled : Inventory → List ℕ → Type 0
 IsCalled v name = (i : ℕ) × (slice_get (called_names v) i ≡ Some name)
 
+abbrev pub FunctionIsCalled : Inventory → Option LibraryFunction → Type 0
+FunctionIsCalled v None = Unit {0}
+FunctionIsCalled v (Some one) = IsCalled v one.name
+
 abbrev pub IsListed : Inventory → ℕ → Step → Type 0
 IsListed v n (Acts (Starts way layout controls) ps m) = IsCalled v (codes "s_wsle") × ((i : ℕ) × (place_of_list v n ≡ Some i))
 IsListed v n (Acts Takes ps m) = IsCalled v (codes "do_lio")
 IsListed v n (Acts Finishes ps m) = IsCalled v (codes "e_wsle")
 IsListed v n (Halt text) = IsCalled v (codes "s_stop")
+IsListed v n (Compute k f ps) = FunctionIsCalled v (library_function f)
 IsListed v n st = Unit {0}
 
 abbrev pub AreListed : Inventory → ℕ → List Step → Type 0

@@ -135,7 +135,7 @@ temporaries_readable k (suc n) = ((λ scope. temporary_spelled scope number_type
 
 calls_readable : (calls : List Called) → AreReadable (map call_for calls)
 calls_readable [] = tt
-calls_readable (call ∷ calls) = ((λ scope. extern_spelled scope result.Integer call.name call.arguments), calls_readable calls)
+calls_readable (call ∷ calls) = ((λ scope. extern_spelled scope call.result call.name call.arguments), calls_readable calls)
 
 variables_readable : (vs : List Variable) → ((one : Variable) (n : ℕ) → IsIn one vs → one.count ≡ Some n → IsLength n) → AreReadable (map variable_for vs)
 variables_readable [] fit = tt

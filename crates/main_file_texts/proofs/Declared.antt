@@ -6,6 +6,7 @@ use Rattle.f_tree.specs.Setting.{IsIn, first_in, later_in}
 use Rattle.c_tree.specs.declared.declaration.CLocal.{CLocal}
 use Rattle.c_tree.specs.declared.declaration.CLocal.TheVariants as local
 use Rattle.c_tree.specs.declared.file.CConstant.{CConstant}
+use Rattle.c_tree.specs.Access.{ToFunction}
 use Rattle.c_tree.specs.Terms.{Term, Constant, Variable, Array, Routine, Unknown}
 use Rattle.c_tree.specs.CWords.{is_among}
 use Rattle.c_tree.specs.CExpressionText.{Scope, declared_before, an_object}
@@ -252,17 +253,23 @@ abbrev is_routine : Term → Bool
 is_routine (Routine k) = true
 is_routine other = false
 
+-- a parameter that points to a function
+abbrev is_pointer : Term → Bool
+is_pointer (Variable k ToFunction) = true
+is_pointer other = false
+
+-- objects that are neither
 abbrev StandForObjects : List Declared → Type 0
 StandForObjects [] = Unit {0}
-StandForObjects (d ∷ later) = ((m : ℕ) → is_routine (d.stands m) ≡ false) × StandForObjects later
+StandForObjects (d ∷ later) = ((m : ℕ) → (is_routine (d.stands m) ≡ false) × (is_pointer (d.stands m) ≡ false)) × StandForObjects later
 
 statics_stand : (ones : List CLocal) → StandForObjects (declared_statics ones)
 statics_stand [] = tt
 statics_stand (local.Extern of name types ∷ later) = statics_stand later
-statics_stand (local.StaticNumber of name value ∷ later) = ((λ m. refl), statics_stand later)
-statics_stand (local.StaticNumbers of name n values ∷ later) = ((λ m. refl), statics_stand later)
-statics_stand (local.StaticChars name n text ∷ later) = ((λ m. refl), statics_stand later)
-statics_stand (local.StaticList of name fields ∷ later) = ((λ m. refl), statics_stand later)
+statics_stand (local.StaticNumber of name value ∷ later) = ((λ m. (refl, refl)), statics_stand later)
+statics_stand (local.StaticNumbers of name n values ∷ later) = ((λ m. (refl, refl)), statics_stand later)
+statics_stand (local.StaticChars name n text ∷ later) = ((λ m. (refl, refl)), statics_stand later)
+statics_stand (local.StaticList of name fields ∷ later) = ((λ m. (refl, refl)), statics_stand later)
 statics_stand (local.Number of name ∷ later) = statics_stand later
 statics_stand (local.Numbers of name n ∷ later) = statics_stand later
 statics_stand (local.Chars name n ∷ later) = statics_stand later
@@ -275,14 +282,14 @@ automatics_stand (local.StaticNumber of name value ∷ later) = automatics_stand
 automatics_stand (local.StaticNumbers of name n values ∷ later) = automatics_stand later
 automatics_stand (local.StaticChars name n text ∷ later) = automatics_stand later
 automatics_stand (local.StaticList of name fields ∷ later) = automatics_stand later
-automatics_stand (local.Number of name ∷ later) = ((λ m. refl), automatics_stand later)
-automatics_stand (local.Numbers of name n ∷ later) = ((λ m. refl), automatics_stand later)
-automatics_stand (local.Chars name n ∷ later) = ((λ m. refl), automatics_stand later)
-automatics_stand (local.Addresses name n ∷ later) = ((λ m. refl), automatics_stand later)
+automatics_stand (local.Number of name ∷ later) = ((λ m. (refl, refl)), automatics_stand later)
+automatics_stand (local.Numbers of name n ∷ later) = ((λ m. (refl, refl)), automatics_stand later)
+automatics_stand (local.Chars name n ∷ later) = ((λ m. (refl, refl)), automatics_stand later)
+automatics_stand (local.Addresses name n ∷ later) = ((λ m. (refl, refl)), automatics_stand later)
 
 constants_stand : (constants : List CConstant) → StandForObjects (declared_constants constants)
 constants_stand [] = tt
-constants_stand (one ∷ later) = ((λ m. refl), constants_stand later)
+constants_stand (one ∷ later) = ((λ m. (refl, refl)), constants_stand later)
 
 past_objects : (number : ℕ) (ds : List Declared) (outer : linking.Scope) (x : List ℕ) → is_among x (names_of ds) ≡ false → known_objects number ds outer x ≡ outer x
 past_objects number [] outer x none = refl
@@ -315,8 +322,37 @@ is_outside number (d ∷ later) outer x stand is = by (bytes_eq x d.name) is (is
   where
     by : (b : Bool) → is_routine (if b then d.stands number else known_objects (number + 1) later outer x) ≡ true
         → (is_routine (known_objects (number + 1) later outer x) ≡ true → (is_among x (names_of later) ≡ false) × (is_routine (outer x) ≡ true)) → ((b || is_among x (names_of later)) ≡ false) × (is_routine (outer x) ≡ true)
-    by true h again = let no : true ≡ false = sym h ∙ stand.0 number in absurd (cc)
+    by true h again = let no : true ≡ false = sym h ∙ (stand.0 number).0 in absurd (cc)
     by false h again = again h
+
+-- nor is one of these a parameter
+no_pointer_here : (number : ℕ) (ds : List Declared) (outer : linking.Scope) (x : List ℕ) → StandForObjects ds → is_pointer (outer x) ≡ false → is_pointer (known_objects number ds outer x) ≡ false
+no_pointer_here number [] outer x stand none = none
+no_pointer_here number (d ∷ later) outer x stand none = by (bytes_eq x d.name) (no_pointer_here (number + 1) later outer x stand.1 none)
+  where
+    by : (b : Bool) → is_pointer (known_objects (number + 1) later outer x) ≡ false → is_pointer (if b then d.stands number else known_objects (number + 1) later outer x) ≡ false
+    by true again = (stand.0 number).1
+    by false again = again
+
+routine_no_pointer : (found : Option ℕ) → is_pointer (routine found) ≡ false
+routine_no_pointer None = refl
+routine_no_pointer (Some k) = refl
+
+no_pointer_called : (numbers : Routines) (known : List (List ℕ)) (outer : linking.Scope) (x : List ℕ) → is_pointer (outer x) ≡ false → is_pointer (known_functions numbers known outer x) ≡ false
+no_pointer_called numbers [] outer x none = none
+no_pointer_called numbers (name ∷ later) outer x none = by (bytes_eq x name) (no_pointer_called numbers later outer x none)
+  where
+    by : (b : Bool) → is_pointer (known_functions numbers later outer x) ≡ false → is_pointer (if b then routine (numbers x) else known_functions numbers later outer x) ≡ false
+    by true again = routine_no_pointer (numbers x)
+    by false again = again
+
+no_pointer_included : (x : List ℕ) → is_pointer (included x) ≡ false
+no_pointer_included x = by (bytes_eq x (codes "TRUE_")) (bytes_eq x (codes "FALSE_"))
+  where
+    by : (a b : Bool) → is_pointer (if a then Constant (pos 1) else if b then Constant (pos 0) else Unknown) ≡ false
+    by true b = refl
+    by false true = refl
+    by false false = refl
 
 no_included_place : (x : List ℕ) → is_place (included x) ≡ true → {A : Type 0} → A
 no_included_place x h = by (bytes_eq x (codes "TRUE_")) (bytes_eq x (codes "FALSE_")) h
@@ -408,9 +444,17 @@ module _ (numbers : Routines) (base frame first : ℕ) (main : List ℕ) (consta
       called true h s a k = function_there x ones outer_scope apart h
       called false h s a k = main_declared x (ap is_routine (sym (past_functions numbers (declared_externs ones) file_links x h)) ∙ k) (none_of_all x ones s a h)
 
+  points_nowhere : (x : List ℕ) → is_pointer (all_links x) ≡ false
+  points_nowhere x =
+      no_pointer_here base (declared_statics ones) frame_links x (statics_stand ones)
+      (no_pointer_here frame (declared_automatics ones) called_links x (automatics_stand ones)
+      (no_pointer_called numbers (declared_externs ones) file_links x
+      (no_pointer_here first (declared_constants constants) (known_functions numbers (main ∷ []) included) x (constants_stand constants) (no_pointer_called numbers (main ∷ []) included x (no_pointer_included x)))))
+
   pub names_agree : Agrees all_links (with_all outer_scope ones)
   names_agree = record {
     variables = λ name k access h. declared_before (an_object (object_declared name (ap is_place h)));
     arrays = λ name k access h. declared_before (an_object (object_declared name (ap is_place h)));
     functions = λ name k h. function_declared name (ap is_routine h);
+    pointers = λ name k h. (let no : true ≡ false = sym (ap is_pointer h) ∙ points_nowhere name in absurd (cc));
   }

@@ -1,5 +1,5 @@
 -- The items that are emitted take no fields of lists.
-use Rattle.std.specs.Prelude.{◌≡◌, ℕ, zero, suc, ◌+◌, ◌-◌, ℤ, pos, Bool, true, false, ◌&&◌, List, [], ◌∷◌, length, Option, Some, None, option_map, option_and_then, codes, if◌then◌else◌}
+use Rattle.std.specs.Prelude.{◌≡◌, ℕ, zero, suc, ◌+◌, ◌-◌, ℤ, pos, Bool, true, false, ◌&&◌, List, [], ◌∷◌, map, length, Option, Some, None, option_map, option_and_then, codes, if◌then◌else◌}
 use Rattle.std.proofs.Common.{refl, subst}
 use Rattle.f_tree.specs.Values.{Bytes, Datum, IsInt, IsLog, in_range}
 use Rattle.f_tree.specs.Facts as facts
@@ -12,10 +12,11 @@ use Rattle.c_tree.specs.declared.types.ListType.TheVariants as list_type
 use Rattle.c_tree.specs.Access.{ToNumber, ToChar, ToList}
 use Rattle.c_tree.specs.Terms as c
 use Rattle.c_tree.specs.Terms.{Term}
-use Rattle.c_tree.specs.Flat.{Flat, Assign, Branch, Jump, Return, Nothing}
-use Rattle.c_emit.specs.Numbers.{Writing, if_number, value_term, place_term}
+use Rattle.c_tree.specs.Flat.{Flat, Assign, Branch, Jump, Invoke, Kept, Direct, Return, Nothing}
+use Rattle.c_emit.specs.LibraryFunctions.{LibraryFunction, library_function}
+use Rattle.c_emit.specs.Numbers.{Writing, one_more, if_number, value_term, place_term}
 use Rattle.c_emit.specs.Types.{type_of}
-use Rattle.c_emit.specs.Calls.{call_of, address_of, is_plain, start_on, start_item, if_held, constant_held, held_term, kind_number, item_by, takes_item, finish_item, stop_item}
+use Rattle.c_emit.specs.Calls.{call_of, address_of, is_plain, start_on, start_item, if_held, constant_held, held_term, held_terms, routine_of, computed_item, kind_number, item_by, takes_item, finish_item, stop_item}
 use Rattle.c_emit.specs.Flats.{assigned, jump_to, returned_by, flat_of}
 use Rattle.linking_laws.proofs.Places.{some_same}
 use Rattle.main_file.specs.MainItems.{item_before, flats_from}
@@ -79,6 +80,28 @@ module _ (w : Writing) where
   held_is (Load p) t h = target_fieldless w p t h
   held_is p t h = absurd (cc)
 
+  held_before : (x : Option Term) (xs : Option (List Term)) (ts : List Term) → one_more x xs ≡ Some ts → ((t : Term) → x ≡ Some t → HasNoField t) → ((later : List Term) → xs ≡ Some later → HaveNoField later) → HaveNoField ts
+  unfolding one_more
+  held_before (Some t) (Some later) ts h one others = subst HaveNoField (some_same (t ∷ later) ts h) (and_term (one t refl) (others later refl))
+  held_before (Some t) None ts h one others = absurd (cc)
+  held_before None xs ts h one others = absurd (cc)
+
+  held_are : (ps : Pures) (ts : List Term) → held_terms w ps ≡ Some ts → HaveNoField ts
+  unfolding held_terms
+  held_are NoPure ts h = subst HaveNoField (some_same [] ts h) no_terms
+  held_are (AndPure p ps) ts h = held_before (held_term w p) (held_terms w ps) ts h (held_is p) (held_are ps)
+
+  addresses_fieldless : (ts : List Term) → HaveNoField ts → HaveNoField (map address_of ts)
+  addresses_fieldless [] no_terms = no_terms
+  addresses_fieldless (t ∷ ts) (and_term one rest) = and_term one (addresses_fieldless ts rest)
+
+  computed_fieldless : (x : Option Term) (o : Option LibraryFunction) (xs : Option (List Term)) (item : Flat) → computed_item w x o xs ≡ Some item → ((t : Term) → x ≡ Some t → HasNoField t) → ((ts : List Term) → xs ≡ Some ts → HaveNoField ts) → ItemHasNoField item
+  unfolding computed_item
+  computed_fieldless (Some t) (Some one) (Some ts) item h target are = subst ItemHasNoField (some_same (Invoke (Kept t) (Direct (routine_of w one.name)) (map address_of ts)) item h) (target t refl, addresses_fieldless ts (are ts refl))
+  computed_fieldless (Some t) (Some one) None item h target are = absurd (cc)
+  computed_fieldless (Some t) None xs item h target are = absurd (cc)
+  computed_fieldless None o xs item h target are = absurd (cc)
+
   passed : (kind : ℤ) (term : Term) (b : Bool) (item : Flat)
       → (if b then Some (call_of w (codes "do_lio") (address_of (c.Variable (w.library.constant kind) ToNumber) ∷ address_of (c.Variable (w.library.constant (pos 1)) ToNumber) ∷ c.Cast to.Chars (address_of term) ∷ c.Cast to.Length c.Size ∷ [])) else None) ≡ Some item
       → HasNoField term → ItemHasNoField item
@@ -113,6 +136,9 @@ module _ (w : Writing) where
   flat_fieldless place label n (step.Keep k p) item h =
       assigned_fieldless (if_number (w.is_number k) (Some (c.Variable (w.naming.temporary k) ToNumber))) (value_term w p) item h
       (λ t is. held_fieldless (w.is_number k) (c.Variable (w.naming.temporary k) ToNumber) t is (λ holds. tt)) (value_fieldless w p)
+  flat_fieldless place label n (step.Compute k f ps) item h =
+      computed_fieldless (if_number (w.is_number k) (Some (c.Variable (w.naming.temporary k) ToNumber))) (library_function f) (held_terms w ps) item h
+      (λ t is. held_fieldless (w.is_number k) (c.Variable (w.naming.temporary k) ToNumber) t is (λ holds. tt)) (held_are ps)
   flat_fieldless place label n (step.Unless p m) item h = branch_fieldless (place (suc n)) (place (suc n + m)) (value_term w p) item h (value_fieldless w p)
   flat_fieldless place label n (step.AgainIf p m) item h = branch_fieldless (place (n - m)) (place (suc n)) (value_term w p) item h (value_fieldless w p)
   flat_fieldless place label n (step.Skip m) item h = subst ItemHasNoField (some_same (Jump (place (suc n + m))) item h) tt

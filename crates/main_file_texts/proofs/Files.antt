@@ -1,6 +1,6 @@
 -- The C file of a plain main program is well formed.
 use Rattle.std.specs.Prelude.{◌≡◌, ◌≢◌, ℕ, zero, suc, ◌+◌, ◌*◌, ◌<◌, ◌≤◌, ◌^◌, nat_eq, nat_lt, ℤ, pos, negsuc, Bool, true, false, not, ◌&&◌, ◌||◌, List, [], ◌∷◌, ◌++◌, map, length, position, Option, Some, None, slice_get, bytes_eq, if◌then◌else◌}
-use Rattle.std.specs.List.{list_all, list_any}
+use Rattle.std.specs.List.{list_all}
 use Rattle.std.proofs.Common.{refl, sym, ap, ◌∙◌, subst, arith}
 use Rattle.f_tree.specs.Facts.{ProgramUnit, Output, Listed, Labelled, Computed, Unformatted, Input, Direction, Layout, Controls}
 use Rattle.f_tree.specs.CNames.{variable_name, constant_name, made_name, ConstantOf, StatementLabel, MadeLabel}
@@ -35,13 +35,13 @@ use Rattle.main_file_laws.specs.KnownFile.{NamesDiffer, scope_in}
 use Rattle.main_file_laws.proofs.Known.{position_finds}
 use Rattle.main_programs.specs.MainRuns.{bytes_in, plain_facts}
 use Rattle.main_translation.specs.Flow.{kind_at}
-use Rattle.main_translation.specs.Contents.{count_by, variable_of, listing_by, listings_from, begins_output, takes_item, ends_output, stops_run, if_called, start_output, output_item, end_output, stop_run, calls_of, inventory_of, first_objects}
+use Rattle.main_translation.specs.Contents.{count_by, variable_of, listing_by, listings_from, function_called, calls_of, inventory_of, first_objects}
 use Rattle.main_translation.specs.Outlined.{labels_in, stands_at, label_before, opens_while, whiles_in, name_by, label_at, outline_of}
 use Rattle.main_translation_laws.specs.PlainMains.{IsPlainMain, IsPlainText}
 use Rattle.main_translation_laws.proofs.Translated as mains
 use Rattle.main_translation_laws.proofs.Translated.{other_body}
-use Rattle.main_translation_laws.proofs.Lists.{AreApart, none_apart, one_apart, at_in, InEither, in_one, in_other, in_either, in_map, apart_append}
-use Rattle.main_translation_laws.proofs.Contents.{constants_fit, small_magnitude}
+use Rattle.main_translation_laws.proofs.Lists.{AreApart, none_apart, one_apart, at_in, InEither, in_one, in_other, in_either, in_map, apart_append, IsPart, in_part, part_apart, part_map}
+use Rattle.main_translation_laws.proofs.Contents.{constants_fit, small_magnitude, all_calls, calls_part}
 use Rattle.main_translation_laws.proofs.Storage.{name_is, count_is}
 use Rattle.main_translation_laws.proofs.Built.{HasBody, has_body}
 use Rattle.main_file_texts.specs.WellFormedMains.{Agrees, AreSpelled, IsSpellable, MainFilesAreWellFormed}
@@ -183,50 +183,20 @@ apart_told (x ∷ xs) told = by (is_among x xs) refl told (apart_told xs)
         apart_from : (y : List ℕ) → IsIn y xs → x ≡ y → is_among x xs ≡ false → ⊥
         apart_from y o same none = let no : true ≡ false = sym (is_in x xs (subst (λ z. IsIn z xs) (sym same) o)) ∙ none in cc
 
-called_list : Bool → Bool → Bool → Bool → List (List ℕ)
-called_list a b c d = map (λ (call : Called). call.name) (if_called a start_output ++ (if_called b output_item ++ (if_called c end_output ++ if_called d stop_run)))
+-- the names of all functions of the library that a main program may call
+abbrev all_names : List (List ℕ)
+all_names = map (λ (call : Called). call.name) all_calls
 
-called_apart : (a b c d : Bool) → no_twice (called_list a b c d) ≡ true
-unfolding no_twice called_list if_called
-called_apart true true true true = refl
-called_apart true true true false = refl
-called_apart true true false true = refl
-called_apart true true false false = refl
-called_apart true false true true = refl
-called_apart true false true false = refl
-called_apart true false false true = refl
-called_apart true false false false = refl
-called_apart false true true true = refl
-called_apart false true true false = refl
-called_apart false true false true = refl
-called_apart false true false false = refl
-called_apart false false true true = refl
-called_apart false false true false = refl
-called_apart false false false true = refl
-called_apart false false false false = refl
+all_apart_there : no_twice all_names ≡ true
+unfolding no_twice function_called
+all_apart_there = refl
 
-called_words : (a b c d : Bool) → list_all is_name (called_list a b c d) ≡ true
-unfolding called_list if_called
-called_words true true true true = refl
-called_words true true true false = refl
-called_words true true false true = refl
-called_words true true false false = refl
-called_words true false true true = refl
-called_words true false true false = refl
-called_words true false false true = refl
-called_words true false false false = refl
-called_words false true true true = refl
-called_words false true true false = refl
-called_words false true false true = refl
-called_words false true false false = refl
-called_words false false true true = refl
-called_words false false true false = refl
-called_words false false false true = refl
-called_words false false false false = refl
+all_words_there : list_all is_name all_names ≡ true
+unfolding function_called
+all_words_there = refl
 
-calls_are : (steps : List Step) → map (λ (call : Called). call.name) (calls_of steps) ≡ called_list (list_any begins_output steps) (list_any takes_item steps) (list_any ends_output steps) (list_any stops_run steps)
-unfolding calls_of called_list
-calls_are steps = refl
+names_part : (steps : List Step) → IsPart (map (λ (call : Called). call.name) (calls_of steps)) all_names
+names_part steps = part_map (λ (call : Called). call.name) (calls_of steps) all_calls (calls_part steps)
 
 all_words : (names : List (List ℕ)) → list_all is_name names ≡ true → (name : List ℕ) → IsIn name names → is_name name ≡ true
 all_words [] all name o = elim o [ ]
@@ -282,8 +252,7 @@ module _ (unit : ProgramUnit) (u : Text) (body : List CStmt) (plain : IsPlainMai
   all_apart =
       apart_append (temporary_names 1 (inventory_of unit u).temporaries) (called_names (inventory_of unit u) ++ lasting_names (inventory_of unit u)) (apart_by (temporary_names 1 (inventory_of unit u).temporaries) differ.temporaries)
       (apart_append (called_names (inventory_of unit u)) (lasting_names (inventory_of unit u))
-      (subst AreApart (sym (calls_are u.steps)) (apart_told (called_list (list_any begins_output u.steps) (list_any takes_item u.steps) (list_any ends_output u.steps) (list_any stops_run u.steps))
-      (called_apart (list_any begins_output u.steps) (list_any takes_item u.steps) (list_any ends_output u.steps) (list_any stops_run u.steps))))
+      (part_apart (called_names (inventory_of unit u)) all_names (names_part u.steps) (apart_told all_names all_apart_there))
       (apart_by (lasting_names (inventory_of unit u)) differ.lasting)
       (λ x y p q same. let one = at_in x (called_names (inventory_of unit u)) p in let other = at_in y (lasting_names (inventory_of unit u)) q in (differ.not_objects one.index x one.at).0 other.index (other.at ∙ ap Some (sym same))))
       (λ x y p q same. either x y p (in_either y (called_names (inventory_of unit u)) (lasting_names (inventory_of unit u)) q) same)
@@ -315,8 +284,7 @@ module _ (unit : ProgramUnit) (u : Text) (body : List CStmt) (plain : IsPlainMai
 
       second : InEither name (called_names (inventory_of unit u)) (lasting_names (inventory_of unit u)) → is_name name ≡ true
       second (in_one p) =
-          all_words (called_list (list_any begins_output u.steps) (list_any takes_item u.steps) (list_any ends_output u.steps) (list_any stops_run u.steps))
-          (called_words (list_any begins_output u.steps) (list_any takes_item u.steps) (list_any ends_output u.steps) (list_any stops_run u.steps)) name (subst (IsIn name) (calls_are u.steps) p)
+          all_words all_names all_words_there name (in_part name (called_names (inventory_of unit u)) all_names (names_part u.steps) p)
       second (in_other p) = third (in_either name (map (λ (one : Variable). variable_name one.name) (inventory_of unit u).variables) (list_names 1 (inventory_of unit u).lists) p)
 
       first : InEither name (temporary_names 1 (inventory_of unit u).temporaries) (called_names (inventory_of unit u) ++ lasting_names (inventory_of unit u)) → is_name name ≡ true

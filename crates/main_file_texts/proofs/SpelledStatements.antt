@@ -10,14 +10,15 @@ use Rattle.c_tree.specs.declared.statement.CStmt.TheVariants as stmt
 use Rattle.c_tree.specs.Tokens.{Token, Word, Sign}
 use Rattle.c_tree.specs.CWords.{Separated, last_item, one_item, is_among, is_name}
 use Rattle.c_tree.specs.CLabels.{labels_of, labels_of_all}
-use Rattle.c_tree.specs.CExpressionText.{Scope, ReadsExpr, ReadsArguments, no_argument, some_arguments, by_name}
-use Rattle.c_tree.specs.CStatementText.{ReadsNext, up, added, for_head, tested, ReadsStmt, assigned, called, empty, labelled, jump, returned, returned_value, if_only, if_else, repeated_for, ReadsStmts, closed, one_more}
+use Rattle.c_tree.specs.CExpressionText.{Scope, ReadsExpr, ReadsArguments, no_argument, some_arguments, ReadsCall, by_name, through_a_parameter}
+use Rattle.c_tree.specs.CStatementText.{ReadsNext, up, added, for_head, tested, ReadsStmt, assigned, assigned_call, called, empty, labelled, jump, returned, returned_value, if_only, if_else, repeated_for, ReadsStmts, closed, one_more}
 use Rattle.c_tree.specs.Drafts as linking
-use Rattle.c_tree.specs.Terms.{Term, Constant, Between}
+use Rattle.c_tree.specs.Access.{ToFunction}
+use Rattle.c_tree.specs.Terms.{Term, Constant, Variable, Between}
 use Rattle.c_tree.specs.Flat.{Flat, Assign, Branch, Select, Jump, Invoke, Return, ReturnAnswer, Nothing, Lost, Ignored, Kept, Returned, Direct, Through, Nowhere}
 use Rattle.c_structure.specs.Expressions as expressions
 use Rattle.c_structure.specs.Expressions.{Names, expr_for, exprs_for}
-use Rattle.c_structure.specs.Statements.{Outline, set_by, call_by, statement_of, with_label, before, if_by, if_else_by, end_of_arm, Writer, if_for, if_else_for, arms_for, branch_for, item_for, same_place, added_by, next_by, next_for, for_by, is_loop, loop_for, part_for, statements_for}
+use Rattle.c_structure.specs.Statements.{Outline, set_by, call_by, set_call_by, statement_of, with_label, before, if_by, if_else_by, end_of_arm, Writer, if_for, if_else_for, arms_for, branch_for, item_for, same_place, added_by, next_by, next_for, for_by, is_loop, loop_for, part_for, statements_for}
 use Rattle.c_structure_laws.specs.Fitting.{Knows, KnowsAll, KnowsItem, KnowsItems}
 use Rattle.c_structure_laws.proofs.DrawnExpressions.{some_same}
 use Rattle.main_file_texts.specs.WellFormedMains.{IsSpelled, Agrees, HasNoField, HaveNoField, and_term, ItemHasNoField, ItemsHaveNoField, AllStand, StatementsAreSpelled, AreSpelled}
@@ -148,18 +149,47 @@ module _ (o : Outline) (scope : Scope) (links : linking.Scope) (agrees : Agrees 
   arguments_spelled [] none_spelled = record { from = λ behind. Sign (codes ")") ∷ behind; reads = λ behind. no_argument refl }
   arguments_spelled (e ∷ es) (and_spelled one rest) = let all = separated e es one rest in record { from = all.from; reads = λ behind. some_arguments (all.reads behind) }
 
-  call_fine : (name : List ℕ) (xs : Option (List CExpr)) (s : CStmt) → is_among name scope.functions ≡ true → call_by name xs ≡ Some s → ((es : List CExpr) → xs ≡ Some es → AllSpelled es) → IsFine s
+  -- a function that is declared, or a parameter that points to one
+  abbrev MayCall : Bool → List ℕ → Type 0
+  MayCall true name = is_among name scope.pointers ≡ true
+  MayCall false name = is_among name scope.functions ≡ true
+
+  calling_spelled : (through : Bool) (name : List ℕ) (es : List CExpr) → MayCall through name → AllSpelled es → IsSpelled (ReadsCall scope (record { through = through; name = name; arguments = es }))
+  calling_spelled true name es known all =
+      let arguments = arguments_spelled es all in
+      record {
+        from = λ behind. Sign (codes "(") ∷ Sign (codes "*") ∷ Word name ∷ Sign (codes ")") ∷ Sign (codes "(") ∷ arguments.from behind;
+        reads = λ behind. through_a_parameter name known refl refl refl refl refl (arguments.reads behind);
+      }
+  calling_spelled false name es known all =
+      let arguments = arguments_spelled es all in
+      record { from = λ behind. Word name ∷ Sign (codes "(") ∷ arguments.from behind; reads = λ behind. by_name name known refl refl (arguments.reads behind) }
+
+  call_fine : (through : Bool) (name : List ℕ) (xs : Option (List CExpr)) (s : CStmt) → MayCall through name → call_by through name xs ≡ Some s → ((es : List CExpr) → xs ≡ Some es → AllSpelled es) → IsFine s
   unfolding call_by
-  call_fine name (Some es) s known h all =
-      let arguments = arguments_spelled es (all es refl) in
-      subst IsFine (some_same (stmt.Call (record { through = false; name = name; arguments = es })) s h) (record {
+  call_fine through name (Some es) s known h all =
+      let call = calling_spelled through name es known (all es refl) in
+      subst IsFine (some_same (stmt.Call (record { through = through; name = name; arguments = es })) s h) (record {
+        text = record { from = λ behind. call.from (Sign (codes ";") ∷ behind); reads = λ behind. called (call.reads (Sign (codes ";") ∷ behind)) refl };
+        named = tt;
+      })
+  call_fine through name None s known h all = absurd (cc)
+
+  set_call_fine : (through : Bool) (name : List ℕ) (x : Option CExpr) (xs : Option (List CExpr)) (s : CStmt) → MayCall through name → set_call_by through name x xs ≡ Some s → ((a : CExpr) → x ≡ Some a → IsSpelled (ReadsExpr scope 0 a))
+      → ((es : List CExpr) → xs ≡ Some es → AllSpelled es) → IsFine s
+  unfolding set_call_by
+  set_call_fine through name (Some a) (Some es) s known h one all =
+      let target = anywhere scope 7 a (one a refl) in
+      let call = calling_spelled through name es known (all es refl) in
+      subst IsFine (some_same (stmt.SetCall a (record { through = through; name = name; arguments = es })) s h) (record {
         text = record {
-          from = λ behind. Word name ∷ Sign (codes "(") ∷ arguments.from (Sign (codes ";") ∷ behind);
-          reads = λ behind. called (by_name name known refl refl (arguments.reads (Sign (codes ";") ∷ behind))) refl;
+          from = λ behind. target.from (Sign (codes "=") ∷ call.from (Sign (codes ";") ∷ behind));
+          reads = λ behind. assigned_call (target.reads (Sign (codes "=") ∷ call.from (Sign (codes ";") ∷ behind))) refl (call.reads (Sign (codes ";") ∷ behind)) refl;
         };
         named = tt;
       })
-  call_fine name None s known h all = absurd (cc)
+  set_call_fine through name (Some a) None s known h one all = absurd (cc)
+  set_call_fine through name None xs s known h one all = absurd (cc)
 
   return_fine : (x : Option CExpr) (s : CStmt) → option_map (λ e. stmt.Return (Some e)) x ≡ Some s → ((a : CExpr) → x ≡ Some a → IsSpelled (ReadsExpr scope 0 a)) → IsFine s
   return_fine (Some e) s h one =
@@ -175,7 +205,15 @@ module _ (o : Outline) (scope : Scope) (links : linking.Scope) (agrees : Agrees 
   statement_fine (Assign t u) s h plain = set_fine (expr_for o.names t) (expr_for o.names u) s h (λ a is. term_is t a is plain.0.0 plain.1.0) (λ b is. term_is u b is plain.0.1 plain.1.1)
   statement_fine (Jump position) s h plain = goto_fine position (o.label position) s refl h
   statement_fine (Invoke Ignored (Direct k) arguments) s h plain =
-      call_fine (o.names.routine k) (exprs_for o.names arguments) s (agrees.functions (o.names.routine k) k plain.0.0) h (λ es is. all_spelled arguments es is plain.0.1 plain.1)
+      call_fine false (o.names.routine k) (exprs_for o.names arguments) s (agrees.functions (o.names.routine k) k plain.0.0) h (λ es is. all_spelled arguments es is plain.0.1 plain.1)
+  statement_fine (Invoke Ignored (Through (Variable k ToFunction)) arguments) s h plain =
+      call_fine true (o.names.object k) (exprs_for o.names arguments) s (agrees.pointers (o.names.object k) k plain.0.0) h (λ es is. all_spelled arguments es is plain.0.1 plain.1)
+  statement_fine (Invoke (Kept t) (Direct k) arguments) s h plain =
+      set_call_fine false (o.names.routine k) (expr_for o.names t) (exprs_for o.names arguments) s (agrees.functions (o.names.routine k) k plain.0.1) h (λ a is. term_is t a is plain.0.0 plain.1.0)
+      (λ es is. all_spelled arguments es is plain.0.2 plain.1.1)
+  statement_fine (Invoke (Kept t) (Through (Variable k ToFunction)) arguments) s h plain =
+      set_call_fine true (o.names.object k) (expr_for o.names t) (exprs_for o.names arguments) s (agrees.pointers (o.names.object k) k plain.0.1) h (λ a is. term_is t a is plain.0.0 plain.1.0)
+      (λ es is. all_spelled arguments es is plain.0.2 plain.1.1)
   statement_fine (Return None) s h plain =
       subst IsFine (some_same (stmt.Return None) s h) (record { text = record { from = λ behind. Word (codes "return") ∷ Sign (codes ";") ∷ behind; reads = λ behind. returned refl refl }; named = tt })
   statement_fine (Return (Some t)) s h plain = return_fine (expr_for o.names t) s h (λ a is. term_is t a is plain.0 plain.1)
@@ -184,7 +222,8 @@ module _ (o : Outline) (scope : Scope) (links : linking.Scope) (agrees : Agrees 
   statement_fine (Select t cases otherwise) s h plain = absurd (cc)
   statement_fine (Invoke Ignored (Through t) arguments) s h plain = absurd (cc)
   statement_fine (Invoke Ignored Nowhere arguments) s h plain = absurd (cc)
-  statement_fine (Invoke (Kept t) callee arguments) s h plain = absurd (cc)
+  statement_fine (Invoke (Kept t) (Through t') arguments) s h plain = absurd (cc)
+  statement_fine (Invoke (Kept t) Nowhere arguments) s h plain = absurd (cc)
   statement_fine (Invoke Returned callee arguments) s h plain = absurd (cc)
   statement_fine ReturnAnswer s h plain = absurd (cc)
   statement_fine Lost s h plain = absurd (cc)

@@ -11,7 +11,7 @@ use Rattle.c_tree.specs.declared.expression.CExpr.TheVariants as expr
 use Rattle.c_tree.specs.Access.{Access}
 use Rattle.c_tree.specs.Tokens.{Word, Digits, Sign, Quoted}
 use Rattle.c_tree.specs.CWords.{prefix_sign, infix_sign, infix_level, cast_tokens, extreme_word}
-use Rattle.c_tree.specs.CExpressionText.{Scope, IsKnown, ReadsExpr, a_number, a_string, a_name, parenthesised, prefixed, casted, between, chosen, indexed, size, extreme_of, magnitude}
+use Rattle.c_tree.specs.CExpressionText.{Scope, a_function, IsKnown, declared_before, ReadsExpr, a_number, a_string, a_name, parenthesised, prefixed, casted, between, chosen, indexed, size, extreme_of, magnitude}
 use Rattle.c_tree.specs.Drafts as linking
 use Rattle.c_tree.specs.Terms.{Term, Constant, Variable, Array, Routine, Unknown, Prefixed, Cast, Between, Choice, Element, Field, Size, Most, Magnitude}
 use Rattle.c_structure.specs.Expressions.{Names, with_two, with_three, number_expr, array_expr, expr_for}
@@ -140,7 +140,8 @@ module _ (scope : Scope) where
         subst (λ x. IsSpelled (ReadsExpr scope 0 x)) (some_same (expr.Name (names.object k)) e h) (name_spelled (names.object k) (agrees.variables (names.object k) k access knows))
     term_spelled (Array k access) e h knows none =
         subst (λ x. IsSpelled (ReadsExpr scope 0 x)) (some_same (array_expr (names.string k) (names.object k)) e h) (array_spelled (names.string k) k access knows)
-    term_spelled (Routine k) e h knows none = absurd (cc)
+    term_spelled (Routine k) e h knows none =
+        subst (λ x. IsSpelled (ReadsExpr scope 0 x)) (some_same (expr.Name (names.routine k)) e h) (name_spelled (names.routine k) (declared_before (a_function (agrees.functions (names.routine k) k knows))))
     term_spelled Unknown e h knows none = absurd (cc)
     term_spelled (Prefixed o t) e h knows none = mapped_spelled (expr.Unary o) (expr_for names t) e h (λ a is. term_spelled t a is knows none) (prefixed_spelled o)
     term_spelled (Cast of t) e h knows none = mapped_spelled (expr.Cast of) (expr_for names t) e h (λ a is. term_spelled t a is knows none) (cast_spelled of)

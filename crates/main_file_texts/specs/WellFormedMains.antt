@@ -6,7 +6,7 @@ use Rattle.l_core.specs.Steps.{Text}
 use Rattle.lowering.specs.Units.{lowered_unit}
 use Rattle.c_tree.specs.declared.expression.CExpr.{CExpr}
 use Rattle.c_tree.specs.declared.statement.CStmt.{CStmt}
-use Rattle.c_tree.specs.Access.{Access}
+use Rattle.c_tree.specs.Access.{Access, ToFunction}
 use Rattle.c_tree.specs.Tokens.{Token, begins_with, is_letter}
 use Rattle.c_tree.specs.CWords.{is_among, is_name}
 use Rattle.c_tree.specs.CLabels.{labels_of_all}
@@ -15,7 +15,7 @@ use Rattle.c_tree.specs.CStatementText.{ReadsStmts}
 use Rattle.c_tree.specs.CText.{WellFormed}
 use Rattle.c_tree.specs.Drafts as linking
 use Rattle.c_tree.specs.Terms.{Term, Variable, Array, Routine, Prefixed, Cast, Between, Choice, Element, Field, Most, Magnitude}
-use Rattle.c_tree.specs.Flat.{Flat, Assign, Branch, Invoke, Return, Ignored, Direct}
+use Rattle.c_tree.specs.Flat.{Flat, Assign, Branch, Invoke, Return, Ignored, Kept}
 use Rattle.c_structure.specs.Expressions.{Names, expr_for}
 use Rattle.c_structure.specs.Statements.{Outline, statements_for}
 use Rattle.c_structure_laws.specs.Fitting.{Knows, KnowsItems}
@@ -37,6 +37,7 @@ pub record Agrees (links : linking.Scope) (scope : Scope) : Type 0 where
   pub variables : (name : List ℕ) (k : ℕ) (access : Access) → links name ≡ Variable k access → IsKnown scope name
   pub arrays : (name : List ℕ) (k : ℕ) (access : Access) → links name ≡ Array k access → IsKnown scope name
   pub functions : (name : List ℕ) (k : ℕ) → links name ≡ Routine k → is_among name scope.functions ≡ true
+  pub pointers : (name : List ℕ) (k : ℕ) → links name ≡ Variable k ToFunction → is_among name scope.pointers ≡ true
 
 -- an expression that takes no field of a list
 abbrev pub HasNoField : Term → Type 0
@@ -59,7 +60,8 @@ pub data HaveNoField : List Term → Type 0 where
 abbrev pub ItemHasNoField : Flat → Type 0
 ItemHasNoField (Assign t u) = HasNoField t × HasNoField u
 ItemHasNoField (Branch test on off) = HasNoField test
-ItemHasNoField (Invoke Ignored (Direct k) arguments) = HaveNoField arguments
+ItemHasNoField (Invoke Ignored callee arguments) = HaveNoField arguments
+ItemHasNoField (Invoke (Kept t) callee arguments) = HasNoField t × HaveNoField arguments
 ItemHasNoField (Return (Some t)) = HasNoField t
 ItemHasNoField other = Unit {0}
 

@@ -61,11 +61,11 @@ emitted_at w label n (suc i) m (first ∷ later) items st there h at =
 not_saved : {A : Type 0} (z : ℤ) (saved : ℕ) → Written z ≡ Saved saved → A
 not_saved z saved h = absurd (cc)
 
-lower_written : {A : Type 0} (o : Option Bounds) (saved : ℕ) → lower_of o ≡ Saved saved → A
+pub lower_written : {A : Type 0} (o : Option Bounds) (saved : ℕ) → lower_of o ≡ Saved saved → A
 lower_written None saved h = not_saved (pos 0) saved h
 lower_written (Some b) saved h = not_saved b.lower saved h
 
-size_written : {A : Type 0} (o : Option Bounds) (saved : ℕ) → size_of o ≡ Saved saved → A
+pub size_written : {A : Type 0} (o : Option Bounds) (saved : ℕ) → size_of o ≡ Saved saved → A
 size_written None saved h = not_saved (pos 0) saved h
 size_written (Some b) saved h = not_saved (pos (size_of_dimension b)) saved h
 

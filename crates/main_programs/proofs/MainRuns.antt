@@ -69,13 +69,13 @@ use Rattle.main_programs.proofs.MainStorage.{home_found, home_there, IsPlaced, p
 
 -- ## Costs
 
-ones_cost : (count n : ℕ) → n < count → 1 ≤ cost (replicate count 1) n
+pub ones_cost : (count n : ℕ) → n < count → 1 ≤ cost (replicate count 1) n
 unfolding cost
 ones_cost zero n below = absurd (let no : ⊥ = omega (arith, below) in no)
 ones_cost (suc count) zero below = omega arith
 ones_cost (suc count) (suc n) below = ones_cost count n (omega (arith, below))
 
-ones_rest : (count : ℕ) → rest (replicate count 1) 0 ≡ count
+pub ones_rest : (count : ℕ) → rest (replicate count 1) 0 ≡ count
 unfolding rest
 ones_rest zero = refl
 ones_rest (suc count) = let later = ones_rest count in omega (arith, later)

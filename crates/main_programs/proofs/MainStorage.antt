@@ -70,7 +70,7 @@ home_there m n (k ∷ ms) (later_in among) = by (bytes_eq k.name m.name) (home_t
 
 -- ## Places
 
-named_stored : (c : Facts) (f : Frame) (x : Bytes) (a : Attribute) → a.class ≡ class.Stored → named_as c f x a ≡ stored_at a a.width (c.home x)
+pub named_stored : (c : Facts) (f : Frame) (x : Bytes) (a : Attribute) → a.class ≡ class.Stored → named_as c f x a ≡ stored_at a a.width (c.home x)
 unfolding named_as
 named_stored c f x a is = ap (λ k. elim k [
   | class.Stored ↦ stored_at a a.width (c.home x)
@@ -86,14 +86,14 @@ spot_in : Spot → Checked Datum → Spot
 spot_in p (Gives (IsSpot q)) = q
 spot_in p r = p
 
-record IsStoredAt (a : Attribute) (width : Option ℕ) (home : Option Home) (p : Spot) : Type 0 where
-  wide : ℕ
-  at : Home
-  width_is : width ≡ Some wide
-  home_is : home ≡ Some at
-  is : record { basic = a.basic; sequence = at.sequence; first = at.first; extent = extent_of (elements_of a.bounds) wide; width = wide } ≡ p
+pub record IsStoredAt (a : Attribute) (width : Option ℕ) (home : Option Home) (p : Spot) : Type 0 where
+  pub wide : ℕ
+  pub at : Home
+  pub width_is : width ≡ Some wide
+  pub home_is : home ≡ Some at
+  pub is : record { basic = a.basic; sequence = at.sequence; first = at.first; extent = extent_of (elements_of a.bounds) wide; width = wide } ≡ p
 
-stored_by : (a : Attribute) (width : Option ℕ) (home : Option Home) (p : Spot) → stored_at a width home ≡ Gives (IsSpot p) → IsStoredAt a width home p
+pub stored_by : (a : Attribute) (width : Option ℕ) (home : Option Home) (p : Spot) → stored_at a width home ≡ Gives (IsSpot p) → IsStoredAt a width home p
 unfolding stored_at spot_in
 stored_by a (Some w) (Some h) p g = record { wide = w; at = h; width_is = refl; home_is = refl; is = ap (spot_in p) g }
 stored_by a (Some w) None p g = absurd (cc)

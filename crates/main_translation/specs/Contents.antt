@@ -3,19 +3,24 @@
 use Rattle.std.specs.BTreeSet.{insert_key}
 use Rattle.std.specs.List.{list_any}
 use Rattle.std.specs.Ordering.{int_cmp}
-use Rattle.std.specs.Prelude.{ℕ, suc, max, ℤ, pos, Bool, true, false, List, [], ◌∷◌, ◌++◌, map, fold, length, Option, Some, None, option_and_then, slice_get, codes, if◌then◌else◌}
+use Rattle.std.specs.Prelude.{ℕ, zero, suc, max, ℤ, pos, Bool, true, false, List, [], ◌∷◌, ◌++◌, map, filter, fold, length, Option, Some, None, option_and_then, slice_get, bytes_eq, codes, if◌then◌else◌}
 use Rattle.f_tree.specs.declared.names.Basic.{Basic}
 use Rattle.f_tree.specs.declared.names.Basic.TheVariants.{Logical}
 use Rattle.f_tree.specs.Values.{Bytes, IsInt, IsLog, in_range}
 use Rattle.f_tree.specs.Facts.{Bounds, Member, ProgramUnit}
 use Rattle.f_tree.specs.Valuing.{elements_of}
-use Rattle.l_core.specs.Pures.{Pure, Constant, Temporary, NoPure, AndPure}
-use Rattle.l_core.specs.Steps.{Starts, Takes, Finishes, Step, Keep, Halt, Acts, Text}
+use Rattle.f_tree.specs.Terms.{Function}
+use Rattle.l_core.specs.Pures.{Pure, Constant, Temporary, Pures, NoPure, AndPure}
+use Rattle.l_core.specs.Steps.{Starts, Takes, Finishes, Step, Keep, Compute, Halt, Acts, Text}
 use Rattle.c_tree.specs.declared.types.NumberType.{NumberType}
 use Rattle.c_tree.specs.declared.types.NumberType.TheVariants as number_type
 use Rattle.c_tree.specs.declared.types.ListType.TheVariants as list_type
+use Rattle.c_tree.specs.declared.types.ResultType.{ResultType}
+use Rattle.c_tree.specs.declared.types.ResultType.TheVariants as result
 use Rattle.c_tree.specs.declared.types.ParameterType.TheVariants as parameter
+use Rattle.c_tree.specs.declared.types.ArgumentType.{ArgumentType}
 use Rattle.c_tree.specs.declared.types.ArgumentType.TheVariants as argument
+use Rattle.c_emit.specs.LibraryFunctions.{LibraryFunction, library_functions, library_function}
 use Rattle.c_emit.specs.Calls.{unit_of, kind_number}
 use Rattle.main_file.specs.MainFile.{Variable, Listing, Called, Inventory, Bases}
 use Rattle.main_file.specs.MainItems.{stops_from}
@@ -42,9 +47,14 @@ unfoldable pub kind_value : Option ℤ → List ℤ
 kind_value None = []
 kind_value (Some z) = z ∷ []
 
--- an item is passed with the number of its type and with the number of its elements
+unfoldable pub own_values : Pures → List ℤ
+own_values NoPure = []
+own_values (AndPure p ps) = own_value p ++ own_values ps
+
+-- an item is passed with the number of its type and with the number of its elements; a function of the library is passed its operands
 unfoldable pub passed_by : Text → ℕ → Step → List ℤ
 passed_by u n (Acts Takes (AndPure p NoPure) m) = kind_value (option_and_then kind_number (item_type u n p)) ++ pos 1 ∷ own_value p
+passed_by u n (Compute k f ps) = own_values ps
 passed_by u n st = []
 
 unfoldable pub passed_from : Text → ℕ → List Step → List ℤ
@@ -81,6 +91,7 @@ listings_from n (st ∷ later) = listings_from (suc n) later
 unfoldable pub temporaries_in : List Step → ℕ
 temporaries_in [] = 0
 temporaries_in (Keep k p ∷ later) = max (suc k) (temporaries_in later)
+temporaries_in (Compute k f ps ∷ later) = max (suc k) (temporaries_in later)
 temporaries_in (st ∷ later) = temporaries_in later
 
 unfoldable pub begins_output : Step → Bool
@@ -105,24 +116,50 @@ if_called true function = function ∷ []
 if_called false function = []
 
 abbrev pub start_output : Called
-start_output = record { name = codes "s_wsle"; arguments = argument.List list_type.Transfer ∷ [] }
+start_output = record { result = result.Integer; name = codes "s_wsle"; arguments = argument.List list_type.Transfer ∷ [] }
 
 abbrev pub output_item : Called
 output_item = record {
+  result = result.Integer;
   name = codes "do_lio";
   arguments = argument.Parameter parameter.Integers ∷ argument.Parameter parameter.Integers ∷ argument.Parameter parameter.Chars ∷ argument.Parameter parameter.Length ∷ [];
 }
 
 abbrev pub end_output : Called
-end_output = record { name = codes "e_wsle"; arguments = [] }
+end_output = record { result = result.Integer; name = codes "e_wsle"; arguments = [] }
 
 abbrev pub stop_run : Called
-stop_run = record { name = codes "s_stop"; arguments = argument.Parameter parameter.Chars ∷ argument.Parameter parameter.Length ∷ [] }
+stop_run = record { result = result.Integer; name = codes "s_stop"; arguments = argument.Parameter parameter.Chars ∷ argument.Parameter parameter.Length ∷ [] }
+
+-- is a function of the library the one for a function of FORTRAN
+unfoldable pub is_function : LibraryFunction → Option LibraryFunction → Bool
+is_function one None = false
+is_function one (Some other) = bytes_eq one.name other.name
+
+unfoldable pub computes : LibraryFunction → Step → Bool
+computes one (Compute k f ps) = is_function one (library_function f)
+computes one st = false
+
+unfoldable pub result_of : Basic → ResultType
+result_of Logical = result.Logical
+result_of basic = result.Integer
+
+-- each argument of a function of numbers is a pointer
+unfoldable pub number_arguments : ℕ → List ArgumentType
+number_arguments zero = []
+number_arguments (suc n) = argument.Parameter parameter.Integers ∷ number_arguments n
+
+unfoldable pub function_called : LibraryFunction → Called
+function_called one = record { result = result_of one.gives; name = one.name; arguments = number_arguments one.takes }
+
+-- the functions of numbers that are called, in the order of the library
+unfoldable pub functions_of : List Step → List Called
+functions_of steps = map function_called (filter (λ one. list_any (computes one) steps) library_functions)
 
 unfoldable pub calls_of : List Step → List Called
 calls_of steps =
     if_called (list_any begins_output steps) start_output ++ (if_called (list_any takes_item steps) output_item
-    ++ (if_called (list_any ends_output steps) end_output ++ if_called (list_any stops_run steps) stop_run))
+    ++ (if_called (list_any ends_output steps) end_output ++ (if_called (list_any stops_run steps) stop_run ++ functions_of steps)))
 
 unfoldable pub text_at : Option Step → Bytes
 text_at (Some (Halt text)) = text
@@ -146,5 +183,5 @@ abbrev pub first_objects : Inventory → Bases
 first_objects v = record { own = 1; file = 0; function = length v.constants }
 
 unfoldable pub contents_opened : Unit {0}
-unfolding with_new own_value item_type kind_value passed_by passed_from constants_of number_type_of count_by variable_of listing_by listings_from temporaries_in begins_output takes_item ends_output stops_run if_called calls_of text_at
+unfolding with_new own_value own_values item_type kind_value passed_by passed_from constants_of number_type_of count_by variable_of listing_by listings_from temporaries_in begins_output takes_item ends_output stops_run if_called is_function computes result_of number_arguments function_called functions_of calls_of text_at
 contents_opened = tt

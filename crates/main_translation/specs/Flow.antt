@@ -5,7 +5,8 @@ use Rattle.std.specs.Prelude.{ℕ, zero, suc, ◌+◌, ◌-◌, nat_eq, ℤ, Boo
 use Rattle.f_tree.specs.declared.names.Basic.{Basic}
 use Rattle.f_tree.specs.Facts.{Facts}
 use Rattle.l_core.specs.Pures.{Pure, Constant, Load, Name, ElementOf, Prefixed, Operated, Applied}
-use Rattle.l_core.specs.Steps.{Starts, Takes, Finishes, Step, Keep, Unless, AgainIf, Skip, Again, Jump, Acts, Text}
+use Rattle.l_core.specs.Steps.{Starts, Takes, Finishes, Step, Keep, Compute, Unless, AgainIf, Skip, Again, Jump, Acts, Text}
+use Rattle.c_emit.specs.LibraryFunctions.{library_type}
 use Rattle.c_emit.specs.Types.{type_of_datum, type_behind, type_between, type_by, if_numeric}
 use Rattle.c_emit.specs.Calls.{unit_of}
 
@@ -44,6 +45,7 @@ kept_type c p = None
 
 unfoldable pub kept_at : Facts → Bool → ℕ → Option Step → Option Basic
 kept_at c false k (Some (Keep j p)) = if nat_eq k j then kept_type c p else None
+kept_at c false k (Some (Compute j f ps)) = if nat_eq k j then library_type f else None
 kept_at c reached k st = None
 
 -- a temporary that the step before keeps

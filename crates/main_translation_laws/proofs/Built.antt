@@ -10,14 +10,16 @@ use Rattle.f_tree.specs.Facts.{Direction, Input, Output, Layout, Listed, Labelle
 use Rattle.f_tree.specs.Setting.{IsIn, first_in, later_in}
 use Rattle.f_tree.specs.CNames.{made_name, StatementLabel, MadeLabel}
 use Rattle.f_tree.specs.Values.{IsInt}
+use Rattle.f_tree.specs.Terms.{Function}
 use Rattle.l_core.specs.Pures.{Constant, Pures, NoPure, AndPure}
-use Rattle.l_core.specs.Steps.{Starts, Takes, Finishes, Step, Halt, Acts, Marked, Text}
+use Rattle.l_core.specs.Steps.{Starts, Takes, Finishes, Step, Compute, Halt, Acts, Marked, Text}
 use Rattle.c_tree.specs.declared.statement.CStmt as stmt
 use Rattle.c_tree.specs.declared.statement.CStmt.{CStmt}
 use Rattle.c_tree.specs.Flat.{Flat}
 use Rattle.c_tree.specs.FlatForm.{is_return, ends}
 use Rattle.c_tree.specs.Meaning.{wrapped_by}
 use Rattle.c_emit.specs.Numbers.{Writing}
+use Rattle.c_emit.specs.LibraryFunctions.{LibraryFunction, library_function}
 use Rattle.c_emit.specs.Calls.{start_item, unit_of}
 use Rattle.c_emit.specs.Flats.{flat_of}
 use Rattle.c_structure.specs.Statements.{statements_for}
@@ -25,13 +27,13 @@ use Rattle.linking_laws.specs.Linked.{IsBuilt}
 use Rattle.linking_laws.proofs.Places.{some_same, within}
 use Rattle.main_file.specs.MainFile.{Inventory, Bases, main_function}
 use Rattle.main_file.specs.MainItems.{item_before, flats_from}
-use Rattle.main_file_laws.specs.BuiltMain.{IsListed, AreListed}
+use Rattle.main_file_laws.specs.BuiltMain.{FunctionIsCalled, IsListed, AreListed}
 use Rattle.main_file_laws.proofs.Known.{position_finds}
 use Rattle.main_translation.specs.Flow.{are_on}
 use Rattle.main_translation.specs.Contents.{begins_output, takes_item, ends_output, stops_run, inventory_of, first_objects}
 use Rattle.main_translation.specs.Outlined.{labels_in, stands_at, label_before, opens_while, whiles_in, name_by, label_at, passes_arms, outline_of, returns, returns_last, if_returned, items_of, body_of}
 use Rattle.main_translation_laws.specs.PlainMains.{IsPlainText}
-use Rattle.main_translation_laws.proofs.Contents.{listed_at, starts_called, item_called, ends_called, stop_called}
+use Rattle.main_translation_laws.proofs.Contents.{listed_at, starts_called, item_called, ends_called, stop_called, function_is_called}
 
 -- ## Statements that end in a return
 
@@ -265,6 +267,10 @@ started w label n Output Unformatted controls ps m item h = absurd (cc)
 started w label n Input layout controls ps m item h = absurd (cc)
 
 module _ (unit : ProgramUnit) (u : Text) (w : Writing) where
+  function_listed : (n k : ℕ) (f : Function) (ps : Pures) → slice_get u.steps n ≡ Some (Compute k f ps) → (found : Option LibraryFunction) → library_function f ≡ found → FunctionIsCalled (inventory_of unit u) found
+  function_listed n k f ps at (Some one) is = let called = function_is_called u.steps n k f ps one at is in (called.index, called.at)
+  function_listed n k f ps at None is = tt
+
   step_listed : (n : ℕ) (st : Step) (item : Flat) → slice_get u.steps n ≡ Some st → flat_of w (λ k. k) u.position n st ≡ Some item → IsListed (inventory_of unit u) n st
   step_listed n (Acts (Starts way layout controls) ps m) item at h =
       let its = started w u.position n way layout controls ps m item h in
@@ -274,6 +280,7 @@ module _ (unit : ProgramUnit) (u : Text) (w : Writing) where
   step_listed n (Acts Takes ps m) item at h = let called = item_called u.steps n (Acts Takes ps m) at (unfold takes_item in refl) in (called.index, called.at)
   step_listed n (Acts Finishes ps m) item at h = let called = ends_called u.steps n (Acts Finishes ps m) at (unfold ends_output in refl) in (called.index, called.at)
   step_listed n (Halt text) item at h = let called = stop_called u.steps n (Halt text) at (unfold stops_run in refl) in (called.index, called.at)
+  step_listed n (Compute k f ps) item at h = function_listed n k f ps at (library_function f) refl
   step_listed n st item at h = tt
 
   pub all_listed : (n : ℕ) (steps : List Step) (items : List Flat) → ((i k : ℕ) (st : Step) → k ≡ n + i → slice_get steps i ≡ Some st → slice_get u.steps k ≡ Some st) → flats_from w u.position n steps ≡ Some items

@@ -1,25 +1,29 @@
 -- What the inventory of a text has: constants told apart, a list for each output, and names of the library.
-use Rattle.std.specs.List.{list_any}
+use Rattle.std.specs.List.{list_any, list_all}
 use Rattle.std.specs.BTreeSet.{insert_key}
 use Rattle.std.specs.Ordering.{int_cmp, match_ordering, ordering_reverse}
-use Rattle.std.specs.Prelude.{◌≡◌, ◌≢◌, ℕ, zero, suc, ◌+◌, ◌<◌, ◌≤◌, ◌^◌, nat_eq, nat_le, ℤ, pos, negsuc, nat_abs, Bool, true, false, ◌&&◌, ◌||◌, List, [], ◌∷◌, ◌++◌, map, fold, length, position, reverse, Option, Some, None, option_map, option_and_then, slice_get, codes, if◌then◌else◌}
+use Rattle.std.specs.Prelude.{◌≡◌, ◌≢◌, ℕ, zero, suc, ◌+◌, ◌<◌, ◌≤◌, ◌^◌, nat_eq, nat_le, ℤ, pos, negsuc, nat_abs, Bool, true, false, ◌&&◌, ◌||◌, List, [], ◌∷◌, ◌++◌, map, filter, cond, fold, length, position, Option, Some, None, option_map, option_and_then, slice_get, bytes_eq, codes, if◌then◌else◌}
 use Rattle.std.proofs.Common.{refl, sym, ap, ◌∙◌, subst, arith, Ordering, Less, Equal, Greater}
 use Rattle.std.proofs.lemmas.Bool.{eq-eqb, ne_eqb, leb-true}
 use Rattle.std.proofs.lemmas.Cmp.{int_cmp_total}
 use Rattle.f_tree.specs.declared.names.Basic.{Basic}
 use Rattle.f_tree.specs.declared.names.Basic.TheVariants.{Integer, Logical, Character, Untyped}
 use Rattle.f_tree.specs.Values.{Datum, IsInt, IsLog, IsText, IsSpot, IsProc, IsLabel, Nothing, in_range}
+use Rattle.f_tree.specs.Terms as fortran
+use Rattle.f_tree.specs.Terms.{Function}
 use Rattle.f_tree.specs.Facts.{Direction, Layout, Controls}
 use Rattle.f_tree.specs.Setting.{IsIn, first_in, later_in}
 use Rattle.f_tree.specs.CNames.{has_underscore}
 use Rattle.l_core.specs.Pures.{Pure, Constant, Pures, NoPure, AndPure}
-use Rattle.l_core.specs.Steps.{Starts, Takes, Step, Acts, Text}
+use Rattle.l_core.specs.Steps.{Starts, Takes, Step, Compute, Acts, Text}
+use Rattle.c_emit.specs.LibraryFunctions.{LibraryFunction, pow_ii, i_sign, i_dim, i_or, i_and, i_eor, i_not, i_shft, b_test, b_set, b_clr, library_functions, library_function}
 use Rattle.c_emit.specs.Calls.{unit_of, kind_number}
-use Rattle.linking_laws.proofs.Places.{some_same, position_step, taken, skipped}
+use Rattle.c_laws.proofs.TokenSpellings.{and-first, and-second}
+use Rattle.linking_laws.proofs.Places.{some_same, same_bytes, position_step, taken, skipped}
 use Rattle.main_file.specs.MainFile.{Listing, Called}
-use Rattle.main_translation.specs.Contents.{with_new, own_value, item_type, kind_value, passed_by, passed_from, constants_of, listing_by, listings_from, if_called, start_output, output_item, end_output, stop_run, calls_of, begins_output, takes_item, ends_output, stops_run}
-use Rattle.main_translation_laws.proofs.Lists.{AreApart, none_apart, one_apart, InEither, in_one, in_other, in_either, apart_append}
-use Rattle.main_translation_laws.proofs.Names.{IsCalledName, same_first}
+use Rattle.main_translation.specs.Contents.{with_new, own_value, own_values, item_type, kind_value, passed_by, passed_from, constants_of, listing_by, listings_from, if_called, start_output, output_item, end_output, stop_run, is_function, computes, function_called, functions_of, calls_of, begins_output, takes_item, ends_output, stops_run}
+use Rattle.main_translation_laws.proofs.Lists.{AreApart, none_apart, one_apart, InEither, in_one, in_other, in_either, IsPart, no_part, left_out, taken_too, in_part, part_map, filter_part}
+use Rattle.main_translation_laws.proofs.Names.{IsCalledName, begins, looks_called, called_name}
 
 -- ## Constants
 
@@ -172,9 +176,15 @@ own_fits : (p : Pure) → AllFit (own_value p)
 own_fits (Constant d) = constant_fits d
 own_fits p = let none : own_value p ≡ [] = (unfold own_value in refl) in subst AllFit (sym none) fit_none
 
+owns_fit : (ps : Pures) → AllFit (own_values ps)
+unfolding own_values
+owns_fit NoPure = fit_none
+owns_fit (AndPure p ps) = fit_both (own_value p) (own_values ps) (own_fits p) (owns_fit ps)
+
 passed_fits : (u : Text) (n : ℕ) (st : Step) → AllFit (passed_by u n st)
 unfolding passed_by
 passed_fits u n (Acts Takes (AndPure p NoPure) m) = fit_both (kind_value (option_and_then kind_number (item_type u n p))) (pos 1 ∷ own_value p) (kind_fits (item_type u n p)) (fit_both (pos 1 ∷ []) (own_value p) (fit_one (pos 1) one) (own_fits p))
+passed_fits u n (Compute k f ps) = owns_fit ps
 passed_fits u n st = fit_none
 
 all_fit : (u : Text) (n : ℕ) (steps : List Step) → AllFit (passed_from u n steps)
@@ -260,62 +270,32 @@ listed_at first (st ∷ later) (suc i) n way layout controls ps m unit at stands
 
 -- ## Functions of the library
 
-starts_named : IsCalledName (codes "s_wsle")
-starts_named = record {
-  underscored = unfold has_underscore in refl;
-  closed = λ rest e. omega (arith, same_first 101 95 (reverse (codes "s_wsl")) rest e);
-  no_i = λ rest e. omega (arith, same_first 115 105 (codes "_wsle") rest e);
-  no_c = λ rest e. omega (arith, same_first 115 99 (codes "_wsle") rest e);
-}
+-- all of them
+abbrev pub all_calls : List Called
+all_calls = start_output ∷ output_item ∷ end_output ∷ stop_run ∷ map function_called library_functions
 
-item_named : IsCalledName (codes "do_lio")
-item_named = record {
-  underscored = unfold has_underscore in refl;
-  closed = λ rest e. omega (arith, same_first 111 95 (reverse (codes "do_li")) rest e);
-  no_i = λ rest e. omega (arith, same_first 100 105 (codes "o_lio") rest e);
-  no_c = λ rest e. omega (arith, same_first 100 99 (codes "o_lio") rest e);
-}
-
-ends_named : IsCalledName (codes "e_wsle")
-ends_named = record {
-  underscored = unfold has_underscore in refl;
-  closed = λ rest e. omega (arith, same_first 101 95 (reverse (codes "e_wsl")) rest e);
-  no_i = λ rest e. omega (arith, same_first 101 105 (codes "_wsle") rest e);
-  no_c = λ rest e. omega (arith, same_first 101 99 (codes "_wsle") rest e);
-}
-
-stops_named : IsCalledName (codes "s_stop")
-stops_named = record {
-  underscored = unfold has_underscore in refl;
-  closed = λ rest e. omega (arith, same_first 112 95 (reverse (codes "s_sto")) rest e);
-  no_i = λ rest e. omega (arith, same_first 115 105 (codes "_stop") rest e);
-  no_c = λ rest e. omega (arith, same_first 115 99 (codes "_stop") rest e);
-}
-
-if_named : (b : Bool) (function : Called) → IsCalledName function.name → (call : Called) → IsIn call (if_called b function) → IsCalledName call.name
+if_part : (b : Bool) (function : Called) (some all : List Called) → IsPart some all → IsPart (if_called b function ++ some) (function ∷ all)
 unfolding if_called
-if_named true function is call o = by call o
-  where
-    by : (call' : Called) → IsIn call' (function ∷ []) → IsCalledName call'.name
-    by _ first_in = is
-    by call' (later_in p) = elim p [ ]
-if_named false function is call o = elim o [ ]
+if_part true function some all part = taken_too function part
+if_part false function some all part = left_out function part
+
+pub calls_part : (steps : List Step) → IsPart (calls_of steps) all_calls
+unfolding calls_of functions_of
+calls_part steps =
+    if_part (list_any begins_output steps) start_output _ _ (if_part (list_any takes_item steps) output_item _ _ (if_part (list_any ends_output steps) end_output _ _ (if_part (list_any stops_run steps) stop_run _ _
+    (part_map function_called (filter (λ one. list_any (computes one) steps) library_functions) library_functions (filter_part (λ one. list_any (computes one) steps) library_functions)))))
+
+look_called : list_all (λ (call : Called). looks_called call.name) all_calls ≡ true
+unfolding looks_called begins has_underscore function_called
+look_called = refl
+
+pub each_of : {A : Type 0} (test : A → Bool) (xs : List A) (x : A) → list_all test xs ≡ true → IsIn x xs → test x ≡ true
+each_of test [] x h o = elim o [ ]
+each_of test (_ ∷ xs) x h first_in = and-first (test x) (list_all test xs) h
+each_of test (y ∷ xs) x h (later_in o) = each_of test xs x (and-second (test y) (list_all test xs) h) o
 
 pub calls_named : (steps : List Step) (call : Called) → IsIn call (calls_of steps) → IsCalledName call.name
-unfolding calls_of
-calls_named steps call o = first (in_either call (if_called (list_any begins_output steps) start_output) _ o)
-  where
-    fourth : InEither call (if_called (list_any ends_output steps) end_output) (if_called (list_any stops_run steps) stop_run) → IsCalledName call.name
-    fourth (in_one p) = if_named (list_any ends_output steps) end_output ends_named call p
-    fourth (in_other p) = if_named (list_any stops_run steps) stop_run stops_named call p
-
-    second : InEither call (if_called (list_any takes_item steps) output_item) (if_called (list_any ends_output steps) end_output ++ if_called (list_any stops_run steps) stop_run) → IsCalledName call.name
-    second (in_one p) = if_named (list_any takes_item steps) output_item item_named call p
-    second (in_other p) = fourth (in_either call (if_called (list_any ends_output steps) end_output) (if_called (list_any stops_run steps) stop_run) p)
-
-    first : InEither call (if_called (list_any begins_output steps) start_output) (if_called (list_any takes_item steps) output_item ++ (if_called (list_any ends_output steps) end_output ++ if_called (list_any stops_run steps) stop_run)) → IsCalledName call.name
-    first (in_one p) = if_named (list_any begins_output steps) start_output starts_named call p
-    first (in_other p) = second (in_either call (if_called (list_any takes_item steps) output_item) (if_called (list_any ends_output steps) end_output ++ if_called (list_any stops_run steps) stop_run) p)
+calls_named steps call o = called_name call.name (each_of (λ (one : Called). looks_called one.name) all_calls call look_called (in_part call (calls_of steps) all_calls (calls_part steps) o))
 
 -- a step of a kind calls its function
 called_there : (test : Step → Bool) (steps : List Step) (i : ℕ) (st : Step) → slice_get steps i ≡ Some st → test st ≡ true → list_any test steps ≡ true
@@ -354,16 +334,59 @@ ends_called steps i st at is =
     among_later (codes "e_wsle") (if_called (list_any begins_output steps) start_output) _
     (among_later (codes "e_wsle") (if_called (list_any takes_item steps) output_item) _ (among_first (list_any ends_output steps) end_output _ (called_there ends_output steps i st at is)))
 
-single : (function : Called) → function ∷ [] ≡ (function ∷ []) ++ []
-single function = refl
-
 pub stop_called : (steps : List Step) (i : ℕ) (st : Step) → slice_get steps i ≡ Some st → stops_run st ≡ true → IsAmong (codes "s_stop") (calls_of steps)
 unfolding calls_of
 stop_called steps i st at is =
     among_later (codes "s_stop") (if_called (list_any begins_output steps) start_output) _
     (among_later (codes "s_stop") (if_called (list_any takes_item steps) output_item) _
-    (among_later (codes "s_stop") (if_called (list_any ends_output steps) end_output) _ (by (list_any stops_run steps) (called_there stops_run steps i st at is))))
-  where
-    by : (b : Bool) → b ≡ true → IsAmong (codes "s_stop") (if_called b stop_run)
-    by true h = unfold if_called in record { index = 0; at = refl }
-    by false h = absurd (cc)
+    (among_later (codes "s_stop") (if_called (list_any ends_output steps) end_output) _ (among_first (list_any stops_run steps) stop_run (functions_of steps) (called_there stops_run steps i st at is))))
+
+-- ### Functions of numbers
+
+-- the one for a function of FORTRAN is one of all
+is_one_of_all : (f : Function) (one : LibraryFunction) → library_function f ≡ Some one → IsIn one library_functions
+unfolding library_function
+is_one_of_all fortran.Power one is = subst (λ o. IsIn o library_functions) (some_same pow_ii one is) first_in
+is_one_of_all fortran.SignTransfer one is = subst (λ o. IsIn o library_functions) (some_same i_sign one is) (later_in first_in)
+is_one_of_all fortran.PositiveDifference one is = subst (λ o. IsIn o library_functions) (some_same i_dim one is) (later_in (later_in first_in))
+is_one_of_all fortran.InclusiveOr one is = subst (λ o. IsIn o library_functions) (some_same i_or one is) (later_in (later_in (later_in first_in)))
+is_one_of_all fortran.LogicalProduct one is = subst (λ o. IsIn o library_functions) (some_same i_and one is) (later_in (later_in (later_in (later_in first_in))))
+is_one_of_all fortran.ExclusiveOr one is = subst (λ o. IsIn o library_functions) (some_same i_eor one is) (later_in (later_in (later_in (later_in (later_in first_in)))))
+is_one_of_all fortran.BitComplement one is = subst (λ o. IsIn o library_functions) (some_same i_not one is) (later_in (later_in (later_in (later_in (later_in (later_in first_in))))))
+is_one_of_all fortran.BitShift one is = subst (λ o. IsIn o library_functions) (some_same i_shft one is) (later_in (later_in (later_in (later_in (later_in (later_in (later_in first_in)))))))
+is_one_of_all fortran.BitTest one is = subst (λ o. IsIn o library_functions) (some_same b_test one is) (later_in (later_in (later_in (later_in (later_in (later_in (later_in (later_in first_in))))))))
+is_one_of_all fortran.BitSet one is = subst (λ o. IsIn o library_functions) (some_same b_set one is) (later_in (later_in (later_in (later_in (later_in (later_in (later_in (later_in (later_in first_in)))))))))
+is_one_of_all fortran.BitClear one is = subst (λ o. IsIn o library_functions) (some_same b_clr one is) (later_in (later_in (later_in (later_in (later_in (later_in (later_in (later_in (later_in (later_in first_in))))))))))
+is_one_of_all f one is = absurd (cc)
+
+among_rest : {A : Type 0} (b : Bool) (x y : A) (some : List A) → IsIn x some → IsIn x (cond b (y ∷ some) some)
+among_rest true x y some o = later_in o
+among_rest false x y some o = o
+
+kept_by_filter : {A : Type 0} (test : A → Bool) (x : A) (xs : List A) → test x ≡ true → IsIn x xs → IsIn x (filter test xs)
+kept_by_filter test x [] passes o = elim o [ ]
+kept_by_filter test x (_ ∷ xs) passes first_in = subst (λ b. IsIn x (cond b (x ∷ filter test xs) (filter test xs))) (sym passes) first_in
+kept_by_filter test x (y ∷ xs) passes (later_in o) = among_rest (test y) x y (filter test xs) (kept_by_filter test x xs passes o)
+
+in_mapped : {A B : Type 0} (f : A → B) (x : A) (xs : List A) → IsIn x xs → IsIn (f x) (map f xs)
+in_mapped f x _ first_in = first_in
+in_mapped f x _ (later_in o) = later_in (in_mapped f x _ o)
+
+among_in : (call : Called) (calls : List Called) → IsIn call calls → IsAmong call.name calls
+among_in call _ first_in = record { index = 0; at = refl }
+among_in call _ (later_in o) = let rest = among_in call _ o in record { index = suc rest.index; at = rest.at }
+
+computes_it : (one : LibraryFunction) (k : ℕ) (f : Function) (ps : Pures) → library_function f ≡ Some one → computes one (Compute k f ps) ≡ true
+unfolding computes is_function
+computes_it one k f ps is = ap (is_function one) is ∙ same_bytes one.name one.name refl
+
+pub function_is_called : (steps : List Step) (i k : ℕ) (f : Function) (ps : Pures) (one : LibraryFunction) → slice_get steps i ≡ Some (Compute k f ps) → library_function f ≡ Some one → IsAmong one.name (calls_of steps)
+unfolding calls_of functions_of function_called
+function_is_called steps i k f ps one at is =
+    let there = called_there (computes one) steps i (Compute k f ps) at (computes_it one k f ps is) in
+    let kept = kept_by_filter (λ o. list_any (computes o) steps) one library_functions there (is_one_of_all f one is) in
+    among_later one.name (if_called (list_any begins_output steps) start_output) _
+    (among_later one.name (if_called (list_any takes_item steps) output_item) _
+    (among_later one.name (if_called (list_any ends_output steps) end_output) _
+    (among_later one.name (if_called (list_any stops_run steps) stop_run) _
+    (among_in (function_called one) (functions_of steps) (in_mapped function_called one (filter (λ o. list_any (computes o) steps) library_functions) kept)))))

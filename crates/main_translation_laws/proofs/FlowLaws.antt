@@ -4,11 +4,13 @@ use Rattle.std.specs.Prelude.{◌≡◌, ℕ, zero, suc, ◌+◌, nat_eq, ℤ, B
 use Rattle.std.proofs.Common.{refl, sym, ap, ◌∙◌, subst, arith}
 use Rattle.std.proofs.lemmas.Bool.{eq-eqb}
 use Rattle.f_tree.specs.declared.names.Basic.{Basic}
+use Rattle.f_tree.specs.Terms.{Function}
 use Rattle.f_tree.specs.Facts.{Facts}
 use Rattle.f_tree.specs.Setting.{IsIn, first_in, later_in}
-use Rattle.l_core.specs.Pures.{Pure, Constant, Temporary, Load, Name, AllOf, ElementOf, FirstOf, Substring, Concatenated, Prefixed, Operated, Applied, Chosen}
+use Rattle.l_core.specs.Pures.{Pure, Constant, Temporary, Load, Name, AllOf, ElementOf, FirstOf, Substring, Concatenated, Prefixed, Operated, Applied, Chosen, Pures}
 use Rattle.l_core.specs.Steps.{Starts, Takes, Finishes, Auxiliary, Step, Keep, Put, PutText, PutLabel, Compute, Unless, Skip, Again, AgainIf, Jump, Select, JumpBy, Pass, CallFor, CallSub, Branch, Back, BackBy, Halt, Acts, Text}
 use Rattle.c_emit.specs.Numbers.{Writing}
+use Rattle.c_emit.specs.LibraryFunctions.{library_type}
 use Rattle.c_emit.specs.Types.{type_of, type_at}
 use Rattle.emitted_texts.specs.Emitted.{labelled, leads, kind_behind, stage_behind, is_of_output}
 use Rattle.linking_laws.proofs.Places.{some_same}
@@ -130,19 +132,21 @@ kept_types w n (Applied f ps) basic h = h
 kept_types w n (Chosen p a b) basic h = absurd (cc)
 
 -- what is said behind a step that is reached from there alone
-record IsKept (c : Facts) (k : ℕ) (found : Option Step) (basic : Basic) : Type 0 where
-  temporary : ℕ
-  value : Pure
-  is : found ≡ Some (Keep temporary value)
-  same : nat_eq k temporary ≡ true
-  typed : kept_type c value ≡ Some basic
+data IsKept (c : Facts) (k : ℕ) (found : Option Step) (basic : Basic) : Type 0 where
+  by_keep : (j : ℕ) (p : Pure) → found ≡ Some (Keep j p) → nat_eq k j ≡ true → kept_type c p ≡ Some basic → IsKept c k found basic
+  by_compute : (j : ℕ) (f : Function) (ps : Pures) → found ≡ Some (Compute j f ps) → nat_eq k j ≡ true → library_type f ≡ Some basic → IsKept c k found basic
 
 kept_by : (c : Facts) (k : ℕ) (found : Option Step) (basic : Basic) → kept_at c false k found ≡ Some basic → IsKept c k found basic
 unfolding kept_at
 kept_by c k (Some (Keep j p)) basic h = by (nat_eq k j) refl h
   where
     by : (b : Bool) → nat_eq k j ≡ b → (if b then kept_type c p else None) ≡ Some basic → IsKept c k (Some (Keep j p)) basic
-    by true same g = record { temporary = j; value = p; is = refl; same = same; typed = g }
+    by true same g = by_keep j p refl same g
+    by false same g = absurd (cc)
+kept_by c k (Some (Compute j f ps)) basic h = by (nat_eq k j) refl h
+  where
+    by : (b : Bool) → nat_eq k j ≡ b → (if b then library_type f else None) ≡ Some basic → IsKept c k (Some (Compute j f ps)) basic
+    by true same g = by_compute j f ps refl same g
     by false same g = absurd (cc)
 kept_by c k found basic h = absurd (cc)
 
@@ -151,6 +155,14 @@ unfolding kept_at
 kept_nowhere c k found basic h = cc
 
 module _ (v : Inventory) (b : Bases) (u : Text) where
+  by_step : {found : Option Step} (n : ℕ) (st : Step) (k : ℕ) (basic : Basic) → ((it : Step) → found ≡ Some it → st ≡ it) → IsKept u.facts k found basic → kind_behind (writing_of v b u.facts (kind_at u)) n st k ≡ Some basic
+  unfolding kind_behind
+  by_step n st k basic same (by_keep j p is equal typed) =
+      subst (λ s. kind_behind (writing_of v b u.facts (kind_at u)) n s k ≡ Some basic) (sym (same (Keep j p) is))
+      (ap (λ t. if t then type_of (writing_of v b u.facts (kind_at u)) n p else kind_at u n k) equal ∙ kept_types (writing_of v b u.facts (kind_at u)) n p basic typed)
+  by_step n st k basic same (by_compute j f ps is equal typed) =
+      subst (λ s. kind_behind (writing_of v b u.facts (kind_at u)) n s k ≡ Some basic) (sym (same (Compute j f ps) is)) (ap (λ t. if t then library_type f else kind_at u n k) equal ∙ typed)
+
   kinds : (n : ℕ) (st : Step) (m : ℕ) → slice_get u.steps n ≡ Some st → IsIn m (leads u n st) → (k : ℕ) (basic : Basic) → kind_at u m k ≡ Some basic → kind_behind (writing_of v b u.facts (kind_at u)) n st k ≡ Some basic
   unfolding kind_at kind_behind
   kinds n st zero stands o k basic h = absurd (cc)
@@ -161,10 +173,7 @@ module _ (v : Inventory) (b : Bases) (u : Text) where
       by false is g =
           let same : suc m ≡ suc n = only_behind u n st (suc m) stands o is in
           let here : m ≡ n = omega (arith, same) in
-          let kept = kept_by u.facts k (slice_get u.steps m) basic g in
-          let it : st ≡ Keep kept.temporary kept.value = some_same st (Keep kept.temporary kept.value) (sym stands ∙ ap (slice_get u.steps) (sym here) ∙ kept.is) in
-          subst (λ s. kind_behind (writing_of v b u.facts (kind_at u)) n s k ≡ Some basic) (sym it)
-          (ap (λ t. if t then type_of (writing_of v b u.facts (kind_at u)) n kept.value else kind_at u n k) kept.same ∙ kept_types (writing_of v b u.facts (kind_at u)) n kept.value basic kept.typed)
+          by_step n st k basic (λ found is. some_same st found (sym stands ∙ ap (slice_get u.steps) (sym here) ∙ is)) (kept_by u.facts k (slice_get u.steps m) basic g)
 
   -- ## Outputs
 

@@ -1,5 +1,5 @@
 -- Lists whose parts are told apart.
-use Rattle.std.specs.Prelude.{◌≡◌, ◌≢◌, ℕ, zero, suc, List, [], ◌∷◌, ◌++◌, map, Some, slice_get}
+use Rattle.std.specs.Prelude.{◌≡◌, ◌≢◌, ℕ, zero, suc, Bool, true, false, List, [], ◌∷◌, ◌++◌, map, filter, cond, Some, slice_get}
 use Rattle.std.proofs.Common.{refl, sym, ap, ◌∙◌, subst}
 use Rattle.f_tree.specs.Setting.{IsIn, first_in, later_in}
 use Rattle.linking_laws.specs.Linked.{AreDistinct, IsNone}
@@ -72,3 +72,33 @@ distinct_by (x ∷ xs) (one_apart none later) (suc i) (suc j) name at at' = ap s
 
 pub none_by : (name : List ℕ) (names : List (List ℕ)) → ((other : List ℕ) → IsIn other names → name ≢ other) → IsNone name names
 none_by name names differ i at = differ name (in_at names i name at) refl
+
+-- a list of some parts of another, in its order
+pub data IsPart {A : Type 0} : List A → List A → Type 0 where
+  no_part : IsPart [] []
+  left_out : {xs ys : List A} (y : A) → IsPart xs ys → IsPart xs (y ∷ ys)
+  taken_too : {xs ys : List A} (y : A) → IsPart xs ys → IsPart (y ∷ xs) (y ∷ ys)
+
+pub in_part : {A : Type 0} (x : A) (xs ys : List A) → IsPart xs ys → IsIn x xs → IsIn x ys
+in_part x _ _ no_part o = elim o [ ]
+in_part x xs _ (left_out y part) o = later_in (in_part x xs _ part o)
+in_part x _ _ (taken_too _ part) first_in = first_in
+in_part x _ _ (taken_too y part) (later_in o) = later_in (in_part x _ _ part o)
+
+pub part_apart : {A : Type 0} (xs ys : List A) → IsPart xs ys → AreApart ys → AreApart xs
+part_apart _ _ no_part apart = apart
+part_apart xs _ (left_out y part) (one_apart none later) = part_apart xs _ part later
+part_apart _ _ (taken_too y part) (one_apart none later) = one_apart (λ z o. none z (in_part z _ _ part o)) (part_apart _ _ part later)
+
+pub part_map : {A B : Type 0} (f : A → B) (xs ys : List A) → IsPart xs ys → IsPart (map f xs) (map f ys)
+part_map f _ _ no_part = no_part
+part_map f xs _ (left_out y part) = left_out (f y) (part_map f xs _ part)
+part_map f _ _ (taken_too y part) = taken_too (f y) (part_map f _ _ part)
+
+part_rest : {A : Type 0} (b : Bool) (x : A) (some all : List A) → IsPart some all → IsPart (cond b (x ∷ some) some) (x ∷ all)
+part_rest true x some all part = taken_too x part
+part_rest false x some all part = left_out x part
+
+pub filter_part : {A : Type 0} (test : A → Bool) (xs : List A) → IsPart (filter test xs) xs
+filter_part test [] = no_part
+filter_part test (x ∷ xs) = part_rest (test x) x (filter test xs) xs (filter_part test xs)

@@ -1,6 +1,7 @@
 -- The names in the file of a main program are told apart.
-use Rattle.std.specs.Prelude.{◌≡◌, ◌≢◌, ℕ, zero, suc, ◌+◌, ◌<◌, ◌≤◌, ◌^◌, ℤ, pos, negsuc, nat_abs, Bool, true, false, ◌||◌, List, [], ◌∷◌, ◌++◌, map, length, reverse, codes, decimal}
+use Rattle.std.specs.Prelude.{◌≡◌, ◌≢◌, ℕ, zero, suc, ◌+◌, ◌<◌, ◌≤◌, ◌^◌, ℤ, pos, negsuc, nat_abs, nat_eq, Bool, true, false, not, ◌&&◌, ◌||◌, List, [], ◌∷◌, ◌++◌, map, length, reverse, codes, decimal}
 use Rattle.std.proofs.Common.{refl, sym, ap, ◌∙◌, subst, arith}
+use Rattle.std.proofs.lemmas.Bool.{eq-eqb}
 use Rattle.std.proofs.lemmas.List.{append_cancel_left, reverse-append}
 use Rattle.std.proofs.lemmas.Fmt.{decimal_injective}
 use Rattle.f_tree.specs.Values.{Bytes}
@@ -25,12 +26,52 @@ pub data IsListName (name : List ℕ) : Type 0 where
 pub data IsVariableName (name : List ℕ) : Type 0 where
   of_variable : (x : Bytes) → is_name x ≡ true → name ≡ variable_name x → IsVariableName name
 
--- a function of the library: its name has an underscore, but none at the end, and begins with none of the letters of made names
+-- a function of the library: its name has an underscore, but none at the end, and begins as no made name does
 pub record IsCalledName (name : List ℕ) : Type 0 where
   pub underscored : has_underscore name ≡ true
   pub closed : (rest : List ℕ) → reverse name ≢ 95 ∷ rest
-  pub no_i : (rest : List ℕ) → name ≢ 105 ∷ rest
+  pub no_temporary : (rest : List ℕ) → name ≢ 105 ∷ (95 ∷ (95 ∷ rest))
+  pub no_list : (rest : List ℕ) → name ≢ 105 ∷ (111 ∷ rest)
   pub no_c : (rest : List ℕ) → name ≢ 99 ∷ rest
+
+-- the same by a test
+unfoldable pub begins : List ℕ → List ℕ → Bool
+begins [] name = true
+begins (b ∷ front) [] = false
+begins (b ∷ front) (c ∷ name) = nat_eq b c && begins front name
+
+unfoldable pub looks_called : List ℕ → Bool
+looks_called name = has_underscore name && (not (begins (95 ∷ []) (reverse name)) && (not (begins (codes "i__") name) && (not (begins (codes "io") name) && not (begins (codes "c") name))))
+
+begins_with : (front rest : List ℕ) → begins front (front ++ rest) ≡ true
+unfolding begins
+begins_with [] rest = refl
+begins_with (b ∷ front) rest = (λ i. eq-eqb b b refl i && begins_with front rest i)
+
+not_begun : (front rest name : List ℕ) → not (begins front name) ≡ true → name ≢ front ++ rest
+not_begun front rest name h same = let begun : begins front name ≡ true = ap (begins front) same ∙ begins_with front rest in let no : false ≡ true = sym (ap not begun) ∙ h in absurd (cc)
+
+first_of : (a b : Bool) → a && b ≡ true → a ≡ true
+first_of true b h = refl
+first_of false b h = absurd (cc)
+
+other_of : (a b : Bool) → a && b ≡ true → b ≡ true
+other_of true b h = h
+other_of false b h = absurd (cc)
+
+pub called_name : (name : List ℕ) → looks_called name ≡ true → IsCalledName name
+unfolding looks_called
+called_name name h =
+    let behind = other_of (has_underscore name) _ h in
+    let later = other_of (not (begins (95 ∷ []) (reverse name))) _ behind in
+    let last = other_of (not (begins (codes "i__") name)) _ later in
+    record {
+      underscored = first_of (has_underscore name) _ h;
+      closed = λ rest. not_begun (95 ∷ []) rest (reverse name) (first_of (not (begins (95 ∷ []) (reverse name))) _ behind);
+      no_temporary = λ rest. not_begun (codes "i__") rest name (first_of (not (begins (codes "i__") name)) _ later);
+      no_list = λ rest. not_begun (codes "io") rest name (first_of (not (begins (codes "io") name)) _ last);
+      no_c = λ rest. not_begun (codes "c") rest name (other_of (not (begins (codes "io") name)) _ last);
+    }
 
 pub same_first : (a b : ℕ) (x y : List ℕ) → a ∷ x ≡ b ∷ y → a ≡ b
 same_first a b x y e = cc
@@ -78,10 +119,10 @@ variable_list : (x y : List ℕ) → IsVariableName x → IsListName y → x ≢
 variable_list x y (of_variable v named e) (of_list k small f) h = variable_name-not_made v named (ControlList k) small (sym e ∙ h ∙ f)
 
 called_temporary : (x y : List ℕ) → IsCalledName x → IsTemporaryName y → x ≢ y
-called_temporary x y called (of_temporary k _ f) h = called.no_i (95 ∷ (95 ∷ decimal k)) (h ∙ f ∙ temporary_front k)
+called_temporary x y called (of_temporary k _ f) h = called.no_temporary (decimal k) (h ∙ f ∙ temporary_front k)
 
 called_list : (x y : List ℕ) → IsCalledName x → IsListName y → x ≢ y
-called_list x y called (of_list k _ f) h = called.no_i (111 ∷ (codes "___" ++ decimal k)) (h ∙ f ∙ list_front k)
+called_list x y called (of_list k _ f) h = called.no_list (codes "___" ++ decimal k) (h ∙ f ∙ list_front k)
 
 left_false : (a b : Bool) → (a || b) ≡ false → a ≡ true → {A : Type 0} → A
 left_false true b h t = absurd (cc)

@@ -13,7 +13,7 @@ use Rattle.c_tree.specs.declared.statement.CStmt.{CStmt}
 use Rattle.c_tree.specs.Linking.{main_name}
 use Rattle.main_file.specs.MainFile.{call_for, constant_for, lists_from, main_file, main_locals, temporaries_from, variable_by, variable_for}
 use Rattle.main_translation.specs.Flow.{kind_at}
-use Rattle.main_translation.specs.Contents.{calls_of, count_by, first_objects, if_called, inventory_of, number_type_of, start_output, output_item, end_output, stop_run, variable_of}
+use Rattle.main_translation.specs.Contents.{calls_of, count_by, first_objects, function_called, functions_of, if_called, inventory_of, number_type_of, start_output, output_item, end_output, stop_run, variable_of}
 use Rattle.main_translation.specs.Outlined.{outline_of}
 use Rattle.c_tree.specs.declared.file.CFile.{CFile}
 use Rattle.lowered_text.specs.declared.text.LoweredText.{LoweredText}
@@ -76,9 +76,9 @@ module _ (table : NameFacts) (names : List Bytes) (t : LoweredText) (c : Content
   locals_same (m ∷ ms) = λ i. local_same m i ∷ locals_same ms i
 
   calls_same : calls_by c.calls ≡ calls_of u.steps
-  unfolding calls_by calls_of
+  unfolding calls_by calls_of functions_of
   calls_same = λ i. if_called (contents.calls.starts i) start_output ++ (if_called (contents.calls.takes i) output_item
-      ++ (if_called (contents.calls.finishes i) end_output ++ if_called (contents.calls.stops i) stop_run))
+      ++ (if_called (contents.calls.finishes i) end_output ++ (if_called (contents.calls.stops i) stop_run ++ map function_called (contents.calls.functions i))))
 
   all_locals : locals_by table names c ≡ main_locals (inventory_of u.facts.program u)
   unfolding locals_by

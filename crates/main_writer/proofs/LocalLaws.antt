@@ -1,17 +1,21 @@
 -- The declarations of a function, one after the other.
 use Rattle.std.specs.Borrow.{Bor}
-use Rattle.std.proofs.Common.{◌≡◌, ℕ, suc, ◌+◌, ◌-◌, ◌<◌, ◌≤◌, Bool, true, false, List, [], ◌∷◌, ◌++◌, map, append_assoc, refl, sym, ap, ◌∙◌, arith, if◌then◌else◌}
+use Rattle.std.proofs.Common.{◌≡◌, ℕ, zero, suc, ◌+◌, ◌-◌, ◌<◌, ◌≤◌, Bool, true, false, List, [], ◌∷◌, ◌++◌, map, replicate, append_assoc, refl, sym, ap, ◌∙◌, arith, if◌then◌else◌}
 use Rattle.std.proofs.lemmas.List.{append-nil, map-append}
 use Rattle.f_tree.specs.CNames.{made_name, NumberTemporary}
 use Rattle.c_tree.specs.declared.declaration.CLocal.{CLocal}
 use Rattle.c_tree.specs.declared.declaration.CLocal.TheVariants as local
 use Rattle.c_tree.specs.declared.types.NumberType.TheVariants as number_type
+use Rattle.c_tree.specs.declared.types.ParameterType.TheVariants as parameter
+use Rattle.c_tree.specs.declared.types.ArgumentType.TheVariants as argument
+use Rattle.library_functions.specs.declared.table.LibraryFunction.{LibraryFunction}
+use Rattle.library_functions.specs.Described.{described}
 use Rattle.main_contents.specs.declared.contents.Listing.{Listing}
 use Rattle.main_contents.specs.MainContents.{listing_of}
 use Rattle.main_file.specs.MainFile.{Called, call_for, list_for, lists_from, temporaries_from}
 use Rattle.name_facts.specs.declared.table.NameFacts.{NameFacts}
 use Rattle.name_facts.specs.GivenFacts.{fact_in}
-use Rattle.main_translation.specs.Contents.{if_called, start_output, output_item, end_output, stop_run}
+use Rattle.main_translation.specs.Contents.{if_called, start_output, output_item, end_output, stop_run, number_arguments, function_called}
 use Rattle.main_contents.specs.declared.contents.Calls.{Calls}
 use Rattle.main_writer.specs.Files.{calls_by, local_if, local_of}
 use Rattle.main_writer.specs.WrittenMains.{is_stored_class, stored_names}
@@ -69,13 +73,32 @@ pub locals_end : (table : NameFacts) → locals_behind table [] ≡ []
 unfolding stored_names
 locals_end table = refl
 
-four_calls : (a b c d : List Called) → map call_for (a ++ (b ++ (c ++ d))) ≡ map call_for a ++ (map call_for b ++ (map call_for c ++ map call_for d))
-four_calls a b c d =
-    map-append call_for a (b ++ (c ++ d)) ∙ ap (λ ys. map call_for a ++ ys) (map-append call_for b (c ++ d))
-    ∙ ap (λ ys. map call_for a ++ (map call_for b ++ ys)) (map-append call_for c d)
+abbrev pub functions_behind : List LibraryFunction → List CLocal
+functions_behind functions = map call_for (map function_called (map described functions))
 
-pub calls_behind : (calls : Calls) → map call_for (if_called calls.starts start_output) ++ (map call_for (if_called calls.takes output_item)
-    ++ (map call_for (if_called calls.finishes end_output) ++ map call_for (if_called calls.stops stop_run))) ≡ map call_for (calls_by calls)
+abbrev pub function_alone : LibraryFunction → List CLocal
+function_alone function = call_for (function_called (described function)) ∷ []
+
+five_calls : (a b c d e : List Called) → map call_for (a ++ (b ++ (c ++ (d ++ e)))) ≡ map call_for a ++ (map call_for b ++ (map call_for c ++ (map call_for d ++ map call_for e)))
+five_calls a b c d e =
+    map-append call_for a (b ++ (c ++ (d ++ e))) ∙ ap (λ ys. map call_for a ++ ys) (map-append call_for b (c ++ (d ++ e)))
+    ∙ ap (λ ys. map call_for a ++ (map call_for b ++ ys)) (map-append call_for c (d ++ e))
+    ∙ ap (λ ys. map call_for a ++ (map call_for b ++ (map call_for c ++ ys))) (map-append call_for d e)
+
+pub calls_behind : (calls : Calls) (functions : List LibraryFunction) → functions ≡ calls.functions.items → map call_for (if_called calls.starts start_output)
+    ++ (map call_for (if_called calls.takes output_item) ++ (map call_for (if_called calls.finishes end_output) ++ (map call_for (if_called calls.stops stop_run) ++ functions_behind functions)))
+    ≡ map call_for (calls_by calls)
 unfolding calls_by
-calls_behind calls =
-    sym (four_calls (if_called calls.starts start_output) (if_called calls.takes output_item) (if_called calls.finishes end_output) (if_called calls.stops stop_run))
+calls_behind calls functions same =
+    let starts = if_called calls.starts start_output in
+    let takes = if_called calls.takes output_item in
+    let finishes = if_called calls.finishes end_output in
+    let stops = if_called calls.stops stop_run in
+    ap (λ fs. map call_for starts ++ (map call_for takes ++ (map call_for finishes ++ (map call_for stops ++ functions_behind fs)))) same
+    ∙ sym (five_calls starts takes finishes stops (map function_called (map described calls.functions.items)))
+
+-- each argument of a function of numbers is a pointer
+pub arguments_alike : (count : ℕ) → replicate count (argument.Parameter parameter.Integers) ≡ number_arguments count
+unfolding number_arguments
+arguments_alike zero = refl
+arguments_alike (suc n) = ap (λ later. argument.Parameter parameter.Integers ∷ later) (arguments_alike n)

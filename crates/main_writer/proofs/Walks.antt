@@ -38,6 +38,13 @@ put_four start one two three four a b c d first second third last =
     last ∙ ap (λ xs. xs ++ d) (third ∙ ap (λ xs. xs ++ c) (second ∙ ap (λ xs. xs ++ b) first))
     ∙ append_assoc ((start ++ a) ++ b) c d ∙ append_assoc (start ++ a) b (c ++ d) ∙ append_assoc start a (b ++ (c ++ d))
 
+-- what a fifth call puts behind them
+pub put_fifth : {A : Type 0} (start one two three four five a b c d e : List A) → one ≡ start ++ a → two ≡ one ++ b → three ≡ two ++ c → four ≡ three ++ d → five ≡ four ++ e
+    → five ≡ start ++ (a ++ (b ++ (c ++ (d ++ e))))
+put_fifth start one two three four five a b c d e first second third fourth last =
+    last ∙ ap (λ xs. xs ++ e) (put_four start one two three four a b c d first second third fourth) ∙ append_assoc start (a ++ (b ++ (c ++ d))) e
+    ∙ ap (λ xs. start ++ xs) (append_assoc a (b ++ (c ++ d)) e) ∙ ap (λ xs. start ++ (a ++ xs)) (append_assoc b (c ++ d) e) ∙ ap (λ xs. start ++ (a ++ (b ++ xs))) (append_assoc c d e)
+
 -- and where nothing was there before
 pub put_all : {A : Type 0} (start one two three four a b c d : List A) → start ≡ [] → one ≡ start ++ a → two ≡ one ++ b → three ≡ two ++ c → four ≡ three ++ d → four ≡ a ++ (b ++ (c ++ d))
 put_all start one two three four a b c d none first second third last =

@@ -14,7 +14,8 @@ use Rattle.c_tree.specs.Linking.{main_name}
 use Rattle.lowered_text.specs.declared.kept.Kept.{Kept}
 use Rattle.lowered_text.specs.Texts.{kinds_of}
 use Rattle.main_file.specs.MainFile.{Called, temporaries_from, call_for, variable_by, lists_from, constant_for}
-use Rattle.main_translation.specs.Contents.{number_type_of, count_by, if_called, start_output, output_item, end_output, stop_run}
+use Rattle.main_translation.specs.Contents.{number_type_of, count_by, if_called, start_output, output_item, end_output, stop_run, function_called}
+use Rattle.library_functions.specs.Described.{described}
 use Rattle.name_facts.specs.declared.table.NameFacts.{NameFacts}
 use Rattle.name_facts.specs.GivenFacts.{bounds_of, fact_in}
 use Rattle.named_items.specs.Layouts.{layout_of}
@@ -50,7 +51,8 @@ local_if false local = []
 -- the functions of the library
 unfoldable pub calls_by : Calls → List Called
 calls_by calls =
-    if_called calls.starts start_output ++ (if_called calls.takes output_item ++ (if_called calls.finishes end_output ++ if_called calls.stops stop_run))
+    if_called calls.starts start_output ++ (if_called calls.takes output_item ++ (if_called calls.finishes end_output
+    ++ (if_called calls.stops stop_run ++ map function_called (map described calls.functions.items))))
 
 unfoldable pub locals_by : NameFacts → List Bytes → Contents → List CLocal
 locals_by table names c =

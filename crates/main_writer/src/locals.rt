@@ -2,6 +2,8 @@
 
 ghost use Rattle.std.specs.Prelude.{◌≡◌, ◌++◌, ◌∷◌, [], IfOk, OnOk, map, pos};
 ghost use Rattle.c_tree.specs.declared.declaration.CField.TheVariants as field;
+ghost use Rattle.c_tree.specs.declared.types.ResultType.TheVariants as result_type;
+ghost use Rattle.library_functions.specs.Described.{described};
 ghost use Rattle.main_contents.specs.MainContents.{listing_of};
 ghost use Rattle.main_file.specs.MainFile as file;
 ghost use Rattle.main_translation.specs.Contents as contents;
@@ -14,6 +16,7 @@ use c_names::{control_list_name, temporary_name, variable_name};
 use c_tree::declaration::{CField, CLocal};
 use c_tree::types::{ArgumentType, ListType, NumberType, ParameterType, ResultType};
 use f_tree::{Basic, Class};
+use library_functions::LibraryFunction;
 use main_contents::{Calls, Contents, Listing};
 use name_facts::{Bound, NameFacts};
 use plain_data::Items;
@@ -39,7 +42,7 @@ fn add_call(
     name: &[u8],
     arguments: &[ArgumentType],
 ) -> Result<(), AllocError>
-    ensures { OnOk result (locals.new.items ≡ locals.old.items ++ map file.call_for (contents.if_called is_called (record { name = name.now; arguments = arguments.now }))) }
+    ensures { OnOk result (locals.new.items ≡ locals.old.items ++ map file.call_for (contents.if_called is_called (record { result = result_type.Integer; name = name.now; arguments = arguments.now }))) }
 {
     if !is_called {
         return Ok(());
@@ -93,14 +96,58 @@ fn add_finish(alloc: Global, locals: &mut Vec<CLocal>, is_called: bool) -> Resul
     add_call(alloc, locals, is_called, b"e_wsle", &[])
 }
 
+/// The type of the value of a function of the library.
+#[tactic(auto, unfolding(main_translation::specs::Contents::result_of))]
+fn result_type(basic: Basic) -> ResultType
+    ensures { result ≡ contents.result_of basic }
+{
+    match basic {
+        Basic::Logical => ResultType::Logical,
+        Basic::Integer | Basic::Character | Basic::Untyped => ResultType::Integer,
+    }
+}
+
+/// The arguments of a function of so many numbers, which are passed by their addresses.
+fn number_arguments(alloc: Global, count: usize) -> Result<Items<ArgumentType>, AllocError>
+    ensures { IfOk result (λ row. row ≡ contents.number_arguments count) }
+{
+    let row = vec![in alloc; ArgumentType::Parameter(ParameterType::Integers); count]?;
+    Ok(Items::from_vec(row))
+}
+
+/// The declaration of a function of the library that gives a number for numbers.
+#[tactic(auto, unfolding(main_translation::specs::Contents::function_called))]
+fn function_local(alloc: Global, function: &LibraryFunction) -> Result<CLocal, AllocError>
+    ensures { IfOk result (λ local. local ≡ file.call_for (contents.function_called (described function.now))) }
+{
+    let name = Items::from_slice(alloc, function.name)?;
+    let arguments = number_arguments(alloc, function.takes)?;
+    Ok(CLocal::Extern(result_type(function.gives), name, arguments))
+}
+
+/// Declares the functions of numbers of the library.
+fn add_functions(
+    alloc: Global,
+    locals: &mut Vec<CLocal>,
+    functions: &[LibraryFunction],
+) -> Result<(), AllocError>
+    ensures { OnOk result (locals.new.items ≡ locals.old.items ++ map file.call_for (map contents.function_called (map described functions.now))) }
+{
+    for function in functions {
+        locals.push(function_local(alloc, function)?)?;
+    }
+    Ok(())
+}
+
 /// Declares the functions of the library that are called.
-fn add_calls(alloc: Global, locals: &mut Vec<CLocal>, calls: Calls) -> Result<(), AllocError>
-    ensures { OnOk result (locals.new.items ≡ locals.old.items ++ map file.call_for (spec.calls_by calls)) }
+fn add_calls(alloc: Global, locals: &mut Vec<CLocal>, calls: &Calls) -> Result<(), AllocError>
+    ensures { OnOk result (locals.new.items ≡ locals.old.items ++ map file.call_for (spec.calls_by calls.now)) }
 {
     add_start(alloc, locals, calls.starts)?;
     add_output_item(alloc, locals, calls.takes)?;
     add_finish(alloc, locals, calls.finishes)?;
     add_stop(alloc, locals, calls.stops)?;
+    add_functions(alloc, locals, &calls.functions)?;
     Ok(())
 }
 
@@ -242,7 +289,7 @@ pub(crate) fn locals(
 {
     let mut found = Vec::new(alloc);
     add_temporaries(alloc, &mut found, contents.temporaries)?;
-    add_calls(alloc, &mut found, contents.calls)?;
+    add_calls(alloc, &mut found, &contents.calls)?;
     add_variables(alloc, &mut found, table, names)?;
     add_lists(alloc, &mut found, &contents.lists)?;
     Ok(Items::from_vec(found))

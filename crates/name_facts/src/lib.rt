@@ -4,8 +4,6 @@
 
 mod fact;
 mod table;
-#[cfg(test)]
-mod tests;
 
 pub use fact::{Bound, ConstantValue, NameFact};
 pub use table::NameFacts;

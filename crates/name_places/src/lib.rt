@@ -12,6 +12,3 @@ pub use place::{Place, add_at, place_of};
 pub use places::{
     NamePlaces, conflict_place, declaration_place, mention_place, name_places, parameter_place,
 };
-
-#[cfg(test)]
-mod tests;

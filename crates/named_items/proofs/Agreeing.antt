@@ -8,7 +8,7 @@ use Rattle.c_tree.specs.declared.statement.CNext.{CNext}
 use Rattle.c_tree.specs.declared.statement.CStmt.{CStmt}
 use Rattle.c_tree.specs.declared.statement.CStmt.TheVariants as stmt
 use Rattle.c_tree.specs.Terms.{Term}
-use Rattle.c_tree.specs.Flat.{Flat, Assign, Branch, Jump, Invoke, Return, Nothing, Ignored, Direct}
+use Rattle.c_tree.specs.Flat.{Flat, Assign, Branch, Jump, Invoke, Return, Nothing, Ignored, Kept, Direct}
 use Rattle.c_structure.specs.Expressions.{expr_for, exprs_for}
 use Rattle.c_structure.specs.Statements.{Outline, with_label}
 use Rattle.c_structure.specs.Statements as flat
@@ -21,7 +21,7 @@ use Rattle.named_items.specs.Structured as named
 use Rattle.named_items.specs.Structured.{part}
 use Rattle.named_items.specs.Agreement.{places_of, TellsPlaces, ItemsAreStructured}
 use Rattle.named_items.proofs.WrittenAlike.{left_true, right_true}
-use Rattle.named_items.proofs.NamedItems.{some_same, mapped_by, assigned, items_first, items_later, no_items, no_flats, items_take, items_drop, items_length, items_at, tells_take, tells_later, tells_drop, set_from, test_from, ends_alike, back_alike}
+use Rattle.named_items.proofs.NamedItems.{some_same, mapped_by, assigned, set_call, items_first, items_later, no_items, no_flats, items_take, items_drop, items_length, items_at, tells_take, tells_later, tells_drop, set_from, test_from, ends_alike, back_alike}
 use Rattle.named_items.proofs.Growth.{Told, next_alike}
 
 -- ## One item
@@ -32,7 +32,7 @@ goto_alike None = refl
 goto_alike (Some name) = refl
 
 statement_alike : (o : Outline) (f : Flat) (i : Item) (s : CStmt) → item_for o.names f ≡ Some i → named.statement_of (places_of o) i ≡ Some s → flat.statement_of o f ≡ Some s
-unfolding item_for named.statement_of named.call_of flat.statement_of flat.set_by flat.call_by
+unfolding item_for named.statement_of named.call_of named.set_call_of flat.statement_of flat.set_by flat.call_by flat.set_call_by
 statement_alike o (Assign t u) i s is h =
     let m = assigned (expr_for o.names t) (expr_for o.names u) i is in
     (λ k. flat.set_by (m.place_is k) (m.value_is k)) ∙ ap (named.statement_of (places_of o)) m.is ∙ h
@@ -42,7 +42,10 @@ statement_alike o (Branch t on off) i s is h =
 statement_alike o (Jump position) i s is h = goto_alike (o.label position) ∙ ap (named.statement_of (places_of o)) (some_same (item.Jump position) i is) ∙ h
 statement_alike o (Invoke Ignored (Direct k) arguments) i s is h =
     let m = mapped_by (item.Call (o.names.routine k)) (exprs_for o.names arguments) i is in
-    ap (flat.call_by (o.names.routine k)) m.one_is ∙ ap (named.statement_of (places_of o)) m.is ∙ h
+    ap (flat.call_by false (o.names.routine k)) m.one_is ∙ ap (named.statement_of (places_of o)) m.is ∙ h
+statement_alike o (Invoke (Kept t) (Direct k) arguments) i s is h =
+    let m = set_call (expr_for o.names t) (o.names.routine k) (exprs_for o.names arguments) i is in
+    (λ k'. flat.set_call_by false (o.names.routine k) (m.place_is k') (m.arguments_are k')) ∙ ap (named.statement_of (places_of o)) m.is ∙ h
 statement_alike o (Return None) i s is h = ap (named.statement_of (places_of o)) (some_same (item.Return None) i is) ∙ h
 statement_alike o (Return (Some t)) i s is h =
     let m = mapped_by (λ e. item.Return (Some e)) (expr_for o.names t) i is in
@@ -279,6 +282,7 @@ module _ (o : Outline) where
   plain_goes W V agree n f fs (item.Assign a b) is p named items tells h = one_goes W n f fs (item.Assign a b) p named (λ e on off g. cc) h
   plain_goes W V agree n f fs (item.Jump position) is p named items tells h = one_goes W n f fs (item.Jump position) p named (λ e on off g. cc) h
   plain_goes W V agree n f fs (item.Call name arguments) is p named items tells h = one_goes W n f fs (item.Call name arguments) p named (λ e on off g. cc) h
+  plain_goes W V agree n f fs (item.SetCall target name arguments) is p named items tells h = one_goes W n f fs (item.SetCall target name arguments) p named (λ e on off g. cc) h
   plain_goes W V agree n f fs (item.Return value) is p named items tells h = one_goes W n f fs (item.Return value) p named (λ e on off g. cc) h
   plain_goes W V agree n f fs item.Nothing is p named items tells h = one_goes W n f fs item.Nothing p named (λ e on off g. cc) h
 

@@ -134,7 +134,7 @@ unfolding expr_for
 shape_of names (Constant z) e h = constant_shape names z e h
 shape_of names (Variable k access) e h = IsOther _ (subst IsNeither (some_same _ e h) (neither_name (names.object k)))
 shape_of names (Array k access) e h = IsOther _ (subst IsNeither (some_same _ e h) (neither_array (names.string k) (names.object k)))
-shape_of names (Routine k) e h = absurd (cc)
+shape_of names (Routine k) e h = IsOther _ (subst IsNeither (some_same _ e h) (neither_name (names.routine k)))
 shape_of names Unknown e h = absurd (cc)
 shape_of names (Prefixed op t) e h = let m = mapped_by (expr.Unary op) (expr_for names t) e h in IsOther _ (subst IsNeither m.is (neither_unary op m.one))
 shape_of names (Cast type t) e h = let m = mapped_by (expr.Cast type) (expr_for names t) e h in IsOther _ (subst IsNeither m.is (neither_cast type m.one))

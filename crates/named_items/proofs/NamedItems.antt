@@ -3,12 +3,12 @@ use Rattle.std.specs.Prelude.{◌≡◌, ℕ, zero, suc, true, nat_eq, List, [],
 use Rattle.std.proofs.Common.{refl, sym, ap, ◌∙◌}
 use Rattle.c_tree.specs.declared.expression.CExpr.{CExpr}
 use Rattle.c_tree.specs.Terms.{Term}
-use Rattle.c_tree.specs.Flat.{Flat, Assign, Branch, Jump, Invoke, Return, Nothing, Ignored, Direct}
+use Rattle.c_tree.specs.Flat.{Flat, Assign, Branch, Jump, Invoke, Return, Nothing, Ignored, Kept, Direct}
 use Rattle.c_structure.specs.Expressions.{Names, expr_for, exprs_for}
 use Rattle.c_structure.specs.Statements as flat
 use Rattle.named_items.specs.declared.item.Item.{Item}
 use Rattle.named_items.specs.declared.item.Item.TheVariants as item
-use Rattle.named_items.specs.Items.{assign_by, item_for, before_items, items_for}
+use Rattle.named_items.specs.Items.{assign_by, set_call_by, item_for, before_items, items_for}
 use Rattle.named_items.specs.Structured as named
 use Rattle.named_items.specs.Agreement.{TellsPlaces}
 
@@ -37,6 +37,19 @@ unfolding assign_by
 assigned (Some a) (Some b) i h = record { place = a; value = b; place_is = refl; value_is = refl; is = some_same (item.Assign a b) i h }
 assigned (Some a) None i h = absurd (cc)
 assigned None y i h = absurd (cc)
+
+pub record IsSetCall (x : Option CExpr) (name : List ℕ) (xs : Option (List CExpr)) (i : Item) : Type 0 where
+  pub place : CExpr
+  pub arguments : List CExpr
+  pub place_is : x ≡ Some place
+  pub arguments_are : xs ≡ Some arguments
+  pub is : item.SetCall place name arguments ≡ i
+
+pub set_call : (x : Option CExpr) (name : List ℕ) (xs : Option (List CExpr)) (i : Item) → set_call_by x name xs ≡ Some i → IsSetCall x name xs i
+unfolding set_call_by
+set_call (Some a) name (Some es) i h = record { place = a; arguments = es; place_is = refl; arguments_are = refl; is = some_same (item.SetCall a name es) i h }
+set_call (Some a) name None i h = absurd (cc)
+set_call None name xs i h = absurd (cc)
 
 -- ## Lists
 
@@ -155,6 +168,9 @@ set_from names (Jump position) a b h = absurd (cc)
 set_from names (Invoke Ignored (Direct k) arguments) a b h =
     let m = mapped_by (item.Call (names.routine k)) (exprs_for names arguments) (item.Assign a b) h in
     let is : item.Call (names.routine k) m.one ≡ item.Assign a b = m.is in absurd (cc)
+set_from names (Invoke (Kept t) (Direct k) arguments) a b h =
+    let m = set_call (expr_for names t) (names.routine k) (exprs_for names arguments) (item.Assign a b) h in
+    let is : item.SetCall m.place (names.routine k) m.arguments ≡ item.Assign a b = m.is in absurd (cc)
 set_from names (Return None) a b h = absurd (cc)
 set_from names (Return (Some t)) a b h =
     let m = mapped_by (λ e. item.Return (Some e)) (expr_for names t) (item.Assign a b) h in
@@ -183,6 +199,9 @@ test_from names (Jump position) e on off h = absurd (cc)
 test_from names (Invoke Ignored (Direct k) arguments) e on off h =
     let m = mapped_by (item.Call (names.routine k)) (exprs_for names arguments) (item.Branch e on off) h in
     let is : item.Call (names.routine k) m.one ≡ item.Branch e on off = m.is in absurd (cc)
+test_from names (Invoke (Kept t) (Direct k) arguments) e on off h =
+    let m = set_call (expr_for names t) (names.routine k) (exprs_for names arguments) (item.Branch e on off) h in
+    let is : item.SetCall m.place (names.routine k) m.arguments ≡ item.Branch e on off = m.is in absurd (cc)
 test_from names (Return None) e on off h = absurd (cc)
 test_from names (Return (Some t)) e on off h =
     let m = mapped_by (λ d. item.Return (Some d)) (expr_for names t) (item.Branch e on off) h in
@@ -202,6 +221,9 @@ jump_from names (Branch t a b) p h =
 jump_from names (Invoke Ignored (Direct k) arguments) p h =
     let m = mapped_by (item.Call (names.routine k)) (exprs_for names arguments) (item.Jump p) h in
     let is : item.Call (names.routine k) m.one ≡ item.Jump p = m.is in absurd (cc)
+jump_from names (Invoke (Kept t) (Direct k) arguments) p h =
+    let m = set_call (expr_for names t) (names.routine k) (exprs_for names arguments) (item.Jump p) h in
+    let is : item.SetCall m.place (names.routine k) m.arguments ≡ item.Jump p = m.is in absurd (cc)
 jump_from names (Return None) p h = absurd (cc)
 jump_from names (Return (Some t)) p h =
     let m = mapped_by (λ d. item.Return (Some d)) (expr_for names t) (item.Jump p) h in

@@ -11,7 +11,7 @@ use Rattle.c_tree.specs.declared.statement.CStmt.{CStmt}
 use Rattle.c_tree.specs.declared.statement.CStmt.TheVariants as stmt
 use Rattle.c_structure.specs.Statements.{with_label}
 use Rattle.named_items.specs.declared.item.Item.{Item}
-use Rattle.named_items.specs.declared.item.Item.TheVariants.{Assign, Branch, Jump, Call, Return, Nothing}
+use Rattle.named_items.specs.declared.item.Item.TheVariants.{Assign, Branch, Jump, Call, SetCall, Return, Nothing}
 use Rattle.named_items.specs.declared.part.Head.{Head}
 use Rattle.named_items.specs.declared.part.Part.{Part}
 use Rattle.named_items.specs.Layouts.{Layout}
@@ -34,12 +34,17 @@ goto_label (Some name) = Some (stmt.Goto name)
 unfoldable pub call_of : List ℕ → List CExpr → CStmt
 call_of name arguments = stmt.Call (record { through = false; name = name; arguments = arguments })
 
+-- a call of a function by its name, whose value is stored
+unfoldable pub set_call_of : CExpr → List ℕ → List CExpr → CStmt
+set_call_of target name arguments = stmt.SetCall target (record { through = false; name = name; arguments = arguments })
+
 -- the statement of one item
 unfoldable pub statement_of : Layout → Item → Option CStmt
 statement_of l (Assign a b) = Some (stmt.Set a b)
 statement_of l (Branch test on off) = None
 statement_of l (Jump position) = goto_label (l.label position)
 statement_of l (Call name arguments) = Some (call_of name arguments)
+statement_of l (SetCall target name arguments) = Some (set_call_of target name arguments)
 statement_of l (Return value) = Some (stmt.Return value)
 statement_of l Nothing = Some stmt.Empty
 
@@ -193,5 +198,5 @@ structured l zero n (item ∷ later) = None
 structured l (suc turns) n (item ∷ later) = onward (structured l turns) n later (part_at l (structured l turns) n item later)
 
 unfoldable pub structured_opened : Unit {0}
-unfolding goto_label call_of statement_of alone if_by if_else_by end_of_arm one_arm two_arms arms_for branch_for test_for plain_for added_in sum_in is_one next_by next_from next_for goes_back is_unmarked is_loop for_by turns_for head_for loop_for part_for marked part_at behind onward structured
+unfolding goto_label call_of set_call_of statement_of alone if_by if_else_by end_of_arm one_arm two_arms arms_for branch_for test_for plain_for added_in sum_in is_one next_by next_from next_for goes_back is_unmarked is_loop for_by turns_for head_for loop_for part_for marked part_at behind onward structured
 structured_opened = tt

@@ -14,6 +14,8 @@ pub enum Item {
     Jump(usize),
     /// A call of a function, by its name, with its arguments.
     Call(Text, Items<CExpr>),
+    /// `lvalue = name(..);`, a call of a function, by its name, with its arguments, whose value is stored.
+    SetCall(CExpr, Text, Items<CExpr>),
     /// `return;` or `return expr;`
     Return(Option<CExpr>),
     /// `;`

@@ -13,7 +13,7 @@ use Rattle.c_tree.specs.declared.statement.CStmt.TheVariants as stmt
 use Rattle.c_structure.specs.Statements.{with_label}
 use Rattle.c_spelling.specs.Spelled.{expression_of_bytes, next_of_bytes, statement_of_bytes, statements_of_bytes}
 use Rattle.named_items.specs.declared.item.Item.{Item}
-use Rattle.named_items.specs.declared.item.Item.TheVariants.{Assign, Branch, Jump, Call, Return, Nothing}
+use Rattle.named_items.specs.declared.item.Item.TheVariants.{Assign, Branch, Jump, Call, SetCall, Return, Nothing}
 use Rattle.named_items.specs.declared.part.Head.{Head}
 use Rattle.named_items.specs.declared.part.Part.{Part}
 use Rattle.named_items.specs.Layouts.{Layout}
@@ -75,11 +75,12 @@ jumped None = refl
 jumped (Some name) = refl
 
 stated : (l : Layout) (i : Item) → item_of_bytes i ≡ true → passes statement_of_bytes (items.statement_of l i) ≡ true
-unfolding items.statement_of items.call_of trees_opened
+unfolding items.statement_of items.call_of items.set_call_of trees_opened
 stated l (Assign a b) h = h
 stated l (Branch test on off) h = refl
 stated l (Jump position) h = jumped (l.label position)
 stated l (Call name arguments) h = h
+stated l (SetCall target name arguments) h = h
 stated l (Return value) h = h
 stated l Nothing h = refl
 

@@ -1,6 +1,6 @@
 -- The strings of the items that steps have by names are the texts of STOP statements.
 use Rattle.std.specs.List.{list_all}
-use Rattle.std.specs.Prelude.{◌≡◌, ℕ, zero, suc, ◌+◌, ◌-◌, nat_eq, nat_le, nat_lt, ℤ, pos, negsuc, ◌+ℤ◌, Bool, true, false, ◌&&◌, List, [], ◌∷◌, length, Option, Some, None, option_map, option_and_then, if◌then◌else◌}
+use Rattle.std.specs.Prelude.{◌≡◌, ℕ, zero, suc, ◌+◌, ◌-◌, nat_eq, nat_le, nat_lt, ℤ, pos, negsuc, ◌+ℤ◌, Bool, true, false, ◌&&◌, List, [], ◌∷◌, map, length, Option, Some, None, option_map, option_and_then, if◌then◌else◌}
 use Rattle.std.specs.Ordering.{int_eq}
 use Rattle.std.proofs.Common.{refl}
 use Rattle.f_tree.specs.Values.{Bytes, Datum, IsInt, IsLog, in_range}
@@ -21,6 +21,7 @@ use Rattle.c_tree.specs.declared.expression.Extreme.{Extreme}
 use Rattle.c_tree.specs.declared.expression.Extreme.TheVariants as extreme
 use Rattle.c_structure.specs.Expressions.{number_expr, with_two, with_three, one_more}
 use Rattle.c_image.specs.Operations.{prefix_for, operator_for}
+use Rattle.c_emit.specs.LibraryFunctions.{LibraryFunction, library_function}
 use Rattle.c_emit.specs.Calls.{is_plain, kind_number}
 use Rattle.c_spelling.specs.Spelled.{of_bytes, expression_of_bytes, value_of_bytes}
 use Rattle.named_items.specs.declared.item.Item.{Item}
@@ -288,6 +289,7 @@ item_of_bytes (item.Assign a b) = expression_of_bytes a && expression_of_bytes b
 item_of_bytes (item.Branch test on off) = expression_of_bytes test
 item_of_bytes (item.Jump position) = true
 item_of_bytes (item.Call name arguments) = list_all expression_of_bytes arguments
+item_of_bytes (item.SetCall target name arguments) = expression_of_bytes target && list_all expression_of_bytes arguments
 item_of_bytes (item.Return value) = value_of_bytes value
 item_of_bytes item.Nothing = true
 
@@ -332,6 +334,23 @@ held known (Constant d) = datum_held known d
 held known (Temporary k) = temporary known k
 held known (Load p) = place known p
 held known p = refl
+
+held_all : (known : Knowledge) (ps : Pures) → passes of_expressions (emission.held_exprs known ps) ≡ true
+unfolding emission.held_exprs
+held_all known NoPure = refl
+held_all known (AndPure p ps) = more (emission.held_expr known p) (emission.held_exprs known ps) (held known p) (held_all known ps)
+
+addresses : (es : List CExpr) → of_expressions es ≡ true → of_expressions (map emission.address_expr es) ≡ true
+addresses [] h = refl
+addresses (e ∷ es) h =
+    both (expression_of_bytes (emission.address_expr e)) (of_expressions (map emission.address_expr es)) (address e (left (expression_of_bytes e) (of_expressions es) h)) (addresses es (right (expression_of_bytes e) (of_expressions es) h))
+
+computed : (x : Option CExpr) (function : Option LibraryFunction) (xs : Option (List CExpr)) → passes expression_of_bytes x ≡ true → passes of_expressions xs ≡ true → passes item_of_bytes (emission.computed_step x function xs) ≡ true
+unfolding emission.computed_step
+computed (Some e) (Some function) (Some es) one others = both (expression_of_bytes e) (of_expressions (map emission.address_expr es)) one (addresses es others)
+computed (Some e) (Some function) None one others = refl
+computed (Some e) None xs one others = refl
+computed None function xs one others = refl
 
 start_called : (k : ℕ) → item_of_bytes (emission.start_call k) ≡ true
 unfolding emission.start_call emission.list_object
@@ -398,6 +417,7 @@ one_step : (known : Knowledge) (kind : Kinds) (n : ℕ) (st : Step) → step_of_
 unfolding emission.item_step
 one_step known kind n (step.Put target p) h = assigned (emission.place_expr known target) (emission.value_expr known p) (place known target) (value known p)
 one_step known kind n (step.Keep k p) h = assigned (emission.temporary_expr known k) (emission.value_expr known p) (temporary known k) (value known p)
+one_step known kind n (step.Compute k f ps) h = computed (emission.temporary_expr known k) (library_function f) (emission.held_exprs known ps) (temporary known k) (held_all known ps)
 one_step known kind n (step.Unless p m) h = branched (emission.value_expr known p) (suc n) (suc n + m) (value known p)
 one_step known kind n (step.AgainIf p m) h = branched (emission.value_expr known p) (n - m) (suc n) (value known p)
 one_step known kind n (step.Skip m) h = refl

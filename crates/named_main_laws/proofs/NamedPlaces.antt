@@ -25,6 +25,7 @@ abbrev pub NamesObjects : (ℕ → Type 0) → Term → Type 0
 NamesObjects IsObject (Variable k ToNumber) = IsObject k
 NamesObjects IsObject (Variable k access) = ⊥
 NamesObjects IsObject (Array k access) = ⊥
+NamesObjects IsObject (Routine k) = ⊥
 NamesObjects IsObject (Prefixed prefix.Deref t) = ⊥
 NamesObjects IsObject (Between sign t u) = NamesObjects IsObject t
 NamesObjects IsObject (Element (Array k ToNumber) t) = IsObject k
@@ -48,6 +49,7 @@ data IsDrawn (names : Names) : Term → CExpr → Type 0 where
   of_number : (n : ℕ) → IsDrawn names (Constant (pos n)) (expr.Number (pos n))
   of_variable : (k : ℕ) (access : Access) → IsDrawn names (Variable k access) (expr.Name (names.object k))
   of_array : (k : ℕ) (access : Access) → IsDrawn names (Array k access) (array_expr (names.string k) (names.object k))
+  of_routine : (k : ℕ) → IsDrawn names (Routine k) (expr.Name (names.routine k))
   of_prefix : (sign : UnaryOp) (t : Term) (e : CExpr) → IsDrawn names (Prefixed sign t) (expr.Unary sign e)
   of_element : (t u : Term) (e i : CExpr) → IsDrawn names t e → IsDrawn names u i → IsDrawn names (Element t u) (expr.Index e i)
   of_other : (t : Term) (e : CExpr) → IsNoPlace e → IsDrawn names t e
@@ -94,7 +96,7 @@ module _ (names : Names) where
   drawn (Constant z) e h = constant_drawn z e h
   drawn (Variable k access) e h = subst (IsDrawn names (Variable k access)) (some_same (expr.Name (names.object k)) e h) (of_variable k access)
   drawn (Array k access) e h = subst (IsDrawn names (Array k access)) (some_same (array_expr (names.string k) (names.object k)) e h) (of_array k access)
-  drawn (Routine k) e h = absurd (cc)
+  drawn (Routine k) e h = subst (IsDrawn names (Routine k)) (some_same (expr.Name (names.routine k)) e h) (of_routine k)
   drawn Unknown e h = absurd (cc)
   drawn (Prefixed sign t) e h = let m = mapped_by (expr.Unary sign) (expr_for names t) e h in subst (IsDrawn names (Prefixed sign t)) m.is (of_prefix sign t m.one)
   drawn (Cast type t) e h = let m = mapped_by (expr.Cast type) (expr_for names t) e h in other_drawn (Cast type t) (expr.Cast type m.one) e m.is refl refl refl refl
@@ -150,6 +152,7 @@ unfolding number_in trees_opened
 number_at names _ _ z (of_number n) h = record { value = n; is = refl; same = sym (some_same (pos n) z h) }
 number_at names _ _ z (of_variable k access) h = absurd (cc)
 number_at names _ _ z (of_array k access) h = none_some (number_in (array_expr (names.string k) (names.object k))) z (no_number_in_array (names.string k) (names.object k)) h
+number_at names _ _ z (of_routine k) h = absurd (cc)
 number_at names _ _ z (of_prefix sign t e) h = absurd (cc)
 number_at names _ _ z (of_element t u e i _ _) h = absurd (cc)
 number_at names _ _ z (of_other t e none) h = none_some (number_in e) z none.number h
@@ -161,6 +164,7 @@ module _ (IsObject : ℕ → Type 0) (names : Names) where
   variable_at _ _ name (of_variable k ToNumber) known h = record { object = k; is = refl; known = known; called = some_same (names.object k) name h }
   variable_at _ _ name (of_variable k access) known h = absurd known
   variable_at _ _ name (of_array k access) known h = absurd known
+  variable_at _ _ name (of_routine k) known h = absurd known
   variable_at _ _ name (of_prefix sign t e) known h = absurd (cc)
   variable_at _ _ name (of_element t u e i _ _) known h = absurd (cc)
   variable_at _ _ name (of_other t e none) known h = none_some (name_in e) name none.name h
@@ -170,6 +174,7 @@ module _ (IsObject : ℕ → Type 0) (names : Names) where
   no_pointer_at _ _ name (of_number n) known h = absurd (cc)
   no_pointer_at _ _ name (of_variable k access) known h = absurd (cc)
   no_pointer_at _ _ name (of_array k access) known h = absurd known
+  no_pointer_at _ _ name (of_routine k) known h = absurd known
   no_pointer_at _ _ name (of_prefix prefix.Deref t e) known h = absurd known
   no_pointer_at _ _ name (of_prefix sign t e) known h = absurd (cc)
   no_pointer_at _ _ name (of_element t u e i _ _) known h = absurd (cc)
@@ -187,6 +192,7 @@ module _ (IsObject : ℕ → Type 0) (names : Names) where
     counted = number.same;
   }
   indexed_at _ u _ i name z (of_array k access) number known h = absurd known
+  indexed_at _ u _ i name z (of_routine k) number known h = absurd known
   indexed_at _ u _ i name z (of_prefix sign t e) number known h = absurd known
   indexed_at _ u _ i name z (of_element s t e f _ _) number known h = absurd known
   indexed_at _ u _ i name z (of_other t e none) number known h = none_some (name_in e) name none.name h
@@ -196,6 +202,7 @@ module _ (IsObject : ℕ → Type 0) (names : Names) where
   element_at _ _ name z (of_number n) known h g = absurd (cc)
   element_at _ _ name z (of_variable k access) known h g = absurd (cc)
   element_at _ _ name z (of_array k access) known h g = absurd known
+  element_at _ _ name z (of_routine k) known h g = absurd known
   element_at _ _ name z (of_prefix sign t e) known h g = absurd (cc)
   element_at _ _ name z (of_element t u e i is at) known h g = indexed_at t u e i name z is (number_at names u i z at g) known h
   element_at _ _ name z (of_other t e none) known h g = none_some (array_in e) name none.array h

@@ -20,7 +20,8 @@ use Rattle.c_image.specs.Addresses.{number_term, element_term}
 use Rattle.c_image.specs.Elements.{index_term}
 use Rattle.c_image.specs.Operations.{constant_term, prefix_for, operator_for, extreme_term, function_term}
 use Rattle.c_emit.specs.Numbers.{Writing, is_scalar, is_array, constant_value, with_two, with_three, one_more, steps_from, element_value, applied_value, if_number, value_term, place_term, value_terms}
-use Rattle.c_emit.specs.Calls.{call_of, is_plain, start_on, start_item, kind_number, held_term, item_by, takes_item, finish_item, stop_item}
+use Rattle.c_emit.specs.LibraryFunctions.{LibraryFunction, library_function}
+use Rattle.c_emit.specs.Calls.{call_of, is_plain, start_on, start_item, kind_number, held_term, held_terms, computed_item, item_by, takes_item, finish_item, stop_item}
 use Rattle.c_emit.specs.Types.{type_of}
 use Rattle.c_emit.specs.Flats.{assigned, jump_to, returned_by, flat_of}
 use Rattle.main_file.specs.MainItems.{item_before, flats_from}
@@ -239,12 +240,20 @@ module _ (IsObject : ℕ → Type 0) where
       values_name NoPure = tt
       values_name (AndPure p ps) = more_name (value_term w p) (value_terms w ps) (value_names p) (values_name ps)
 
+    computed_sets : (x : Option Term) (function : Option LibraryFunction) (xs : Option (List Term)) → MaySet IsObject (computed_item w x function xs)
+    unfolding computed_item
+    computed_sets (Some t) (Some function) (Some ts) = tt
+    computed_sets (Some t) (Some function) None = tt
+    computed_sets (Some t) None xs = tt
+    computed_sets None function xs = tt
+
     step_sets : (label : ℕ → Option ℕ) (n : ℕ) (st : Step) → MaySet IsObject (flat_of w (λ m. m) label n st)
     unfolding flat_of
     step_sets label n (step.Put target p) = assigned_sets (place_term w target) (value_term w p) (place_names target) (value_names p)
     step_sets label n (step.Keep k p) =
         assigned_sets (if_number (w.is_number k) (Some (c.Variable (w.naming.temporary k) ToNumber))) (value_term w p)
         (if_names (Some (c.Variable (w.naming.temporary k) ToNumber)) (w.is_number k) (writes.temporaries k)) (value_names p)
+    step_sets label n (step.Compute k f ps) = computed_sets (if_number (w.is_number k) (Some (c.Variable (w.naming.temporary k) ToNumber))) (library_function f) (held_terms w ps)
     step_sets label n (step.Unless p m) = branch_sets (suc n) (suc n + m) (value_term w p)
     step_sets label n (step.AgainIf p m) = branch_sets (n - m) (suc n) (value_term w p)
     step_sets label n (step.Skip m) = tt

@@ -4,8 +4,6 @@
 
 mod nodes;
 mod solving;
-#[cfg(test)]
-mod tests;
 
 pub use nodes::{Equation, Place, Solution};
 pub use solving::solve;

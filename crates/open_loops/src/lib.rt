@@ -5,8 +5,6 @@
 mod places;
 mod ranges;
 mod temporaries;
-#[cfg(test)]
-mod tests;
 mod walk;
 
 pub use places::{LoopPlace, loop_places};

@@ -12,6 +12,3 @@ pub use ends::add_end_row;
 pub use faults::structure_fault;
 pub use labels::add_label_rows;
 pub use nest::add_nest_rows;
-
-#[cfg(test)]
-mod tests;

@@ -1,13 +1,16 @@
 -- What is told of a shelf that is asked for names.
 use Rattle.std.proofs.Common.{◌≡◌, ℕ, zero, suc, ◌+◌, ◌-◌, ◌<◌, ◌≤◌, Bool, true, false, List, refl, sym, ap, subst, ◌∙◌, arith, Option, Some, None, Result, Ok, Err, inl, inr}
-use Rattle.std.specs.Prelude.{◌⊎◌, ◌↔◌, ◌||◌, ◌&&◌, not, IsTrue, IsSome, IfSome, IfOk, bytes_eq, codes, if◌then◌else◌}
+use Rattle.std.specs.Prelude.{◌⊎◌, ◌↔◌, ◌||◌, ◌&&◌, not, IsTrue, IsSome, IfSome, IfOk, IfErr, bytes_eq, codes, if◌then◌else◌}
 use Rattle.std.specs.List.{list_any}
 use Rattle.std.proofs.lemmas.Bool.{cases_Bool, both_ways}
-use Rattle.f2c_outside.specs.Shelf.{Contents, ShelfState}
-use Rattle.split_pieces.specs.ChosenNames.{prefix_of, numbered, is_free, first_free, is_named, choice}
+use Rattle.f2c_outside.specs.Shelf.{Contents, ShelfState, Rose}
+use Rattle.split_pieces.specs.ChosenNames.{prefix_of, numbered, is_free, first_free, is_named, choice, IsCandidate, with_number}
 use Rattle.split_pieces.specs.declared.wanted.Wanted.{Wanted}
 use Rattle.split_pieces.specs.declared.wanted.Wanted.TheVariants.{Named}
-use Rattle.piece_names.specs.Asking.{has, kept_if, OnlyAsked}
+use Rattle.split_pieces.specs.declared.wanted.WantedName.{WantedName}
+use Rattle.piece_names.specs.declared.choosing.ChoiceFail.{ChoiceFail}
+use Rattle.piece_names.specs.declared.choosing.ChoiceFail.TheVariants as choice_fail
+use Rattle.piece_names.specs.Asking.{has, kept_if, OnlyAsked, IsCause, IsNumbered}
 
 -- what a shelf answers
 abbrev pub Answers : Option Contents → List ℕ → Bool → Type 0
@@ -176,3 +179,12 @@ pub choice_nameless : {E : Type 0} (r : Result (Option (List ℕ)) E) (o : Optio
     → IfOk r (λ found. IfSome o (λ contents. found ≡ choice (has contents) taken (record { wanted = wanted; name = own })))
 choice_nameless (Ok found) o taken wanted own prefix unnamed prefix_is h = same_choice o taken wanted own prefix found unnamed prefix_is h
 choice_nameless (Err e) o taken wanted own prefix unnamed prefix_is h = tt
+
+-- a name with a number is one that a piece may get
+pub cause_numbered : {T : Type 0} (r : Result T ChoiceFail) (w : WantedName) (prefix : List ℕ) (before middle after : ℕ) → prefix ≡ prefix_of w.wanted → middle ≡ before
+    → IfErr r (IsCause (IsNumbered prefix) middle after) → IfErr r (IsCause (IsCandidate w) before after)
+cause_numbered (Ok x) w prefix before middle after prefix_is same cause = tt
+cause_numbered (Err choice_fail.NoMemory) w prefix before middle after prefix_is same cause = tt
+cause_numbered (Err (choice_fail.Failed name)) w prefix before middle after prefix_is same cause =
+    let one = cause.0 in
+    (with_number one.0 one.1 (one.2 ∙ ap (λ p. numbered p one.0) prefix_is), subst (λ m. Rose m after) same cause.1)

@@ -1,6 +1,7 @@
 -- A shelf that is asked for names.
-use Rattle.std.specs.Prelude.{◌≡◌, ℕ, ◌≤◌, Bool, List, Option, Some, None, is_some, if◌then◌else◌}
+use Rattle.std.specs.Prelude.{◌≡◌, ℕ, ◌<◌, ◌≤◌, Bool, List, Option, Some, None, is_some, if◌then◌else◌}
 use Rattle.f2c_outside.specs.Shelf.{Contents, ShelfState, Rose}
+use Rattle.split_pieces.specs.ChosenNames.{numbered}
 use Rattle.piece_names.specs.declared.choosing.ChoiceFail.{ChoiceFail}
 use Rattle.piece_names.specs.declared.choosing.ChoiceFail.TheVariants.{NoMemory, Failed}
 
@@ -19,7 +20,11 @@ pub record OnlyAsked (before after : ShelfState) : Type 0 where
   pub left : after.left ≡ before.left
   pub faults : before.faults ≤ after.faults
 
--- The shelf is said to have failed only where its count of faults rose.
-abbrev pub IsCause : ℕ → ℕ → ChoiceFail → Type 0
-IsCause before after NoMemory = Unit {0}
-IsCause before after (Failed name) = Rose before after
+-- Why a name was not chosen: want of memory, or the count of faults rose when the shelf was asked for a name that comes in question.
+abbrev pub IsCause : (List ℕ → Type 0) → ℕ → ℕ → ChoiceFail → Type 0
+IsCause InQuestion before after NoMemory = Unit {0}
+IsCause InQuestion before after (Failed name) = InQuestion name × Rose before after
+
+-- One of the names with a number.
+abbrev pub IsNumbered : List ℕ → List ℕ → Type 0
+IsNumbered prefix name = (n : ℕ) × (n < 1000) × (name ≡ numbered prefix n)

@@ -1,11 +1,11 @@
 //! The name of a piece.
 
-ghost use Rattle.std.specs.Prelude.{◌≡◌, ◌≤◌, length, bytes_eq, IfOk, IfErr, IfSome, OnOk};
+ghost use Rattle.std.specs.Prelude.{◌≡◌, ◌≤◌, false, length, bytes_eq, IfOk, IfErr, IfSome, OnOk};
 ghost use Rattle.std.specs.List.{list_any};
 ghost use Rattle.f2c_outside.specs.Texts.{IsName};
-ghost use Rattle.split_pieces.specs.ChosenNames.{is_free, first_free, choice};
+ghost use Rattle.split_pieces.specs.ChosenNames.{is_free, first_free, choice, IsCandidate};
 ghost use Rattle.piece_names.specs.declared.choosing.ChoiceFail.TheVariants as choice_fail;
-ghost use Rattle.piece_names.specs.Asking.{has, kept_if, OnlyAsked, IsCause};
+ghost use Rattle.piece_names.specs.Asking.{has, kept_if, OnlyAsked, IsCause, IsNumbered};
 
 use crate::numbers::numbered;
 use f2c_outside::shelves::Shelf;
@@ -44,7 +44,8 @@ fn if_free<H: Shelf>(shelf: &mut H, taken: &[Name], name: Name) -> Result<Option
     ensures asked { OnlyAsked (H.state shelf.old) (H.state shelf.new) }
     ensures quiet { OnOk result ((H.state shelf.new).faults ≡ (H.state shelf.old).faults) }
     ensures free { IfOk result (λ found. IfSome (H.state shelf.old).told (λ contents. found ≡ kept_if (is_free (has contents) taken.now name) name)) }
-    ensures failed { IfErr result (IsCause (H.state shelf.old).faults (H.state shelf.new).faults) }
+    ensures untaken { IfOk result (λ found. IfSome found (λ name. list_any (bytes_eq name) taken.now ≡ false)) }
+    ensures failed { IfErr result (IsCause (λ other. other ≡ name) (H.state shelf.old).faults (H.state shelf.new).faults) }
 {
     match shelf.is_there(&name) {
         Err(_) => Err(ChoiceFail::Failed(name)),
@@ -70,7 +71,8 @@ fn first_free<H: Shelf>(
     ensures asked { OnlyAsked (H.state shelf.old) (H.state shelf.new) }
     ensures quiet { OnOk result ((H.state shelf.new).faults ≡ (H.state shelf.old).faults) }
     ensures free { IfOk result (λ found. IfSome (H.state shelf.old).told (λ contents. found ≡ first_free (has contents) taken.now prefix.now 1000 0)) }
-    ensures failed { IfErr result (IsCause (H.state shelf.old).faults (H.state shelf.new).faults) }
+    ensures untaken { IfOk result (λ found. IfSome found (λ name. list_any (bytes_eq name) taken.now ≡ false)) }
+    ensures failed { IfErr result (IsCause (IsNumbered prefix.now) (H.state shelf.old).faults (H.state shelf.new).faults) }
 {
     for number in 0..1000 {
         let name = numbered(alloc, prefix, number)?;
@@ -104,7 +106,8 @@ fn choose_own<H: Shelf>(
     ensures asked { OnlyAsked (H.state shelf.old) (H.state shelf.new) }
     ensures quiet { OnOk result ((H.state shelf.new).faults ≡ (H.state shelf.old).faults) }
     ensures chosen { IfOk result (λ found. IfSome (H.state shelf.old).told (λ contents. found ≡ choice (has contents) taken.now (record { wanted = Wanted.Named; name = own.now }))) }
-    ensures failed { IfErr result (IsCause (H.state shelf.old).faults (H.state shelf.new).faults) }
+    ensures untaken { IfOk result (λ found. IfSome found (λ name. list_any (bytes_eq name) taken.now ≡ false)) }
+    ensures failed { IfErr result (IsCause (IsCandidate (record { wanted = Wanted.Named; name = own.now })) (H.state shelf.old).faults (H.state shelf.new).faults) }
 {
     let name = own_name(alloc, own)?;
     if let Some(name) = if_free(shelf, taken, name)? {
@@ -114,7 +117,7 @@ fn choose_own<H: Shelf>(
 }
 
 /// The name of a piece of which it is told what it asks for, where earlier pieces have the names that are taken: its own where that is free,
-/// else the first free one with a number. `None` where no number is free. The shelf is only asked.
+/// else the first free one with a number. No earlier piece has it. `None` where no number is free. The shelf is only asked.
 ///
 /// # Errors
 ///
@@ -130,7 +133,8 @@ pub fn choose_name<H: Shelf>(
     ensures asked { OnlyAsked (H.state shelf.old) (H.state shelf.new) }
     ensures quiet { OnOk result ((H.state shelf.new).faults ≡ (H.state shelf.old).faults) }
     ensures chosen { IfOk result (λ found. IfSome (H.state shelf.old).told (λ contents. found ≡ choice (has contents) taken.now (record { wanted = wanted; name = own.now }))) }
-    ensures failed { IfErr result (IsCause (H.state shelf.old).faults (H.state shelf.new).faults) }
+    ensures untaken { IfOk result (λ found. IfSome found (λ name. list_any (bytes_eq name) taken.now ≡ false)) }
+    ensures failed { IfErr result (IsCause (IsCandidate (record { wanted = wanted; name = own.now })) (H.state shelf.old).faults (H.state shelf.new).faults) }
 {
     match wanted {
         Wanted::Named => choose_own(alloc, shelf, taken, own),

@@ -170,6 +170,7 @@ pub record IsWaiting (s : Surroundings) (number : ℕ) (e : Emission) (μ ν : C
   pub grows : Extends now ν.image
   pub frame : IsFrameOf e.writing.facts.program μ v.frame
   pub known : IsKnown now e.writing v.frame (numbers_kept v.kept)
+  pub procedures : AreProceduresHeld s e now v.frame
 
 abbrev pub call_pairing : (s : Surroundings) → ℕ → Emission → Pairing (call_kit s)
 call_pairing s number e = record {

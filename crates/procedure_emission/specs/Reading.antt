@@ -4,8 +4,9 @@ use Rattle.std.specs.Prelude.{ℕ, nat_eq, ℤ, Bool, Option, Some, None, if◌t
 use Rattle.f_tree.specs.declared.names.Basic.{Basic}
 use Rattle.f_tree.specs.Values.{Datum, IsInt, IsLog, Nothing}
 use Rattle.l_core.specs.Pures.{Temporaries}
-use Rattle.l_core.specs.Steps.{Step, Keep, CallFor, CallSub}
+use Rattle.l_core.specs.Steps.{Step, Keep, Compute, CallFor, CallSub}
 use Rattle.c_emit.specs.Numbers.{Writing}
+use Rattle.c_emit.specs.LibraryFunctions.{library_type}
 use Rattle.c_emit.specs.Types.{type_of}
 use Rattle.procedure_emission.specs.ProcedureItems.{basic_wanted}
 
@@ -27,6 +28,7 @@ numbers_kept kept k = number_kept (kept k)
 -- the type of what a temporary keeps behind a step
 unfoldable pub kind_after : Writing → ℕ → Step → ℕ → Option Basic
 kind_after w n (Keep j p) k = if nat_eq k j then type_of w n p else w.kind n k
+kind_after w n (Compute j f ps) k = if nat_eq k j then library_type f else w.kind n k
 kind_after w n (CallFor j callee ps) k = if nat_eq k j then basic_wanted callee.want else w.kind n k
 kind_after w n (CallSub j name ps) k = if nat_eq k j then None else w.kind n k
 kind_after w n st k = w.kind n k

@@ -3,7 +3,5 @@
 #![tactic(auto)]
 
 mod earliest;
-#[cfg(test)]
-mod tests;
 
 pub use earliest::{earlier_of, is_before, lesser_of, refused_at};

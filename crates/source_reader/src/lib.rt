@@ -7,8 +7,6 @@ mod included;
 mod mentions;
 mod named;
 mod source;
-#[cfg(test)]
-mod tests;
 mod trees;
 
 pub use named::{NamedFiles, read_files};

@@ -1,6 +1,6 @@
 -- The names of the files that pieces are written to. A name that is there, or that an earlier piece has, is not taken: no file is
 -- overwritten.
-use Rattle.std.specs.Prelude.{ℕ, zero, suc, ◌+◌, ◌/◌, ◌%◌, Bool, true, false, not, ◌||◌, ◌&&◌, List, [], ◌∷◌, ◌++◌, codes, Option, Some, None, Result, Ok, Err, if◌then◌else◌}
+use Rattle.std.specs.Prelude.{◌≡◌, ℕ, zero, suc, ◌+◌, ◌<◌, ◌/◌, ◌%◌, Bool, true, false, not, ◌||◌, ◌&&◌, List, [], ◌∷◌, ◌++◌, codes, Option, Some, None, Result, Ok, Err, if◌then◌else◌}
 use Rattle.std.specs.List.{list_any}
 use Rattle.std.specs.Str.{bytes_eq}
 use Rattle.split_pieces.specs.declared.wanted.Wanted.{Wanted}
@@ -41,6 +41,11 @@ is_named Unknown = false
 unfoldable pub choice : (List ℕ → Bool) → List (List ℕ) → WantedName → Option (List ℕ)
 choice there taken w =
     if is_named w.wanted && is_free there taken w.name then Some w.name else first_free there taken (prefix_of w.wanted) 1000 0
+
+-- A name that a piece may get: its own, or one with a number.
+pub data IsCandidate (w : WantedName) (name : List ℕ) : Type 0 where
+  own : w.wanted ≡ Named → name ≡ w.name → IsCandidate w name
+  with_number : (n : ℕ) → n < 1000 → name ≡ numbered (prefix_of w.wanted) n → IsCandidate w name
 
 -- The names of pieces behind those that are taken, or the number, from 1, of the first piece for which no number is free.
 abbrev pub behind_choice : ℕ → (List ℕ → Result (List (List ℕ)) ℕ) → Option (List ℕ) → Result (List (List ℕ)) ℕ

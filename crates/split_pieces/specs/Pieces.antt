@@ -47,6 +47,10 @@ pub record Piece : Type 0 where
   pub text : List ℕ
   pub wanted : WantedName
 
+-- The texts of pieces.
+abbrev pub texts_in : List Piece → List (List ℕ)
+texts_in pieces = map (λ (p : Piece). p.text) pieces
+
 abbrev pub piece_of : List ℕ → Piece
 piece_of text = record { text = text; wanted = wanted_of text }
 

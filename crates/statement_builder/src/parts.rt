@@ -83,6 +83,19 @@ fn call_of(name: Text, arguments: Items<CExpr>) -> CStmt
     })
 }
 
+/// A call of a function by its name, whose value is stored.
+#[tactic(auto, unfolding(named_items::specs::Structured::set_call_of))]
+fn set_call_of(target: CExpr, name: Text, arguments: Items<CExpr>) -> CStmt
+    ensures { result ≡ spec.set_call_of target name arguments }
+{
+    let call = CCall {
+        through: false,
+        name,
+        arguments,
+    };
+    CStmt::SetCall(target, call)
+}
+
 /// The statement of one item, where it has one of its own.
 #[tactic(auto, unfolding(named_items::specs::Structured::statement_of))]
 pub(crate) fn statement_of(
@@ -97,6 +110,7 @@ pub(crate) fn statement_of(
         Item::Branch(_, _, _) => Ok(None),
         Item::Jump(position) => goto_label(alloc, layout.label(position)),
         Item::Call(name, arguments) => Ok(Some(call_of(name, arguments))),
+        Item::SetCall(target, name, arguments) => Ok(Some(set_call_of(target, name, arguments))),
         Item::Return(value) => Ok(Some(CStmt::Return(value))),
         Item::Nothing => Ok(Some(CStmt::Empty)),
     }

@@ -8,8 +8,6 @@ mod loops;
 mod site;
 mod statement;
 mod targets;
-#[cfg(test)]
-mod tests;
 
 pub use site::{Broken, Site};
 pub use statement::judge_statement;

@@ -202,7 +202,7 @@ fn inside(purpose: Purpose) -> Purpose
 {
     match purpose {
         Purpose::ForLater => Purpose::ForLater,
-        Purpose::ForUse | Purpose::ForCall => Purpose::ForUse,
+        Purpose::ForUse | Purpose::ForCall | Purpose::ForReading => Purpose::ForUse,
     }
 }
 

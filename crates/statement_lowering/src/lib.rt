@@ -15,8 +15,6 @@ mod controls;
 mod copies;
 mod loops;
 mod statement;
-#[cfg(test)]
-mod tests;
 mod transfers;
 mod turns;
 

@@ -11,8 +11,6 @@ mod reader;
 mod rows;
 mod squeeze;
 mod steps;
-#[cfg(test)]
-mod tests;
 mod token;
 mod words;
 

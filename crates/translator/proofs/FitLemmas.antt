@@ -7,7 +7,8 @@ use Rattle.std.proofs.Math.Bool.{and-true}
 use Rattle.std.proofs.lemmas.List.{length-map}
 use Rattle.std.proofs.lemmas.List.Folds.{list_all-map}
 use Rattle.f_tree.specs.Values.{Bytes}
-use Rattle.l_core.specs.Steps.{Step, Keep, Jump}
+use Rattle.l_core.specs.Steps.{Step, Keep, Compute, Jump}
+use Rattle.lowered_tree.specs.declared.pures.Function.{Function}
 use Rattle.lowered_tree.specs.declared.pures.Pure.{Pure as LoweredPure}
 use Rattle.lowered_tree.specs.declared.steps.Step.{Step as LoweredStep}
 use Rattle.lowered_tree.specs.declared.steps.Step.TheVariants as lowered
@@ -49,6 +50,7 @@ keeps_fit : (steps : List Step) → nat_le (1 + temporaries_in steps) (2 ^ 64) �
 unfolding temporaries_in keep_fits
 keeps_fit [] = refl
 keeps_fit (Keep k p ∷ later) = most_fits (suc k) (temporaries_in later) (2 ^ 64) ∙ ap (λ b. nat_lt (suc k) (2 ^ 64) && b) (keeps_fit later)
+keeps_fit (Compute k f ps ∷ later) = most_fits (suc k) (temporaries_in later) (2 ^ 64) ∙ ap (λ b. nat_lt (suc k) (2 ^ 64) && b) (keeps_fit later)
 keeps_fit (_ ∷ later) = keeps_fit later
 
 -- ## Labels
@@ -104,6 +106,10 @@ pub fits-Keep : (k : ℕ) (p : LoweredPure) → nat_lt k 18446744073709551615 �
 unfolding step_fits keep_fits jump_fits stop_fits
 fits-Keep k p = below_last k (nat_lt k 18446744073709551615) refl ∙ sym (and-true (nat_lt (suc k) (2 ^ 64)))
 
+pub fits-Compute : (k : ℕ) (f : Function) (ps : List LoweredPure) → nat_lt k 18446744073709551615 ≡ step_fits (step_of (lowered.Compute k f ps))
+unfolding step_fits keep_fits jump_fits stop_fits
+fits-Compute k f ps = below_last k (nat_lt k 18446744073709551615) refl ∙ sym (and-true (nat_lt (suc k) (2 ^ 64)))
+
 pub fits-Jump : (label : ℕ) → nat_lt label (2 ^ 64) ≡ step_fits (step_of (lowered.Jump label))
 unfolding step_fits keep_fits jump_fits stop_fits
 fits-Jump label = sym (and-true (nat_lt label (2 ^ 64)))
@@ -112,10 +118,11 @@ pub fits-Halt : (text : Bytes) → (list_all (λ byte. nat_lt byte 256) text && 
 unfolding step_fits keep_fits jump_fits stop_fits
 fits-Halt text = refl
 
-pub fits-other : (st : LoweredStep) → ((k : ℕ) (p : LoweredPure) → st ≡ lowered.Keep k p → ⊥) → ((label : ℕ) → st ≡ lowered.Jump label → ⊥) → ((text : Bytes) → st ≡ lowered.Halt text → ⊥)
+pub fits-other : (st : LoweredStep) → ((k : ℕ) (p : LoweredPure) → st ≡ lowered.Keep k p → ⊥) → ((k : ℕ) (f : Function) (ps : List LoweredPure) → st ≡ lowered.Compute k f ps → ⊥) → ((label : ℕ) → st ≡ lowered.Jump label → ⊥) → ((text : Bytes) → st ≡ lowered.Halt text → ⊥)
     → true ≡ step_fits (step_of st)
 unfolding step_fits keep_fits jump_fits stop_fits
-fits-other (lowered.Keep k p) h0 h1 h2 = absurd (h0 k p refl)
-fits-other (lowered.Jump label) h0 h1 h2 = absurd (h1 label refl)
-fits-other (lowered.Halt text) h0 h1 h2 = absurd (h2 text refl)
-fits-other _ h0 h1 h2 = refl
+fits-other (lowered.Keep k p) h0 h1 h2 h3 = absurd (h0 k p refl)
+fits-other (lowered.Compute k f ps) h0 h1 h2 h3 = absurd (h1 k f ps refl)
+fits-other (lowered.Jump label) h0 h1 h2 h3 = absurd (h2 label refl)
+fits-other (lowered.Halt text) h0 h1 h2 h3 = absurd (h3 text refl)
+fits-other _ h0 h1 h2 h3 = refl

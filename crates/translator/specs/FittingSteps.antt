@@ -1,6 +1,6 @@
 -- Which steps fit into memory, each by itself. ANSI X3.9-1978, sections 3.4, 10.3 and 11.12.
 use Rattle.std.specs.Prelude.{◌≡◌, suc, ◌^◌, nat_lt, Bool, true, ◌&&◌}
-use Rattle.l_core.specs.Steps.{Step, Keep, Jump, Text}
+use Rattle.l_core.specs.Steps.{Step, Keep, Compute, Jump, Text}
 use Rattle.lowered_text.specs.declared.text.LoweredText.{LoweredText}
 use Rattle.lowered_text.specs.Texts.{IsText}
 use Rattle.translated_forms.specs.TranslatedForms.{fits, stop_fits}
@@ -8,6 +8,7 @@ use Rattle.translated_forms.specs.TranslatedForms.{fits, stop_fits}
 -- the temporaries up to the one that gets a value can be counted
 unfoldable pub keep_fits : Step → Bool
 keep_fits (Keep k p) = nat_lt (suc k) (2 ^ 64)
+keep_fits (Compute k f ps) = nat_lt (suc k) (2 ^ 64)
 keep_fits st = true
 
 -- the label to which it goes is a number

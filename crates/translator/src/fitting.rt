@@ -31,6 +31,7 @@ fn step_fits(step: &Step) -> bool
 {
     match step {
         Step::Keep(temporary, _) => *temporary < usize::MAX,
+        Step::Compute(temporary, _, _) => *temporary < usize::MAX,
         Step::Jump(label) => label_fits(*label),
         Step::Halt(text) => text_fits(text.as_slice()),
         _ => true,

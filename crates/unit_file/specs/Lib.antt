@@ -1,1 +1,2 @@
 pub mod UnitFile
+pub mod UnitNames

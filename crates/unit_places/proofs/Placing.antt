@@ -65,7 +65,7 @@ base_is numbers own outer base (w ∷ ws) (suc j) have =
     ap (λ count. base_of_function numbers own outer (base + count) (map unit_function ws) j) (objects_many numbers own outer base w (have 0 w refl))
     ∙ base_is numbers own outer (base + object_count w.inventory) ws j (later_strings w ws have)
 
-names_many : (fs : List CFunction) → length (function_names fs) ≡ length fs
+pub names_many : (fs : List CFunction) → length (function_names fs) ≡ length fs
 names_many [] = refl
 names_many (f ∷ fs) = ap suc (names_many fs)
 
@@ -111,7 +111,7 @@ module _ (constants : List ℤ) (ws : List WrittenUnit) (have : HaveTheirStrings
   own_is : own_of (files_of constants ws) ≡ length ws
   own_is = names_many (map unit_function ws ++ []) ∙ ap length (append-nil (map unit_function ws)) ∙ length-map ws unit_function
 
-  base_there : (j : ℕ) → function_base (files_of constants ws) 0 (units_file constants ws) j ≡ (bases_of constants ws j).function
+  pub base_there : (j : ℕ) → function_base (files_of constants ws) 0 (units_file constants ws) j ≡ (bases_of constants ws j).function
   base_there j =
       ap (λ first. base_of_function (routines_of (files_of constants ws)) (own_of (files_of constants ws)) (file_names (files_of constants ws) 0 (units_file constants ws)) first (map unit_function ws) j)
       {x = base_at (files_of constants ws) 0 + length (declared_constants (map constant_for constants))} {y = length constants} (let count = constants_count constants in omega (arith, count))

@@ -9,6 +9,6 @@ use Rattle.expression_lowering.proofs.closing.load.Goals as goal
 
 pub returns : goal.returns
 returns c =
-    closed-Fetch (purpose_of c.args.purpose) c.args.first c.args.place.free (pure_of (tree.Load c.in_ok-new.field-0)) (pure_of c.args.place.value)
-    c.args.steps.now.items c.keep.new.steps.items c.keep.result
+    closed-Fetch (purpose_of c.args.purpose) (purpose_of c.for_fetch.result) c.args.first c.args.place.free (pure_of (tree.Load c.in_ok-new.field-0)) (pure_of c.args.place.value)
+    c.args.steps.now.items c.keep.new.steps.items c.keep.result c.for_fetch.ensures
     (pure-Load c.in_ok-new.field-0 ∙ ap (λ p. core.Load (pure_of p)) c.in_ok-new.ensures) c.keep.ensures

@@ -1,9 +1,9 @@
 use Rattle.std.proofs.Common.{fold, ap, ◌∙◌}
 use Rattle.lowered_tree.specs.Shapes.{acting_of, pures_of}
-use Rattle.main_translation.specs.Contents.{with_new}
+use Rattle.main_translation.specs.Contents.{with_new, own_values}
 use Rattle.main_contents.specs.Parts.{acting_values}
 use Rattle.main_contents.proofs.Lists.{then_ok}
-use Rattle.main_contents.proofs.ConstantLaws.{step-Acts, step-other, nothing_added}
+use Rattle.main_contents.proofs.ConstantLaws.{step-Acts, step-Compute, step-other, nothing_added}
 use Rattle.main_contents.proofs.constants.add_step.Goals as goal
 
 pub returns-in-Acts : goal.returns-in-Acts
@@ -15,5 +15,15 @@ returns-in-Acts c =
     ∙ ap (fold with_new values) (step-Acts facts c.args.kept c.args.step.now c.in-Acts.acting c.in-Acts.operands c.in-Acts.field-2 c.in-Acts.is))
     c.add_acting.ensures
 
+pub returns-in-Compute : goal.returns-in-Compute
+returns-in-Compute c =
+    let values = c.args.values.now.keys in
+    then_ok _ _ c.add_own_values.result
+    (λ added facts tells.
+    added ∙ ap (λ ps. fold with_new values (own_values (pures_of ps))) c.as_slice-in-Compute.ensures
+    ∙ ap (fold with_new values) (step-Compute facts c.args.kept c.args.step.now c.in-Compute.field-0 c.in-Compute.field-1 c.in-Compute.operands c.in-Compute.is))
+    c.add_own_values.ensures
+
 pub returns-in_default : goal.returns-in_default
-returns-in_default c = λ facts tells. nothing_added c.args.values.now.keys _ (step-other facts c.args.kept c.args.step.now c.in_default.not-Acts)
+returns-in_default c =
+    λ facts tells. nothing_added c.args.values.now.keys _ (step-other facts c.args.kept c.args.step.now c.in_default.not-Acts c.in_default.not-Compute)

@@ -8,9 +8,6 @@ returns c =
       lists = c.in_ok-lists.ensures;
       temporaries = c.in_ok-temporaries.ensures;
       strings = c.in_ok-strings.ensures;
-      starts = c.calls_of-calls.ensures.starts;
-      takes = c.calls_of-calls.ensures.takes;
-      finishes = c.calls_of-calls.ensures.finishes;
-      stops = c.calls_of-calls.ensures.stops;
+      calls = c.in_ok-calls.ensures;
     })
     c.in_ok-constants.ensures c.in_ok-kinds.ensures c.are_on-are_outputs_on.ensures c.in_ok-layout.ensures

@@ -1,0 +1,3 @@
+mod SignLemmas
+pub mod ReadingSteps
+pub mod ListSteps

@@ -1,0 +1,3 @@
+      SUBROUTINE S
+      I=2
+      END

@@ -1,0 +1,238 @@
+//! Readers and writers that fail, answer short, or end, at each byte; and that all succeeds where they do.
+
+use host_lines::{Found, line_at, line_before, lines_from, put_line, record_at};
+use std::io;
+use std::io::{ErrorKind, Read, Seek, SeekFrom, Write};
+use std::process::Abort;
+use std::test::Fail;
+
+/// What a reader or a writer does at a place of its bytes.
+#[derive(Clone, Copy, PartialEq, Eq)]
+enum Trouble {
+    /// It fails there, and at each later call.
+    Fails,
+    /// It ends there.
+    Ends,
+    /// A signal comes there, once.
+    Signal,
+}
+
+/// A reader of these bytes, at most so many at once, with a trouble at a place.
+#[derive(Drop)]
+struct Source<'a> {
+    bytes: &'a [u8],
+    at: usize,
+    most: usize,
+    place: usize,
+    trouble: Trouble,
+}
+
+impl Read for Source<'_> {
+    fn read(&mut self, buf: &mut [u8]) -> io::Result<usize> {
+        if self.at == self.place {
+            match self.trouble {
+                Trouble::Fails | Trouble::Signal => {
+                    return Err(io::Error::from(ErrorKind::Other));
+                }
+                Trouble::Ends => return Ok(0),
+            }
+        }
+        let end = if self.at < self.place {
+            self.place
+        } else {
+            self.bytes.len()
+        };
+        let left = self.bytes.get(self.at..end).unwrap_or(b"");
+        let count = left.len().min(buf.len()).min(self.most);
+        buf[..count].copy_from_slice(&left[..count]);
+        self.at = self.at.saturating_add(count);
+        Ok(count)
+    }
+}
+
+impl Seek for Source<'_> {
+    fn seek(&mut self, to: SeekFrom) -> io::Result<u64> {
+        match to {
+            SeekFrom::Start(offset) => {
+                self.at = usize::try_from(offset).unwrap_or(0);
+                Ok(offset)
+            }
+            _ => Err(io::Error::from(ErrorKind::Other)),
+        }
+    }
+}
+
+/// The text of the readers: an empty line, two lines, and a last line without a line feed.
+const TEXT: &[u8] = b"A\n\nBCD\nEF";
+
+/// A reader of the text.
+fn text_from(most: usize, place: usize, trouble: Trouble) -> Source<'static> {
+    Source {
+        bytes: TEXT,
+        at: 0,
+        most,
+        place,
+        trouble,
+    }
+}
+
+/// The lines of the first bytes of the text: how many end with a line feed, and whether a last one lacks it.
+fn lines_of(front: &[u8]) -> (usize, bool) {
+    let ends = front.iter().filter(|byte| **byte == b'\n').count();
+    (ends, !front.is_empty() && !front.ends_with(b"\n"))
+}
+
+#[test]
+fn a_line_is_taken_in_pieces_of_any_length(rt: HostRuntime) -> Result<(), Fail> {
+    let mut line = Vec::new(rt.alloc());
+    for most in 1..6usize {
+        for place in 0..=TEXT.len() {
+            let failed = line_at(&mut text_from(most, place, Trouble::Fails), 0, &mut line);
+            assert_eq!(rt; failed.is_err(), place < 2, "fails at {place}");
+            let ended = line_at(&mut text_from(most, place, Trouble::Ends), 0, &mut line);
+            let wanted = match place {
+                0 => Found::End,
+                1 => Found::LastLine,
+                _ => Found::Line,
+            };
+            assert!(rt;
+                matches!(ended, Ok(found) if found == wanted),
+                "ends at {place}"
+            );
+            assert_eq!(rt; line.len(), place.min(1), "line at {place}");
+        }
+    }
+    Ok(())
+}
+
+#[test]
+fn lines_are_counted_or_it_fails(rt: HostRuntime) -> Result<(), Fail> {
+    for most in 1..6usize {
+        for place in 0..=TEXT.len() {
+            let failed = lines_from(&mut text_from(most, place, Trouble::Fails), 0);
+            assert!(rt; failed.is_err(), "fails at {place}");
+            let (ends, is_open) = lines_of(&TEXT[..place]);
+            let lines = ends.saturating_add(usize::from(is_open));
+            let ended = lines_from(&mut text_from(most, place, Trouble::Ends), 0);
+            assert!(rt;
+                matches!(ended, Ok(count) if count == lines as u64),
+                "ends at {place}"
+            );
+        }
+    }
+    Ok(())
+}
+
+/// Each line that ends before an offset is found, in the whole text and not where a read fails.
+#[test]
+fn the_line_before_is_found(rt: HostRuntime) -> Result<(), Fail> {
+    for (offset, start) in [(0u64, 0u64), (2, 0), (3, 2), (7, 3), (9, 7)] {
+        let found = line_before(&mut text_from(2, TEXT.len(), Trouble::Ends), offset);
+        assert!(rt; matches!(found, Ok(at) if at == start), "before {offset}");
+        let failed = line_before(&mut text_from(2, 0, Trouble::Fails), offset);
+        assert_eq!(rt; failed.is_err(), offset != 0, "fails before {offset}");
+    }
+    Ok(())
+}
+
+/// What is written: a record behind a line without a line feed.
+const WRITTEN: &[u8] = b"\nSIX BY\n";
+
+/// A writer that takes at most so many bytes at once, and has a trouble at a place. It looks whether they are those that are to be written.
+#[derive(Drop)]
+struct Sink {
+    count: usize,
+    is_right: bool,
+    most: usize,
+    place: usize,
+    trouble: Trouble,
+    is_done: bool,
+}
+
+/// A writer that holds nothing.
+fn empty_sink(most: usize, place: usize, trouble: Trouble) -> Sink {
+    Sink {
+        count: 0,
+        is_right: true,
+        most,
+        place,
+        trouble,
+        is_done: false,
+    }
+}
+
+impl Write for Sink {
+    fn write(&mut self, buf: &[u8]) -> io::Result<usize> {
+        if self.count == self.place && !self.is_done {
+            match self.trouble {
+                Trouble::Fails => return Err(io::Error::from(ErrorKind::Other)),
+                Trouble::Ends => return Ok(0),
+                Trouble::Signal => {
+                    self.is_done = true;
+                    return Err(io::Error::from(ErrorKind::Interrupted));
+                }
+            }
+        }
+        let room = if self.is_done || self.place < self.count {
+            self.most
+        } else {
+            self.most.min(self.place.saturating_sub(self.count))
+        };
+        let count = buf.len().min(room);
+        let wanted = WRITTEN.get(self.count..).unwrap_or(b"");
+        self.is_right = self.is_right && wanted.starts_with(&buf[..count]);
+        self.count = self.count.saturating_add(count);
+        Ok(count)
+    }
+
+    fn flush(&mut self) -> io::Result<()> {
+        Ok(())
+    }
+}
+
+impl Seek for Sink {
+    fn seek(&mut self, to: SeekFrom) -> io::Result<u64> {
+        match to {
+            SeekFrom::Start(offset) => {
+                self.count = usize::try_from(offset).unwrap_or(0);
+                Ok(offset)
+            }
+            _ => Err(io::Error::from(ErrorKind::Other)),
+        }
+    }
+}
+
+/// Puts a record behind a line without a line feed, at the start of a file or into a stream, and says whether that succeeded.
+fn put(is_file: bool, writer: &mut Sink) -> bool {
+    if is_file {
+        record_at(writer, 0, true, b"SIX BY").is_ok()
+    } else {
+        put_line(writer, b"\nSIX BY").is_ok()
+    }
+}
+
+/// Puts the record where a trouble comes at a place, and says whether a whole record or a front and a failure came of it.
+fn is_whole_or_fails(is_file: bool, most: usize, place: usize, trouble: Trouble) -> bool {
+    let mut writer = empty_sink(most, place, trouble);
+    let is_whole = put(is_file, &mut writer);
+    let wanted = place >= 8 || trouble == Trouble::Signal;
+    let front = if wanted { 8 } else { place };
+    is_whole == wanted && writer.count == front && writer.is_right
+}
+
+#[test]
+fn bytes_go_out_whole_or_a_front_and_a_failure(rt: HostRuntime) -> Result<(), Fail> {
+    for is_file in [false, true] {
+        for most in 1..9usize {
+            for place in 0..9usize {
+                for trouble in [Trouble::Fails, Trouble::Ends, Trouble::Signal] {
+                    assert!(rt;
+                        is_whole_or_fails(is_file, most, place, trouble),
+                        "at {place}"
+                    );
+                }
+            }
+        }
+    }
+    Ok(())
+}

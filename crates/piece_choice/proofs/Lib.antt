@@ -1,0 +1,2 @@
+pub mod AskableNames
+pub mod ChoiceLemmas

@@ -1,0 +1,2 @@
+pub mod ShelfLoops
+pub mod Messages

@@ -1,0 +1,4 @@
+pub mod EndLemmas
+pub mod FrontLemmas
+pub mod ListingLemmas
+pub mod SplitLemmas

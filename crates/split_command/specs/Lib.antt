@@ -1,0 +1,4 @@
+pub mod Fails
+pub mod Listing
+pub mod SplitFiles
+pub mod SplitEnds

@@ -1,0 +1,367 @@
+-- The function of a unit has its items and its strings.
+use Rattle.std.specs.Prelude.{◌≡◌, ℕ, suc, ◌+◌, ◌-◌, ◌<◌, nat_eq, nat_le, nat_lt, ℤ, Bool, true, false, not, ◌&&◌, List, [], ◌∷◌, ◌++◌, map, length, position, Option, Some, None, option_map, unwrap_or, slice_get, codes, if◌then◌else◌}
+use Rattle.std.proofs.Common.{refl, sym, ap, ◌∙◌, subst, arith}
+use Rattle.std.proofs.lemmas.Bool.{and_from, lt-ltb, le-leb}
+use Rattle.std.proofs.lemmas.List.{append_assoc, length-append}
+use Rattle.f_tree.specs.declared.names.Basic.{Basic}
+use Rattle.f_tree.specs.declared.names.Class.{Class}
+use Rattle.f_tree.specs.declared.names.Class.TheVariants as class
+use Rattle.f_tree.specs.Terms as fortran
+use Rattle.f_tree.specs.Values.{Bytes}
+use Rattle.f_tree.specs.World.{Procedure}
+use Rattle.l_core.specs.Pures.{Pure, Constant, Temporary, Load, Name, AllOf, ElementOf, FirstOf, Substring, Prefixed, Operated, Applied, Chosen, Concatenated, Pures, NoPure, AndPure}
+use Rattle.l_core.specs.Steps.{Starts, Takes, Finishes, Step, Compute, CallFor, CallSub, Halt, Acts, Text}
+use Rattle.c_tree.specs.Access.{ToNumber, ToChar, ToPointer, ToFunction}
+use Rattle.c_tree.specs.Terms as c
+use Rattle.c_tree.specs.Terms.{Term}
+use Rattle.c_tree.specs.Flat as flat
+use Rattle.c_tree.specs.Flat.{Flat}
+use Rattle.c_tree.specs.Drafts.{Scope}
+use Rattle.c_tree.specs.FlatForm.{whole_body}
+use Rattle.c_tree.specs.Linking.{Routines, file_scope, strings_of}
+use Rattle.c_image.specs.Addresses.{Address, Alone, Inside, InTexts, Through, number_term}
+use Rattle.c_structure.specs.Expressions.{Names, strings_in, strings_in_all}
+use Rattle.c_structure.specs.Expressions as written
+use Rattle.c_structure.specs.Statements.{Outline, strings_of_item, strings_of_items}
+use Rattle.c_structure_laws.specs.Fitting.{KnowsCallee, KnowsItems, KnowsArray, AreNumbered as AreInOrder, AreBytesOf}
+use Rattle.c_structure_laws.proofs.DrawnExpressions.{mapped_by}
+use Rattle.c_emit.specs.Numbers.{Writing, one_more, has_number, has_bounds, is_scalar, is_array, place_term}
+use Rattle.c_emit.specs.LibraryFunctions.{library_function}
+use Rattle.c_emit.specs.Calls.{held_term, address_of}
+use Rattle.linking_laws.specs.Linked as linked
+use Rattle.linking_laws.specs.Linked.{IsBuilt}
+use Rattle.linking_laws.proofs.Places.{some_same, taken, within}
+use Rattle.linking_laws.proofs.BuiltCode.{whole_is, built_fit, code_is_theirs, strings_are_theirs}
+use Rattle.emitted_names.specs.KnownNames.{IsPlain, array_of, StartIsPlain, CallsFunction}
+use Rattle.emitted_names.proofs.TermNames.{target_plain}
+use Rattle.emitted_names.proofs.ItemNames.{address_plain, held_is}
+use Rattle.procedure_emission.specs.ProcedureItems.{Numbers, pointer_term, procedure_argument, routine_term, name_argument, argument_term, argument_terms, callee_for, function_called, procedure_item}
+use Rattle.main_file.specs.MainItems.{stops_from}
+use Rattle.main_file_laws.proofs.BuiltItems.{AreBelow, none_below, below_next, below_both, place_behind, before_by}
+use Rattle.unit_file.specs.UnitFile.{Inventory, Bases, WrittenUnit, units_file, unit_function, first_string, first_parameter, parameter_object, result_object, place_or_none, place_of_variable, place_of_string, address_in}
+use Rattle.unit_file.specs.UnitNames.{routine_name, string_at}
+use Rattle.unit_places.specs.UnitPlaces.{inventories, bases_of}
+use Rattle.unit_places.proofs.Declared.{unit_strings, unit_statics_count}
+use Rattle.unit_file_laws.specs.KnownUnits.{unit_writing, unit_names, scope_in, UnitIsKnown}
+use Rattle.unit_file_laws.specs.ProcedureNames.{ArePlain, KnowsCall, KnowsUnitStep}
+use Rattle.unit_file_laws.specs.BuiltUnits.{unit_items, procedure_called, procedure_passed, procedures_passed, procedures_named, AreDeclared, FunctionIsCalled, IsListed, AreListed, IsUnitBuilt, AreNumbered, HasItsItems, UnitsHaveTheirItems}
+use Rattle.unit_file_laws.proofs.Known.{unit_files_are_known}
+use Rattle.unit_file_laws.proofs.CallNames.{procedure_names_are_known}
+
+-- ## Strings
+
+-- strings that are told by numbers one after the other are those that are told for these
+strings_same : (string : ℕ → Option (List ℕ)) (texts : ℕ → List ℕ) (first : ℕ) (ss : List (List ℕ)) (ks ns : List ℕ) → map Some ss ≡ map string ks → AreInOrder first ks → length ks ≡ length ns
+    → ((i n : ℕ) → slice_get ns i ≡ Some n → string (first + i) ≡ Some (texts n)) → ss ≡ map texts ns
+strings_same string texts first [] [] [] same order long told = refl
+strings_same string texts first [] [] (n ∷ ns) same order long told = absurd (cc)
+strings_same string texts first [] (k ∷ ks) ns same order long told = absurd (cc)
+strings_same string texts first (s ∷ ss) [] ns same order long told = absurd (cc)
+strings_same string texts first (s ∷ ss) (k ∷ ks) [] same order long told = absurd (cc)
+strings_same string texts first (s ∷ ss) (k ∷ ks) (n ∷ ns) same order long told =
+    let one : Some s ≡ string k = cc in
+    let rest : map Some ss ≡ map string ks = cc in
+    let shorter : length ks ≡ length ns = cc in
+    let here : string k ≡ Some (texts n) = ap string {x = k} {y = first + 0} (let is = order.0 in omega (arith, is)) ∙ told 0 n refl in
+    (λ i. some_same s (texts n) (one ∙ here) i
+    ∷ strings_same string texts (first + 1) ss ks ns rest order.1 shorter (λ j m at. ap string {x = first + 1 + j} {y = first + suc j} (omega arith) ∙ told (suc j) m at) i)
+
+-- ## Declared procedures
+
+first_declared : (numbers : Numbers) (vs : List Inventory) (v : Inventory) (xs ys : List Bytes) → AreDeclared numbers vs v (xs ++ ys) → AreDeclared numbers vs v xs
+first_declared numbers vs v [] ys are = tt
+first_declared numbers vs v (x ∷ xs) ys are = (are.0, first_declared numbers vs v xs ys are.1)
+
+last_declared : (numbers : Numbers) (vs : List Inventory) (v : Inventory) (xs ys : List Bytes) → AreDeclared numbers vs v (xs ++ ys) → AreDeclared numbers vs v ys
+last_declared numbers vs v [] ys are = are
+last_declared numbers vs v (x ∷ xs) ys are = last_declared numbers vs v xs ys are.1
+
+-- an address is that of an object, or of what a parameter points to
+data IsSimple (a : Address) : Type 0 where
+  by_object : (object : ℕ) → Alone object ≡ a → IsSimple a
+  by_parameter : (parameter : ℕ) → Through parameter ≡ a → IsSimple a
+
+simple_address : (v : Inventory) (b : Bases) (x : Bytes) (k : Class) → IsSimple (address_in v b x k)
+unfolding address_in
+simple_address v b x class.Dummy = by_parameter (parameter_object v b x) refl
+simple_address v b x class.DummyProcedure = by_parameter (parameter_object v b x) refl
+simple_address v b x class.Result = by_object (result_object v b) refl
+simple_address v b x other = by_object (b.function + place_or_none (place_of_variable v x)) refl
+
+pointed_plain : (scope : Scope) (names : Names) (parameter : ℕ) → IsPlain scope names (number_term (Through parameter)) → IsPlain scope names (c.Variable parameter (ToPointer ToNumber))
+unfolding strings_in
+pointed_plain scope names parameter is = record { knows = is.knows; no_strings = refl }
+
+module _ (routines : Routines) (objects : List ℕ → Option ℕ) (numbers : Numbers) (constants : List ℤ) (ws : List WrittenUnit) (j : ℕ) (w : WrittenUnit) (u : Text) (kind : ℕ → ℕ → Option Basic) (o : Outline) (all : List Flat)
+    (numbered : AreNumbered routines numbers ws w.inventory) (is : IsUnitBuilt numbers constants ws j w u kind o all) where
+  abbrev v : Inventory
+  v = w.inventory
+
+  abbrev b : Bases
+  b = bases_of constants ws j
+
+  abbrev vs : List Inventory
+  vs = inventories ws
+
+  abbrev writing : Writing
+  writing = unit_writing constants ws j w u.facts kind
+
+  abbrev names : Names
+  names = unit_names constants ws j w
+
+  abbrev scope : Scope
+  scope = scope_in routines objects constants ws j w
+
+  known : UnitIsKnown routines objects constants ws j w u.facts kind
+  known = unit_files_are_known routines objects constants ws j w u.facts kind is.differ is.names_listed is.as_many
+
+  -- ## Procedures
+
+  routine_known : (x : Bytes) (k : ℕ) → AreDeclared numbers vs v (x ∷ []) → numbers (Procedure x) ≡ Some k → scope (names.routine k) ≡ c.Routine k
+  routine_known x k declared number = let listed = declared.0 k number in known.routines listed.0 k listed.1 (numbered.own (Procedure x) k number)
+
+  direct_known : (x : Bytes) (callee : flat.Callee) → AreDeclared numbers vs v (x ∷ []) → option_map flat.Direct (numbers (Procedure x)) ≡ Some callee → KnowsCallee scope names callee
+  direct_known x callee declared h =
+      let m = mapped_by flat.Direct (numbers (Procedure x)) callee h in
+      subst (KnowsCallee scope names) m.is (routine_known x m.one declared m.one_is)
+
+  callee_by : (x : Bytes) (k : Class) (a : Address) (callee : flat.Callee) → (u.facts.program.attribute x).class ≡ k → writing.naming.address x ≡ a → AreDeclared numbers vs v (procedure_called k x) → callee_for numbers x k a ≡ Some callee
+      → KnowsCallee scope names callee
+  unfolding callee_for procedure_called
+  callee_by x class.Procedure a callee is' at declared h = direct_known x callee declared h
+  callee_by x class.Result a callee is' at declared h = direct_known x callee declared h
+  callee_by x class.Unit a callee is' at declared h = direct_known x callee declared h
+  callee_by x class.DummyProcedure (Through parameter) callee is' at declared h =
+      subst (KnowsCallee scope names) (some_same (flat.Through (c.Variable parameter ToFunction)) callee h) (known.pointers x parameter is' at)
+  callee_by x class.DummyProcedure a callee is' at declared h = absurd (cc)
+  callee_by x other a callee is' at declared h = absurd (cc)
+
+  callee_known : (x : Bytes) (callee : flat.Callee) → AreDeclared numbers vs v (procedure_called (u.facts.program.attribute x).class x) → function_called numbers writing x ≡ Some callee → KnowsCallee scope names callee
+  unfolding function_called
+  callee_known x callee declared h = callee_by x (u.facts.program.attribute x).class (writing.naming.address x) callee refl refl declared h
+
+  -- ## Arguments
+
+  passed_plain : (function : Term) → IsPlain scope names function → IsPlain scope names (procedure_argument function)
+  unfolding strings_in
+  passed_plain function is' = record { knows = is'.knows; no_strings = is'.no_strings }
+
+  routine_plain : (k : ℕ) → scope (names.routine k) ≡ c.Routine k → IsPlain scope names (c.Routine k)
+  unfolding strings_in
+  routine_plain k stands = record { knows = stands; no_strings = refl }
+
+  pointer_plain : (parameter : ℕ) → scope (names.object parameter) ≡ c.Variable parameter ToFunction → IsPlain scope names (c.Variable parameter ToFunction)
+  unfolding strings_in
+  pointer_plain parameter stands = record { knows = stands; no_strings = refl }
+
+  routine_by : (x : Bytes) (k : Class) (a : Address) (term : Term) → (u.facts.program.attribute x).class ≡ k → writing.naming.address x ≡ a → AreDeclared numbers vs v (procedure_passed k x) → routine_term numbers x k a ≡ Some term
+      → IsPlain scope names term
+  unfolding routine_term procedure_passed
+  routine_by x class.Procedure a term is' at declared h =
+      let m = mapped_by (λ number. procedure_argument (c.Routine number)) (numbers (Procedure x)) term h in
+      subst (IsPlain scope names) m.is (passed_plain (c.Routine m.one) (routine_plain m.one (routine_known x m.one declared m.one_is)))
+  routine_by x class.DummyProcedure (Through parameter) term is' at declared h =
+      subst (IsPlain scope names) (some_same (procedure_argument (c.Variable parameter ToFunction)) term h) (passed_plain (c.Variable parameter ToFunction) (pointer_plain parameter (known.pointers x parameter is' at)))
+  routine_by x class.DummyProcedure a term is' at declared h = absurd (cc)
+  routine_by x other a term is' at declared h = absurd (cc)
+
+  both_so : (s t : Bool) → s ≡ true → t ≡ true → s && t ≡ true
+  both_so s t one other = and_from s t one other
+
+  scalar_known : (x : Bytes) → has_number writing x ≡ true → has_bounds (u.facts.program.attribute x).bounds ≡ false → IsPlain scope names (number_term (writing.naming.address x))
+  unfolding is_scalar
+  scalar_known x number none = known.names.scalars x (both_so (has_number writing x) (not (has_bounds (u.facts.program.attribute x).bounds)) number (ap not none))
+
+  array_known : (x : Bytes) → has_number writing x ≡ true → has_bounds (u.facts.program.attribute x).bounds ≡ true → StartIsPlain scope names (array_of (writing.naming.address x))
+  unfolding is_array
+  array_known x number some = known.names.arrays x (both_so (has_number writing x) (has_bounds (u.facts.program.attribute x).bounds) number some)
+
+  -- a variable or an array of numbers by a pointer to it
+  pointer_by : (x : Bytes) (array : Bool) → has_number writing x ≡ true → has_bounds (u.facts.program.attribute x).bounds ≡ array → IsSimple (writing.naming.address x) → IsPlain scope names (pointer_term array (writing.naming.address x))
+  pointer_by x true number some (by_object object at) =
+      subst (λ a. IsPlain scope names (pointer_term true a)) at (subst (λ a. StartIsPlain scope names (array_of a)) (sym at) (array_known x number some))
+  pointer_by x true number some (by_parameter parameter at) =
+      subst (λ a. IsPlain scope names (pointer_term true a)) at (subst (λ a. StartIsPlain scope names (array_of a)) (sym at) (array_known x number some))
+  pointer_by x false number none (by_object object at) =
+      subst (λ a. IsPlain scope names (pointer_term false a)) at
+      (address_plain scope names (number_term (Alone object)) (subst (λ a. IsPlain scope names (number_term a)) (sym at) (scalar_known x number none)))
+  pointer_by x false number none (by_parameter parameter at) =
+      subst (λ a. IsPlain scope names (pointer_term false a)) at
+      (pointed_plain scope names parameter (subst (λ a. IsPlain scope names (number_term a)) (sym at) (scalar_known x number none)))
+
+  name_plain : (x : Bytes) (number : Bool) (term : Term) → has_number writing x ≡ number → AreDeclared numbers vs v (procedure_passed (u.facts.program.attribute x).class x) → name_argument numbers writing x number ≡ Some term → IsPlain scope names term
+  unfolding name_argument
+  name_plain x true term is' declared h =
+      subst (IsPlain scope names) (some_same (pointer_term (has_bounds (u.facts.program.attribute x).bounds) (writing.naming.address x)) term h)
+      (pointer_by x (has_bounds (u.facts.program.attribute x).bounds) is' refl (simple_address v b x (u.facts.program.attribute x).class))
+  name_plain x false term is' declared h = routine_by x (u.facts.program.attribute x).class (writing.naming.address x) term refl refl declared h
+
+  addressed_plain : (x : Option Term) (term : Term) → option_map address_of x ≡ Some term → ((t : Term) → x ≡ Some t → IsPlain scope names t) → IsPlain scope names term
+  addressed_plain x term h one = let m = mapped_by address_of x term h in subst (IsPlain scope names) m.is (address_plain scope names m.one (one m.one m.one_is))
+
+  -- the procedures that an argument passes
+  argument_plain : (p : Pure) (ps : Pures) (term : Term) → AreDeclared numbers vs v (procedures_passed u.facts (AndPure p ps)) → argument_term numbers writing p ≡ Some term → IsPlain scope names term
+  unfolding argument_term procedures_passed
+  argument_plain (Constant d) ps term declared h = addressed_plain (held_term writing (Constant d)) term h (held_is scope names writing known.names (Constant d))
+  argument_plain (Temporary k) ps term declared h = addressed_plain (held_term writing (Temporary k)) term h (held_is scope names writing known.names (Temporary k))
+  argument_plain (Name x) ps term declared h =
+      name_plain x (has_number writing x) term refl (first_declared numbers vs v (procedure_passed (u.facts.program.attribute x).class x) (procedures_passed u.facts ps) declared) h
+  argument_plain (ElementOf x qs) ps term declared h = addressed_plain (place_term writing (ElementOf x qs)) term h (target_plain scope names writing known.names (ElementOf x qs))
+  argument_plain p ps term declared h = absurd (cc)
+
+  -- and those behind it
+  later_declared : (p : Pure) (ps : Pures) → AreDeclared numbers vs v (procedures_passed u.facts (AndPure p ps)) → AreDeclared numbers vs v (procedures_passed u.facts ps)
+  unfolding procedures_passed
+  later_declared (Name x) ps declared = last_declared numbers vs v (procedure_passed (u.facts.program.attribute x).class x) (procedures_passed u.facts ps) declared
+  later_declared p ps declared = declared
+
+  more_plain : (x : Option Term) (xs : Option (List Term)) (ts : List Term) → one_more x xs ≡ Some ts → ((t : Term) → x ≡ Some t → IsPlain scope names t) → ((later : List Term) → xs ≡ Some later → ArePlain scope names later) → ArePlain scope names ts
+  unfolding one_more strings_in_all
+  more_plain (Some t) (Some later) ts h one others =
+      let first = one t refl in
+      let rest = others later refl in
+      subst (ArePlain scope names) (some_same (t ∷ later) ts h) (record { knows = (first.knows, rest.knows); no_strings = (λ i. first.no_strings i ++ rest.no_strings i) })
+  more_plain (Some t) None ts h one others = absurd (cc)
+  more_plain None xs ts h one others = absurd (cc)
+
+  arguments_plain : (ps : Pures) (ts : List Term) → AreDeclared numbers vs v (procedures_passed u.facts ps) → argument_terms numbers writing ps ≡ Some ts → ArePlain scope names ts
+  unfolding argument_terms strings_in_all
+  arguments_plain NoPure ts declared h = subst (ArePlain scope names) (some_same [] ts h) (record { knows = tt; no_strings = refl })
+  arguments_plain (AndPure p ps) ts declared h =
+      more_plain (argument_term numbers writing p) (argument_terms numbers writing ps) ts h (λ t at. argument_plain p ps t declared at) (λ later at. arguments_plain ps later (later_declared p ps declared) at)
+
+  call_known : (x : Bytes) (ps : Pures) → AreDeclared numbers vs v (procedures_named u.facts x ps) → KnowsCall scope names numbers writing x ps
+  unfolding procedures_named
+  call_known x ps declared = record {
+    callee = λ callee h. callee_known x callee (first_declared numbers vs v (procedure_called (u.facts.program.attribute x).class x) (procedures_passed u.facts ps) declared) h;
+    arguments = λ ts h. arguments_plain ps ts (last_declared numbers vs v (procedure_called (u.facts.program.attribute x).class x) (procedures_passed u.facts ps) declared) h;
+  }
+
+  -- ## Steps
+
+  -- the string with a number
+  string_told : (i n : ℕ) → slice_get v.strings i ≡ Some n → string_at v b (first_string v b + i) ≡ Some (v.texts n)
+  unfolding string_at
+  string_told i n at =
+      let less = within v.strings i n at in
+      taken (nat_le (first_string v b) (first_string v b + i) && nat_lt (first_string v b + i) (first_parameter v b)) (Some (v.texts (unwrap_or (slice_get v.strings ((first_string v b + i) - first_string v b)) 0))) None
+      (both_so (nat_le (first_string v b) (first_string v b + i)) (nat_lt (first_string v b + i) (first_parameter v b)) (le-leb (first_string v b) (first_string v b + i) (omega arith))
+      (lt-ltb (first_string v b + i) (first_parameter v b) (omega (arith, less))))
+      ∙ ap (λ k. Some (v.texts (unwrap_or (slice_get v.strings k) 0))) {x = (first_string v b + i) - first_string v b} {y = i} (omega arith) ∙ ap (λ found. Some (v.texts (unwrap_or found 0))) at
+
+  -- the string of a step
+  record HasString (n : ℕ) : Type 0 where
+    place : ℕ
+    placed : place_of_string v n ≡ Some place
+    bytes : List ℕ
+    string : string_at v b (first_string v b + place) ≡ Some bytes
+
+  -- a function of numbers of the library
+  function_known : (f : fortran.Function) → FunctionIsCalled v (library_function f) → CallsFunction scope names writing (library_function f)
+  unfolding library_function
+  function_known fortran.Power listed = known.calls listed.0 4 (codes "pow_ii") listed.1 refl (numbered.library (codes "pow_ii") 4 listed refl)
+  function_known fortran.SignTransfer listed = known.calls listed.0 5 (codes "i_sign") listed.1 refl (numbered.library (codes "i_sign") 5 listed refl)
+  function_known fortran.PositiveDifference listed = known.calls listed.0 6 (codes "i_dim") listed.1 refl (numbered.library (codes "i_dim") 6 listed refl)
+  function_known fortran.InclusiveOr listed = known.calls listed.0 35 (codes "i_or") listed.1 refl (numbered.library (codes "i_or") 35 listed refl)
+  function_known fortran.LogicalProduct listed = known.calls listed.0 36 (codes "i_and") listed.1 refl (numbered.library (codes "i_and") 36 listed refl)
+  function_known fortran.ExclusiveOr listed = known.calls listed.0 37 (codes "i_eor") listed.1 refl (numbered.library (codes "i_eor") 37 listed refl)
+  function_known fortran.BitComplement listed = known.calls listed.0 38 (codes "i_not") listed.1 refl (numbered.library (codes "i_not") 38 listed refl)
+  function_known fortran.BitShift listed = known.calls listed.0 39 (codes "i_shft") listed.1 refl (numbered.library (codes "i_shft") 39 listed refl)
+  function_known fortran.BitTest listed = known.calls listed.0 40 (codes "b_test") listed.1 refl (numbered.library (codes "b_test") 40 listed refl)
+  function_known fortran.BitSet listed = known.calls listed.0 41 (codes "b_set") listed.1 refl (numbered.library (codes "b_set") 41 listed refl)
+  function_known fortran.BitClear listed = known.calls listed.0 42 (codes "b_clr") listed.1 refl (numbered.library (codes "b_clr") 42 listed refl)
+  function_known f listed = tt
+
+  knows_step : (n : ℕ) (st : Step) → IsListed numbers vs u.facts v n st → ((text : List ℕ) → st ≡ Halt text → HasString n) → KnowsUnitStep scope names numbers writing n st
+  knows_step n (CallFor k callee ps) listed stop = call_known callee.name ps listed
+  knows_step n (CallSub k x ps) listed stop = call_known x ps listed
+  knows_step n (Acts (Starts way layout controls) ps m) listed stop =
+      (known.calls listed.0.0 14 (codes "s_wsle") listed.0.1 refl (numbered.library (codes "s_wsle") 14 listed.0 refl), known.lists n listed.1.0 listed.1.1)
+  knows_step n (Acts Takes ps m) listed stop = known.calls listed.0 21 (codes "do_lio") listed.1 refl (numbered.library (codes "do_lio") 21 listed refl)
+  knows_step n (Acts Finishes ps m) listed stop = known.calls listed.0 24 (codes "e_wsle") listed.1 refl (numbered.library (codes "e_wsle") 24 listed refl)
+  knows_step n (Halt text) listed stop =
+      let s = stop text refl in (
+        known.calls listed.0 11 (codes "s_stop") listed.1 refl (numbered.library (codes "s_stop") 11 listed refl),
+        subst (λ p. KnowsArray scope (names.object (first_string v b + place_or_none p)) (string_at v b (first_string v b + place_or_none p)) (first_string v b + place_or_none p) ToChar) (sym s.placed)
+            (subst (λ found. KnowsArray scope (names.object (first_string v b + s.place)) found (first_string v b + s.place) ToChar) (sym s.string) refl),
+      )
+  knows_step n (Compute k f ps) listed stop = function_known f listed
+  knows_step n st listed stop = tt
+
+  -- items of steps from a position on: known, and their strings numbered from one on, one for each STOP
+  record AreNumberedItems (before : List ℕ) (n : ℕ) (steps : List Step) (items : List Flat) : Type 0 where
+    knows : KnowsItems scope names items
+    in_order : AreInOrder (first_string v b + length before) (strings_of_items names items)
+    counted : length (strings_of_items names items) ≡ length (stops_from n steps)
+
+  step_known : (n : ℕ) (before : List ℕ) (st : Step) (later : List Step) (item : Flat) (laters : List Flat) → v.strings ≡ before ++ stops_from n (st ∷ later) → AreBelow n before → IsListed numbers vs u.facts v n st
+      → procedure_item numbers writing (λ m. m) u.position n st ≡ Some item
+      → ((more : List ℕ) → v.strings ≡ more ++ stops_from (suc n) later → AreBelow (suc n) more → AreNumberedItems more (suc n) later laters) → AreNumberedItems before n (st ∷ later) (item ∷ laters)
+  unfolding stops_from strings_of_items strings_in written.string_at
+  step_known n before (Halt text) later item laters strings below listed h rest =
+      let place : place_of_string v n ≡ Some (length before) = ap (position (nat_eq n)) strings ∙ place_behind n before (stops_from (suc n) later) below in
+      let here : slice_get v.strings (length before) ≡ Some n = ap (λ ks. slice_get ks (length before)) strings ∙ at_back before n (stops_from (suc n) later) in
+      let string : string_at v b (first_string v b + length before) ≡ Some (v.texts n) = string_told (length before) n here in
+      let known_item = procedure_names_are_known scope names numbers writing (λ m. m) u.position n (Halt text) item known.names
+      (knows_step n (Halt text) listed (λ t same. record { place = length before; placed = place; bytes = v.texts n; string = string })) h in
+      let r = rest (before ++ n ∷ []) (strings ∙ sym (append_assoc before (n ∷ []) (stops_from (suc n) later))) (below_both n before below) in
+      let longer = length-append before (n ∷ []) in
+      let next : first_string v b + length (before ++ n ∷ []) ≡ first_string v b + length before + 1 = omega (arith, longer) in
+      let one : strings_of_item names item ≡ (first_string v b + length before) ∷ [] =
+      known_item.strings ∙ ap (λ p. written.string_at (string_at v b (first_string v b + place_or_none p)) (first_string v b + place_or_none p)) place
+      ∙ ap (λ found. written.string_at found (first_string v b + length before)) string in
+      record {
+        knows = (known_item.knows, r.knows);
+        in_order = subst (λ ks. AreInOrder (first_string v b + length before) (ks ++ strings_of_items names laters)) (sym one) (refl, subst (λ k. AreInOrder k (strings_of_items names laters)) next r.in_order);
+        counted = (λ i. length (one i ++ strings_of_items names laters)) ∙ ap suc r.counted;
+      }
+    where
+      at_back : (xs : List ℕ) (y : ℕ) (ys : List ℕ) → slice_get (xs ++ y ∷ ys) (length xs) ≡ Some y
+      at_back [] y ys = refl
+      at_back (x ∷ xs) y ys = at_back xs y ys
+  step_known n before st later item laters strings below listed h rest =
+      let known_item = procedure_names_are_known scope names numbers writing (λ m. m) u.position n st item known.names (knows_step n st listed (λ t same. absurd (cc))) h in
+      let r = rest before strings (below_next n before below) in
+      record {
+        knows = (known_item.knows, r.knows);
+        in_order = subst (λ ks. AreInOrder (first_string v b + length before) (ks ++ strings_of_items names laters)) (sym known_item.strings) r.in_order;
+        counted = (λ i. length (known_item.strings i ++ strings_of_items names laters)) ∙ r.counted;
+      }
+
+  items_known : (n : ℕ) (before : List ℕ) (steps : List Step) (items : List Flat) → v.strings ≡ before ++ stops_from n steps → AreBelow n before → AreListed numbers vs u.facts v n steps
+      → unit_items numbers writing u.position n steps ≡ Some items → AreNumberedItems before n steps items
+  unfolding unit_items strings_of_items stops_from
+  items_known n before [] items strings below listed h = subst (AreNumberedItems before n []) (some_same [] items h) (record { knows = tt; in_order = tt; counted = refl })
+  items_known n before (st ∷ later) items strings below listed h =
+      let m = before_by (procedure_item numbers writing (λ k. k) u.position n st) (unit_items numbers writing u.position (suc n) later) items h in
+      subst (AreNumberedItems before n (st ∷ later)) m.is
+      (step_known n before st later m.item m.later strings below listed.0 m.item_is (λ more again further. items_known (suc n) more later m.later again further listed.1 m.later_is))
+
+  -- ## The function
+
+  every : AreNumberedItems [] 0 u.steps all
+  every = items_known 0 [] u.steps all is.stops none_below is.listed is.emitted
+
+  all_known : KnowsItems scope o.names all
+  all_known = subst (λ ns. KnowsItems scope ns all) (sym is.names) every.knows
+
+  in_order : AreInOrder (first_string v b) (strings_of_items names all)
+  in_order = subst (λ k. AreInOrder k (strings_of_items names all)) {x = first_string v b + 0} {y = first_string v b} (omega arith) every.in_order
+
+  has : (own : ℕ) → HasItsItems routines objects own constants ws j w all
+  has own =
+      let kept = unit_statics_count v in
+      let passed = ap length (unit_strings v) in
+      let there : first_string v b ≡ linked.first_string b.function (unit_function w) + length (strings_of (linked.statics (unit_function w))) = omega (arith, kept, passed) in
+      let theirs = strings_are_theirs routines (file_scope routines objects 0 (units_file constants ws)) b.function (unit_function w) o all is.built all_known in
+      record {
+        code = code_is_theirs routines own (file_scope routines objects 0 (units_file constants ws)) b.function (unit_function w) o all is.built all_known
+            (subst (λ ns. AreInOrder (linked.first_string b.function (unit_function w) + length (strings_of (linked.statics (unit_function w)))) (strings_of_items ns all)) (sym is.names)
+            (subst (λ k. AreInOrder k (strings_of_items names all)) there in_order));
+        size = ap (λ body. body.size) (whole_is o all (unit_function w) is.built) ∙ (built_fit scope o all (unit_function w) is.built all_known).size;
+        strings = strings_same names.string v.texts (first_string v b) (whole_body w.body).items.strings (strings_of_items names all) v.strings
+            (subst (λ ns. AreBytesOf ns (whole_body w.body).items.strings (strings_of_items ns all)) is.names theirs) in_order (every.counted ∙ ap length (sym is.stops)) string_told;
+      }
+
+pub units_have_their_items : UnitsHaveTheirItems
+units_have_their_items routines objects own numbers constants ws j w u kind o items numbered is = has routines objects numbers constants ws j w u kind o items numbered is own

@@ -1,0 +1,4 @@
+pub mod Listed
+pub mod Known
+pub mod CallNames
+pub mod BuiltItems

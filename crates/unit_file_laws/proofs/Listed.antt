@@ -1,0 +1,87 @@
+-- What the locals of a unit declare, by their names.
+use Rattle.std.specs.Prelude.{◌≡◌, ℕ, zero, suc, ◌+◌, ◌≤◌, true, List, [], ◌∷◌, ◌++◌, map, length, Option, Some, None}
+use Rattle.std.proofs.Common.{refl, sym, ap, ◌∙◌, arith}
+use Rattle.std.proofs.lemmas.List.{append-nil}
+use Rattle.f_tree.specs.CNames.{variable_name, made_name, FunctionResult}
+use Rattle.c_tree.specs.declared.types.NumberType.{NumberType}
+use Rattle.c_tree.specs.declared.types.ParameterType.{ParameterType}
+use Rattle.c_tree.specs.declared.types.ParameterType.TheVariants as parameter
+use Rattle.c_tree.specs.declared.declaration.CLocal.{CLocal}
+use Rattle.c_tree.specs.Access.{ToNumber, ToPointer, ToFunction}
+use Rattle.c_tree.specs.Declarations.{Declared, parameter_access, declared_parameter, declared_parameters, declared_automatics, declared_externs}
+use Rattle.main_file_laws.proofs.Listed.{temporaries, automatics_listed, temporary_names_are, externs_listed}
+use Rattle.linking_laws.specs.Linked.{names_of}
+use Rattle.procedure_emission.specs.EmittedUnits.{is_number_pointer, is_function_pointer}
+use Rattle.unit_file.specs.UnitFile.{Parameter, Callee, Inventory, variable_for, lists_from, temporaries_from, parameter_for, result_local, extern_for, unit_locals, object_count, first_object, result_names, framed_names}
+use Rattle.unit_file.specs.UnitNames.{called_names}
+use Rattle.unit_places.proofs.Declared.{as_main, declared_result, framed_by, framed_are}
+
+-- ## The frame
+
+parameters_named : (ps : List Parameter) (behind : List Declared) → names_of (map (λ (p : Parameter). declared_parameter (parameter_for p)) ps ++ behind) ≡ map (λ (p : Parameter). variable_name p.name) ps ++ names_of behind
+parameters_named [] behind = refl
+parameters_named (p ∷ ps) behind = ap (λ ns. variable_name p.name ∷ ns) (parameters_named ps behind)
+
+result_named : (type : Option NumberType) (behind : List Declared) → names_of (declared_result type ++ behind) ≡ result_names type ++ names_of behind
+result_named None behind = refl
+result_named (Some type) behind = refl
+
+framed_by_names : (v : Inventory) → names_of (framed_by v) ≡ framed_names v
+framed_by_names v =
+    parameters_named v.parameters (declared_result v.returned ++ temporaries 1 v.temporaries)
+    ∙ ap (λ ns. map (λ (p : Parameter). variable_name p.name) v.parameters ++ ns)
+    (result_named v.returned (temporaries 1 v.temporaries) ∙ ap (λ ns. result_names v.returned ++ ns) (sym (ap names_of (automatics_listed (as_main v))) ∙ temporary_names_are (as_main v)))
+
+pub framed_names_are : (v : Inventory) → names_of (declared_parameters (map parameter_for v.parameters) ++ declared_automatics (unit_locals v)) ≡ framed_names v
+framed_names_are v = ap names_of (framed_are v) ∙ framed_by_names v
+
+pub framed_names_by : (v : Inventory) → framed_names v ≡ names_of (framed_by v)
+framed_names_by v = sym (framed_by_names v)
+
+-- ## What is called
+
+past_result : (type : Option NumberType) (behind : List CLocal) → declared_externs (result_local type ++ behind) ≡ declared_externs behind
+past_result None behind = refl
+past_result (Some type) behind = refl
+
+past_temporaries : (k n : ℕ) (behind : List CLocal) → declared_externs (temporaries_from k n ++ behind) ≡ declared_externs behind
+past_temporaries k zero behind = refl
+past_temporaries k (suc n) behind = past_temporaries (suc k) n behind
+
+calls_first : (calls : List Callee) (behind : List CLocal) → declared_externs (map extern_for calls ++ behind) ≡ map (λ (call : Callee). call.name) calls ++ declared_externs behind
+calls_first [] behind = refl
+calls_first (c ∷ calls) behind = ap (λ ns. c.name ∷ ns) (calls_first calls behind)
+
+pub externs_are : (v : Inventory) → declared_externs (unit_locals v) ≡ called_names v
+externs_are v =
+    past_result v.returned (temporaries_from 1 v.temporaries ++ (map extern_for v.calls ++ (map variable_for v.variables ++ lists_from 1 v.lists)))
+    ∙ past_temporaries 1 v.temporaries (map extern_for v.calls ++ (map variable_for v.variables ++ lists_from 1 v.lists))
+    ∙ calls_first v.calls (map variable_for v.variables ++ lists_from 1 v.lists)
+    ∙ ap (λ ns. called_names v ++ ns) (sym (past_temporaries 1 v.temporaries (map variable_for v.variables ++ lists_from 1 v.lists)) ∙ externs_listed (as_main v)) ∙ append-nil (called_names v)
+
+-- ## Parameters
+
+pub number_access : (type : ParameterType) → is_number_pointer type ≡ true → parameter_access type ≡ ToPointer ToNumber
+unfolding is_number_pointer
+number_access parameter.Integers h = refl
+number_access parameter.Logicals h = refl
+number_access parameter.Chars h = absurd (cc)
+number_access parameter.Length h = absurd (cc)
+number_access parameter.Int h = absurd (cc)
+number_access (parameter.Function type) h = absurd (cc)
+
+pub function_access : (type : ParameterType) → is_function_pointer type ≡ true → parameter_access type ≡ ToFunction
+unfolding is_function_pointer
+function_access (parameter.Function type) h = refl
+function_access parameter.Integers h = absurd (cc)
+function_access parameter.Logicals h = absurd (cc)
+function_access parameter.Chars h = absurd (cc)
+function_access parameter.Length h = absurd (cc)
+function_access parameter.Int h = absurd (cc)
+
+-- ## Where functions stand
+
+pub first_behind : (first : ℕ) (vs : List Inventory) (j : ℕ) → first ≤ first_object first vs j
+first_behind first [] j = omega arith
+first_behind first (v ∷ vs) zero = omega arith
+first_behind first (v ∷ vs) (suc j) = let later = first_behind (first + object_count v) vs j in omega (arith, later)

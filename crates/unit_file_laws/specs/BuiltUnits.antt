@@ -1,0 +1,115 @@
+-- That the function of a unit has the items that are emitted for its lowered text, where its statements are built for them. C89, 3.6.
+use Rattle.std.specs.Prelude.{◌≡◌, ℕ, suc, ◌+◌, ℤ, List, [], ◌∷◌, ◌++◌, map, length, position, Option, Some, None, slice_get, bytes_eq, codes}
+use Rattle.f_tree.specs.declared.names.Basic.{Basic}
+use Rattle.f_tree.specs.declared.names.Class.{Class}
+use Rattle.f_tree.specs.declared.names.Class.TheVariants as class
+use Rattle.f_tree.specs.Values.{Bytes}
+use Rattle.f_tree.specs.Facts.{Facts}
+use Rattle.f_tree.specs.World.{Called, Procedure}
+use Rattle.l_core.specs.Pures.{Name, Pures, NoPure, AndPure}
+use Rattle.l_core.specs.Steps.{Starts, Takes, Finishes, Step, Compute, CallFor, CallSub, Acts, Halt, Text}
+use Rattle.c_tree.specs.declared.statement.CStmt.{CStmt}
+use Rattle.c_tree.specs.Flat.{Flat}
+use Rattle.c_tree.specs.Builtins.{builtin_names}
+use Rattle.c_tree.specs.FlatForm.{whole_body}
+use Rattle.c_tree.specs.Linking.{Routines, file_scope, linked_function}
+use Rattle.c_structure.specs.Statements.{Outline}
+use Rattle.c_emit.specs.Numbers.{Writing}
+use Rattle.c_emit.specs.LibraryFunctions.{LibraryFunction, library_function}
+use Rattle.linking_laws.specs.Linked.{IsBuilt}
+use Rattle.main_file.specs.MainItems.{item_before, stops_from}
+use Rattle.procedure_emission.specs.ProcedureItems.{Numbers, procedure_item}
+use Rattle.unit_file.specs.UnitFile.{Inventory, WrittenUnit, units_file, unit_function, place_of_list}
+use Rattle.unit_file.specs.UnitNames.{called_names, routine_name}
+use Rattle.unit_places.specs.UnitPlaces.{inventories, bases_of}
+use Rattle.unit_file_laws.specs.KnownUnits.{NamesDiffer, NamesAreListed, unit_writing, unit_names}
+
+-- ## Items
+
+-- the items of steps from a position on, given the numbers of the functions
+unfoldable pub unit_items : Numbers → Writing → (ℕ → Option ℕ) → ℕ → List Step → Option (List Flat)
+unit_items numbers w label n [] = Some []
+unit_items numbers w label n (st ∷ later) = item_before (procedure_item numbers w (λ m. m) label n st) (unit_items numbers w label (suc n) later)
+
+-- ## What steps call
+
+-- a procedure that is called by its name, and one that is passed by its name
+unfoldable pub procedure_called : Class → Bytes → List Bytes
+procedure_called class.Procedure x = x ∷ []
+procedure_called class.Result x = x ∷ []
+procedure_called class.Unit x = x ∷ []
+procedure_called other x = []
+
+unfoldable pub procedure_passed : Class → Bytes → List Bytes
+procedure_passed class.Procedure x = x ∷ []
+procedure_passed other x = []
+
+unfoldable pub procedures_passed : Facts → Pures → List Bytes
+procedures_passed c NoPure = []
+procedures_passed c (AndPure (Name x) ps) = procedure_passed (c.program.attribute x).class x ++ procedures_passed c ps
+procedures_passed c (AndPure p ps) = procedures_passed c ps
+
+unfoldable pub procedures_named : Facts → Bytes → Pures → List Bytes
+procedures_named c x ps = procedure_called (c.program.attribute x).class x ++ procedures_passed c ps
+
+-- ## What is declared
+
+abbrev pub IsCalled : Inventory → List ℕ → Type 0
+IsCalled v name = (i : ℕ) × (slice_get (called_names v) i ≡ Some name)
+
+abbrev pub FunctionIsCalled : Inventory → Option LibraryFunction → Type 0
+FunctionIsCalled v None = Unit {0}
+FunctionIsCalled v (Some one) = IsCalled v one.name
+
+-- the functions of procedures are declared
+abbrev pub AreDeclared : Numbers → List Inventory → Inventory → List Bytes → Type 0
+AreDeclared numbers vs v [] = Unit {0}
+AreDeclared numbers vs v (x ∷ xs) = ((k : ℕ) → numbers (Procedure x) ≡ Some k → IsCalled v (routine_name vs k)) × AreDeclared numbers vs v xs
+
+-- what a step calls is declared, and its control list is listed
+abbrev pub IsListed : Numbers → List Inventory → Facts → Inventory → ℕ → Step → Type 0
+IsListed numbers vs c v n (CallFor k callee ps) = AreDeclared numbers vs v (procedures_named c callee.name ps)
+IsListed numbers vs c v n (CallSub k x ps) = AreDeclared numbers vs v (procedures_named c x ps)
+IsListed numbers vs c v n (Acts (Starts way layout controls) ps m) = IsCalled v (codes "s_wsle") × ((i : ℕ) × (place_of_list v n ≡ Some i))
+IsListed numbers vs c v n (Acts Takes ps m) = IsCalled v (codes "do_lio")
+IsListed numbers vs c v n (Acts Finishes ps m) = IsCalled v (codes "e_wsle")
+IsListed numbers vs c v n (Halt text) = IsCalled v (codes "s_stop")
+IsListed numbers vs c v n (Compute k f ps) = FunctionIsCalled v (library_function f)
+IsListed numbers vs c v n st = Unit {0}
+
+abbrev pub AreListed : Numbers → List Inventory → Facts → Inventory → ℕ → List Step → Type 0
+AreListed numbers vs c v n [] = Unit {0}
+AreListed numbers vs c v n (st ∷ later) = IsListed numbers vs c v n st × AreListed numbers vs c v (suc n) later
+
+-- ## The function
+
+-- a lowered text, its items, and the statements that are built for them
+pub record IsUnitBuilt (numbers : Numbers) (constants : List ℤ) (ws : List WrittenUnit) (j : ℕ) (w : WrittenUnit) (u : Text) (kind : ℕ → ℕ → Option Basic) (o : Outline) (items : List Flat) : Type 0 where
+  pub differ : NamesDiffer constants w.inventory
+  pub names_listed : NamesAreListed w.inventory u.facts
+  pub listed : AreListed numbers (inventories ws) u.facts w.inventory 0 u.steps
+  pub stops : w.inventory.strings ≡ stops_from 0 u.steps
+  pub names : o.names ≡ unit_names constants ws j w
+  pub emitted : unit_items numbers (unit_writing constants ws j w u.facts kind) u.position 0 u.steps ≡ Some items
+  pub built : IsBuilt o items (unit_function w)
+  pub as_many : length (whole_body w.body).items.strings ≡ length w.inventory.strings
+
+-- what is called has its number: functions of the library behind those of the program
+pub record AreNumbered (routines : Routines) (numbers : Numbers) (ws : List WrittenUnit) (v : Inventory) : Type 0 where
+  pub library : (name : List ℕ) (k : ℕ) → IsCalled v name → position (bytes_eq name) builtin_names ≡ Some k → routines name ≡ Some (length ws + k)
+  pub own : (called : Called) (k : ℕ) → numbers called ≡ Some k → routines (routine_name (inventories ws) k) ≡ Some k
+
+-- its code is the items, its statements have as many, and its strings are those that are listed
+pub record HasItsItems (routines : Routines) (objects : List ℕ → Option ℕ) (own : ℕ) (constants : List ℤ) (ws : List WrittenUnit) (j : ℕ) (w : WrittenUnit) (items : List Flat) : Type 0 where
+  pub code : (linked_function routines own (file_scope routines objects 0 (units_file constants ws)) (bases_of constants ws j).function (unit_function w)).function.code ≡ items
+  pub size : (whole_body w.body).size ≡ length items
+  pub strings : (whole_body w.body).items.strings ≡ map w.inventory.texts w.inventory.strings
+
+-- LAW
+abbrev pub UnitsHaveTheirItems : Type 0
+UnitsHaveTheirItems = (routines : Routines) (objects : List ℕ → Option ℕ) (own : ℕ) (numbers : Numbers) (constants : List ℤ) (ws : List WrittenUnit) (j : ℕ) (w : WrittenUnit) (u : Text) (kind : ℕ → ℕ → Option Basic) (o : Outline) (items : List Flat) →
+    AreNumbered routines numbers ws w.inventory → IsUnitBuilt numbers constants ws j w u kind o items → HasItsItems routines objects own constants ws j w items
+
+unfoldable pub built_units_opened : Unit {0}
+unfolding unit_items procedure_called procedure_passed procedures_passed procedures_named
+built_units_opened = tt

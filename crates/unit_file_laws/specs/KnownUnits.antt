@@ -1,0 +1,89 @@
+-- That what a function of a file of several units goes by is known in it: its names stand for its objects, and for the functions that it calls.
+-- C89, 3.1.2.1 and 3.5.4.3.
+use Rattle.std.specs.Prelude.{◌≡◌, ℕ, ◌+◌, ℤ, Bool, true, false, List, length, position, Option, Some, None, is_some, slice_get, bytes_eq}
+use Rattle.f_tree.specs.declared.names.Basic.{Basic}
+use Rattle.f_tree.specs.declared.names.Class.TheVariants as class
+use Rattle.f_tree.specs.Values.{Bytes}
+use Rattle.f_tree.specs.Facts.{Facts}
+use Rattle.c_tree.specs.declared.types.NumberType.{NumberType}
+use Rattle.c_tree.specs.declared.types.ParameterType.{ParameterType}
+use Rattle.c_tree.specs.declared.types.ListType.TheVariants as list_type
+use Rattle.c_tree.specs.Access.{ToFunction, ToList}
+use Rattle.c_tree.specs.Terms.{Variable, Routine}
+use Rattle.c_tree.specs.Builtins.{builtin_names}
+use Rattle.c_tree.specs.Drafts.{Scope}
+use Rattle.c_tree.specs.FlatForm.{whole_body}
+use Rattle.c_tree.specs.Linking.{Routines, file_scope}
+use Rattle.c_structure.specs.Expressions.{Names}
+use Rattle.c_image.specs.Addresses.{Through}
+use Rattle.c_emit.specs.Numbers.{Writing, is_numeric, has_bounds}
+use Rattle.linking_laws.specs.Linked.{AreDistinct, IsNone, scope_of}
+use Rattle.emitted_names.specs.KnownNames.{IsPlain, IsKnownBy, Calls}
+use Rattle.procedure_emission.specs.EmittedUnits.{is_number_pointer, is_function_pointer}
+use Rattle.unit_file.specs.UnitFile.{Variable as Declared, Parameter, Inventory, WrittenUnit, units_file, unit_function, first_list, place_of_variable, place_of_parameter, place_of_list, lasting_names, framed_names, writing_of}
+use Rattle.unit_file.specs.UnitNames.{constant_names, called_names, routine_name, names_of}
+use Rattle.unit_places.specs.UnitPlaces.{inventories, bases_of}
+
+-- all names are told apart
+pub record NamesDiffer (zs : List ℤ) (v : Inventory) : Type 0 where
+  pub constants : AreDistinct (constant_names zs)
+  pub lasting : AreDistinct (lasting_names v)
+  pub framed : AreDistinct (framed_names v)
+  pub not_lasting : (i : ℕ) (name : List ℕ) → slice_get (framed_names v) i ≡ Some name → IsNone name (lasting_names v)
+  pub not_own : (i : ℕ) (name : List ℕ) → slice_get (constant_names zs) i ≡ Some name → IsNone name (lasting_names v) × IsNone name (framed_names v) × IsNone name (called_names v)
+  pub not_objects : (i : ℕ) (name : List ℕ) → slice_get (called_names v) i ≡ Some name → IsNone name (lasting_names v) × IsNone name (framed_names v)
+
+-- a variable of its own, which may be an array
+pub record IsVariable (v : Inventory) (x : Bytes) (many : Bool) : Type 0 where
+  pub place : ℕ
+  pub one : Declared
+  pub placed : place_of_variable v x ≡ Some place
+  pub at : slice_get v.variables place ≡ Some one
+  pub counted : is_some one.count ≡ many
+
+-- a dummy argument, by the type of its parameter
+pub record IsParameter (v : Inventory) (x : Bytes) (points : ParameterType → Bool) : Type 0 where
+  pub place : ℕ
+  pub one : Parameter
+  pub placed : place_of_parameter v x ≡ Some place
+  pub at : slice_get v.parameters place ≡ Some one
+  pub typed : points one.type ≡ true
+
+-- each name is listed as what it is; no result is an array
+pub record NamesAreListed (v : Inventory) (facts : Facts) : Type 0 where
+  pub stored : (x : Bytes) → (facts.program.attribute x).class ≡ class.Stored → is_numeric (facts.program.attribute x).basic ≡ true → IsVariable v x (has_bounds (facts.program.attribute x).bounds)
+  pub dummies : (x : Bytes) → (facts.program.attribute x).class ≡ class.Dummy → is_numeric (facts.program.attribute x).basic ≡ true → IsParameter v x is_number_pointer
+  pub procedures : (x : Bytes) → (facts.program.attribute x).class ≡ class.DummyProcedure → IsParameter v x is_function_pointer
+  pub results : (x : Bytes) → (facts.program.attribute x).class ≡ class.Result → is_numeric (facts.program.attribute x).basic ≡ true →
+      (has_bounds (facts.program.attribute x).bounds ≡ false) × ((type : NumberType) × (v.returned ≡ Some type))
+
+-- what a function of the file goes by
+abbrev pub unit_writing : List ℤ → List WrittenUnit → ℕ → WrittenUnit → Facts → (ℕ → ℕ → Option Basic) → Writing
+unit_writing constants ws j w facts kind = writing_of constants w.inventory (bases_of constants ws j) facts kind
+
+abbrev pub unit_names : List ℤ → List WrittenUnit → ℕ → WrittenUnit → Names
+unit_names constants ws j w = names_of constants (inventories ws) w.inventory (bases_of constants ws j)
+
+-- the names in scope of a function of the file
+abbrev pub scope_in : Routines → (List ℕ → Option ℕ) → List ℤ → List WrittenUnit → ℕ → WrittenUnit → Scope
+scope_in numbers objects constants ws j w = scope_of numbers (file_scope numbers objects 0 (units_file constants ws)) (bases_of constants ws j).function (unit_function w)
+
+-- what is known there
+pub record UnitIsKnown (numbers : Routines) (objects : List ℕ → Option ℕ) (constants : List ℤ) (ws : List WrittenUnit) (j : ℕ) (w : WrittenUnit) (facts : Facts) (kind : ℕ → ℕ → Option Basic) : Type 0 where
+  pub names : IsKnownBy (scope_in numbers objects constants ws j w) (unit_names constants ws j w) (unit_writing constants ws j w facts kind)
+  -- the control lists, and the functions of the library that are called
+  pub lists : (n i : ℕ) → place_of_list w.inventory n ≡ Some i →
+      IsPlain (scope_in numbers objects constants ws j w) (unit_names constants ws j w) (Variable ((unit_writing constants ws j w facts kind).library.list n) (ToList list_type.Transfer))
+  pub calls : (i k : ℕ) (name : List ℕ) → slice_get (called_names w.inventory) i ≡ Some name → position (bytes_eq name) builtin_names ≡ Some k → numbers name ≡ Some (length ws + k) →
+      Calls (scope_in numbers objects constants ws j w) (unit_names constants ws j w) (unit_writing constants ws j w facts kind) name
+  -- those of other units, and the parameters that point to functions
+  pub routines : (i k : ℕ) → slice_get (called_names w.inventory) i ≡ Some (routine_name (inventories ws) k) → numbers (routine_name (inventories ws) k) ≡ Some k →
+      scope_in numbers objects constants ws j w (routine_name (inventories ws) k) ≡ Routine k
+  pub pointers : (x : Bytes) (parameter : ℕ) → (facts.program.attribute x).class ≡ class.DummyProcedure → (unit_writing constants ws j w facts kind).naming.address x ≡ Through parameter →
+      scope_in numbers objects constants ws j w ((unit_names constants ws j w).object parameter) ≡ Variable parameter ToFunction
+
+-- LAW
+-- where the strings of its statements are as many as are listed
+abbrev pub UnitFilesAreKnown : Type 0
+UnitFilesAreKnown = (numbers : Routines) (objects : List ℕ → Option ℕ) (constants : List ℤ) (ws : List WrittenUnit) (j : ℕ) (w : WrittenUnit) (facts : Facts) (kind : ℕ → ℕ → Option Basic) →
+    NamesDiffer constants w.inventory → NamesAreListed w.inventory facts → length (whole_body w.body).items.strings ≡ length w.inventory.strings → UnitIsKnown numbers objects constants ws j w facts kind

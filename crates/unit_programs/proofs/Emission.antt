@@ -1,0 +1,384 @@
+-- Each function of the file is one of which all is so that is asked.
+use Rattle.std.specs.Prelude.{◌≡◌, ◌≢◌, ℕ, zero, suc, ◌+◌, ◌-◌, ◌<◌, ◌≤◌, nat_eq, nat_lt, ℤ, pos, Bool, true, false, List, [], ◌∷◌, ◌++◌, map, length, replicate, position, Option, Some, None, is_some, unwrap_or, slice_get, bytes_eq}
+use Rattle.std.specs.Ordering.{int_eq}
+use Rattle.std.proofs.Common.{refl, sym, ap, ◌∙◌, subst, arith}
+use Rattle.std.proofs.lemmas.Bool.{ltb-true, lt-ltb, eq-eqb}
+use Rattle.std.proofs.lemmas.Bool.Decides.{Decides-int_eq}
+use Rattle.std.proofs.lemmas.List.{length-map}
+use Rattle.f_tree.specs.declared.names.Class.{Class}
+use Rattle.f_tree.specs.declared.names.Class.TheVariants as class
+use Rattle.f_tree.specs.CNames.{variable_name}
+use Rattle.f_tree.specs.Values.{Bytes, Spot, IsInt, IsText, IsSpot, Gives}
+use Rattle.f_tree.specs.Facts.{Direction, Layout, Controls, Bounds, Formal, Named, Alternate, FunctionUnit, BlockDataUnit, EntryPoint, Frame}
+use Rattle.f_tree.specs.Valuing.{whole, size_of_dimension}
+use Rattle.f_tree.specs.World.{Called}
+use Rattle.l_core.specs.Pures.{Pures}
+use Rattle.l_core.specs.Steps.{Starts, Step, Acts, Halt, Text}
+use Rattle.l_core.specs.Costs.{cost}
+use Rattle.c_tree.specs.declared.types.ResultType.TheVariants as result
+use Rattle.c_tree.specs.declared.types.ParameterType.{ParameterType}
+use Rattle.c_tree.specs.declared.types.ParameterType.TheVariants as parameter
+use Rattle.c_tree.specs.Access.{ToNumber, ToPointer, ToFunction}
+use Rattle.c_tree.specs.Objects.{bytes_of_number}
+use Rattle.c_tree.specs.Declarations as declared
+use Rattle.c_tree.specs.Declarations.{string_object, unset_values}
+use Rattle.c_image.specs.Addresses.{Alone, Through, Reaches}
+use Rattle.c_image.specs.Elements.{Written}
+use Rattle.c_image.specs.Held.{Holds, number_object}
+use Rattle.c_image.specs.Knowing.{IsApart}
+use Rattle.c_emit.specs.Calls.{unit_of}
+use Rattle.output_laws.specs.ListedOutputs.{list_object}
+use Rattle.linking_laws.proofs.Places.{some_same, get_front, map_at, within}
+use Rattle.emitted_texts.specs.SecondLayer.{Room, Surroundings, Emission}
+use Rattle.procedure_emission.specs.EmittedUnits.{IsItem, StepsFit, IsMadeAnew, IsOfRoom, RoomIsApart, is_number_pointer, IsParameter, is_function_pointer, IsProcedureParameter, AreParameters, no_parameters, named, named_procedure, alternate, number_result, ResultIsMade, IsEmittedUnit}
+use Rattle.main_file_laws.proofs.Known.{position_finds}
+use Rattle.main_programs.proofs.Emission.{lower_written, size_written}
+use Rattle.main_programs.proofs.MainRuns.{ones_cost}
+use Rattle.main_programs.proofs.MainStrings.{front_is, string_of}
+use Rattle.unit_file.specs.UnitFile as file
+use Rattle.unit_file.specs.UnitFile.{Parameter, Inventory, Bases, WrittenUnit, result_count, frame_count, object_count, first_object, first_list, first_string, first_parameter, result_object, first_temporary, place_or_none, place_of_constant, place_of_list, place_of_parameter, place_of_string, framed_names, result_names, parameter_object, address_in, lower_of, size_of}
+use Rattle.main_file.specs.MainFile.{temporary_names}
+use Rattle.unit_places.specs.UnitPlaces.{files_of, inventories, bases_of, linked_unit, FunctionStands}
+use Rattle.unit_places.proofs.Declared.{as_main}
+use Rattle.unit_programs.specs.OwnStorage.{held_objects, own_setting, first_world}
+use Rattle.unit_programs.specs.TranslatedUnits.{Rendering, units_of, written_of, numbers_of, dummies_named, IsDummy, is_number, is_procedure, IsResult, IsTranslatedUnit, IsTranslatedFile}
+use Rattle.unit_programs.specs.EmittedFile.{room_at, surroundings_of, emission_of, costs_of, UnitsAreEmitted}
+use Rattle.unit_programs.proofs.Pieces.{placed_by}
+use Rattle.unit_programs.proofs.Sequences.{first_least, same_piece}
+use Rattle.unit_programs.proofs.Objects as objects_of
+use Rattle.unit_programs.proofs.Objects.{found_back}
+use Rattle.unit_programs.proofs.Stored as stored_of
+
+-- ## Parameters before a call
+
+number_parameter : (type : ParameterType) → is_number_pointer type ≡ true → declared.parameter_object type ≡ unset_values (ToPointer ToNumber) 1
+unfolding is_number_pointer
+number_parameter parameter.Integers h = refl
+number_parameter parameter.Logicals h = refl
+number_parameter parameter.Chars h = absurd (cc)
+number_parameter parameter.Length h = absurd (cc)
+number_parameter parameter.Int h = absurd (cc)
+number_parameter (parameter.Function type) h = absurd (cc)
+
+function_parameter : (type : ParameterType) → is_function_pointer type ≡ true → declared.parameter_object type ≡ unset_values ToFunction 1
+unfolding is_function_pointer
+function_parameter (parameter.Function type) h = refl
+function_parameter parameter.Integers h = absurd (cc)
+function_parameter parameter.Logicals h = absurd (cc)
+function_parameter parameter.Chars h = absurd (cc)
+function_parameter parameter.Length h = absurd (cc)
+function_parameter parameter.Int h = absurd (cc)
+
+module _ (constants : List ℤ) (rs : List Rendering) (is : IsTranslatedFile constants rs) (j : ℕ) (r : Rendering) (at : slice_get rs j ≡ Some r) where
+  abbrev ws : List WrittenUnit
+  ws = written_of rs
+
+  abbrev vs : List Inventory
+  vs = inventories ws
+
+  abbrev v : Inventory
+  v = r.written.inventory
+
+  abbrev b : Bases
+  b = bases_of constants ws j
+
+  abbrev u : Text
+  u = r.text
+
+  abbrev s : Surroundings
+  s = surroundings_of constants rs
+
+  abbrev e : Emission
+  e = emission_of constants rs j r
+
+  one : IsTranslatedUnit constants rs j r
+  one = is.units j r at
+
+  stands : FunctionStands constants ws j r.written
+  stands = objects_of.function_stands constants rs is j r at
+
+  program_is : u.facts.program ≡ r.unit
+  program_is = stored_of.program_is constants rs is j r at
+
+  inventory_at : slice_get vs j ≡ Some v
+  inventory_at = objects_of.inventory_at constants rs is j r at
+
+  -- ## Steps
+
+  item_of : (n : ℕ) (st : Step) → slice_get u.steps n ≡ Some st → IsItem s u e n st
+  item_of n st there =
+      let i = objects_of.item_at constants rs is j r at n st there in
+      record { item = i.item; emitted = i.emitted; stands = ap (λ xs. slice_get xs n) (objects_of.code_is constants rs is j r at) ∙ i.at }
+
+  -- ## The frame
+
+  room_is : s.rooms j ≡ record { first = e.function.frame; count = length e.function.fresh }
+  room_is =
+      ap (room_at constants ws j) (objects_of.written_at constants rs is j r at)
+      ∙ (λ i. record { first = sym stands.frame i; count = sym stands.as_many i })
+
+  inside : e.function.frame + length e.function.fresh ≤ s.objects
+  inside = let frame = stands.frame in let many = stands.as_many in let all = stands.inside in omega (arith, frame, many, all)
+
+  other_room : (i object : ℕ) → nat_eq i j ≡ false → (found : Option WrittenUnit) → slice_get ws i ≡ found → IsOfRoom (room_at constants ws i found) object → IsOfRoom (room_at constants ws j (Some r.written)) object → ⊥
+  other_room i object apart None at' own mine = let low = own.0 in let high = own.1 in omega (arith, low, high)
+  other_room i object apart (Some w) at' own mine =
+      let low = own.0 in
+      let high = own.1 in
+      let low' = mine.0 in
+      let high' = mine.1 in
+      let first = first_object (length constants) vs i in
+      let first' = first_object (length constants) vs j in
+      let same = same_piece (length constants) vs i j w.inventory v (object - first) (object - first') (map_at (λ (z : WrittenUnit). z.inventory) ws i w at') inventory_at (omega (arith, low, high)) (omega (arith, low', high')) (omega (arith, low, low')) in
+      told (sym apart ∙ eq-eqb i j same)
+    where
+      told : false ≡ true → ⊥
+      told h = absurd (cc)
+
+  rooms_apart : RoomIsApart s j e
+  rooms_apart = record {
+    rooms = λ i object apart own mine. other_room i object apart (slice_get ws i) refl own (subst (λ found. IsOfRoom (room_at constants ws j found) object) (objects_of.written_at constants rs is j r at) mine);
+    constants = λ i z apart has own. no_constant i z (slice_get ws i) (place_of_constant constants z) refl has own;
+  }
+    where
+      no_constant : (i : ℕ) (z : ℤ) (found : Option WrittenUnit) (place : Option ℕ) → place_of_constant constants z ≡ place → is_some place ≡ true → IsOfRoom (room_at constants ws i found) (0 + place_or_none place) → ⊥
+      no_constant i z found None placed has own = absurd (cc)
+      no_constant i z None (Some k) placed has own = let low = own.0 in let high = own.1 in omega (arith, low, high)
+      no_constant i z (Some w) (Some k) placed has own =
+          let f = position_finds (int_eq z) constants k placed in
+          let below = within constants k f.one f.at in
+          let least = first_least (length constants) vs i in
+          let low = own.0 in
+          omega (arith, below, least, low)
+
+  -- ## Dummies
+
+  parameter_alone : (i m : ℕ) (p q : Parameter) → slice_get v.parameters i ≡ Some p → slice_get v.parameters m ≡ Some q → q.name ≡ p.name → m ≡ i
+  parameter_alone i m p q at' other same = one.built.differ.framed m i (variable_name p.name) (framed m q other ∙ ap (λ x. Some (variable_name x)) same) (framed i p at')
+    where
+      framed : (n : ℕ) (z : Parameter) → slice_get v.parameters n ≡ Some z → slice_get (framed_names v) n ≡ Some (variable_name z.name)
+      framed n z there =
+          get_front (map (λ (p : Parameter). variable_name p.name) v.parameters) (result_names v.returned ++ temporary_names 1 v.temporaries) n (variable_name z.name) (map_at (λ (p : Parameter). variable_name p.name) v.parameters n z there)
+
+  pub parameter_placed : (i : ℕ) (p : Parameter) → slice_get v.parameters i ≡ Some p → place_of_parameter v p.name ≡ Some i
+  parameter_placed i p at' = placed_by (λ (z : Parameter). z.name) v.parameters i p (λ m q other same. parameter_alone i m p q at' other same) at'
+
+  parameter_there : (x : Bytes) (i : ℕ) → place_of_parameter v x ≡ Some i → Through (parameter_object v b x) ≡ Through (e.function.frame + i)
+  parameter_there x i placed = ap (λ place. Through (first_parameter v b + unwrap_or place (frame_count v))) placed ∙ ap (λ n. Through (n + i)) (sym stands.frame)
+
+  pub dummy_address : (x : Bytes) (i : ℕ) → (u.facts.program.attribute x).class ≡ class.Dummy → place_of_parameter v x ≡ Some i → e.writing.naming.address x ≡ Through (e.function.frame + i)
+  unfolding address_in
+  dummy_address x i own placed = ap (address_in v b x) own ∙ parameter_there x i placed
+
+  pub procedure_address : (x : Bytes) (i : ℕ) → (u.facts.program.attribute x).class ≡ class.DummyProcedure → place_of_parameter v x ≡ Some i → e.writing.naming.address x ≡ Through (e.function.frame + i)
+  unfolding address_in
+  procedure_address x i own placed = ap (address_in v b x) own ∙ parameter_there x i placed
+
+  with_parameter : (i : ℕ) (formals : List Formal) (p : Parameter) (types : List ParameterType) → slice_get v.parameters i ≡ Some p → IsDummy u.facts p → AreParameters u e (suc i) formals types → AreParameters u e i (Named p.name ∷ formals) (p.type ∷ types)
+  with_parameter i formals p types at' (is_number own numeric width fixed pointer) later =
+      named i p.name formals p.type types (record {
+        dummy = own;
+        numeric = numeric;
+        width = width;
+        fixed = fixed;
+        pointer = pointer;
+        address = dummy_address p.name i own (parameter_placed i p at');
+        fresh = stands.parameter i p at' ∙ ap Some (number_parameter p.type pointer);
+      }) later
+  with_parameter i formals p types at' (is_procedure own fixed pointer) later =
+      named_procedure i p.name formals p.type types (record {
+        dummy = own;
+        fixed = fixed;
+        pointer = pointer;
+        address = procedure_address p.name i own (parameter_placed i p at');
+        fresh = stands.parameter i p at' ∙ ap Some (function_parameter p.type pointer);
+      }) later
+
+  parameters_from : (i : ℕ) (formals : List Formal) (ps : List Parameter) → dummies_named formals ≡ map (λ (p : Parameter). p.name) ps → ((m : ℕ) (p : Parameter) → slice_get ps m ≡ Some p → slice_get v.parameters (i + m) ≡ Some p)
+      → AreParameters u e i formals (map (λ (p : Parameter). p.type) ps)
+  parameters_from i [] [] same there = no_parameters i
+  parameters_from i [] (p ∷ ps) same there = absurd (cc)
+  parameters_from i (Named x ∷ formals) [] same there = absurd (cc)
+  parameters_from i (Named x ∷ formals) (p ∷ ps) same there =
+      let first : p.name ≡ x = cc in
+      let rest : dummies_named formals ≡ map (λ (q : Parameter). q.name) ps = cc in
+      let here : slice_get v.parameters i ≡ Some p = ap (slice_get v.parameters) {x = i} {y = i + 0} (omega arith) ∙ there 0 p refl in
+      let later = parameters_from (suc i) formals ps rest (λ m q other. ap (slice_get v.parameters) {x = suc i + m} {y = i + suc m} (omega arith) ∙ there (suc m) q other) in
+      subst (λ y. AreParameters u e i (Named y ∷ formals) (p.type ∷ map (λ (q : Parameter). q.type) ps)) first (with_parameter i formals p (map (λ (q : Parameter). q.type) ps) here (one.parameters i p here) later)
+  parameters_from i (Alternate ∷ formals) ps same there = alternate i formals (map (λ (p : Parameter). p.type) ps) (parameters_from i formals ps same there)
+
+  parameters_are : AreParameters u e 0 one.entry.formals e.function.parameters
+  parameters_are =
+      subst (AreParameters u e 0 one.entry.formals) (sym stands.parameters_are)
+      (parameters_from 0 one.entry.formals v.parameters one.dummies (λ m p there. ap (slice_get v.parameters) {x = 0 + m} {y = m} (omega arith) ∙ there))
+
+  parameters_many : length e.function.parameters ≡ length v.parameters
+  parameters_many = ap length stands.parameters_are ∙ length-map v.parameters (λ (p : Parameter). p.type)
+
+  -- ## The result and the temporaries
+
+  result_made : r.unit.kind ≡ FunctionUnit → ResultIsMade u e one.entry
+  unfolding address_in
+  result_made function =
+      let res = one.result function in
+      let many = parameters_many in
+      let frame = stands.frame in
+      record {
+        object = result_object v b;
+        made = record {
+          in_frame = record {
+            index = length v.parameters;
+            at = omega (arith, frame);
+            bytes = None ∷ None ∷ None ∷ None ∷ [];
+            is = stands.result res.type res.returned;
+            room = omega arith;
+          };
+          behind = omega (arith, many);
+        };
+        own = res.own;
+        numeric = res.numeric;
+        address = λ x own. ap (address_in v b x) own;
+        gives = res.gives;
+        apart = λ k numeric same. (let counted = ap result_count res.returned in let no : ⊥ = omega (arith, counted, same) in no);
+      }
+
+  temporary_made : (k : ℕ) → nat_lt k v.temporaries ≡ true → IsMadeAnew e (first_temporary v b + k)
+  temporary_made k h =
+      let many = parameters_many in
+      let frame = stands.frame in
+      record {
+        in_frame = record {
+          index = length v.parameters + (result_count v.returned + k);
+          at = omega (arith, frame);
+          bytes = None ∷ None ∷ None ∷ None ∷ [];
+          is = stands.temporary k (ltb-true k v.temporaries h);
+          room = omega arith;
+        };
+        behind = omega (arith, many);
+      }
+
+  -- a parameter that is passed, or none of the frame
+  through_parameter : (x : Bytes) (k : Class) (object : ℕ) → address_in v b x k ≡ Through object → object ≡ parameter_object v b x
+  unfolding address_in
+  through_parameter x class.Dummy object h = through_same object (parameter_object v b x) (sym h)
+    where
+      through_same : (m n : ℕ) → Through m ≡ Through n → m ≡ n
+      through_same m n g = cc
+  through_parameter x class.DummyProcedure object h = through_same object (parameter_object v b x) (sym h)
+    where
+      through_same : (m n : ℕ) → Through m ≡ Through n → m ≡ n
+      through_same m n g = cc
+  through_parameter x class.Result object h = absurd (cc)
+  through_parameter x other object h = absurd (cc)
+
+  no_temporary : (k : ℕ) → k < v.temporaries → (x : Bytes) (place : Option ℕ) → place_of_parameter v x ≡ place → first_parameter v b + unwrap_or place (frame_count v) ≡ first_temporary v b + k → ⊥
+  no_temporary k below x None placed same = omega (arith, same, below)
+  no_temporary k below x (Some i) placed same =
+      let f = position_finds (λ (p : Parameter). bytes_eq x p.name) v.parameters i placed in
+      let few = within v.parameters i f.one f.at in
+      omega (arith, same, few)
+
+  apart : (k : ℕ) → nat_lt k v.temporaries ≡ true → IsApart e.writing.naming k
+  apart k h =
+      let below = ltb-true k v.temporaries h in
+      record {
+        temporaries = λ i same. omega (arith, same);
+        addresses = λ x object there same. no_temporary k below x (place_of_parameter v x) refl (sym (through_parameter x (u.facts.program.attribute x).class object there) ∙ same);
+        lengths = λ x same. (let no : ⊥ = omega (arith, same, below) in no);
+        lowers = λ x i saved there. lower_written (slice_get (u.facts.program.attribute x).bounds i) saved there;
+        sizes = λ x i saved there. size_written (slice_get (u.facts.program.attribute x).bounds i) saved there;
+      }
+
+  -- ## What is passed to the library
+
+  constant_held : (z : ℤ) → e.writing.library.has z ≡ true → Holds (s.first.frozen (e.writing.library.constant z)) (IsInt z)
+  constant_held z h = by (place_of_constant constants z) refl h
+    where
+      by : (found : Option ℕ) → place_of_constant constants z ≡ found → is_some found ≡ true → Holds (s.first.frozen (0 + place_or_none found)) (IsInt z)
+      by None there g = absurd (cc)
+      by (Some i) there g =
+          let f = position_finds (int_eq z) constants i there in
+          let same : z ≡ f.one = (Decides-int_eq z f.one).0 f.passes in
+          subst (λ y. Holds (s.first.frozen (0 + i)) (IsInt y)) (sym same) (record {
+            bytes = map Some (bytes_of_number f.one);
+            is = ap s.first.frozen {x = 0 + i} {y = i} (omega arith) ∙ objects_of.held_constant constants rs is i f.one f.at;
+            begins = (is.numbers i f.one f.at, refl);
+          })
+
+  list_held : (n : ℕ) (way : Direction) (layout : Layout) (controls : Controls) (ps : Pures) (m : ℕ) (unit : ℤ) → slice_get u.steps n ≡ Some (Acts (Starts way layout controls) ps m) → unit_of ps ≡ Some unit
+      → s.first.frozen (e.writing.library.list n) ≡ Some (list_object unit)
+  list_held n way layout controls ps m unit there of =
+      let l = one.passes.units n way layout controls ps m unit there of in
+      objects_of.held_list constants rs is j v l.0 (first_list v b + place_or_none (place_of_list v n)) l.1 inventory_at (ap (λ found. first_list v b + place_or_none found) l.2) l.3 ∙ ap (λ z. Some (list_object z)) l.4
+
+  text_held : (n : ℕ) (text : Bytes) → slice_get u.steps n ≡ Some (Halt text) → Holds (s.first.frozen (e.writing.library.text n)) (IsText text)
+  text_held n text there =
+      let string = string_of (as_main v) u.steps n text one.built.stops there in
+      let short = one.passes.short n text there in
+      record {
+        bytes = map Some (text ++ replicate (length text + 1 - length text) 0);
+        is = objects_of.held_string constants rs is j v string.place (first_string v b + place_or_none (place_of_string v n)) n inventory_at (ap (λ found. first_string v b + place_or_none found) string.placed) string.at
+            ∙ ap (λ bytes. Some (string_object bytes)) (one.passes.texts n text there);
+        begins = (short.1, short.0, front_is text (replicate (length text + 1 - length text) 0));
+      }
+
+  fit : StepsFit s u e one.entry
+  fit = record {
+    kinds = one.flows.kinds;
+    keeps = one.flows.keeps;
+    stages = one.flows.stages;
+    outputs = one.flows.outputs;
+    returns = one.flows.returns;
+    none_at_first = one.flows.none_at_first;
+    own = length-map ws (λ (w : WrittenUnit). w.inventory) ∙ sym stands.own;
+    constants = constant_held;
+    lists = list_held;
+    texts = text_held;
+  }
+
+  -- ## The unit
+
+  calls : (name : Called) (function : ℕ) → s.numbers name ≡ Some function → nat_lt function e.function.own ≡ true
+  calls name function found =
+      let f = found_back 0 (units_of rs) name function found in
+      let there = f.is in
+      let below = within (units_of rs) f.place f.unit f.at in
+      let many = length-map rs (λ (q : Rendering). q.unit) in
+      let written = length-map rs (λ (q : Rendering). q.written) in
+      let own = stands.own in
+      lt-ltb function e.function.own (omega (arith, there, below, many, written, own))
+
+  reached : (f : Frame) (x : Bytes) (p : Spot) → (u.facts.program.attribute x).class ≡ class.Stored → whole u.facts f x ≡ Gives (IsSpot p) → Reaches s.first p (e.writing.naming.address x)
+  unfolding address_in
+  reached f x p own h = subst (λ k. Reaches s.first p (address_in v b x k)) (sym own) (stored_of.reached constants rs is j r at f x p own h)
+
+  pub emitted : IsEmittedUnit s j u (costs_of u) e
+  emitted = record {
+    facts = refl;
+    runs = λ data'. one.runs (sym (ap (λ p. p.kind) program_is) ∙ data');
+    items = item_of;
+    in_order = λ n st there. omega arith;
+    positive = λ n st there. ones_cost (length u.steps) n (within u.steps n st there);
+    entry = one.entry;
+    only = ap (λ p. p.entries) program_is ∙ one.only;
+    begins = one.begins;
+    room = room_is;
+    inside = inside;
+    apart_rooms = rooms_apart;
+    parameters = parameters_are;
+    gives = λ other. one.gives (λ function. other (ap (λ p. p.kind) program_is ∙ function));
+    result = λ function. result_made (sym (ap (λ p. p.kind) program_is) ∙ function);
+    temporaries = temporary_made;
+    apart = apart;
+    fit = fit;
+    calls = calls;
+    sound = stored_of.sound constants rs is j r at;
+    reached = reached;
+    fits = one.fits;
+    closed = one.closed;
+    lowers = λ x k bound there. ap lower_of there;
+    sizes = λ x k bound last there upper. ap size_of there;
+  }
+
+pub units_are_emitted : UnitsAreEmitted
+units_are_emitted constants rs is j r at = emitted constants rs is j r at

@@ -1,0 +1,4 @@
+pub mod OwnStorage
+pub mod TranslatedUnits
+pub mod EmittedFile
+pub mod UnitRuns

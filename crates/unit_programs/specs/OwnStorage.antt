@@ -1,0 +1,75 @@
+-- The storage of units whose names have sequences of their own, and where it stands in the objects of their file. ANSI X3.9-1978, sections 2.11, 5, 8 and
+-- 17.1; C89, 3.1.2.4.
+use Rattle.std.specs.List.{flat_map}
+use Rattle.std.specs.Option.{option_flatten}
+use Rattle.std.specs.Prelude.{◌≡◌, ℕ, zero, suc, ◌+◌, ◌*◌, ◌<◌, ◌≤◌, true, false, ℤ, List, [], ◌∷◌, ◌++◌, map, length, replicate, Option, Some, None, unwrap_or, slice_get}
+use Rattle.f_tree.specs.Facts.{Home, Member, ProgramUnit}
+use Rattle.f_tree.specs.Setting.{Setting}
+use Rattle.f_tree.specs.Valuing.{elements_of, extent_of}
+use Rattle.c_tree.specs.Objects.{Object}
+use Rattle.c_tree.specs.Declarations.{string_object}
+use Rattle.c_image.specs.World.{World}
+use Rattle.c_image.specs.Held.{number_object}
+use Rattle.c_emit.specs.Numbers.{is_numeric}
+use Rattle.output_laws.specs.ListedOutputs.{list_object}
+use Rattle.plain_forms.specs.OwnStorage.{homes_from, sizes_of}
+use Rattle.unit_file.specs.UnitFile.{Variable, Listing, Inventory, object_count, frame_count, place_of_variable}
+
+-- ## The setting
+
+-- the sequences of each unit stand behind those of the units before it
+abbrev pub own_homes : ℕ → List ProgramUnit → List (List Home)
+own_homes n [] = []
+own_homes n (u ∷ us) = homes_from n u.stored ∷ own_homes (n + length u.stored) us
+
+abbrev pub own_setting : List ProgramUnit → Setting
+own_setting us = record { homes = own_homes 0 us; sizes = flat_map (λ (u : ProgramUnit). sizes_of u.stored) us }
+
+-- the bytes of a variable
+abbrev pub bytes_in : Option ℕ → ℕ
+bytes_in None = 4
+bytes_in (Some count) = 4 * count
+
+-- no COMMON, EQUIVALENCE or DATA; each stored name is a variable of numbers that is listed
+pub record HasOwnStorage (unit : ProgramUnit) (v : Inventory) : Type 0 where
+  pub blocks : unit.blocks ≡ []
+  pub ties : unit.ties ≡ []
+  pub images : unit.images ≡ []
+  pub listed : (i : ℕ) (m : Member) → slice_get unit.stored i ≡ Some m → (one : Variable) × (slice_get v.variables i ≡ Some one) × (one.name ≡ m.name) × (m.size ≡ bytes_in one.count)
+  pub as_many : length v.variables ≡ length unit.stored
+  pub small : (i : ℕ) (m : Member) → slice_get unit.stored i ≡ Some m → m.size < 2147483648
+  pub first : (i : ℕ) (m : Member) → slice_get unit.stored i ≡ Some m → place_of_variable v m.name ≡ Some i
+  pub numbers : (i : ℕ) (m : Member) → slice_get unit.stored i ≡ Some m → is_numeric (unit.attribute m.name).basic ≡ true
+  pub wide : (i : ℕ) (m : Member) → slice_get unit.stored i ≡ Some m → (unit.attribute m.name).width ≡ Some 4
+  pub within : (i : ℕ) (m : Member) → slice_get unit.stored i ≡ Some m → extent_of (elements_of (unit.attribute m.name).bounds) 4 ≤ m.size
+
+-- ## The objects
+
+abbrev pub numbered : ℕ → ℕ → List ℕ
+numbered first zero = []
+numbered first (suc n) = first ∷ numbered (suc first) n
+
+-- the objects of the variables of all functions, in the order of their sequences
+abbrev pub variable_objects : ℕ → List Inventory → List ℕ
+variable_objects first [] = []
+variable_objects first (v ∷ vs) = numbered first (length v.variables) ++ variable_objects (first + object_count v) vs
+
+-- what the objects of a function hold that no statement defines: control lists and strings
+abbrev pub held_of : Inventory → List (Option Object)
+held_of v =
+    replicate (length v.variables) None
+    ++ (map (λ (l : Listing). Some (list_object l.unit)) v.lists ++ (map (λ n. Some (string_object (v.texts n))) v.strings ++ replicate (frame_count v) None))
+
+-- and constants
+abbrev pub held_objects : List ℤ → List Inventory → List (Option Object)
+held_objects constants vs = map (λ z. Some (number_object z)) constants ++ flat_map held_of vs
+
+-- the world before the first step
+abbrev pub first_world : List ℤ → List Inventory → Setting → World
+first_world constants vs g = record {
+  homes = slice_get (variable_objects (length constants) vs);
+  size = λ n. unwrap_or (slice_get g.sizes n) 0;
+  fixed = λ n. false;
+  height = length g.sizes;
+  frozen = λ k. option_flatten (slice_get (held_objects constants vs) k);
+}

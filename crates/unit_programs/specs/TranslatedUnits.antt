@@ -1,0 +1,147 @@
+-- Units with their lowered texts, and what their C file has: what each must satisfy, and the file. ANSI X3.9-1978, sections 2.4, 5, 12.8, 14, 15 and 17.1;
+-- C89, 3.1.2.1 and 3.5.4.3.
+use Rattle.std.specs.Prelude.{◌≡◌, ◌≢◌, ℕ, suc, ◌<◌, ◌≤◌, ℤ, true, List, [], ◌∷◌, map, length, Option, Some, None, slice_get}
+use Rattle.f_tree.specs.declared.names.Basic.{Basic}
+use Rattle.f_tree.specs.declared.names.Class.TheVariants as class
+use Rattle.f_tree.specs.Values.{Bytes, Gives, in_range}
+use Rattle.f_tree.specs.Store.{Store}
+use Rattle.f_tree.specs.Facts.{Direction, Layout, Controls, Bounds, Formal, Named, Alternate, MainProgram, FunctionUnit, BlockDataUnit, EntryPoint, ProgramUnit, Facts, Frame}
+use Rattle.f_tree.specs.Setting.{IsIn}
+use Rattle.f_tree.specs.Association.{dimensions_by}
+use Rattle.f_tree.specs.Meaning.{facts_at, found_from}
+use Rattle.l_core.specs.Pures.{Pure, Pures}
+use Rattle.l_core.specs.Steps.{Starts, Step, Keep, Halt, Acts, Text}
+use Rattle.lowering.specs.Units.{lowered_unit}
+use Rattle.lowering_laws.specs.Layout.{are_direct, has_end, LoopsFit}
+use Rattle.c_tree.specs.declared.types.NumberType.{NumberType}
+use Rattle.c_tree.specs.declared.types.ResultType.TheVariants as result
+use Rattle.c_tree.specs.Builtins.{builtin_names}
+use Rattle.c_tree.specs.Flat.{Flat}
+use Rattle.c_tree.specs.Meaning.{wrapped_by}
+use Rattle.faithful.specs.StorageImage.{function_name}
+use Rattle.faithful.specs.UnitsAtStart.{AreBytes}
+use Rattle.c_structure.specs.Statements.{Outline}
+use Rattle.c_emit.specs.Numbers.{Writing, is_numeric}
+use Rattle.c_emit.specs.Types.{type_of}
+use Rattle.c_emit.specs.Calls.{unit_of}
+use Rattle.c_emit_laws.specs.EmittedNumbers.{BoundFits}
+use Rattle.linking_laws.specs.Linked.{AreDistinct, IsNone}
+use Rattle.emitted_texts.specs.Emitted.{stage_behind, is_of_output}
+use Rattle.procedure_emission.specs.ProcedureItems.{Numbers}
+use Rattle.procedure_emission.specs.Reading.{kind_after}
+use Rattle.procedure_emission.specs.EmittedUnits.{leads_on, is_return, is_number_pointer, is_function_pointer, number_result}
+use Rattle.unit_file.specs.UnitFile.{Listing, Parameter, Inventory, WrittenUnit, place_of_list}
+use Rattle.unit_file.specs.UnitNames.{own_names}
+use Rattle.unit_places.specs.UnitPlaces.{inventories}
+use Rattle.unit_file_laws.specs.KnownUnits.{unit_writing}
+use Rattle.unit_file_laws.specs.BuiltUnits.{IsUnitBuilt}
+use Rattle.unit_programs.specs.OwnStorage.{own_setting, HasOwnStorage}
+
+-- ## What becomes of a unit
+
+pub record Rendering : Type 0 where
+  pub unit : ProgramUnit
+  pub text : Text
+  -- what its function has, and the statements of that
+  pub written : WrittenUnit
+  -- of what type a temporary is before a step, and the unit of the output that is in progress
+  pub kind : ℕ → ℕ → Option Basic
+  pub stage : ℕ → Option ℤ
+  -- what the statements are built from
+  pub outline : Outline
+  pub items : List Flat
+
+abbrev pub units_of : List Rendering → List ProgramUnit
+units_of rs = map (λ (r : Rendering). r.unit) rs
+
+abbrev pub written_of : List Rendering → List WrittenUnit
+written_of rs = map (λ (r : Rendering). r.written) rs
+
+-- the number of each procedure is that of its unit
+abbrev pub numbers_of : List Rendering → Numbers
+numbers_of rs = found_from 0 (units_of rs)
+
+abbrev pub facts_of : List Rendering → ℕ → Rendering → Facts
+facts_of rs j r = facts_at (own_setting (units_of rs)) j (Some r.unit)
+
+-- ## Dummies and results
+
+-- the names of dummies; an alternate return has none
+abbrev pub dummies_named : List Formal → List Bytes
+dummies_named [] = []
+dummies_named (Named x ∷ formals) = x ∷ dummies_named formals
+dummies_named (Alternate ∷ formals) = dummies_named formals
+
+-- the bounds of a dummy are the same at each call
+abbrev pub AreFixed : Facts → Bytes → Type 0
+AreFixed c x = (f : Frame) (store : Store) (bounds : List Bounds) → dimensions_by c f store (c.program.attribute x).dimensions ≡ Gives bounds → bounds ≡ (c.program.attribute x).bounds
+
+-- a dummy variable or array of numbers, or a procedure, and its parameter
+pub data IsDummy (c : Facts) (p : Parameter) : Type 0 where
+  is_number : (c.program.attribute p.name).class ≡ class.Dummy → is_numeric (c.program.attribute p.name).basic ≡ true → (c.program.attribute p.name).width ≡ Some 4 → AreFixed c p.name → is_number_pointer p.type ≡ true → IsDummy c p
+  is_procedure : (c.program.attribute p.name).class ≡ class.DummyProcedure → AreFixed c p.name → is_function_pointer p.type ≡ true → IsDummy c p
+
+-- the result of a function of numbers
+pub record IsResult (c : Facts) (v : Inventory) (entry : EntryPoint) : Type 0 where
+  pub type : NumberType
+  pub returned : v.returned ≡ Some type
+  pub own : (c.program.attribute entry.name).class ≡ class.Result
+  pub numeric : (x : Bytes) → (c.program.attribute x).class ≡ class.Result → is_numeric (c.program.attribute x).basic ≡ true
+  pub gives : v.result ≡ number_result (c.program.attribute entry.name).basic
+
+-- ## Steps
+
+-- what is said of types and outputs before each step fits the steps, wherever they lead; a return gives back the transfer that was found
+pub record Flows (w : Writing) (u : Text) (stage : ℕ → Option ℤ) (entry : EntryPoint) : Type 0 where
+  pub kinds : (n : ℕ) (st : Step) (m : ℕ) → slice_get u.steps n ≡ Some st → IsIn m (leads_on u n st) → (k : ℕ) (basic : Basic) → w.kind m k ≡ Some basic → kind_after w n st k ≡ Some basic
+  pub keeps : (n k : ℕ) (p : Pure) → slice_get u.steps n ≡ Some (Keep k p) → (basic : Basic) × (type_of w n p ≡ Some basic)
+  pub stages : (n : ℕ) (st : Step) (m : ℕ) → slice_get u.steps n ≡ Some st → IsIn m (leads_on u n st) → stage m ≡ stage_behind (stage n) st
+  pub outputs : (n : ℕ) (st : Step) → slice_get u.steps n ≡ Some st → is_of_output st ≡ true → (unit : ℤ) × (stage n ≡ Some unit)
+  pub returns : (n : ℕ) (st : Step) → slice_get u.steps n ≡ Some st → is_return st ≡ true → stage n ≡ None
+  pub none_at_first : stage (u.begins entry.start) ≡ None
+
+-- what is passed to the library: control lists are those of the outputs, and strings of stops their texts
+pub record Passes (v : Inventory) (u : Text) : Type 0 where
+  pub units : (n : ℕ) (way : Direction) (layout : Layout) (controls : Controls) (ps : Pures) (m : ℕ) (unit : ℤ) → slice_get u.steps n ≡ Some (Acts (Starts way layout controls) ps m) → unit_of ps ≡ Some unit →
+      (i : ℕ) × (l : Listing) × (place_of_list v n ≡ Some i) × (slice_get v.lists i ≡ Some l) × (l.unit ≡ unit)
+  pub texts : (n : ℕ) (text : Bytes) → slice_get u.steps n ≡ Some (Halt text) → v.texts n ≡ text
+  pub short : (n : ℕ) (text : Bytes) → slice_get u.steps n ≡ Some (Halt text) → AreBytes text × (length text < 2147483648)
+
+-- ## One unit
+
+-- the unit is lowered to its text, and its function is built for that
+pub record IsTranslatedUnit (constants : List ℤ) (rs : List Rendering) (j : ℕ) (r : Rendering) : Type 0 where
+  pub lowered : lowered_unit (facts_of rs j r) ≡ Some r.text
+  pub facts : r.text.facts ≡ facts_of rs j r
+  pub direct : are_direct r.unit.lines ≡ true
+  pub ended : has_end r.unit.lines ≡ true
+  pub loops : LoopsFit r.unit
+  -- it may run, and has one name, under which its text begins
+  pub runs : r.unit.kind ≢ BlockDataUnit
+  pub entry : EntryPoint
+  pub only : r.unit.entries ≡ entry ∷ []
+  pub begins : r.text.begins entry.start ≡ 0
+  pub named : r.written.inventory.name ≡ function_name r.unit
+  -- its dummies and its result
+  pub dummies : dummies_named entry.formals ≡ map (λ (p : Parameter). p.name) r.written.inventory.parameters
+  pub parameters : (i : ℕ) (p : Parameter) → slice_get r.written.inventory.parameters i ≡ Some p → IsDummy r.text.facts p
+  pub gives : r.unit.kind ≢ FunctionUnit → r.written.inventory.result ≡ result.Int
+  pub result : r.unit.kind ≡ FunctionUnit → IsResult r.text.facts r.written.inventory entry
+  pub storage : HasOwnStorage r.unit r.written.inventory
+  -- bounds are constant
+  pub fits : (x : Bytes) (k : ℕ) (b : Bounds) → slice_get (r.text.facts.program.attribute x).bounds k ≡ Some b → BoundFits b
+  pub closed : (x : Bytes) (k : ℕ) (b : Bounds) → slice_get (r.text.facts.program.attribute x).bounds k ≡ Some b → suc k < length (r.text.facts.program.attribute x).bounds → (last : ℤ) × (b.upper ≡ Some last)
+  pub built : IsUnitBuilt (numbers_of rs) constants (written_of rs) j r.written r.text r.kind r.outline r.items
+  pub flows : Flows (unit_writing constants (written_of rs) j r.written r.text.facts r.kind) r.text r.stage entry
+  pub passes : Passes r.written.inventory r.text
+  pub no_wrapper : wrapped_by r.written.body ≡ None
+
+-- ## The file
+
+-- each unit is translated; the functions are told apart from each other and from those of the library, and constants have 32 bits
+pub record IsTranslatedFile (constants : List ℤ) (rs : List Rendering) : Type 0 where
+  pub units : (j : ℕ) (r : Rendering) → slice_get rs j ≡ Some r → IsTranslatedUnit constants rs j r
+  pub some : 1 ≤ length rs
+  pub differ : AreDistinct (own_names (inventories (written_of rs)))
+  pub apart : (k : ℕ) (name : List ℕ) → slice_get builtin_names k ≡ Some name → IsNone name (own_names (inventories (written_of rs)))
+  pub numbers : (i : ℕ) (z : ℤ) → slice_get constants i ≡ Some z → in_range z ≡ true
