@@ -1,5 +1,5 @@
 -- The function of a unit has its items and its strings.
-use Rattle.std.specs.Prelude.{◌≡◌, ℕ, suc, ◌+◌, ◌-◌, ◌<◌, nat_eq, nat_le, nat_lt, ℤ, Bool, true, false, not, ◌&&◌, List, [], ◌∷◌, ◌++◌, map, length, position, Option, Some, None, option_map, unwrap_or, slice_get, codes, if◌then◌else◌}
+use Rattle.std.specs.Prelude.{◌≡◌, ℕ, suc, ◌+◌, ◌-◌, nat_eq, nat_le, nat_lt, ℤ, Bool, true, false, not, ◌&&◌, List, [], ◌∷◌, ◌++◌, map, length, position, Option, Some, None, option_map, unwrap_or, slice_get, codes}
 use Rattle.std.proofs.Common.{refl, sym, ap, ◌∙◌, subst, arith}
 use Rattle.std.proofs.lemmas.Bool.{and_from, lt-ltb, le-leb}
 use Rattle.std.proofs.lemmas.List.{append_assoc, length-append}
@@ -9,8 +9,9 @@ use Rattle.f_tree.specs.declared.names.Class.TheVariants as class
 use Rattle.f_tree.specs.Terms as fortran
 use Rattle.f_tree.specs.Values.{Bytes}
 use Rattle.f_tree.specs.World.{Procedure}
-use Rattle.l_core.specs.Pures.{Pure, Constant, Temporary, Load, Name, AllOf, ElementOf, FirstOf, Substring, Prefixed, Operated, Applied, Chosen, Concatenated, Pures, NoPure, AndPure}
+use Rattle.l_core.specs.Pures.{Pure, Constant, Temporary, Name, ElementOf, Pures, NoPure, AndPure}
 use Rattle.l_core.specs.Steps.{Starts, Takes, Finishes, Step, Compute, CallFor, CallSub, Halt, Acts, Text}
+use Rattle.c_tree.specs.declared.file.CFunction.{CFunction}
 use Rattle.c_tree.specs.Access.{ToNumber, ToChar, ToPointer, ToFunction}
 use Rattle.c_tree.specs.Terms as c
 use Rattle.c_tree.specs.Terms.{Term}
@@ -19,7 +20,7 @@ use Rattle.c_tree.specs.Flat.{Flat}
 use Rattle.c_tree.specs.Drafts.{Scope}
 use Rattle.c_tree.specs.FlatForm.{whole_body}
 use Rattle.c_tree.specs.Linking.{Routines, file_scope, strings_of}
-use Rattle.c_image.specs.Addresses.{Address, Alone, Inside, InTexts, Through, number_term}
+use Rattle.c_image.specs.Addresses.{Address, Alone, Through, number_term}
 use Rattle.c_structure.specs.Expressions.{Names, strings_in, strings_in_all}
 use Rattle.c_structure.specs.Expressions as written
 use Rattle.c_structure.specs.Statements.{Outline, strings_of_item, strings_of_items}
@@ -29,7 +30,7 @@ use Rattle.c_emit.specs.Numbers.{Writing, one_more, has_number, has_bounds, is_s
 use Rattle.c_emit.specs.LibraryFunctions.{library_function}
 use Rattle.c_emit.specs.Calls.{held_term, address_of}
 use Rattle.linking_laws.specs.Linked as linked
-use Rattle.linking_laws.specs.Linked.{IsBuilt}
+use Rattle.linking_laws.specs.Linked.{IsBuilt, scope_of}
 use Rattle.linking_laws.proofs.Places.{some_same, taken, within}
 use Rattle.linking_laws.proofs.BuiltCode.{whole_is, built_fit, code_is_theirs, strings_are_theirs}
 use Rattle.emitted_names.specs.KnownNames.{IsPlain, array_of, StartIsPlain, CallsFunction}
@@ -39,7 +40,7 @@ use Rattle.procedure_emission.specs.ProcedureItems.{Numbers, pointer_term, proce
 use Rattle.main_file.specs.MainItems.{stops_from}
 use Rattle.main_file_laws.proofs.BuiltItems.{AreBelow, none_below, below_next, below_both, place_behind, before_by}
 use Rattle.unit_file.specs.UnitFile.{Inventory, Bases, WrittenUnit, units_file, unit_function, first_string, first_parameter, parameter_object, result_object, place_or_none, place_of_variable, place_of_string, address_in}
-use Rattle.unit_file.specs.UnitNames.{routine_name, string_at}
+use Rattle.unit_file.specs.UnitNames.{string_at}
 use Rattle.unit_places.specs.UnitPlaces.{inventories, bases_of}
 use Rattle.unit_places.proofs.Declared.{unit_strings, unit_statics_count}
 use Rattle.unit_file_laws.specs.KnownUnits.{unit_writing, unit_names, scope_in, UnitIsKnown}
@@ -92,7 +93,7 @@ pointed_plain : (scope : Scope) (names : Names) (parameter : ℕ) → IsPlain sc
 unfolding strings_in
 pointed_plain scope names parameter is = record { knows = is.knows; no_strings = refl }
 
-module _ (routines : Routines) (objects : List ℕ → Option ℕ) (numbers : Numbers) (constants : List ℤ) (ws : List WrittenUnit) (j : ℕ) (w : WrittenUnit) (u : Text) (kind : ℕ → ℕ → Option Basic) (o : Outline) (all : List Flat)
+module _ (routines : Routines) (objects : List ℕ → Option ℕ) (functions : List CFunction) (numbers : Numbers) (constants : List ℤ) (ws : List WrittenUnit) (j : ℕ) (w : WrittenUnit) (u : Text) (kind : ℕ → ℕ → Option Basic) (o : Outline) (all : List Flat)
     (numbered : AreNumbered routines numbers ws w.inventory) (is : IsUnitBuilt numbers constants ws j w u kind o all) where
   abbrev v : Inventory
   v = w.inventory
@@ -110,10 +111,10 @@ module _ (routines : Routines) (objects : List ℕ → Option ℕ) (numbers : Nu
   names = unit_names constants ws j w
 
   abbrev scope : Scope
-  scope = scope_in routines objects constants ws j w
+  scope = scope_in routines objects constants functions ws j w
 
-  known : UnitIsKnown routines objects constants ws j w u.facts kind
-  known = unit_files_are_known routines objects constants ws j w u.facts kind is.differ is.names_listed is.as_many
+  known : UnitIsKnown routines objects constants functions ws j w u.facts kind
+  known = unit_files_are_known routines objects constants functions ws j w u.facts kind is.differ is.names_listed is.as_many
 
   -- ## Procedures
 
@@ -348,20 +349,32 @@ module _ (routines : Routines) (objects : List ℕ → Option ℕ) (numbers : Nu
   in_order : AreInOrder (first_string v b) (strings_of_items names all)
   in_order = subst (λ k. AreInOrder k (strings_of_items names all)) {x = first_string v b + 0} {y = first_string v b} (omega arith) every.in_order
 
-  has : (own : ℕ) → HasItsItems routines objects own constants ws j w all
-  has own =
+-- the function in its file
+module _ (routines : Routines) (objects : List ℕ → Option ℕ) (own : ℕ) (numbers : Numbers) (constants : List ℤ) (ws : List WrittenUnit) (j : ℕ) (w : WrittenUnit) (u : Text) (kind : ℕ → ℕ → Option Basic) (o : Outline) (all : List Flat)
+    (numbered : AreNumbered routines numbers ws w.inventory) (is : IsUnitBuilt numbers constants ws j w u kind o all) where
+  has : HasItsItems routines objects own constants ws j w o all
+  has =
+      let v = w.inventory in
+      let b = bases_of constants ws j in
+      let names = unit_names constants ws j w in
+      let outer = file_scope routines objects 0 (units_file constants ws) in
+      let known = all_known routines objects (map unit_function ws) numbers constants ws j w u kind o all numbered is in
+      let ordered = in_order routines objects (map unit_function ws) numbers constants ws j w u kind o all numbered is in
+      let listed = every routines objects (map unit_function ws) numbers constants ws j w u kind o all numbered is in
       let kept = unit_statics_count v in
       let passed = ap length (unit_strings v) in
       let there : first_string v b ≡ linked.first_string b.function (unit_function w) + length (strings_of (linked.statics (unit_function w))) = omega (arith, kept, passed) in
-      let theirs = strings_are_theirs routines (file_scope routines objects 0 (units_file constants ws)) b.function (unit_function w) o all is.built all_known in
+      let theirs = strings_are_theirs routines outer b.function (unit_function w) o all is.built known in
       record {
-        code = code_is_theirs routines own (file_scope routines objects 0 (units_file constants ws)) b.function (unit_function w) o all is.built all_known
+        known = λ functions. all_known routines objects functions numbers constants ws j w u kind o all numbered is;
+        code = code_is_theirs routines own outer b.function (unit_function w) o all is.built known
             (subst (λ ns. AreInOrder (linked.first_string b.function (unit_function w) + length (strings_of (linked.statics (unit_function w)))) (strings_of_items ns all)) (sym is.names)
-            (subst (λ k. AreInOrder k (strings_of_items names all)) there in_order));
-        size = ap (λ body. body.size) (whole_is o all (unit_function w) is.built) ∙ (built_fit scope o all (unit_function w) is.built all_known).size;
+            (subst (λ k. AreInOrder k (strings_of_items names all)) there ordered));
+        size = ap (λ body. body.size) (whole_is o all (unit_function w) is.built) ∙ (built_fit (scope_of routines outer b.function (unit_function w)) o all (unit_function w) is.built known).size;
         strings = strings_same names.string v.texts (first_string v b) (whole_body w.body).items.strings (strings_of_items names all) v.strings
-            (subst (λ ns. AreBytesOf ns (whole_body w.body).items.strings (strings_of_items ns all)) is.names theirs) in_order (every.counted ∙ ap length (sym is.stops)) string_told;
+            (subst (λ ns. AreBytesOf ns (whole_body w.body).items.strings (strings_of_items ns all)) is.names theirs) ordered (listed.counted ∙ ap length (sym is.stops))
+            (string_told routines objects (map unit_function ws) numbers constants ws j w u kind o all numbered is);
       }
 
 pub units_have_their_items : UnitsHaveTheirItems
-units_have_their_items routines objects own numbers constants ws j w u kind o items numbered is = has routines objects numbers constants ws j w u kind o items numbered is own
+units_have_their_items routines objects own numbers constants ws j w u kind o items numbered is = has routines objects own numbers constants ws j w u kind o items numbered is

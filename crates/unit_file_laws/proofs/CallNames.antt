@@ -1,5 +1,5 @@
 -- The names in items for calls and returns.
-use Rattle.std.specs.Prelude.{◌≡◌, ℕ, Bool, true, false, List, [], ◌∷◌, ◌++◌, Option, Some, None, option_map}
+use Rattle.std.specs.Prelude.{◌≡◌, ℕ, List, [], ◌∷◌, ◌++◌, Option, Some, None, option_map}
 use Rattle.std.proofs.Common.{refl, sym, ◌∙◌, subst}
 use Rattle.f_tree.specs.declared.names.Basic.{Basic}
 use Rattle.f_tree.specs.Facts as facts
@@ -15,12 +15,12 @@ use Rattle.c_tree.specs.Drafts.{Scope}
 use Rattle.c_structure.specs.Expressions.{Names}
 use Rattle.c_structure.specs.Statements.{strings_of_item}
 use Rattle.c_structure_laws.specs.Fitting.{KnowsCallee}
-use Rattle.c_emit.specs.Numbers.{Writing, if_number, value_term, place_term}
+use Rattle.c_emit.specs.Numbers.{Writing, if_number, value_term}
 use Rattle.emitted_names.specs.KnownNames.{IsPlain, IsKnownBy, strings_of_step, ItemIsKnown}
 use Rattle.emitted_names.proofs.TermNames.{some_same, held_plain, value_plain, target_plain}
 use Rattle.emitted_names.proofs.ItemNames.{IsPlainItem, return_plain, emitted_names_are_known}
 use Rattle.procedure_emission.specs.ProcedureItems.{Numbers, argument_terms, function_called, call_item, basic_wanted, kept_item, call_for_item, result_term, back_item, back_by_item, procedure_item}
-use Rattle.unit_file_laws.specs.ProcedureNames.{ArePlain, KnowsCall, KnowsUnitStep, ProcedureNamesAreKnown}
+use Rattle.unit_file_laws.specs.ProcedureNames.{ArePlain, KnowsUnitStep, ProcedureNamesAreKnown}
 
 module _ (scope : Scope) (names : Names) where
   plainly : (w : Writing) (n : ℕ) (st : Step) (item : Flat) → strings_of_step names w n st ≡ [] → IsPlainItem scope names item → ItemIsKnown scope names w n st item

@@ -1,5 +1,5 @@
 -- The names of the functions of a file of several units stand for their objects, and for the functions that they call.
-use Rattle.std.specs.Prelude.{◌≡◌, ℕ, zero, suc, ◌+◌, ◌-◌, ◌<◌, ◌≤◌, nat_le, nat_lt, nat_eq, ℤ, pos, Bool, true, false, not, ◌&&◌, List, [], ◌∷◌, ◌++◌, map, length, replicate, position, Option, Some, None, is_some, option_map, unwrap_or, slice_get, bytes_eq, if◌then◌else◌}
+use Rattle.std.specs.Prelude.{◌≡◌, ℕ, zero, suc, ◌+◌, ◌-◌, ◌<◌, nat_le, nat_lt, nat_eq, ℤ, pos, Bool, true, false, not, ◌&&◌, List, [], ◌∷◌, ◌++◌, map, length, replicate, position, Option, Some, None, is_some, unwrap_or, slice_get, bytes_eq}
 use Rattle.std.specs.Ordering.{int_eq}
 use Rattle.std.proofs.Common.{refl, sym, ap, ◌∙◌, subst, arith}
 use Rattle.std.proofs.lemmas.Bool.{and_left, ltb-true, le-leb, lt-leb}
@@ -11,19 +11,20 @@ use Rattle.f_tree.specs.declared.names.Class.TheVariants as class
 use Rattle.f_tree.specs.Values.{Bytes}
 use Rattle.f_tree.specs.Facts.{Bounds, Facts}
 use Rattle.f_tree.specs.Valuing.{size_of_dimension}
-use Rattle.f_tree.specs.CNames.{variable_name, made_name, NumberTemporary, ControlList, ConstantOf, FunctionResult}
+use Rattle.f_tree.specs.CNames.{variable_name, made_name, ControlList, ConstantOf, FunctionResult}
 use Rattle.c_tree.specs.declared.types.NumberType.{NumberType}
 use Rattle.c_tree.specs.declared.types.ListType.TheVariants as list_type
 use Rattle.c_tree.specs.declared.expression.UnaryOp.TheVariants as prefix
+use Rattle.c_tree.specs.declared.file.CFunction.{CFunction}
 use Rattle.c_tree.specs.Access.{Access, ToNumber, ToPointer, ToFunction, ToList}
 use Rattle.c_tree.specs.Objects.{bytes_of_number}
-use Rattle.c_tree.specs.Terms.{Term, Variable, Array, Routine, Prefixed}
-use Rattle.c_tree.specs.Declarations.{Declared, made, filled, variable, unset, parameter_access, declared_parameter, declared_parameters, declared_statics, declared_automatics, declared_externs}
+use Rattle.c_tree.specs.Terms.{Variable, Array, Routine}
+use Rattle.c_tree.specs.Declarations.{Declared, made, filled, variable, unset, parameter_access, declared_parameter, declared_statics, declared_externs}
 use Rattle.c_tree.specs.Builtins.{builtin_names}
 use Rattle.c_tree.specs.Drafts.{Scope}
 use Rattle.c_tree.specs.FlatForm.{whole_body}
-use Rattle.c_tree.specs.Linking.{Routines, routine, declared_constants, file_scope, strings_of}
-use Rattle.c_image.specs.Addresses.{Address, Alone, Through, number_term}
+use Rattle.c_tree.specs.Linking.{Routines, routine, declared_constants, file_scope}
+use Rattle.c_image.specs.Addresses.{Through, number_term}
 use Rattle.c_image.specs.Elements.{quantity_term}
 use Rattle.c_structure.specs.Expressions.{Names, strings_in}
 use Rattle.c_structure.specs.Expressions as written
@@ -31,20 +32,20 @@ use Rattle.c_emit.specs.Numbers.{is_numeric, is_variable, has_number, has_bounds
 use Rattle.c_structure_laws.specs.Fitting.{KnowsArray}
 use Rattle.linking_laws.specs.Linked as linked
 use Rattle.linking_laws.specs.Linked.{AreDistinct, IsNone, scope_of}
-use Rattle.linking_laws.proofs.Places.{some_same, get_front, get_back, map_at, within, taken, skipped}
+use Rattle.linking_laws.proofs.Places.{get_front, get_back, map_at, within, taken, skipped}
 use Rattle.linking_laws.proofs.Scopes.{scopes_are_known, file_scopes_are_known}
 use Rattle.emitted_names.specs.KnownNames.{IsPlain, array_of, StartIsPlain, Calls}
 use Rattle.emitted_names.proofs.TermNames.{number_plain, prefixed_plain}
 use Rattle.procedure_emission.specs.EmittedUnits.{is_number_pointer, is_function_pointer}
-use Rattle.main_file.specs.MainFile.{list_names, temporary_names}
+use Rattle.main_file.specs.MainFile.{list_names}
 use Rattle.main_file_laws.proofs.Listed.{stands_by, declared_variable, declared_listing, declared_temporary}
 use Rattle.main_file_laws.proofs.Known.{position_finds}
 use Rattle.unit_file.specs.UnitFile as file
 use Rattle.unit_file.specs.UnitFile.{Listing, Parameter, Inventory, Bases, WrittenUnit, constant_for, parameter_for, unit_locals, unit_function, units_file, result_count, frame_count, first_list, first_string, first_parameter, result_object, first_temporary, place_or_none, place_of_constant, place_of_variable, place_of_parameter, place_of_list, lasting_names, framed_names, parameter_object, address_in, lower_of, size_of, writing_of}
-use Rattle.unit_file.specs.UnitNames.{constant_names, called_names, object_names, object_name, string_at, own_names, routine_name, names_of}
+use Rattle.unit_file.specs.UnitNames.{constant_names, called_names, object_names, object_name, string_at, own_names, routine_name}
 use Rattle.unit_places.specs.UnitPlaces.{inventories, bases_of}
 use Rattle.unit_places.proofs.Declared.{unit_strings, unit_statics_count, unit_lasting_names, unit_variable, unit_listing, framed_by, framed_are, framed_parameter, framed_result, framed_temporary}
-use Rattle.unit_file_laws.specs.KnownUnits.{NamesDiffer, IsVariable, IsParameter, NamesAreListed, unit_writing, unit_names, scope_in, UnitIsKnown, UnitFilesAreKnown}
+use Rattle.unit_file_laws.specs.KnownUnits.{NamesDiffer, IsVariable, IsParameter, NamesAreListed, unit_writing, unit_names, file_with, scope_in, UnitIsKnown, UnitFilesAreKnown}
 use Rattle.unit_file_laws.proofs.Listed.{framed_names_are, framed_names_by, externs_are, number_access, function_access, first_behind}
 
 -- ## Positions
@@ -93,7 +94,7 @@ count_some : (count : Option ℕ) → is_some count ≡ true → (n : ℕ) × (c
 count_some None h = absurd (cc)
 count_some (Some n) h = (n, refl)
 
-module _ (numbers : Routines) (objects : List ℕ → Option ℕ) (constants : List ℤ) (ws : List WrittenUnit) (j : ℕ) (w : WrittenUnit) (facts : Facts) (kind : ℕ → ℕ → Option Basic) (differ : NamesDiffer constants w.inventory)
+module _ (numbers : Routines) (objects : List ℕ → Option ℕ) (constants : List ℤ) (functions : List CFunction) (ws : List WrittenUnit) (j : ℕ) (w : WrittenUnit) (facts : Facts) (kind : ℕ → ℕ → Option Basic) (differ : NamesDiffer constants w.inventory)
     (listed : NamesAreListed w.inventory facts) (strings : length (whole_body w.body).items.strings ≡ length w.inventory.strings) where
   abbrev v : Inventory
   v = w.inventory
@@ -102,10 +103,10 @@ module _ (numbers : Routines) (objects : List ℕ → Option ℕ) (constants : L
   b = bases_of constants ws j
 
   abbrev outer : Scope
-  outer = file_scope numbers objects 0 (units_file constants ws)
+  outer = file_scope numbers objects 0 (file_with constants functions)
 
   abbrev scope : Scope
-  scope = scope_in numbers objects constants ws j w
+  scope = scope_in numbers objects constants functions ws j w
 
   abbrev names : Names
   names = unit_names constants ws j w
@@ -113,8 +114,8 @@ module _ (numbers : Routines) (objects : List ℕ → Option ℕ) (constants : L
   inner : linked.NamesAreKnown numbers outer b.function (unit_function w)
   inner = scopes_are_known numbers outer b.function (unit_function w)
 
-  around : linked.FileNamesAreKnown numbers objects 0 (units_file constants ws)
-  around = file_scopes_are_known numbers objects 0 (units_file constants ws)
+  around : linked.FileNamesAreKnown numbers objects 0 (file_with constants functions)
+  around = file_scopes_are_known numbers objects 0 (file_with constants functions)
 
   -- ## Where the frame stands
 
@@ -338,7 +339,7 @@ module _ (numbers : Routines) (objects : List ℕ → Option ℕ) (constants : L
       subst (λ p. scope (routine_name (inventories ws) (length (inventories ws) + unwrap_or p 0)) ≡ Routine (length (inventories ws) + unwrap_or p 0)) (sym is)
       (ap scope called ∙ routine_stands i (length ws + k) name at number ∙ ap Routine {x = length ws + k} {y = length (inventories ws) + k} (omega (arith, as_many)))
 
-  all_known : UnitIsKnown numbers objects constants ws j w facts kind
+  all_known : UnitIsKnown numbers objects constants functions ws j w facts kind
   all_known = record {
     names = record {
       scalars = scalar_plain;
@@ -355,4 +356,4 @@ module _ (numbers : Routines) (objects : List ℕ → Option ℕ) (constants : L
   }
 
 pub unit_files_are_known : UnitFilesAreKnown
-unit_files_are_known numbers objects constants ws j w facts kind differ listed strings = all_known numbers objects constants ws j w facts kind differ listed strings
+unit_files_are_known numbers objects constants functions ws j w facts kind differ listed strings = all_known numbers objects constants functions ws j w facts kind differ listed strings

@@ -1,8 +1,8 @@
 -- What the locals of a unit declare, by their names.
-use Rattle.std.specs.Prelude.{◌≡◌, ℕ, zero, suc, ◌+◌, ◌≤◌, true, List, [], ◌∷◌, ◌++◌, map, length, Option, Some, None}
+use Rattle.std.specs.Prelude.{◌≡◌, ℕ, zero, suc, ◌+◌, ◌≤◌, true, List, [], ◌∷◌, ◌++◌, map, Option, Some, None}
 use Rattle.std.proofs.Common.{refl, sym, ap, ◌∙◌, arith}
 use Rattle.std.proofs.lemmas.List.{append-nil}
-use Rattle.f_tree.specs.CNames.{variable_name, made_name, FunctionResult}
+use Rattle.f_tree.specs.CNames.{variable_name}
 use Rattle.c_tree.specs.declared.types.NumberType.{NumberType}
 use Rattle.c_tree.specs.declared.types.ParameterType.{ParameterType}
 use Rattle.c_tree.specs.declared.types.ParameterType.TheVariants as parameter

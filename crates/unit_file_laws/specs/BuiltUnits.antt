@@ -8,12 +8,13 @@ use Rattle.f_tree.specs.Facts.{Facts}
 use Rattle.f_tree.specs.World.{Called, Procedure}
 use Rattle.l_core.specs.Pures.{Name, Pures, NoPure, AndPure}
 use Rattle.l_core.specs.Steps.{Starts, Takes, Finishes, Step, Compute, CallFor, CallSub, Acts, Halt, Text}
-use Rattle.c_tree.specs.declared.statement.CStmt.{CStmt}
+use Rattle.c_tree.specs.declared.file.CFunction.{CFunction}
 use Rattle.c_tree.specs.Flat.{Flat}
 use Rattle.c_tree.specs.Builtins.{builtin_names}
 use Rattle.c_tree.specs.FlatForm.{whole_body}
 use Rattle.c_tree.specs.Linking.{Routines, file_scope, linked_function}
 use Rattle.c_structure.specs.Statements.{Outline}
+use Rattle.c_structure_laws.specs.Fitting.{KnowsItems}
 use Rattle.c_emit.specs.Numbers.{Writing}
 use Rattle.c_emit.specs.LibraryFunctions.{LibraryFunction, library_function}
 use Rattle.linking_laws.specs.Linked.{IsBuilt}
@@ -22,7 +23,7 @@ use Rattle.procedure_emission.specs.ProcedureItems.{Numbers, procedure_item}
 use Rattle.unit_file.specs.UnitFile.{Inventory, WrittenUnit, units_file, unit_function, place_of_list}
 use Rattle.unit_file.specs.UnitNames.{called_names, routine_name}
 use Rattle.unit_places.specs.UnitPlaces.{inventories, bases_of}
-use Rattle.unit_file_laws.specs.KnownUnits.{NamesDiffer, NamesAreListed, unit_writing, unit_names}
+use Rattle.unit_file_laws.specs.KnownUnits.{NamesDiffer, NamesAreListed, unit_writing, unit_names, scope_in}
 
 -- ## Items
 
@@ -99,8 +100,10 @@ pub record AreNumbered (routines : Routines) (numbers : Numbers) (ws : List Writ
   pub library : (name : List ℕ) (k : ℕ) → IsCalled v name → position (bytes_eq name) builtin_names ≡ Some k → routines name ≡ Some (length ws + k)
   pub own : (called : Called) (k : ℕ) → numbers called ≡ Some k → routines (routine_name (inventories ws) k) ≡ Some k
 
--- its code is the items, its statements have as many, and its strings are those that are listed
-pub record HasItsItems (routines : Routines) (objects : List ℕ → Option ℕ) (own : ℕ) (constants : List ℤ) (ws : List WrittenUnit) (j : ℕ) (w : WrittenUnit) (items : List Flat) : Type 0 where
+-- the names of its items are known, whatever functions are in scope around it; its code is the items, its statements have as many, and its strings are those
+-- that are listed
+pub record HasItsItems (routines : Routines) (objects : List ℕ → Option ℕ) (own : ℕ) (constants : List ℤ) (ws : List WrittenUnit) (j : ℕ) (w : WrittenUnit) (o : Outline) (items : List Flat) : Type 0 where
+  pub known : (functions : List CFunction) → KnowsItems (scope_in routines objects constants functions ws j w) o.names items
   pub code : (linked_function routines own (file_scope routines objects 0 (units_file constants ws)) (bases_of constants ws j).function (unit_function w)).function.code ≡ items
   pub size : (whole_body w.body).size ≡ length items
   pub strings : (whole_body w.body).items.strings ≡ map w.inventory.texts w.inventory.strings
@@ -108,7 +111,7 @@ pub record HasItsItems (routines : Routines) (objects : List ℕ → Option ℕ)
 -- LAW
 abbrev pub UnitsHaveTheirItems : Type 0
 UnitsHaveTheirItems = (routines : Routines) (objects : List ℕ → Option ℕ) (own : ℕ) (numbers : Numbers) (constants : List ℤ) (ws : List WrittenUnit) (j : ℕ) (w : WrittenUnit) (u : Text) (kind : ℕ → ℕ → Option Basic) (o : Outline) (items : List Flat) →
-    AreNumbered routines numbers ws w.inventory → IsUnitBuilt numbers constants ws j w u kind o items → HasItsItems routines objects own constants ws j w items
+    AreNumbered routines numbers ws w.inventory → IsUnitBuilt numbers constants ws j w u kind o items → HasItsItems routines objects own constants ws j w o items
 
 unfoldable pub built_units_opened : Unit {0}
 unfolding unit_items procedure_called procedure_passed procedures_passed procedures_named

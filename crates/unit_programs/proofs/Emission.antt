@@ -1,5 +1,5 @@
 -- Each function of the file is one of which all is so that is asked.
-use Rattle.std.specs.Prelude.{◌≡◌, ◌≢◌, ℕ, zero, suc, ◌+◌, ◌-◌, ◌<◌, ◌≤◌, nat_eq, nat_lt, ℤ, pos, Bool, true, false, List, [], ◌∷◌, ◌++◌, map, length, replicate, position, Option, Some, None, is_some, unwrap_or, slice_get, bytes_eq}
+use Rattle.std.specs.Prelude.{◌≡◌, ℕ, suc, ◌+◌, ◌-◌, ◌<◌, ◌≤◌, nat_eq, nat_lt, ℤ, true, false, List, [], ◌∷◌, ◌++◌, map, length, replicate, Option, Some, None, is_some, unwrap_or, slice_get, bytes_eq}
 use Rattle.std.specs.Ordering.{int_eq}
 use Rattle.std.proofs.Common.{refl, sym, ap, ◌∙◌, subst, arith}
 use Rattle.std.proofs.lemmas.Bool.{ltb-true, lt-ltb, eq-eqb}
@@ -9,39 +9,34 @@ use Rattle.f_tree.specs.declared.names.Class.{Class}
 use Rattle.f_tree.specs.declared.names.Class.TheVariants as class
 use Rattle.f_tree.specs.CNames.{variable_name}
 use Rattle.f_tree.specs.Values.{Bytes, Spot, IsInt, IsText, IsSpot, Gives}
-use Rattle.f_tree.specs.Facts.{Direction, Layout, Controls, Bounds, Formal, Named, Alternate, FunctionUnit, BlockDataUnit, EntryPoint, Frame}
-use Rattle.f_tree.specs.Valuing.{whole, size_of_dimension}
+use Rattle.f_tree.specs.Facts.{Direction, Layout, Controls, Formal, Named, Alternate, FunctionUnit, Frame}
+use Rattle.f_tree.specs.Valuing.{whole}
 use Rattle.f_tree.specs.World.{Called}
 use Rattle.l_core.specs.Pures.{Pures}
 use Rattle.l_core.specs.Steps.{Starts, Step, Acts, Halt, Text}
-use Rattle.l_core.specs.Costs.{cost}
-use Rattle.c_tree.specs.declared.types.ResultType.TheVariants as result
 use Rattle.c_tree.specs.declared.types.ParameterType.{ParameterType}
 use Rattle.c_tree.specs.declared.types.ParameterType.TheVariants as parameter
 use Rattle.c_tree.specs.Access.{ToNumber, ToPointer, ToFunction}
 use Rattle.c_tree.specs.Objects.{bytes_of_number}
 use Rattle.c_tree.specs.Declarations as declared
 use Rattle.c_tree.specs.Declarations.{string_object, unset_values}
-use Rattle.c_image.specs.Addresses.{Alone, Through, Reaches}
-use Rattle.c_image.specs.Elements.{Written}
-use Rattle.c_image.specs.Held.{Holds, number_object}
+use Rattle.c_image.specs.Addresses.{Through, Reaches}
+use Rattle.c_image.specs.Held.{Holds}
 use Rattle.c_image.specs.Knowing.{IsApart}
 use Rattle.c_emit.specs.Calls.{unit_of}
 use Rattle.output_laws.specs.ListedOutputs.{list_object}
-use Rattle.linking_laws.proofs.Places.{some_same, get_front, map_at, within}
-use Rattle.emitted_texts.specs.SecondLayer.{Room, Surroundings, Emission}
-use Rattle.procedure_emission.specs.EmittedUnits.{IsItem, StepsFit, IsMadeAnew, IsOfRoom, RoomIsApart, is_number_pointer, IsParameter, is_function_pointer, IsProcedureParameter, AreParameters, no_parameters, named, named_procedure, alternate, number_result, ResultIsMade, IsEmittedUnit}
+use Rattle.linking_laws.proofs.Places.{get_front, map_at, within}
+use Rattle.emitted_texts.specs.SecondLayer.{Surroundings, Emission}
+use Rattle.procedure_emission.specs.EmittedUnits.{IsItem, StepsFit, IsMadeAnew, IsOfRoom, RoomIsApart, is_number_pointer, is_function_pointer, AreParameters, no_parameters, named, named_procedure, alternate, ResultIsMade, IsEmittedUnit}
 use Rattle.main_file_laws.proofs.Known.{position_finds}
 use Rattle.main_programs.proofs.Emission.{lower_written, size_written}
 use Rattle.main_programs.proofs.MainRuns.{ones_cost}
 use Rattle.main_programs.proofs.MainStrings.{front_is, string_of}
-use Rattle.unit_file.specs.UnitFile as file
-use Rattle.unit_file.specs.UnitFile.{Parameter, Inventory, Bases, WrittenUnit, result_count, frame_count, object_count, first_object, first_list, first_string, first_parameter, result_object, first_temporary, place_or_none, place_of_constant, place_of_list, place_of_parameter, place_of_string, framed_names, result_names, parameter_object, address_in, lower_of, size_of}
+use Rattle.unit_file.specs.UnitFile.{Parameter, Inventory, Bases, WrittenUnit, result_count, frame_count, first_object, first_list, first_string, first_parameter, result_object, first_temporary, place_or_none, place_of_constant, place_of_list, place_of_parameter, place_of_string, framed_names, result_names, parameter_object, address_in, lower_of, size_of}
 use Rattle.main_file.specs.MainFile.{temporary_names}
-use Rattle.unit_places.specs.UnitPlaces.{files_of, inventories, bases_of, linked_unit, FunctionStands}
+use Rattle.unit_places.specs.UnitPlaces.{inventories, bases_of, FunctionStands}
 use Rattle.unit_places.proofs.Declared.{as_main}
-use Rattle.unit_programs.specs.OwnStorage.{held_objects, own_setting, first_world}
-use Rattle.unit_programs.specs.TranslatedUnits.{Rendering, units_of, written_of, numbers_of, dummies_named, IsDummy, is_number, is_procedure, IsResult, IsTranslatedUnit, IsTranslatedFile}
+use Rattle.unit_programs.specs.TranslatedUnits.{Rendering, units_of, written_of, dummies_named, IsDummy, is_number, is_procedure, IsTranslatedUnit, IsTranslatedFile}
 use Rattle.unit_programs.specs.EmittedFile.{room_at, surroundings_of, emission_of, costs_of, UnitsAreEmitted}
 use Rattle.unit_programs.proofs.Pieces.{placed_by}
 use Rattle.unit_programs.proofs.Sequences.{first_least, same_piece}

@@ -1,7 +1,6 @@
 -- What belongs to an active procedure stands in the frame of its function.
-use Rattle.std.specs.Prelude.{◌≡◌, ℕ, zero, suc, ◌+◌, ℤ, Bool, true, false, ◌&&◌, ◌||◌, List, [], ◌∷◌, ◌++◌, map, length, position, Option, Some, None, option_map, slice_get, bytes_eq}
+use Rattle.std.specs.Prelude.{◌≡◌, ℕ, suc, ◌+◌, ℤ, Bool, true, false, ◌&&◌, ◌||◌, List, [], ◌∷◌, map, length, position, Some, option_map, slice_get, bytes_eq}
 use Rattle.std.proofs.Common.{refl, sym, ap, ◌∙◌, subst, arith}
-use Rattle.std.proofs.lemmas.Bool.{and_from}
 use Rattle.std.proofs.lemmas.Slice.Eq.{bytes_eq-Decides}
 use Rattle.f_tree.specs.declared.names.Basic.{Basic}
 use Rattle.f_tree.specs.declared.names.Basic.TheVariants as basic
@@ -13,30 +12,27 @@ use Rattle.f_tree.specs.Values.{Bytes, Spot, Datum, IsInt, IsLog, IsText, IsSpot
 use Rattle.f_tree.specs.Facts.{Attribute, Formal, Named, Alternate, MainProgram, SubroutineUnit, FunctionUnit, BlockDataUnit, UnitKind, EntryPoint, ProgramUnit, Facts, Frame}
 use Rattle.f_tree.specs.Setting.{IsIn, first_in, later_in}
 use Rattle.f_tree.specs.Valuing.{stored_at, if_bound, if_there, named_as, whole}
-use Rattle.f_tree.specs.World.{Called, Procedure}
+use Rattle.f_tree.specs.World.{Procedure}
 use Rattle.f_tree.specs.Meaning.{has_entry, answers_to}
 use Rattle.l_core.specs.Pures.{Temporaries}
 use Rattle.l_core.specs.Steps.{Text}
-use Rattle.c_tree.specs.declared.outcome.CValue.{CValue}
 use Rattle.c_tree.specs.declared.outcome.CValue.TheVariants.{Pointer, Function}
 use Rattle.c_tree.specs.Objects.{Object}
 use Rattle.c_tree.specs.Declarations.{Declared, declared_parameter}
-use Rattle.c_tree.specs.Linking as linking
 use Rattle.faithful.specs.StorageImage.{name_of_entries, function_name, number_named}
 use Rattle.faithful.specs.FrameImage as frames
 use Rattle.faithful.specs.FrameImage.{Each, frame_object_at, frame_object, value_in, HasLength, StandsFor, FormalStands, ResultStandsAs, ResultStands}
 use Rattle.c_image.specs.World.{World}
-use Rattle.c_image.specs.Addresses.{Address, Alone, Through, Reaches, access_to, pointer_object}
+use Rattle.c_image.specs.Addresses.{Through, Reaches, access_to, pointer_object}
 use Rattle.c_emit.specs.Numbers.{is_numeric, is_variable, has_number}
 use Rattle.c_emit_laws.specs.EmittedNumbers.{IsKnown}
 use Rattle.linking_laws.specs.Linked.{AreDistinct}
-use Rattle.linking_laws.proofs.Places.{some_same}
 use Rattle.emitted_texts.specs.SecondLayer.{Surroundings, Emission}
 use Rattle.procedure_emission.specs.CallLayer.{CallWorld, IsFrameOf, function_object, AreProceduresHeld}
 use Rattle.call_bridge.specs.CallBridge.{FramesStand}
 use Rattle.main_programs.proofs.MainStorage.{position_named}
-use Rattle.unit_file.specs.UnitFile.{Parameter, Inventory, Bases, WrittenUnit, parameter_for, first_parameter, frame_count, result_object, place_of_parameter, parameter_object, address_in}
-use Rattle.unit_places.specs.UnitPlaces.{files_of, inventories, bases_of, FunctionStands}
+use Rattle.unit_file.specs.UnitFile.{Parameter, Inventory, Bases, WrittenUnit, parameter_for, result_object, address_in}
+use Rattle.unit_places.specs.UnitPlaces.{files_of, bases_of, FunctionStands}
 use Rattle.unit_places.proofs.Declared.{framed_by, framed_are, framed_parameter, framed_result}
 use Rattle.unit_file_laws.proofs.Listed.{framed_names_are}
 use Rattle.unit_programs.specs.TranslatedUnits.{Rendering, units_of, written_of, dummies_named, IsDummy, is_number, is_procedure, IsTranslatedUnit, IsTranslatedFile}

@@ -5,3 +5,6 @@ pub mod Stored
 pub mod Emission
 pub mod Frames
 pub mod Runs
+pub mod Told
+pub mod ExampleParts
+pub mod ExampleLaws

@@ -1,7 +1,7 @@
 -- The functions of the file by their numbers, and what its objects hold that no statement defines.
 use Rattle.std.specs.List.{flat_map}
 use Rattle.std.specs.Option.{option_flatten}
-use Rattle.std.specs.Prelude.{◌≡◌, ℕ, zero, suc, ◌+◌, ◌<◌, ◌≤◌, max, ℤ, Bool, true, false, List, [], ◌∷◌, ◌++◌, map, length, replicate, position, Option, Some, None, unwrap_or, slice_get, bytes_eq, if◌then◌else◌}
+use Rattle.std.specs.Prelude.{◌≡◌, ℕ, zero, suc, ◌+◌, ◌<◌, ◌≤◌, ℤ, Bool, true, false, List, [], ◌∷◌, ◌++◌, map, length, replicate, position, Option, Some, None, unwrap_or, slice_get, bytes_eq, if◌then◌else◌}
 use Rattle.std.proofs.Common.{refl, sym, ap, ◌∙◌, subst, arith}
 use Rattle.std.proofs.lemmas.List.{append-nil, length-map}
 use Rattle.std.proofs.lemmas.Slice.Eq.{bytes_eq-Decides}
@@ -24,14 +24,14 @@ use Rattle.faithful.specs.StorageImage.{name_of_entries, function_name, number_n
 use Rattle.c_image.specs.Held.{number_object}
 use Rattle.c_emit.specs.Numbers.{Writing}
 use Rattle.output_laws.specs.ListedOutputs.{list_object}
-use Rattle.linking_laws.specs.Linked.{AreDistinct, routines_of, outside_of, own_of, file_names, function_base}
-use Rattle.linking_laws.proofs.Places.{some_same, get_front, get_back, map_at, within, some_at, IsAt, in_first, in_second, at_one}
+use Rattle.linking_laws.specs.Linked.{AreDistinct, routines_of, outside_of, own_of, file_names}
+use Rattle.linking_laws.proofs.Places.{some_same, get_front, get_back, map_at, IsAt, in_first, in_second, at_one}
 use Rattle.linking_laws.proofs.Scopes.{own_are_numbered, builtins_are_numbered}
 use Rattle.procedure_emission.specs.ProcedureItems.{Numbers, procedure_item}
 use Rattle.main_file_laws.proofs.Known.{position_finds}
 use Rattle.main_file_laws.proofs.BuiltItems.{before_by}
 use Rattle.main_programs.proofs.MainStorage.{map_back}
-use Rattle.unit_file.specs.UnitFile.{Listing, Inventory, WrittenUnit, unit_function, units_file, object_count, frame_count, first_object, first_list, first_string, first_parameter}
+use Rattle.unit_file.specs.UnitFile.{Listing, Inventory, WrittenUnit, unit_function, units_file, frame_count, first_object, first_list, first_string, first_parameter}
 use Rattle.unit_file.specs.UnitNames.{own_names, routine_name}
 use Rattle.unit_places.specs.UnitPlaces.{files_of, inventories, bases_of, linked_unit, HaveTheirStrings, StandsAs, FunctionStands, HasPlaces}
 use Rattle.unit_places.proofs.Placing.{base_there, functions_have_places}
@@ -39,7 +39,7 @@ use Rattle.unit_file_laws.specs.KnownUnits.{unit_writing}
 use Rattle.unit_file_laws.specs.BuiltUnits.{unit_items, AreNumbered, HasItsItems}
 use Rattle.unit_file_laws.proofs.BuiltItems.{units_have_their_items}
 use Rattle.unit_programs.specs.OwnStorage.{held_of, held_objects}
-use Rattle.unit_programs.specs.TranslatedUnits.{Rendering, units_of, written_of, numbers_of, IsTranslatedUnit, IsTranslatedFile}
+use Rattle.unit_programs.specs.TranslatedUnits.{Rendering, units_of, written_of, numbers_of, IsTranslatedFile}
 use Rattle.unit_programs.proofs.Pieces.{before, flat_there, flat_back, placed_by}
 use Rattle.unit_programs.proofs.Sequences.{first_is}
 
@@ -209,7 +209,7 @@ module _ (constants : List ℤ) (rs : List Rendering) (is : IsTranslatedFile con
           ∙ own_are_numbered (function_names (all_functions (files_of constants ws))) k r'.0.written.inventory.name (subst AreDistinct (sym functions_named) is.differ)
           (ap (λ ns. slice_get ns k) functions_named ∙ ap (slice_get (own_names vs)) place ∙ own)
 
-  its_items : (j : ℕ) (r : Rendering) → slice_get rs j ≡ Some r → HasItsItems (routines_of (files_of constants ws)) (outside_of (files_of constants ws)) (own_of (files_of constants ws)) constants ws j r.written r.items
+  pub its_items : (j : ℕ) (r : Rendering) → slice_get rs j ≡ Some r → HasItsItems (routines_of (files_of constants ws)) (outside_of (files_of constants ws)) (own_of (files_of constants ws)) constants ws j r.written r.outline r.items
   its_items j r at =
       units_have_their_items (routines_of (files_of constants ws)) (outside_of (files_of constants ws)) (own_of (files_of constants ws)) (numbers_of rs) constants ws j r.written r.text r.kind r.outline r.items (numbered j r) (is.units j r at).built
 

@@ -1,8 +1,8 @@
 -- Lists that are put together from pieces, and where the parts of each piece stand.
 use Rattle.std.specs.List.{flat_map}
-use Rattle.std.specs.Prelude.{◌≡◌, ℕ, zero, suc, ◌+◌, ◌<◌, ◌≤◌, List, [], ◌∷◌, ◌++◌, length, position, Option, Some, None, option_map, slice_get, bytes_eq, if◌then◌else◌}
+use Rattle.std.specs.Prelude.{◌≡◌, ℕ, zero, suc, ◌+◌, List, [], ◌∷◌, length, position, Some, option_map, slice_get, bytes_eq}
 use Rattle.std.proofs.Common.{refl, sym, ap, ◌∙◌, arith}
-use Rattle.linking_laws.proofs.Places.{some_same, get_front, get_back, within, IsAt, in_first, in_second, at_one, same_bytes, other_bytes, taken, skipped, position_step}
+use Rattle.linking_laws.proofs.Places.{some_same, get_front, get_back, IsAt, in_first, in_second, at_one, same_bytes, other_bytes, taken, skipped, position_step}
 
 -- how many parts stand before those of a piece
 abbrev pub before : {A B : Type 0} → (A → List B) → List A → ℕ → ℕ

@@ -1,14 +1,12 @@
 -- Units that call each other run as their file does.
-use Rattle.std.specs.Prelude.{◌≡◌, ℕ, zero, suc, ◌+◌, ◌<◌, ◌≤◌, nat_lt, ℤ, Bool, true, false, not, List, [], ◌∷◌, map, length, replicate, Option, Some, None, is_none, unwrap_or, slice_get, if◌then◌else◌}
+use Rattle.std.specs.Prelude.{◌≡◌, ℕ, ◌≤◌, nat_lt, ℤ, true, false, not, List, [], ◌∷◌, map, length, Option, Some, None, is_none, unwrap_or, slice_get}
 use Rattle.std.proofs.Common.{refl, sym, ap, ◌∙◌, subst, arith}
 use Rattle.std.proofs.lemmas.Bool.{lt-ltb}
 use Rattle.std.proofs.lemmas.List.{append-nil}
 use Rattle.simulation.specs.LocalSimulation.{Local}
-use Rattle.run_state.specs.Units.{Units}
 use Rattle.f_tree.specs.Facts.{ProgramUnit}
-use Rattle.f_tree.specs.World.{Called, TheMain}
 use Rattle.f_tree.specs.Attributes.{no_program, no_facts}
-use Rattle.f_tree.specs.Meaning.{found_from, facts_at}
+use Rattle.f_tree.specs.Meaning.{facts_at}
 use Rattle.l_core.specs.Steps.{Step, Text}
 use Rattle.l_core.specs.Costs.{cost, rest}
 use Rattle.lowering_laws.specs.Layer.{lower_couple}
@@ -20,8 +18,7 @@ use Rattle.c_tree.specs.declared.file.CFunction.{CFunction}
 use Rattle.c_tree.specs.Flat.{Flat}
 use Rattle.c_tree.specs.FlatForm.{ends}
 use Rattle.c_tree.specs.Linking as linking
-use Rattle.c_tree.specs.Meaning.{no_function, text_of, wrapped_by, step_factor}
-use Rattle.faithful.specs.StorageImage.{function_number}
+use Rattle.c_tree.specs.Meaning.{no_function, wrapped_by, step_factor}
 use Rattle.faithful.specs.SameState.{is_inner}
 use Rattle.c_image.specs.World.{IsIdle}
 use Rattle.c_structure.specs.Statements.{Outline, statements_for}
@@ -35,7 +32,7 @@ use Rattle.call_bridge.proofs.Together.{calls_run_alike}
 use Rattle.main_programs.proofs.MainRuns.{ones_cost, ones_rest}
 use Rattle.main_programs.proofs.MainStorage.{map_back}
 use Rattle.unit_file.specs.UnitFile.{WrittenUnit, unit_function}
-use Rattle.unit_places.specs.UnitPlaces.{files_of, inventories, linked_unit}
+use Rattle.unit_places.specs.UnitPlaces.{files_of, linked_unit}
 use Rattle.unit_file_laws.specs.BuiltUnits.{unit_items}
 use Rattle.unit_programs.specs.OwnStorage.{own_setting}
 use Rattle.unit_programs.specs.TranslatedUnits.{Rendering, units_of, written_of, numbers_of, facts_of, IsTranslatedUnit, IsTranslatedFile}

@@ -1,5 +1,4 @@
 -- The sequences of units with storage of their own, and the objects in which they stand.
-use Rattle.std.specs.List.{flat_map}
 use Rattle.std.specs.Prelude.{◌≡◌, ℕ, zero, suc, ◌+◌, ◌<◌, ◌≤◌, nat_lt, Bool, true, false, List, [], ◌∷◌, ◌++◌, map, length, replicate, Option, Some, None, slice_get}
 use Rattle.std.proofs.Common.{refl, sym, ap, ◌∙◌, arith}
 use Rattle.std.proofs.lemmas.Bool.{ltb-true, ltb-false}
@@ -8,7 +7,7 @@ use Rattle.f_tree.specs.Facts.{Member, ProgramUnit}
 use Rattle.c_tree.specs.Objects.{Object}
 use Rattle.c_tree.specs.Declarations.{string_object}
 use Rattle.output_laws.specs.ListedOutputs.{list_object}
-use Rattle.linking_laws.proofs.Places.{some_same, get_front, get_back, within, IsAt, in_first, in_second, at_one}
+use Rattle.linking_laws.proofs.Places.{some_same, get_front, get_back, IsAt, in_first, in_second, at_one}
 use Rattle.plain_forms.specs.OwnStorage.{homes_from}
 use Rattle.unit_file.specs.UnitFile.{Variable, Listing, Inventory, object_count, frame_count, first_object}
 use Rattle.unit_programs.specs.OwnStorage.{own_homes, numbered, variable_objects, held_of}

@@ -1,7 +1,7 @@
 -- The storage of the units stands in the objects of the file before the first step, each name in its object.
-use Rattle.std.specs.List.{cons_option, flat_map, list_any}
+use Rattle.std.specs.List.{cons_option, list_any}
 use Rattle.std.specs.Option.{option_flatten}
-use Rattle.std.specs.Prelude.{◌≡◌, ℕ, zero, suc, ◌+◌, ◌-◌, ◌<◌, ◌≤◌, nat_eq, ℤ, Bool, true, false, ◌&&◌, ◌||◌, List, [], ◌∷◌, ◌++◌, map, length, replicate, position, Option, Some, None, is_none, option_map, option_and_then, unwrap_or, slice_get, bytes_eq, find, filter_map, if◌then◌else◌}
+use Rattle.std.specs.Prelude.{◌≡◌, ℕ, suc, ◌+◌, ◌-◌, ◌<◌, ◌≤◌, nat_eq, ℤ, true, false, ◌&&◌, ◌||◌, List, [], ◌∷◌, ◌++◌, map, length, position, Option, Some, None, is_none, option_map, option_and_then, unwrap_or, slice_get, bytes_eq, find, filter_map, if◌then◌else◌}
 use Rattle.std.proofs.Common.{refl, sym, ap, ◌∙◌, subst, arith}
 use Rattle.std.proofs.lemmas.List.{length-map, length-replicate}
 use Rattle.run_state.specs.Units.{Units}
@@ -18,7 +18,7 @@ use Rattle.c_tree.specs.Objects.{Object}
 use Rattle.c_tree.specs.Declarations.{Declared, declared_statics}
 use Rattle.c_tree.specs.FlatForm.{whole_body}
 use Rattle.c_tree.specs.Linking as linking
-use Rattle.faithful.specs.StorageImage.{byte_for, cell_of, is_sequence, block_from, block_of, is_tied, class_of, each_once, classes, first_lasting, static_object, static_object_at, local_object, object_of, object_for, StandsInItsObject, NamesStand, function_number}
+use Rattle.faithful.specs.StorageImage.{byte_for, cell_of, is_sequence, block_from, block_of, is_tied, class_of, each_once, classes, first_lasting, static_object, static_object_at, local_object, object_of, object_for, StandsInItsObject, NamesStand}
 use Rattle.c_image.specs.World.{World, IsIdle}
 use Rattle.c_image.specs.Standing.{Stands, IsHoused, IsInRange, HasRoom}
 use Rattle.c_image.specs.Addresses.{Reaches, IsSound, Alone}
@@ -35,7 +35,7 @@ use Rattle.unit_programs.specs.OwnStorage.{own_setting, bytes_in, held_objects, 
 use Rattle.unit_programs.specs.TranslatedUnits.{Rendering, units_of, written_of, facts_of, IsTranslatedFile}
 use Rattle.unit_programs.proofs.Pieces.{before, flat_there, flat_back, as_long}
 use Rattle.unit_programs.proofs.Sequences.{stored_of, variables_of, homes_there, variable_there, variable_back, same_piece}
-use Rattle.unit_programs.proofs.Objects.{inventory_at, written_at, unit_at, of_unit, of_inventory, function_stands, unit_named, not_held, frame_blank, held_there}
+use Rattle.unit_programs.proofs.Objects.{inventory_at, unit_at, of_unit, of_inventory, function_stands, unit_named, not_held, frame_blank, held_there}
 
 -- ## Without COMMON, EQUIVALENCE and DATA
 

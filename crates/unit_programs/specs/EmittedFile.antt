@@ -1,12 +1,10 @@
 -- That each function of the file of several units is one of which all is so that is asked. ANSI X3.9-1978, sections 14 and 15; C89, 3.1.2.4.
 use Rattle.std.specs.Prelude.{◌≡◌, ℕ, ℤ, List, length, replicate, Option, Some, None, slice_get}
-use Rattle.f_tree.specs.Facts.{ProgramUnit}
 use Rattle.l_core.specs.Steps.{Text}
 use Rattle.c_tree.specs.Linking as linking
-use Rattle.c_tree.specs.Meaning.{no_function}
 use Rattle.emitted_texts.specs.SecondLayer.{Room, Surroundings, Emission}
 use Rattle.procedure_emission.specs.EmittedUnits.{IsEmittedUnit}
-use Rattle.unit_file.specs.UnitFile.{Inventory, WrittenUnit, first_parameter, frame_count}
+use Rattle.unit_file.specs.UnitFile.{WrittenUnit, first_parameter, frame_count}
 use Rattle.unit_places.specs.UnitPlaces.{files_of, inventories, bases_of, linked_unit}
 use Rattle.unit_file_laws.specs.KnownUnits.{unit_writing}
 use Rattle.unit_programs.specs.OwnStorage.{own_setting, first_world}

@@ -5,7 +5,7 @@ use Rattle.f_tree.specs.declared.names.Basic.{Basic}
 use Rattle.f_tree.specs.declared.names.Class.TheVariants as class
 use Rattle.f_tree.specs.Values.{Bytes, Gives, in_range}
 use Rattle.f_tree.specs.Store.{Store}
-use Rattle.f_tree.specs.Facts.{Direction, Layout, Controls, Bounds, Formal, Named, Alternate, MainProgram, FunctionUnit, BlockDataUnit, EntryPoint, ProgramUnit, Facts, Frame}
+use Rattle.f_tree.specs.Facts.{Direction, Layout, Controls, Bounds, Formal, Named, Alternate, FunctionUnit, BlockDataUnit, EntryPoint, ProgramUnit, Facts, Frame}
 use Rattle.f_tree.specs.Setting.{IsIn}
 use Rattle.f_tree.specs.Association.{dimensions_by}
 use Rattle.f_tree.specs.Meaning.{facts_at, found_from}

@@ -1,0 +1,31 @@
+use Rattle.std.proofs.Common.{◌≡◌, List, Some, None, refl, ap, sym, ◌∙◌}
+use Rattle.std.specs.Prelude.{slice_get, option_map}
+use Rattle.c_tree.specs.Objects as objects
+use Rattle.c_tree.specs.LibraryArguments as arguments
+use Rattle.run_bytes.specs.Accesses.{access_of}
+use Rattle.run_bytes.specs.Layout.{held_type}
+use Rattle.run_bytes.proofs.RunLemmas.{Opens, opened, known, unknown, inside, in-bytes, in-values, closes, stores, unsets, unset-unknown}
+use Rattle.run_bytes.proofs.run.RunBytes.read.Goals as goal
+
+pub read-requires-clause-inside : goal.read-requires-clause-inside
+read-requires-clause-inside c =
+    inside c.args.self.now c.self.inside.places.items c.deref-in-Some.result.now c.deref-in-Some-2.result.now c.deref-in-Some-3.result.now c.args.object c.in-Some.place
+    (opened c.args.self.now c.self.inside.places.items c.self.inside.places.items c.self.inside.bytes.items c.deref-in-Some.result.now c.self.inside.marks.items c.deref-in-Some-2.result.now c.self.inside.values.items c.deref-in-Some-3.result.now
+    c.self.invariant c.self.view_is refl c.deref-in-Some.ensures.value c.deref-in-Some-2.ensures.value c.deref-in-Some-3.ensures.value)
+    (c.in-Some.ensures ∙ ap (λ all. slice_get all c.args.object) c.deref.ensures.value)
+
+pub returns-in-Some : goal.returns-in-Some
+returns-in-Some c =
+    c.read.ensures ∙ ap (objects.read_object (access_of c.args.access) c.args.offset)
+    (known c.args.self.now c.self.inside.places.items c.deref-in-Some.result.now c.deref-in-Some-2.result.now c.deref-in-Some-3.result.now c.args.object c.in-Some.place
+    (opened c.args.self.now c.self.inside.places.items c.self.inside.places.items c.self.inside.bytes.items c.deref-in-Some.result.now c.self.inside.marks.items c.deref-in-Some-2.result.now c.self.inside.values.items c.deref-in-Some-3.result.now
+    c.self.invariant c.self.view_is refl c.deref-in-Some.ensures.value c.deref-in-Some-2.ensures.value c.deref-in-Some-3.ensures.value)
+    (c.in-Some.ensures ∙ ap (λ all. slice_get all c.args.object) c.deref.ensures.value))
+
+pub returns-in-None : goal.returns-in-None
+returns-in-None c =
+    ap (objects.read_object (access_of c.args.access) c.args.offset)
+    (unknown c.args.self.now c.self.inside.places.items c.self.inside.bytes.items c.self.inside.marks.items c.self.inside.values.items c.args.object
+    (opened c.args.self.now c.self.inside.places.items c.self.inside.places.items c.self.inside.bytes.items c.self.inside.bytes.items c.self.inside.marks.items c.self.inside.marks.items c.self.inside.values.items c.self.inside.values.items
+    c.self.invariant c.self.view_is refl refl refl refl)
+    (c.in-None.ensures ∙ ap (λ all. slice_get all c.args.object) c.deref.ensures.value))

@@ -1,0 +1,5 @@
+pub mod Answers
+pub mod Cells
+pub mod Accesses
+pub mod ObjectCode
+pub mod Layout
