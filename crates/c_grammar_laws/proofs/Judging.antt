@@ -91,6 +91,27 @@ module _ {A B : Type 0} (First : A → Tokens → Tokens → Type 0) (Next : A �
       behind-judged nests fewer p.0 more above tokens p.1 (λ shorter given. bound p.0 p.1 first shorter given) h (next p.0 p.1)
       ((good p.0 tokens p.1 first).judged p.1)
 
+  -- what is said of one reader behind another that takes a token at least
+  pub judged-then-some : (nests fewer : ℕ) (more : Reader A) (next above : A → Reader B) (tokens : Tokens) → nests ≤ suc fewer → ((x : A) → First x [] [] → ⊥)
+      → ((x : A) (p q : Tokens) → First x p q → Good fewer (Next x) (next x) (above x))
+      → (outcome : Option (Outcome A)) → Judged nests First more tokens outcome → Judged nests Whole (λ ts. more ts >>= above) tokens (outcome >>= next)
+  judged-then-some nests fewer more next above tokens least some good None h = h
+  judged-then-some nests fewer more next above tokens least some good (Some (Err rest)) h = record {
+    front = h.front;
+    whole = h.whole;
+    filled = filled-then h.front h.filled (good h.filled.tree (h.front ++ (h.filled.later ++ [])) [] (h.filled.spelled [])).able;
+    local = λ behind same. ap (λ z. z >>= above) (h.local behind same);
+  }
+  judged-then-some nests fewer more next above tokens least some good (Some (Ok p)) h =
+      let first : First p.0 tokens p.1 = subst (λ z. First p.0 z p.1) (sym h.whole) (h.spelled p.1) in
+      let longer : suc (length p.1) ≤ length tokens = subst (λ z. suc (length p.1) ≤ length z) (sym h.whole) (by h.front p.1 (λ is. some p.0 (subst (λ z. First p.0 (z ++ []) []) is (h.spelled [])))) in
+      behind-judged nests fewer p.0 more above tokens p.1 (λ shorter given. omega (arith, least, longer, given)) h (next p.0 p.1)
+      ((good p.0 tokens p.1 first).judged p.1)
+    where
+      by : (front mid : Tokens) → (front ≡ [] → ⊥) → suc (length mid) ≤ length (front ++ mid)
+      by [] mid apart = absurd (apart refl)
+      by (token ∷ front) mid apart = let k = length-append front mid in omega (arith, k)
+
   pub judged-then : (nests : ℕ) (more : Reader A) (next above : A → Reader B) (tokens : Tokens)
       → ((x : A) (p q : Tokens) → First x p q → Good nests (Next x) (next x) (above x))
       → (outcome : Option (Outcome A)) → Judged nests First more tokens outcome → Judged nests Whole (λ ts. more ts >>= above) tokens (outcome >>= next)
@@ -114,6 +135,13 @@ pub in_turn : {A B : Type 0} {First : A → Tokens → Tokens → Type 0} {Whole
     → Good nests Whole (λ ts. read ts >>= next) (λ ts. more ts >>= above)
 in_turn {First = First} {Whole = Whole} {nests = nests} {read = read} {more = more} {next = next} {above = above} first later =
     good-then First (Onto First Whole) Whole (λ x y p q r f n. n p f) nests read more next above first (λ x p q f. later x)
+
+-- the same, where what the second reader is goes by what the first one read
+pub in_turn_of : {A B : Type 0} {First : A → Tokens → Tokens → Type 0} {Whole : B → Tokens → Tokens → Type 0} {nests : ℕ} {read more : Reader A} {next above : A → Reader B}
+    → Good nests First read more → ((x : A) (p q : Tokens) → First x p q → Good nests (Onto First Whole x) (next x) (above x))
+    → Good nests Whole (λ ts. read ts >>= next) (λ ts. more ts >>= above)
+in_turn_of {First = First} {Whole = Whole} {nests = nests} {read = read} {more = more} {next = next} {above = above} first later =
+    good-then First (Onto First Whole) Whole (λ x y p q r f n. n p f) nests read more next above first later
 
 -- a reader of a form reads another that follows from it
 pub filled-as : {A : Type 0} {Spelled Other : A → Tokens → Tokens → Type 0} (front : Tokens) → ((x : A) (p q : Tokens) → Spelled x p q → Other x p q)

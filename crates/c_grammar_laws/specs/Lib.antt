@@ -1,3 +1,5 @@
+pub mod DeclarationLaws
+pub mod DeclarationRows
 pub mod Exactness
 pub mod ExpressionLaws
 pub mod ExpressionRows

@@ -2,4 +2,5 @@
 //! with which nothing goes on. The functions here do nothing; their contracts are the laws.
 #![tactic(auto)]
 
+pub mod declarations;
 pub mod expressions;

@@ -1,5 +1,9 @@
 pub mod CallReader
+pub mod DeclarationReader
 pub mod ExpressionReader
+pub mod HeadReader
 pub mod ListReader
 pub mod Opened
 pub mod Readers
+pub mod TypeReader
+pub mod ValueReader
