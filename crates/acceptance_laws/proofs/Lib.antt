@@ -1,3 +1,3 @@
-mod OwnStorage
+pub mod OwnStorage
 mod Phases
-mod Whole
+pub mod Whole

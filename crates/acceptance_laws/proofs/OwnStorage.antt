@@ -1,30 +1,25 @@
--- A unit without COMMON, EQUIVALENCE, DATA and ENTRY breaks no row of storage, and alone in a set none of what units share, if each of its stored
+-- A unit without COMMON, EQUIVALENCE and DATA breaks no row of storage, and behind any units none of storage that they share, if each of its stored
 -- names has at most the units that a sequence may have.
-use Rattle.std.specs.Prelude.{◌≡◌, ℕ, suc, ◌+◌, ◌<◌, nat_lt, pos, Bool, true, false, not, ◌||◌, ◌&&◌, List, [], ◌∷◌, ◌++◌, map, max, Option, Some, None, if◌then◌else◌}
+use Rattle.std.specs.Prelude.{◌≡◌, ℕ, ◌+◌, ◌<◌, nat_lt, Bool, true, false, not, ◌||◌, ◌&&◌, List, [], ◌∷◌, ◌++◌, map, max, if◌then◌else◌}
 use Rattle.std.specs.List.{list_any}
 use Rattle.std.proofs.lemmas.Bool.Decides.{nat_tests}
-use Rattle.std.proofs.Common.{refl, sym, ap, ◌∙◌, arith}
+use Rattle.std.proofs.Common.{refl, ap, ◌∙◌, arith}
 use Rattle.f_tree.specs.declared.names.Options.{Options}
-use Rattle.f_tree.specs.declared.refusals.Kind.{Kind}
 use Rattle.f_tree.specs.declared.refusals.Kind.TheVariants.{EquivalenceContradiction, CommonJoinedOrExtended, NumericPlaceNotOnAWord, StorageTooLarge, BadData, CommonInitialised, CommonInitialisedTwice}
-use Rattle.f_tree.specs.declared.refusals.Refusal.{Refusal}
 use Rattle.f_tree.specs.declared.statements.Body.{Body}
-use Rattle.f_tree.specs.declared.statements.Body.TheOpen as body
 use Rattle.f_tree.specs.declared.statements.Stmt.{Stmt}
 use Rattle.f_tree.specs.declared.units.Unit.{Unit as WrittenUnit}
 use Rattle.f_tree.specs.Values.{Bytes, Spot}
 use Rattle.f_tree.specs.Uses.{is_among}
-use Rattle.f_tree.specs.Folds.{layer_of}
-use Rattle.f_tree.specs.Facts.{Attribute, Member, EntryPoint, ProgramUnit, Facts}
+use Rattle.f_tree.specs.Facts.{Attribute, Member, ProgramUnit, Facts}
 use Rattle.f_tree.specs.Setting.{IsIn, first_in, later_in}
-use Rattle.f_tree.specs.Attributes.{from_all, option_list, entry_names_in}
-use Rattle.f_tree.specs.Lines.{Naming, is_character, size_of, is_stored, formals_of, entry_in, entries_from, common_in, equivalence_in, data_in, blocks_from, ties_of, apart, unit_read}
+use Rattle.f_tree.specs.Attributes.{from_all}
+use Rattle.f_tree.specs.Lines.{Naming, is_character, size_of, is_stored, common_in, equivalence_in, data_in, blocks_from, ties_of, apart, unit_read}
 use Rattle.declaration_rows.specs.Judgement.{unless}
 use Rattle.declaration_rows.specs.NameRows.{stood, at_first, mentions}
-use Rattle.declaration_rows.specs.PlacingRows.{Placing, block_equations, tie_equation, placing_by, reached_from, is_reached, further_times, count, contradicts, first_items, is_joined_or_extended, groups_settled, newly, placing_rows_from, least_of, first_among, start_by, place_in, is_on_word, shares, word_rows, placing_of, is_sound, unit_placing_rows}
+use Rattle.declaration_rows.specs.PlacingRows.{Placing, block_equations, tie_equation, placing_by, reached_from, further_times, count, contradicts, first_items, is_joined_or_extended, groups_settled, newly, placing_rows_from, least_of, first_among, start_by, place_in, is_on_word, shares, word_rows, placing_of, is_sound, unit_placing_rows}
 use Rattle.declaration_rows.specs.DataRows.{placed, all_filled, data_rows_from, may_fill_all, blocks_with, names_filled, common_rows_from, unit_data_rows}
-use Rattle.declaration_rows.specs.GlobalRows.{globals_of_statements, globals_of_unit, globals_of, block_names, global_at, global_rows, main_rows, units_global_rows}
-use Rattle.declaration_rows.specs.SharedStorageRows.{most_storage, length_in, furthest, measured_blocks, length_rows, size_rows, filled_blocks, filled_rows, unit_storage_rows, storage_rows_from, units_storage_rows}
+use Rattle.declaration_rows.specs.SharedStorageRows.{Before, most_storage, length_in, furthest, measured_blocks, length_rows, size_rows, filled_blocks, filled_rows, unit_storage_rows}
 use Rattle.declaration_rows.specs.Verdicts.{unit_storage_faults}
 
 -- ## Lists
@@ -129,7 +124,7 @@ module _ (u : WrittenUnit) (p : ProgramUnit) (common : from_all common_in u.stat
       ++ (if is_sound (apart_here i) then unit_data_rows u p (apart_here i) else []))
       ∙ (λ i. no_word_row u p.attribute p.stored i ++ (no_data_row (placed apart_all p) p.attribute [] u.statements given i ++ no_common_row u p.attribute apart_all u.statements given i))
 
--- ## What the unit shares, alone in a set
+-- ## What the unit shares with units before it
 
 most_of_none : (n : ℕ) → max 0 (0 + n) ≡ n
 most_of_none n = omega arith
@@ -156,86 +151,12 @@ no_filled_row names p before (s ∷ ss) none =
     let here = both_none (data_in s.body) (from_all data_in ss) none in
     (λ i. stood s (unless (not (list_any (λ x. is_among x before) (filled_blocks names p (names_filled (here.one i))))) CommonInitialisedTwice) ++ no_filled_row names p before ss here.other i)
 
--- a statement that has no entry names none
-unfoldable layer_entry : ℕ → body.Body-F Body → List EntryPoint
-layer_entry i l = elim l [ body.Entry x dummies ↦ record { name = x; formals = formals_of dummies; start = suc i } ∷ [] | _ ↦ [] ]
-
-unfoldable layer_names : body.Body-F Body → List Bytes
-layer_names l = elim l [ body.Entry x dummies ↦ x ∷ [] | _ ↦ [] ]
-
-layer_names_none : (i : ℕ) (l : body.Body-F Body) → layer_entry i l ≡ [] → layer_names l ≡ []
-unfolding layer_entry layer_names
-layer_names_none i (body.Header a b c) none = refl
-layer_names_none i (body.Declare a b) none = refl
-layer_names_none i (body.Dimension a) none = refl
-layer_names_none i (body.Common a) none = refl
-layer_names_none i (body.Equivalence a) none = refl
-layer_names_none i (body.Implicit a) none = refl
-layer_names_none i body.ImplicitNone none = refl
-layer_names_none i (body.Parameter a) none = refl
-layer_names_none i (body.External a) none = refl
-layer_names_none i (body.Intrinsic a) none = refl
-layer_names_none i (body.Save a) none = refl
-layer_names_none i (body.Init a) none = refl
-layer_names_none i (body.Format a) none = refl
-layer_names_none i (body.Entry a b) none = absurd (cc)
-layer_names_none i (body.Assign a b) none = refl
-layer_names_none i (body.AssignLabel a b) none = refl
-layer_names_none i (body.Goto a) none = refl
-layer_names_none i (body.GotoList a b) none = refl
-layer_names_none i (body.GotoName a b) none = refl
-layer_names_none i (body.IfSign a b c d) none = refl
-layer_names_none i (body.IfOne a b) none = refl
-layer_names_none i (body.IfThen a) none = refl
-layer_names_none i (body.ElseIf a) none = refl
-layer_names_none i body.Else none = refl
-layer_names_none i body.EndIf none = refl
-layer_names_none i (body.Do a b) none = refl
-layer_names_none i (body.DoWhile a b) none = refl
-layer_names_none i body.EndDo none = refl
-layer_names_none i body.Continue none = refl
-layer_names_none i (body.Call a b) none = refl
-layer_names_none i (body.Return a) none = refl
-layer_names_none i (body.Stop a) none = refl
-layer_names_none i (body.Transfer a b c) none = refl
-layer_names_none i (body.Auxiliary a b) none = refl
-layer_names_none i (body.Include a) none = refl
-layer_names_none i body.End none = refl
-
-entry_names_none : (i : ℕ) (b : Body) → entry_in i b ≡ [] → entry_names_in b ≡ []
-unfolding entry_in entry_names_in layer_entry layer_names
-entry_names_none i b none = layer_names_none i (layer_of b) none
-
-named_none : (i : ℕ) (ss : List Stmt) → entries_from i ss ≡ [] → from_all entry_names_in ss ≡ []
-unfolding entries_from from_all
-named_none i [] none = refl
-named_none i (s ∷ ss) none =
-    let here = both_none (entry_in i s.body) (entries_from (suc i) ss) none in (λ j. entry_names_none i s.body here.one j ++ named_none (suc i) ss here.other j)
-
-no_global : (ss : List Stmt) → from_all entry_names_in ss ≡ [] → from_all common_in ss ≡ [] → globals_of_statements ss ≡ []
-unfolding globals_of_statements from_all block_names
-no_global [] entries common = refl
-no_global (s ∷ ss) entries common =
-    let entry = both_none (entry_names_in s.body) (from_all entry_names_in ss) entries in
-    let block = both_none (common_in s.body) (from_all common_in ss) common in
-    (λ i. map (global_at s false) (entry.one i) ++ (map (global_at s true) (block_names (block.one i)) ++ no_global ss entry.other block.other i))
-
-no_global_row : (u : WrittenUnit) (name : Option Bytes) → u.name ≡ name → globals_of_statements u.statements ≡ [] → units_global_rows (u ∷ []) ≡ []
-unfolding units_global_rows globals_of globals_of_unit global_rows main_rows option_list unless
-no_global_row u None is none =
-    (λ i. global_rows [] ((map (λ x. record { name = x; is_block = false; file = u.file; card = u.card }) (option_list (is i)) ++ none i) ++ []) ++ main_rows false (u ∷ []))
-no_global_row u (Some x) is none =
-    (λ i. global_rows [] ((map (λ x. record { name = x; is_block = false; file = u.file; card = u.card }) (option_list (is i)) ++ none i) ++ []) ++ main_rows false (u ∷ []))
-
-module _ (options : Options) (u : WrittenUnit) (common : from_all common_in u.statements ≡ []) (tied : from_all equivalence_in u.statements ≡ []) (given : from_all data_in u.statements ≡ [])
-    (small : (m : Member) → IsIn m (unit_read options u).stored → size_of ((unit_read options u).attribute m.name) < 67108865) where
-  pub no_row_of_shared_storage : units_storage_rows options (u ∷ []) ≡ []
-  unfolding units_storage_rows storage_rows_from unit_storage_rows measured_blocks length_rows
+module _ (options : Options) (u : WrittenUnit) (before : Before) (common : from_all common_in u.statements ≡ []) (tied : from_all equivalence_in u.statements ≡ [])
+    (given : from_all data_in u.statements ≡ []) (small : (m : Member) → IsIn m (unit_read options u).stored → size_of ((unit_read options u).attribute m.name) < 67108865) where
+  pub no_row_of_shared_storage : unit_storage_rows u (unit_read options u) (placing_of u (unit_read options u)) before ≡ []
+  unfolding unit_storage_rows measured_blocks length_rows
   no_row_of_shared_storage =
       let p = unit_read options u in
       let alone = apart_here u p common tied given in
-      (λ i. (length_rows u [] (measured_blocks p.attribute (alone i) (alone i).blocks) ++ (size_rows u p.attribute (alone i) p.stored ++ filled_rows p.attribute (alone i) [] u.statements)) ++ [])
-      ∙ (λ i. (no_size_row u p.attribute p.stored small i ++ no_filled_row p.attribute apart_all [] u.statements given i) ++ [])
-
-  pub no_row_of_names : entries_from 0 u.statements ≡ [] → units_global_rows (u ∷ []) ≡ []
-  no_row_of_names entries = no_global_row u u.name refl (no_global u.statements (named_none 0 u.statements entries) common)
+      (λ i. length_rows u before.blocks (measured_blocks p.attribute (alone i) (alone i).blocks) ++ (size_rows u p.attribute (alone i) p.stored ++ filled_rows p.attribute (alone i) before.filled u.statements))
+      ∙ (λ i. no_size_row u p.attribute p.stored small i ++ no_filled_row p.attribute apart_all before.filled u.statements given i)

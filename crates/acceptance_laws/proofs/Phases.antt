@@ -1,6 +1,6 @@
 -- The phases that the verdict of a translation and the whole table have in common, and that a first refusal of one is a first refusal of the other.
 use Rattle.std.specs.Prelude.{◌≡◌, ◌≢◌, ◌<◌, Bool, true, false, List, [], ◌∷◌, ◌++◌, Option, Some, None, if◌then◌else◌}
-use Rattle.std.proofs.Common.{refl, sym, ap, ◌∙◌, subst, arith}
+use Rattle.std.proofs.Common.{refl, sym, subst, arith}
 use Rattle.f_tree.specs.declared.names.Options.{Options}
 use Rattle.f_tree.specs.declared.refusals.Kind.TheVariants.{NotBuiltYet}
 use Rattle.f_tree.specs.declared.refusals.Refusal.{Refusal}
@@ -11,14 +11,16 @@ use Rattle.f_tree.specs.declared.units.Unit.{Unit as WrittenUnit}
 use Rattle.f_tree.specs.RefusalRows.{IsNotAfter}
 use Rattle.f_tree.specs.Setting.{IsIn, first_in, later_in}
 use Rattle.c_tree.specs.declared.file.CFile.{CFile}
+use Rattle.declaration_rows.specs.GlobalRows.{all_units, units_global_rows}
 use Rattle.declaration_rows.specs.SetRows.{set_faults}
-use Rattle.source_acceptance.specs.SourceFiles.{Source}
+use Rattle.declaration_rows.specs.SharedStorageRows.{units_storage_rows}
+use Rattle.declaration_rows.specs.Verdicts.{storage_faults, shared_faults}
+use Rattle.source_acceptance.specs.SourceFiles.{Source, SpellsSource}
 use Rattle.source_acceptance.specs.Acceptance as table
 use Rattle.source_acceptance.specs.Acceptance.{tree_faults}
 use Rattle.translated_forms.specs.TranslatedForms.{is_translated_form, form_row, row_unless, unit_file, unit_not_translated, others_not_translated, units_not_translated, files_not_translated}
-use Rattle.source_verdict.specs.SourceRows.{Phase, Cards, Syntax, Nesting, Declarations, Forms, place_of, Fault, of_declarations, of_forms, IsFirstRefusal}
-use Rattle.source_verdict.proofs.EarlyPhases.{cards_down, syntax_down, nests_down, cards_up, syntax_up, nests_up}
-use Rattle.acceptance_laws.specs.WholeTable.{EachEarlierRefusalIsFirst}
+use Rattle.source_verdict.specs.SourceRows.{Phase, Cards, Syntax, Nesting, Declarations, Forms, Sharing, place_of, Fault, of_declarations, of_forms, of_sharing, IsFirstRefusal}
+use Rattle.source_verdict.proofs.EarlyPhases.{cards_down, syntax_down, nests_down, cards_up, syntax_up, nests_up, is_empty}
 
 -- ## Declarations
 
@@ -38,7 +40,7 @@ declarations_down options source r (table.of_trees _ set _ spells among) = of_de
 
 -- ## Forms that are not translated
 
-in_either : {A : Type 0} {P : Type 0} (x : A) (xs ys : List A) → (IsIn x xs → P) → (IsIn x ys → P) → IsIn x (xs ++ ys) → P
+pub in_either : {A : Type 0} {P : Type 0} (x : A) (xs ys : List A) → (IsIn x xs → P) → (IsIn x ys → P) → IsIn x (xs ++ ys) → P
 in_either x [] ys one other among = other among
 in_either x (_ ∷ xs) ys one other first_in = one first_in
 in_either x (y ∷ xs) ys one other (later_in among) = in_either x xs ys (λ its. one (later_in its)) other among
@@ -84,6 +86,34 @@ forms_are : (options : Options) (source : Source) (r : Refusal) → Fault option
 forms_are options source r (of_forms set _ spells among) = files_are options set.files r among
 
 -- ## First refusals
+
+-- what is said of a source whose forms are all translated: it breaks no row of storage, and of what units share those alone that are judged
+abbrev pub SharesNoStorage : Options → Source → Type 0
+SharesNoStorage options source = (set : FileSet) → SpellsSource source set → files_not_translated options set.files ≡ [] →
+    (storage_faults options set ≡ []) × (units_storage_rows options (all_units set.files) ≡ [])
+
+in_front : {A : Type 0} (x : A) (xs ys : List A) → IsIn x xs → IsIn x (xs ++ ys)
+in_front x [] ys among = elim among [ ]
+in_front x (_ ∷ xs) ys first_in = first_in
+in_front x (y ∷ xs) ys (later_in among) = later_in (in_front x xs ys among)
+
+none_in : (q : Refusal) (rs : List Refusal) → rs ≡ [] → IsIn q rs → ⊥
+none_in q rs none among = elim (subst (IsIn q) none among) [ ]
+
+shared_tree : (options : Options) (set : FileSet) (r : Refusal) → IsIn r (units_global_rows (all_units set.files)) → IsIn r (tree_faults table.Sharing options set)
+unfolding tree_faults shared_faults
+shared_tree options set r among = in_front r (units_global_rows (all_units set.files)) (units_storage_rows options (all_units set.files)) among
+
+shared_names : (options : Options) (set : FileSet) (r : Refusal) → units_storage_rows options (all_units set.files) ≡ [] →
+    IsIn r (tree_faults table.Sharing options set) → IsIn r (units_global_rows (all_units set.files))
+unfolding tree_faults shared_faults
+shared_names options set r none among =
+    in_either r (units_global_rows (all_units set.files)) (units_storage_rows options (all_units set.files)) (λ its. its)
+    (λ its. absurd (none_in r (units_storage_rows options (all_units set.files)) none its)) among
+
+stored_badly : (options : Options) (set : FileSet) (r : Refusal) → storage_faults options set ≡ [] → IsIn r (tree_faults table.Storage options set) → ⊥
+unfolding tree_faults
+stored_badly options set r none among = none_in r (storage_faults options set) none among
 
 module _ (options : Options) (source : Source) (r : Refusal) (first : IsFirstRefusal options source r) where
   holds_at : (phase : Phase) → first.phase ≡ phase → Fault options source phase r
@@ -155,12 +185,41 @@ module _ (options : Options) (source : Source) (r : Refusal) (first : IsFirstRef
     least = λ q h. least_at Declarations is q (declarations_down options source q h);
   }
 
-  by_phase : r.kind ≢ NotBuiltYet → (phase : Phase) → first.phase ≡ phase → table.IsFirstRefusal options source r
-  by_phase other Cards is = by_cards is
-  by_phase other Syntax is = by_syntax is
-  by_phase other Nesting is = by_nests is
-  by_phase other Declarations is = by_declarations is
-  by_phase other Forms is = absurd (other (forms_are options source r (holds_at Forms is)))
+  no_form : first.phase ≡ Sharing → (set : FileSet) → SpellsSource source set → files_not_translated options set.files ≡ []
+  unfolding place_of
+  no_form is set spells = is_empty (files_not_translated options set.files) (λ q among. clear_at Sharing Forms is (omega arith) q (of_forms set q spells among))
 
-pub refused_first : EachEarlierRefusalIsFirst
-refused_first options source r other first = by_phase options source r first other first.phase refl
+  no_stored : first.phase ≡ Sharing → SharesNoStorage options source → (q : Refusal) → table.Fault options source table.Storage q → ⊥
+  no_stored is none q (table.of_trees _ set _ spells among) = stored_badly options set q (none set spells (no_form is set spells)).0 among
+
+  before_sharing : first.phase ≡ Sharing → SharesNoStorage options source → table.IsRead options source table.Sharing
+  unfolding table.place_of place_of
+  before_sharing is none table.Cards q before h = clear_at Sharing Cards is (omega arith) q (cards_down options source q h)
+  before_sharing is none table.Syntax q before h = clear_at Sharing Syntax is (omega arith) q (syntax_down options source q h)
+  before_sharing is none table.Nesting q before h = clear_at Sharing Nesting is (omega arith) q (nests_down options source q h)
+  before_sharing is none table.Declarations q before h = clear_at Sharing Declarations is (omega arith) q (declarations_down options source q h)
+  before_sharing is none table.Storage q before h = no_stored is none q h
+  before_sharing is none table.Sharing q before h = absurd (omega (arith, before))
+
+  shared_up : (q : Refusal) → Fault options source Sharing q → table.Fault options source table.Sharing q
+  shared_up q (of_sharing set _ spells among) = table.of_trees table.Sharing set q spells (shared_tree options set q among)
+
+  shared_down : first.phase ≡ Sharing → SharesNoStorage options source → (q : Refusal) → table.Fault options source table.Sharing q → Fault options source Sharing q
+  shared_down is none q (table.of_trees _ set _ spells among) =
+      of_sharing set q spells (shared_names options set q (none set spells (no_form is set spells)).1 among)
+
+  by_sharing : first.phase ≡ Sharing → SharesNoStorage options source → table.IsFirstRefusal options source r
+  by_sharing is none = record {
+    phase = table.Sharing;
+    read = before_sharing is none;
+    holds = shared_up r (holds_at Sharing is);
+    least = λ q h. least_at Sharing is q (shared_down is none q h);
+  }
+
+  pub by_phase : r.kind ≢ NotBuiltYet → SharesNoStorage options source → (phase : Phase) → first.phase ≡ phase → table.IsFirstRefusal options source r
+  by_phase other none Cards is = by_cards is
+  by_phase other none Syntax is = by_syntax is
+  by_phase other none Nesting is = by_nests is
+  by_phase other none Declarations is = by_declarations is
+  by_phase other none Forms is = absurd (other (forms_are options source r (holds_at Forms is)))
+  by_phase other none Sharing is = by_sharing is none

@@ -1,6 +1,6 @@
 -- What the verdict of a translation says by the whole table of refusals: a source that is accepted for translation breaks no row of it, those of
 -- storage and of what units share included, and a refusal that is no F99 is the first by it. ANSI X3.9-1978, sections 2 to 18.
-use Rattle.std.specs.Prelude.{◌≡◌, ◌≢◌, ℕ, List, [], ◌∷◌}
+use Rattle.std.specs.Prelude.{◌≢◌}
 use Rattle.f_tree.specs.declared.names.Options.{Options}
 use Rattle.f_tree.specs.declared.refusals.Kind.TheVariants.{NotBuiltYet}
 use Rattle.f_tree.specs.declared.refusals.Refusal.{Refusal}
@@ -11,8 +11,8 @@ use Rattle.source_verdict.specs.SourceRows as verdict
 
 -- LAWS
 abbrev pub EachTranslatedSourceIsAccepted : Type 0
-EachTranslatedSourceIsAccepted = (options : Options) (source : Source) (bytes : List ℕ) (set : FileSet) → source.files ≡ bytes ∷ [] →
-    verdict.IsAccepted options source set → whole.IsAccepted options source set
+EachTranslatedSourceIsAccepted = (options : Options) (source : Source) (set : FileSet) → verdict.IsAccepted options source set →
+    whole.IsAccepted options source set
 
 abbrev pub EachEarlierRefusalIsFirst : Type 0
 EachEarlierRefusalIsFirst = (options : Options) (source : Source) (r : Refusal) → r.kind ≢ NotBuiltYet →

@@ -2,8 +2,7 @@
 
 ghost use Rattle.acceptance_laws.specs.WholeTable.{EachTranslatedSourceIsAccepted, EachEarlierRefusalIsFirst};
 
-/// A source of one file that is accepted for translation breaks no row of the whole table of refusals, those of storage and of what units share
-/// included.
+/// A source that is accepted for translation breaks no row of the whole table of refusals, those of storage and of what units share included.
 pub fn translated_sources_are_accepted()
     ensures { EachTranslatedSourceIsAccepted }
 {}

@@ -2,7 +2,7 @@
 
 ghost use Rattle.std.specs.Prelude.{◌≡◌, ◌++◌, IfOk, bytes_eq, decimal, codes};
 ghost use Rattle.std.specs.List.{list_any};
-ghost use Rattle.f_tree.specs.CNames.{made_name, NumberTemporary, ControlList, ConstantOf, StatementLabel, MadeLabel};
+ghost use Rattle.f_tree.specs.CNames.{made_name, FunctionResult, NumberTemporary, ControlList, ConstantOf, StatementLabel, MadeLabel};
 ghost use Rattle.f_tree.specs.CNames as spec;
 
 use itoa::Buffer;
@@ -136,6 +136,25 @@ pub fn variable_name(alloc: Global, name: &[u8]) -> Result<Items<u8>, AllocError
         text.extend_from_slice(b"__")?;
     }
     Ok(Items::from_vec(text))
+}
+
+/// The C name of a procedure: its name in lower case, with one underscore behind it, and with two where it has one.
+#[tactic(auto, unfolding(f_tree::specs::CNames::external_name))]
+pub fn external_name(alloc: Global, name: &[u8]) -> Result<Items<u8>, AllocError>
+    ensures { IfOk result (λ text. text ≡ spec.external_name name.now) }
+{
+    let end: &[u8] = if has_underscore(name) { b"__" } else { b"_" };
+    let mut text = Vec::from_slice(alloc, name)?;
+    text.extend_from_slice(end)?;
+    Ok(Items::from_vec(text))
+}
+
+/// The name of the variable for the result of a function.
+#[tactic(auto, unfolding(f_tree::specs::CNames::made_name))]
+pub fn result_name(alloc: Global) -> Result<Items<u8>, AllocError>
+    ensures { IfOk result (λ text. text ≡ made_name FunctionResult) }
+{
+    Items::from_slice(alloc, b"ret_val")
 }
 
 /// A text with the digits of a number behind it.

@@ -114,11 +114,12 @@ item_for o write n item later = before (option_map (with_label (o.label n)) (sta
 
 -- ## Loops
 
--- the same variable, in an object of its own, in an array or where a parameter points
+-- the same variable, in an object of its own, in an array, where a parameter points, or in an array to which one points
 unfoldable pub same_place : Term → Term → Bool
 same_place (Variable j ToNumber) (Variable k ToNumber) = nat_eq j k
 same_place (Element (Array j ToNumber) (Constant (pos a))) (Element (Array k ToNumber) (Constant (pos b))) = nat_eq j k && nat_eq a b
 same_place (Prefixed prefix.Deref (Variable j (ToPointer ToNumber))) (Prefixed prefix.Deref (Variable k (ToPointer ToNumber))) = nat_eq j k
+same_place (Element (Variable j (ToPointer ToNumber)) (Constant (pos a))) (Element (Variable k (ToPointer ToNumber)) (Constant (pos b))) = nat_eq j k && nat_eq a b
 same_place _ _ = false
 
 unfoldable pub added_by : Option CExpr → Option CExpr → Option CNext

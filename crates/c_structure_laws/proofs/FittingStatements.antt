@@ -455,6 +455,10 @@ module _ (o : Outline) (scope : Scope) (labels : Labels) (are : AreLabels o labe
       let other = eqb-true a b (right_true (nat_eq j k) (nat_eq a b) h) in
       (λ i. Element (Array (one i) ToNumber) (Constant (pos (other i))))
   place_is (Prefixed prefix.Deref (Variable j (ToPointer ToNumber))) (Prefixed prefix.Deref (Variable k (ToPointer ToNumber))) h = ap (λ n. Prefixed prefix.Deref (Variable n (ToPointer ToNumber))) (eqb-true j k h)
+  place_is (Element (Variable j (ToPointer ToNumber)) (Constant (pos a))) (Element (Variable k (ToPointer ToNumber)) (Constant (pos b))) h =
+      let one = eqb-true j k (left_true (nat_eq j k) (nat_eq a b) h) in
+      let other = eqb-true a b (right_true (nat_eq j k) (nat_eq a b) h) in
+      (λ i. Element (Variable (one i) (ToPointer ToNumber)) (Constant (pos (other i))))
   place_is v t h = absurd (cc)
 
   no_string_at : (found : Option (List ℕ)) (name : List ℕ) (k : ℕ) → KnowsArray scope name found k ToNumber → string_at found k ≡ []
@@ -467,6 +471,7 @@ module _ (o : Outline) (scope : Scope) (labels : Labels) (are : AreLabels o labe
   place_has_none (Variable j ToNumber) (Variable k ToNumber) h knows = refl
   place_has_none (Element (Array j ToNumber) (Constant (pos a))) (Element (Array k ToNumber) (Constant (pos b))) h knows = ap (λ zs. zs ++ []) (no_string_at (o.names.string j) (o.names.object j) j knows.0)
   place_has_none (Prefixed prefix.Deref (Variable j (ToPointer ToNumber))) (Prefixed prefix.Deref (Variable k (ToPointer ToNumber))) h knows = refl
+  place_has_none (Element (Variable j (ToPointer ToNumber)) (Constant (pos a))) (Element (Variable k (ToPointer ToNumber)) (Constant (pos b))) h knows = refl
   place_has_none v t h knows = absurd (cc)
 
   -- what is done behind each turn, with the item that it is

@@ -1,9 +1,4 @@
-mod MessageLemmas
 mod OriginLemmas
-mod ReadLemmas
+mod PlaceLemmas
 mod Rows
-mod SourceLemmas
 mod SplitRowLemmas
-mod TextLemmas
-mod ToldLemmas
-mod WordLemmas

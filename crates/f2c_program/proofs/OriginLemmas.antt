@@ -1,36 +1,36 @@
 -- Where the words of a command line let a command read.
-use Rattle.std.proofs.Common.{◌≡◌, ℕ, ◌+◌, ◌<◌, ◌≤◌, Bool, true, false, List, [], length, refl, ap, sym, ◌∙◌, subst, arith, Option, Some, None}
-use Rattle.std.specs.Prelude.{◌&&◌, nat_le, nat_eq, codes, IsSomeAnd, if◌then◌else◌}
-use Rattle.std.specs.List.{ends_with}
+use Rattle.std.proofs.Common.{◌≡◌, ℕ, ◌≤◌, Bool, true, false, List, [], length, refl, sym, ◌∙◌, subst, arith, Option, Some, None}
+use Rattle.std.specs.Prelude.{◌&&◌, nat_lt, nat_le, nat_eq, IsSomeAnd, if◌then◌else◌}
 use Rattle.std.proofs.lemmas.Bool.{and_parts}
 use Rattle.std.proofs.lemmas.Bool.Decides.{nat_tests}
 use Rattle.f2c_outside.specs.declared.shelves.Place.{Place}
 use Rattle.f2c_outside.specs.Shelf.{IsSource}
 use Rattle.f2c_outside.specs.Texts.{word_at, IsName}
-use Rattle.f2c_program.specs.declared.command.Command.{Command}
-use Rattle.f2c_program.specs.declared.command.Command.TheVariants.{Translate, Split, Help, BadWord}
-use Rattle.f2c_program.specs.declared.command.Origin.{Origin}
-use Rattle.f2c_program.specs.declared.command.Origin.TheVariants as origin
-use Rattle.f2c_program.specs.CommandWords.{is_help, is_split, is_fortran_file, first_other, translation_by, split_by, place_from, command_for, command_of}
+use Rattle.output_names.specs.OutputNames.{has_ending, is_file_word}
+use Rattle.command_words.specs.declared.command.Command.{Command}
+use Rattle.command_words.specs.declared.command.Command.TheVariants.{Split, Help, BadWord}
+use Rattle.command_words.specs.declared.command.Origin.{Origin}
+use Rattle.command_words.specs.declared.command.Origin.TheVariants as origin
+use Rattle.command_words.specs.CommandWords.{is_help, is_split, first_other, translation_by, split_by, place_from, command_for, command_of}
 use Rattle.f2c_program.specs.SplitOutcomes.{IsOrigin}
 
-at_least : (n : ℕ) → nat_le 3 n ≡ true → 3 ≤ n
+at_least : (n : ℕ) → nat_lt 2 n ≡ true → 3 ≤ n
 at_least n h = grind (arith, nat_tests)
 
 at_most : (n : ℕ) → nat_le n 255 ≡ true → n ≤ 255
 at_most n h = grind (arith, nat_tests)
 
-name_of_file : (word : List ℕ) → is_fortran_file word ≡ true → IsName word
+name_of_file : (word : List ℕ) → is_file_word word ≡ true → IsName word
 name_of_file word h =
-    let first = and_parts (nat_le 3 (length word)) (nat_le (length word) 255 && ends_with nat_eq word (codes ".f")) h in
-    let second = and_parts (nat_le (length word) 255) (ends_with nat_eq word (codes ".f")) first.1 in
+    let first = and_parts (nat_lt 2 (length word)) (nat_le (length word) 255 && has_ending word) h in
+    let second = and_parts (nat_le (length word) 255) (has_ending word) first.1 in
     let low : 3 ≤ length word = at_least (length word) first.0 in
     record { some = omega (arith, low); short = at_most (length word) second.0 }
 
-named_word : (found : Option (List ℕ)) (word : List ℕ) → found ≡ Some word → is_fortran_file word ≡ true → IsSomeAnd found IsName
+named_word : (found : Option (List ℕ)) (word : List ℕ) → found ≡ Some word → is_file_word word ≡ true → IsSomeAnd found IsName
 named_word found word is named = subst (λ o. IsSomeAnd o IsName) (sym is) (name_of_file word named)
 
-by_word : (words : List (List ℕ)) (word : List ℕ) (named two : Bool) (found : Origin) → word_at 2 words ≡ Some word → is_fortran_file word ≡ named
+by_word : (words : List (List ℕ)) (word : List ℕ) (named two : Bool) (found : Origin) → word_at 2 words ≡ Some word → is_file_word word ≡ named
     → (if named then (if two then Split (origin.Word 2) else BadWord 3) else BadWord 2) ≡ Split found → IsOrigin words found
 by_word words word true true found second is same =
     let its : origin.Word 2 ≡ found = cc in subst (IsOrigin words) its (named_word (word_at 2 words) word second is)
@@ -39,25 +39,26 @@ by_word words word false two found second is same = absurd (cc)
 
 by_second : (words : List (List ℕ)) (second : Option (List ℕ)) (found : Origin) → word_at 2 words ≡ second → split_by second words ≡ Split found → IsOrigin words found
 by_second words None found second_is same = let its : origin.Input ≡ found = cc in subst (IsOrigin words) its tt
-by_second words (Some word) found second_is same = by_word words word (is_fortran_file word) (nat_eq (length words) 2) found second_is refl same
+by_second words (Some word) found second_is same = by_word words word (is_file_word word) (nat_eq (length words) 2) found second_is refl same
 
-no_translation : (other : Option ℕ) (found : Origin) → translation_by other ≡ Split found → ⊥
-no_translation None found same = cc
-no_translation (Some number) found same = cc
+no_translation : (words : List (List ℕ)) (other : Option ℕ) (found : Origin) → translation_by words other ≡ Split found → ⊥
+no_translation words None found same = cc
+no_translation words (Some number) found same = cc
 
-no_help : (help one : Bool) (other : Option ℕ) (found : Origin) → (if help then (if one then Help else BadWord 2) else translation_by other) ≡ Split found → ⊥
-no_help true true other found same = cc
-no_help true false other found same = cc
-no_help false one other found same = no_translation other found same
+no_help : (words : List (List ℕ)) (help one : Bool) (other : Option ℕ) (found : Origin)
+    → (if help then (if one then Help else BadWord 2) else translation_by words other) ≡ Split found → ⊥
+no_help words true true other found same = cc
+no_help words true false other found same = cc
+no_help words false one other found same = no_translation words other found same
 
 by_first : (words : List (List ℕ)) (split help one : Bool) (other : Option ℕ) (found : Origin)
-    → (if split then split_by (word_at 2 words) words else (if help then (if one then Help else BadWord 2) else translation_by other)) ≡ Split found → IsOrigin words found
+    → (if split then split_by (word_at 2 words) words else (if help then (if one then Help else BadWord 2) else translation_by words other)) ≡ Split found → IsOrigin words found
 by_first words true help one other found same = by_second words (word_at 2 words) found refl same
-by_first words false help one other found same = absurd (no_help help one other found same)
+by_first words false help one other found same = absurd (no_help words help one other found same)
 
 by_words : (words : List (List ℕ)) (first : Option (List ℕ)) (found : Origin) → command_for first words ≡ Split found → IsOrigin words found
-by_words words None found same = absurd (cc)
-by_words words (Some first) found same = by_first words (is_split first) (is_help first) (nat_eq (length words) 1) (first_other 1 words) found same
+by_words words None found same = absurd (no_translation words (first_other 1 [] words) found same)
+by_words words (Some first) found same = by_first words (is_split first) (is_help first) (nat_eq (length words) 1) (first_other 1 [] words) found same
 
 pub origin_of : (words : List (List ℕ)) (asked : Command) (found : Origin) → asked ≡ command_of words → asked ≡ Split found → IsOrigin words found
 origin_of words asked found is split = by_words words (word_at 1 words) found (sym is ∙ split)

@@ -1,9 +1,9 @@
 -- What each exit status of splitting says follows from how it ended and from its message.
-use Rattle.std.proofs.Common.{◌≡◌, ℕ, ◌+◌, ◌<◌, ◌≤◌, ◌⊎◌, ◌^◌, Bool, true, false, List, [], ◌∷◌, ◌++◌, Option, Some, None, Result, Ok, Err, refl, ap, sym, ◌∙◌, subst, inl, inr, arith}
+use Rattle.std.proofs.Common.{◌≡◌, ℕ, ◌<◌, ◌≤◌, true, false, List, Option, Some, None, Result, Ok, Err, refl, ap, sym, ◌∙◌, subst, inl, inr, arith}
 use Rattle.std.specs.Prelude.{IfSome, is_none, if◌then◌else◌}
 use Rattle.f2c_outside.specs.declared.shelves.Place.{Place}
 use Rattle.f2c_outside.specs.declared.shelves.Place.TheVariants.{Input, Output, Fault, File}
-use Rattle.f2c_outside.specs.Shelf.{ShelfState, Contents, Rose, Quiet, Lacks, bytes_of}
+use Rattle.f2c_outside.specs.Shelf.{ShelfState, Contents, Rose, Lacks, bytes_of}
 use Rattle.f_tree.specs.declared.refusals.Refusal.{Refusal}
 use Rattle.fortran_text.specs.FirstFault.{too_long}
 use Rattle.shelf_texts.specs.Messages.{Said, Gained}
@@ -19,14 +19,14 @@ use Rattle.split_command.specs.SplitFiles as files
 use Rattle.split_command.specs.SplitEnds.{IsCut, IsSplitInto, IsSplitUpTo, IsTooLong, IsUnasked, HasNoFreeName, IsNotThere, HasFailed, Holds, HasRead, HoldsMore, HasReadFront, SplitEnded}
 use Rattle.split_command.specs.declared.failing.SplitFail.{SplitFail}
 use Rattle.split_command.specs.declared.failing.SplitFail.TheVariants as fail
-use Rattle.f2c_program.specs.declared.outcome.Outcome.{Outcome}
-use Rattle.f2c_program.specs.declared.outcome.Outcome.TheVariants as outcome
-use Rattle.f2c_program.specs.Outcomes.{status_of}
-use Rattle.f2c_program.specs.Lines.{shown, line_of, refusal_line, not_there_line, shelf_fault_line, no_free_name_line, no_memory_line}
-use Rattle.f2c_program.specs.SplitOutcomes.{file_named, IsSplitOutcome, SplitRan}
+use Rattle.outcomes.specs.declared.outcome.Outcome.{Outcome}
+use Rattle.outcomes.specs.declared.outcome.Outcome.TheVariants as outcome
+use Rattle.outcomes.specs.Outcomes.{status_of}
+use Rattle.outcomes.specs.Lines.{shown, name_of_place, line_of, refusal_line, not_there_line, shelf_fault_line, no_free_name_line, no_memory_line}
+use Rattle.f2c_program.specs.SplitOutcomes.{IsSplitOutcome, SplitRan}
 use Rattle.f2c_program.specs.SplitRows.{lacks, status_by_names, status_by_limit, names_on, split_status, SplitRow, TooLongRow, NoFreeNameRow, IsSplitPart, PartRow, SplitFaultRow, SplitRows}
 use Rattle.f2c_program.specs.SplitRows as rows
-use Rattle.f2c_program.proofs.ToldLemmas.{some_at, for_some, both_then, gained, said-nil, not_both}
+use Rattle.outcomes.proofs.ToldLemmas.{some_at, for_some, both_then, gained, not_both}
 
 -- THE STATUS by what the place holds
 is_there : (from : Place) (c : Contents) → ¬ Lacks from c → lacks from c ≡ false
@@ -110,7 +110,7 @@ rows-done from bytes b m a read into silent =
 
 -- STATUS 1
 rows-too_long : (from : Place) (bytes : List ℕ) (refusal : Refusal) (b m a : ShelfState) → HasReadFront from bytes refusal b → IsTooLong bytes refusal b m
-    → Said (refusal_line (file_named from) refusal) m a → SplitRows from b a 1
+    → Said (refusal_line (name_of_place from) refusal) m a → SplitRows from b a 1
 rows-too_long from bytes refusal b m a read long said =
     let expected : IfSome b.told (λ c. 1 ≡ split_status from c) =
     for_some b.told _
@@ -125,8 +125,8 @@ rows-too_long from bytes refusal b m a read long said =
       quiet = λ is. absurd (omega arith);
       split = λ is. absurd (omega arith);
       too_long = λ is.
-          both_then b.told a.told (Gained (refusal_line (file_named from) refusal) b.faults a.faults) (TooLongRow from b.faults a.faults)
-          (gained (refusal_line (file_named from) refusal) b.told b.faults m a long.kept.same long.kept.later said)
+          both_then b.told a.told (Gained (refusal_line (name_of_place from) refusal) b.faults a.faults) (TooLongRow from b.faults a.faults)
+          (gained (refusal_line (name_of_place from) refusal) b.told b.faults m a long.kept.same long.kept.later said)
           (λ c d here gain.
           let held = some_at b.told (HoldsMore from bytes refusal) c here read in
           record { refusal = refusal; there = held.there; past = held.past; said = gain });
@@ -300,7 +300,7 @@ by_missing from words b m a (outcome.NoFreeName number) missing is said = absurd
 by_refusal : (from : Place) (words : List (List ℕ)) (bytes : List ℕ) (refusal : Refusal) (b m a : ShelfState) (ended : Outcome) → HasReadFront from bytes refusal b
     → IsTooLong bytes refusal b m → IsSplitOutcome from (Err (fail.Refused refusal)) ended → Said (line_of words ended) m a → SplitRows from b a (status_of ended)
 by_refusal from words bytes refusal b m a (outcome.Refused r name) read long is said =
-    rows-too_long from bytes refusal b m a read long (subst (λ x. Said (refusal_line (file_named from) x) m a) is.0 (subst (λ n. Said (refusal_line n r) m a) is.1 said))
+    rows-too_long from bytes refusal b m a read long (subst (λ x. Said (refusal_line (name_of_place from) x) m a) is.0 (subst (λ n. Said (refusal_line n r) m a) is.1 said))
 by_refusal from words bytes refusal b m a outcome.NoMemory read long is said = rows-no_memory from b m a long.kept said
 by_refusal from words bytes refusal b m a outcome.Done read long is said = absurd is
 by_refusal from words bytes refusal b m a (outcome.BadWord number) read long is said = absurd is

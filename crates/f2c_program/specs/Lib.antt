@@ -1,11 +1,4 @@
-pub mod CommandWords
-pub mod Outcomes
-pub mod Lines
 pub mod Usage
-pub mod SourceOnShelf
-pub mod SourceReads
-pub mod SourceTexts
-pub mod TranslateRows
 pub mod SplitOutcomes
 pub mod SplitRows
 pub mod TopCall

@@ -3,7 +3,7 @@ use Rattle.std.specs.Prelude.{◌≡◌, ℕ, Bool, true, false, List, Result, O
 use Rattle.f2c_outside.specs.Shelf.{ShelfState, Idle}
 use Rattle.f2c_program.specs.declared.program.NoWords.{NoWords}
 use Rattle.f2c_program.specs.declared.program.NoWords.TheVariants as no_words
-use Rattle.f2c_program.specs.CommandWords.{command_of}
+use Rattle.command_words.specs.CommandWords.{command_of}
 use Rattle.f2c_program.specs.TopCall.{Concluded, Commanded}
 
 -- the real shelf before its first call, which tells nothing of what it holds

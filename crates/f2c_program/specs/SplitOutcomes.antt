@@ -1,35 +1,28 @@
 -- The outcome of splitting a file.
-use Rattle.std.specs.Prelude.{◌≡◌, ℕ, List, Option, Some, None, Result, Ok, Err, IsSomeAnd}
+use Rattle.std.specs.Prelude.{◌≡◌, ℕ, List, Result, Ok, Err, IsSomeAnd}
 use Rattle.f2c_outside.specs.declared.shelves.Place.{Place}
-use Rattle.f2c_outside.specs.declared.shelves.Place.TheVariants.{Input, Output, Fault, File}
+use Rattle.f2c_outside.specs.declared.shelves.Place.TheVariants.{File}
 use Rattle.f2c_outside.specs.Shelf.{ShelfState}
 use Rattle.f2c_outside.specs.Texts.{word_at, IsName}
 use Rattle.f_tree.specs.declared.refusals.Refusal.{Refusal}
 use Rattle.split_command.specs.SplitEnds.{SplitEnded}
 use Rattle.split_command.specs.declared.failing.SplitFail.{SplitFail}
 use Rattle.split_command.specs.declared.failing.SplitFail.TheVariants as fail
-use Rattle.f2c_program.specs.declared.command.Origin.{Origin}
-use Rattle.f2c_program.specs.declared.command.Origin.TheVariants as origin
-use Rattle.f2c_program.specs.declared.outcome.Outcome.{Outcome}
-use Rattle.f2c_program.specs.declared.outcome.Outcome.TheVariants as outcome
-use Rattle.f2c_program.specs.Lines.{shown}
-use Rattle.f2c_program.specs.SourceTexts.{IsNotThereOrNoMemory}
+use Rattle.command_words.specs.declared.command.Origin.{Origin}
+use Rattle.command_words.specs.declared.command.Origin.TheVariants as origin
+use Rattle.outcomes.specs.declared.outcome.Outcome.{Outcome}
+use Rattle.outcomes.specs.declared.outcome.Outcome.TheVariants as outcome
+use Rattle.outcomes.specs.Lines.{shown, name_of_place}
+use Rattle.outcomes.specs.Outcomes.{IsNotThereOrNoMemory}
 
 -- a word that a command reads by is the name of a file
 abbrev pub IsOrigin : List (List ℕ) → Origin → Type 0
 IsOrigin words origin.Input = Unit {0}
 IsOrigin words (origin.Word number) = IsSomeAnd (word_at number words) IsName
 
--- the name of a file, and none for a stream
-abbrev pub file_named : Place → Option (List ℕ)
-file_named (File name) = Some name
-file_named Input = None
-file_named Output = None
-file_named Fault = None
-
 -- a refusal of what was read at a place, or want of memory for the name
 abbrev pub IsRefusedAt : Place → Refusal → Outcome → Type 0
-IsRefusedAt place refusal (outcome.Refused r name) = (r ≡ refusal) × (name ≡ file_named place)
+IsRefusedAt place refusal (outcome.Refused r name) = (r ≡ refusal) × (name ≡ name_of_place place)
 IsRefusedAt place refusal outcome.NoMemory = Unit {0}
 IsRefusedAt place refusal outcome.Done = ⊥
 IsRefusedAt place refusal (outcome.BadWord number) = ⊥

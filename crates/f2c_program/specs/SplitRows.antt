@@ -15,8 +15,7 @@ use Rattle.piece_writer.specs.WrittenPieces.{AreMadeUpTo}
 use Rattle.split_command.specs.Listing.{listing}
 use Rattle.split_command.specs.SplitEnds.{IsCut}
 use Rattle.split_command.specs.SplitFiles.{IsSplit, IsHalfListed}
-use Rattle.f2c_program.specs.Lines.{shown, refusal_line, not_there_line, shelf_fault_line, no_free_name_line, no_memory_line}
-use Rattle.f2c_program.specs.SplitOutcomes.{file_named}
+use Rattle.outcomes.specs.Lines.{shown, name_of_place, refusal_line, not_there_line, shelf_fault_line, no_free_name_line, no_memory_line}
 
 -- THE STATUS by what the place holds and which files are there: 3 where the file is not there, 1 where it is too long, 13 where a piece gets no
 -- name, else 0
@@ -54,7 +53,7 @@ pub record TooLongRow (from : Place) (before after : ℕ) (c d : Contents) : Typ
   pub refusal : Refusal
   pub there : ¬ Lacks from c
   pub past : IsPastLimit (bytes_of from c) refusal.card refusal.kind
-  pub said : Gained (refusal_line (file_named from) refusal) before after c d
+  pub said : Gained (refusal_line (name_of_place from) refusal) before after c d
 
 -- status 13: no number is free for a piece, the line on Fault says for which, and nothing else changed
 pub record NoFreeNameRow (from : Place) (before after : ℕ) (c d : Contents) : Type 0 where

@@ -1,31 +1,43 @@
 -- What the top call does: the outcome of the command that the words ask for, its message and its status.
 use Rattle.std.specs.Prelude.{◌≡◌, ℕ, ◌⊎◌, List}
-use Rattle.f2c_outside.specs.declared.shelves.Place.TheVariants.{Input, Output}
+use Rattle.f2c_outside.specs.declared.shelves.Place.TheVariants.{Output}
 use Rattle.f2c_outside.specs.Shelf.{ShelfState, Rose}
-use Rattle.f2c_program.specs.declared.command.Command.{Command}
-use Rattle.f2c_program.specs.declared.command.Command.TheVariants as command
-use Rattle.f2c_program.specs.declared.outcome.Outcome.{Outcome}
-use Rattle.f2c_program.specs.declared.outcome.Outcome.TheVariants as outcome
-use Rattle.f2c_program.specs.CommandWords.{command_of, place_from}
-use Rattle.f2c_program.specs.Outcomes.{status_of}
-use Rattle.f2c_program.specs.Lines.{line_of, bad_word_line}
-use Rattle.shelf_texts.specs.ShelfLoops.{Both, IsKept, written}
+use Rattle.output_names.specs.WordPlaces.{inputs_of, outputs_of}
+use Rattle.outcomes.specs.declared.outcome.Outcome.{Outcome}
+use Rattle.outcomes.specs.declared.outcome.Outcome.TheVariants as outcome
+use Rattle.outcomes.specs.Outcomes.{status_of}
+use Rattle.outcomes.specs.Lines.{line_of, bad_word_line}
+use Rattle.shelf_texts.specs.ShelfLoops.{Both, IsKept, IsWritten, IsUnwritten, written}
 use Rattle.shelf_texts.specs.Messages.{Said, Gained}
-use Rattle.f2c_program.specs.TranslateRows.{WroteText, TranslateEnded, TranslateRows}
+use Rattle.translate_command.specs.TranslateRows.{TranslateEnded, TranslateRows}
+use Rattle.command_words.specs.declared.command.Command.{Command}
+use Rattle.command_words.specs.declared.command.Command.TheVariants as command
+use Rattle.command_words.specs.CommandWords.{command_of, place_from}
 use Rattle.f2c_program.specs.SplitOutcomes.{SplitRan}
 use Rattle.f2c_program.specs.SplitRows.{SplitRows}
 use Rattle.f2c_program.specs.Usage.{usage}
+
+-- the usage was written, or not for a fault
+abbrev pub WroteUsage : ShelfState → ShelfState → Outcome → Type 0
+WroteUsage b a outcome.Done = IsWritten Output usage b a
+WroteUsage b a (outcome.Unwritten place) = (place ≡ Output) × IsUnwritten Output usage b a
+WroteUsage b a (outcome.Refused refusal name) = ⊥
+WroteUsage b a (outcome.BadWord number) = ⊥
+WroteUsage b a (outcome.NotThere name) = ⊥
+WroteUsage b a (outcome.Unread place) = ⊥
+WroteUsage b a (outcome.NoFreeName number) = ⊥
+WroteUsage b a outcome.NoMemory = ⊥
 
 -- no command goes on with the word of this number, and the shelf was not touched
 pub record BadWordEnded (number : ℕ) (b a : ShelfState) (ended : Outcome) : Type 0 where
   pub named : ended ≡ outcome.BadWord number
   pub kept : IsKept b a
 
--- how each command ends, before its message is written
+-- how each command ends, before its message is written: a translation goes from the files that the words name, or Input, to their C files, or Output
 abbrev pub Ran : List (List ℕ) → Command → ShelfState → ShelfState → Outcome → Type 0
-Ran words (command.Translate options) b a ended = TranslateEnded options Input Output b a ended
+Ran words (command.Translate options) b a ended = TranslateEnded options (inputs_of words) (outputs_of words) b a ended
 Ran words (command.Split origin) b a ended = SplitRan (place_from words origin) b a ended
-Ran words command.Help b a ended = WroteText Output usage b a ended
+Ran words command.Help b a ended = WroteUsage b a ended
 Ran words (command.BadWord number) b a ended = BadWordEnded number b a ended
 
 -- the command came to an outcome, which decides the message and the status; one that did its work has no message
@@ -51,7 +63,7 @@ pub record HelpRows (b a : ShelfState) (status : ℕ) : Type 0 where
 
 -- what the exit status says of each command
 abbrev pub Commanded : List (List ℕ) → Command → ShelfState → ShelfState → ℕ → Type 0
-Commanded words (command.Translate options) b a status = TranslateRows options Input Output b a status
+Commanded words (command.Translate options) b a status = TranslateRows options (inputs_of words) (outputs_of words) b a status
 Commanded words (command.Split origin) b a status = SplitRows (place_from words origin) b a status
 Commanded words command.Help b a status = HelpRows b a status
 Commanded words (command.BadWord number) b a status = BadWordRows words number b a status

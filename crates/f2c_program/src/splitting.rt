@@ -4,18 +4,16 @@ ghost use Rattle.std.specs.Prelude.{◌≡◌, IfOk};
 ghost use Rattle.f2c_outside.specs.Shelf.{IsSource};
 ghost use Rattle.f2c_outside.specs.Texts.{IsName};
 ghost use Rattle.f2c_outside.specs.declared.shelves.Place.TheVariants as place_of_name;
-ghost use Rattle.f2c_program.specs.CommandWords.{place_from};
-ghost use Rattle.f2c_program.specs.SplitOutcomes.{IsOrigin, file_named, IsRefusedAt, IsSplitOutcome, SplitRan};
+ghost use Rattle.command_words.specs.CommandWords.{place_from};
+ghost use Rattle.f2c_program.specs.SplitOutcomes.{IsOrigin, IsRefusedAt, IsSplitOutcome, SplitRan};
 
-use crate::command::Origin;
-use crate::outcome::Outcome;
-use crate::top_call::place_not_there;
-use f_tree::{Refusal, Text};
+use command_words::Origin;
+use f_tree::Refusal;
 use f2c_outside::shelves::{Place, Shelf};
 use f2c_outside::texts::{Name, NameFail, NoMemory, Words};
-use plain_data::Items;
+use outcomes::{Outcome, name_of_place, place_not_there};
 use split_command::{SplitFail, split_place};
-use std::alloc::{AllocError, Global};
+use std::alloc::Global;
 
 /// The file of this name.
 fn file_of(alloc: Global, name: &[u8]) -> Result<Place, NoMemory>
@@ -43,21 +41,11 @@ fn place_of(alloc: Global, words: &Words, origin: Origin) -> Result<Place, NoMem
     }
 }
 
-/// The name of a file, and none for a stream.
-fn file_named(alloc: Global, place: &Place) -> Result<Option<Text>, AllocError>
-    ensures { IfOk result (λ name. name ≡ file_named place.now) }
-{
-    match place {
-        Place::File(name) => Ok(Some(Items::from_slice(alloc, name.as_bytes())?)),
-        Place::Input | Place::Output | Place::Fault => Ok(None),
-    }
-}
-
 /// A refusal with the name of the file that was read.
 fn refused_at(alloc: Global, place: &Place, refusal: Refusal) -> Outcome
     ensures { IsRefusedAt place.now refusal result }
 {
-    match file_named(alloc, place) {
+    match name_of_place(alloc, place) {
         Ok(name) => Outcome::Refused(refusal, name),
         Err(_) => Outcome::NoMemory,
     }

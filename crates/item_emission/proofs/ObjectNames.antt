@@ -18,17 +18,17 @@ use Rattle.main_file.specs.MainFile.{Inventory, Listing, Bases, first_list, firs
 pub some_same : {A : Type 0} (a b : A) → Some a ≡ Some b → a ≡ b
 some_same a b h = cc
 
-get_front : {A : Type 0} (xs ys : List A) (i : ℕ) (x : A) → slice_get xs i ≡ Some x → slice_get (xs ++ ys) i ≡ Some x
+pub get_front : {A : Type 0} (xs ys : List A) (i : ℕ) (x : A) → slice_get xs i ≡ Some x → slice_get (xs ++ ys) i ≡ Some x
 get_front [] ys i x at = absurd (cc)
 get_front (y ∷ xs) ys zero x at = at
 get_front (y ∷ xs) ys (suc i) x at = get_front xs ys i x at
 
-get_back : {A : Type 0} (xs ys : List A) (n i : ℕ) (x : A) → n ≡ length xs + i → slice_get ys i ≡ Some x → slice_get (xs ++ ys) n ≡ Some x
+pub get_back : {A : Type 0} (xs ys : List A) (n i : ℕ) (x : A) → n ≡ length xs + i → slice_get ys i ≡ Some x → slice_get (xs ++ ys) n ≡ Some x
 get_back [] ys n i x at got = ap (slice_get ys) {x = n} {y = i} (omega (arith, at)) ∙ got
 get_back (y ∷ xs) ys zero i x at got = absurd (let no : ⊥ = omega (arith, at) in no)
 get_back (y ∷ xs) ys (suc n) i x at got = get_back xs ys n i x (omega (arith, at)) got
 
-map_at : {A B : Type 0} (f : A → B) (xs : List A) (i : ℕ) (x : A) → slice_get xs i ≡ Some x → slice_get (map f xs) i ≡ Some (f x)
+pub map_at : {A B : Type 0} (f : A → B) (xs : List A) (i : ℕ) (x : A) → slice_get xs i ≡ Some x → slice_get (map f xs) i ≡ Some (f x)
 map_at f [] i x at = absurd (cc)
 map_at f (y ∷ xs) zero x at = ap Some (ap f (some_same y x at))
 map_at f (y ∷ xs) (suc i) x at = map_at f xs i x at
@@ -41,11 +41,11 @@ pub other : {A : Type 0} (t : Bool) (a c : A) → t ≡ false → (if t then a e
 other true a c h = absurd (cc)
 other false a c h = refl
 
-and_false : (s t : Bool) → s ≡ false → s && t ≡ false
+pub and_false : (s t : Bool) → s ≡ false → s && t ≡ false
 and_false true t h = absurd (cc)
 and_false false t h = refl
 
-and_true : (s t : Bool) → s ≡ true → t ≡ true → s && t ≡ true
+pub and_true : (s t : Bool) → s ≡ true → t ≡ true → s && t ≡ true
 and_true true t h k = k
 and_true false t h k = absurd (cc)
 
@@ -80,32 +80,38 @@ found_by : {A : Type 0} (test : A → Bool) (x : A) (xs : List A) (i : ℕ) (t :
 found_by test x xs i true is h later = let same : 0 ≡ i = some_same 0 i h in record { one = x; at = ap (slice_get (x ∷ xs)) (sym same); passes = is }
 found_by test x xs i false is h later = one_more test x xs i (position test xs) h later
 
-position_finds : {A : Type 0} (test : A → Bool) (xs : List A) (i : ℕ) → position test xs ≡ Some i → IsFound test xs i
+pub position_finds : {A : Type 0} (test : A → Bool) (xs : List A) (i : ℕ) → position test xs ≡ Some i → IsFound test xs i
 position_finds test [] i h = absurd (cc)
 position_finds test (x ∷ xs) i h = found_by test x xs i (test x) refl (sym (position_step test x xs) ∙ h) (λ j. position_finds test xs j)
 
-within : {A : Type 0} (xs : List A) (i : ℕ) (x : A) → slice_get xs i ≡ Some x → i < length xs
+pub within : {A : Type 0} (xs : List A) (i : ℕ) (x : A) → slice_get xs i ≡ Some x → i < length xs
 within [] i x at = absurd (cc)
 within (y ∷ xs) zero x at = omega arith
 within (y ∷ xs) (suc i) x at = let less = within xs i x at in omega (arith, less)
 
-some_place : (found : Option ℕ) → is_some found ≡ true → (i : ℕ) × (found ≡ Some i)
+pub some_place : (found : Option ℕ) → is_some found ≡ true → (i : ℕ) × (found ≡ Some i)
 some_place (Some i) h = (i, refl)
 some_place None h = absurd (cc)
 
-temporary_named : (k n i : ℕ) → i < n → slice_get (temporary_names k n) i ≡ Some (made_name (NumberTemporary (k + i)))
+pub temporary_named : (k n i : ℕ) → i < n → slice_get (temporary_names k n) i ≡ Some (made_name (NumberTemporary (k + i)))
 temporary_named k zero i below = absurd (let no : ⊥ = omega (arith, below) in no)
 temporary_named k (suc n) zero below = ap (λ m. Some (made_name (NumberTemporary m))) {x = k} {y = k + 0} (omega arith)
 temporary_named k (suc n) (suc i) below = temporary_named (suc k) n i (omega (arith, below)) ∙ ap (λ m. Some (made_name (NumberTemporary m))) {x = suc k + i} {y = k + suc i} (omega arith)
 
-list_named : (k : ℕ) (ls : List Listing) (i : ℕ) (l : Listing) → slice_get ls i ≡ Some l → slice_get (list_names k ls) i ≡ Some (made_name (ControlList (k + i)))
+pub list_named : (k : ℕ) (ls : List Listing) (i : ℕ) (l : Listing) → slice_get ls i ≡ Some l → slice_get (list_names k ls) i ≡ Some (made_name (ControlList (k + i)))
 list_named k [] i l at = absurd (cc)
 list_named k (m ∷ ls) zero l at = ap (λ n. Some (made_name (ControlList n))) {x = k} {y = k + 0} (omega arith)
 list_named k (m ∷ ls) (suc i) l at = list_named (suc k) ls i l at ∙ ap (λ n. Some (made_name (ControlList n))) {x = suc k + i} {y = k + suc i} (omega arith)
 
-list_names_count : (k : ℕ) (ls : List Listing) → length (list_names k ls) ≡ length ls
+pub list_names_count : (k : ℕ) (ls : List Listing) → length (list_names k ls) ≡ length ls
 list_names_count k [] = refl
 list_names_count k (l ∷ ls) = ap suc (list_names_count (suc k) ls)
+
+pub equal_is : (z y : ℤ) → int_eq z y ≡ true → z ≡ y
+equal_is z y h = grind (arith, ints)
+
+pub same_number : (n m : ℕ) → nat_eq n m ≡ true → m ≡ n
+same_number n m h = grind (arith, nat_tests)
 
 -- ## Objects
 
@@ -164,9 +170,6 @@ module _ (v : Inventory) (b : Bases) where
   temporary_is k h =
       own_temporary k (made_name (NumberTemporary (1 + k))) (temporary_named 1 v.temporaries k (ltb-true k v.temporaries h)) ∙ ap (λ n. made_name (NumberTemporary n)) {x = 1 + k} {y = suc k} (omega arith)
 
-  equal_is : (z y : ℤ) → int_eq z y ≡ true → z ≡ y
-  equal_is z y h = grind (arith, ints)
-
   pub constant_is : b.file + length v.constants ≤ b.function → (z : ℤ) → is_some (place_of_constant v z) ≡ true → object_name v b (b.file + place_or_none (place_of_constant v z)) ≡ made_name (ConstantOf z)
   constant_is before z h =
       let place = some_place (place_of_constant v z) h in
@@ -194,9 +197,6 @@ module _ (v : Inventory) (b : Bases) where
       (and_true (nat_le (first_string v b) (first_string v b + i)) (nat_lt (first_string v b + i) (first_temporary v b)) (le-leb (first_string v b) (first_string v b + i) (omega arith)) (lt-ltb (first_string v b + i) (first_temporary v b) (omega (arith, less))))
       ∙ ap (λ k. Some (v.texts (unwrap_or (slice_get v.strings k) 0))) {x = (first_string v b + i) - first_string v b} {y = i} (omega arith)
       ∙ ap (λ o. Some (v.texts (unwrap_or o 0))) at
-
-  same_number : (n m : ℕ) → nat_eq n m ≡ true → m ≡ n
-  same_number n m h = grind (arith, nat_tests)
 
   pub text_is : (n i : ℕ) → place_of_string v n ≡ Some i → string_at v b (first_string v b + place_or_none (place_of_string v n)) ≡ Some (v.texts n)
   text_is n i is =

@@ -20,7 +20,7 @@ use Rattle.c_image.specs.Operations.{prefix_for, operator_for, extreme_term, fun
 use Rattle.c_emit.specs.Numbers as emit
 use Rattle.c_emit.specs.Numbers.{Writing, is_scalar, is_array, steps_from, element_value, applied_value, if_number, value_term, place_term, value_terms}
 use Rattle.item_emission.specs.declared.known.Dimension.{Dimension}
-use Rattle.item_emission.specs.NamedEmission.{Knowledge, constant_expr, difference_expr, product_expr, sum_of, dimension_at, distance_expr, stepped_expr, index_expr, variable_expr, element_expr, extreme_expr, first_extreme, alone_expr, remainder_expr, function_expr, applied_expr, expr_if, temporary_object, temporary_expr, value_expr, place_expr, value_exprs}
+use Rattle.item_emission.specs.NamedEmission.{Knowledge, constant_expr, difference_expr, product_expr, sum_of, dimension_at, distance_expr, stepped_expr, index_expr, variable_expr, scalar_expr, element_expr, extreme_expr, first_extreme, alone_expr, remainder_expr, function_expr, applied_expr, expr_if, temporary_object, temporary_expr, value_expr, place_expr, value_exprs}
 use Rattle.item_emission.proofs.TermNumbers.{datum-agrees, difference-agrees, product-agrees, sum-agrees}
 
 -- what is known is what the names and the facts say
@@ -28,7 +28,7 @@ pub record IsKnownBy (names : Names) (w : Writing) (known : Knowledge) : Type 0 
   pub scalars : (x : Bytes) → is_scalar w x ≡ known.is_scalar x
   pub arrays : (x : Bytes) → is_array w x ≡ known.is_array x
   pub temporaries : (k : ℕ) → w.is_number k ≡ nat_lt k known.temporaries
-  pub scalar_names : (x : Bytes) → known.is_scalar x ≡ true → expr_for names (number_term (w.naming.address x)) ≡ Some (variable_expr x)
+  pub scalar_names : (x : Bytes) → known.is_scalar x ≡ true → expr_for names (number_term (w.naming.address x)) ≡ Some (scalar_expr (known.standing x) x)
   pub array_names : (x : Bytes) → known.is_array x ≡ true → (index : Term) → expr_for names (element_term (w.naming.address x) index) ≡ option_map (expr.Index (variable_expr x)) (expr_for names index)
   pub temporary_names : (k : ℕ) → nat_lt k known.temporaries ≡ true → names.object (w.naming.temporary k) ≡ made_name (NumberTemporary (suc k))
   pub lowers : (x : Bytes) (k : ℕ) → expr_for names (quantity_term (w.naming.lower x k)) ≡ constant_expr (dimension_at (known.dimensions x) k).lower
@@ -257,11 +257,11 @@ module _ (names : Names) (w : Writing) (known : Knowledge) (agrees : IsKnownBy n
       by true h = element-of x h o
       by false h = refl
 
-  scalar-agrees : (x : Bytes) → expr_of names (if_number (is_scalar w x) (Some (number_term (w.naming.address x)))) ≡ expr_if (known.is_scalar x) (Some (variable_expr x))
+  scalar-agrees : (x : Bytes) → expr_of names (if_number (is_scalar w x) (Some (number_term (w.naming.address x)))) ≡ expr_if (known.is_scalar x) (Some (scalar_expr (known.standing x) x))
   unfolding if_number expr_if
   scalar-agrees x = ap (λ t. expr_of names (if_number t (Some (number_term (w.naming.address x))))) (agrees.scalars x) ∙ by (known.is_scalar x) refl
     where
-      by : (t : Bool) → known.is_scalar x ≡ t → expr_of names (if_number t (Some (number_term (w.naming.address x)))) ≡ expr_if t (Some (variable_expr x))
+      by : (t : Bool) → known.is_scalar x ≡ t → expr_of names (if_number t (Some (number_term (w.naming.address x)))) ≡ expr_if t (Some (scalar_expr (known.standing x) x))
       by true h = agrees.scalar_names x h
       by false h = refl
 

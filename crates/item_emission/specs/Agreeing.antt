@@ -1,5 +1,5 @@
 -- The items of steps by names are those of the flat items that a main program has for them, with its names for its objects. C89, 3.1.2 and 3.6.
-use Rattle.std.specs.Prelude.{◌≡◌, ℕ, ◌+◌, ◌≤◌, Bool, true, false, not, ◌&&◌, map, length, Option, Some, is_some, option_and_then}
+use Rattle.std.specs.Prelude.{◌≡◌, ℕ, ◌+◌, ◌≤◌, true, false, not, ◌&&◌, map, length, Option, Some, None, is_some, option_and_then}
 use Rattle.f_tree.specs.declared.names.Basic.{Basic}
 use Rattle.f_tree.specs.Values.{Bytes}
 use Rattle.f_tree.specs.Facts.{Bounds, Facts, UnitKind, MainProgram, SubroutineUnit, FunctionUnit, BlockDataUnit}
@@ -10,30 +10,36 @@ use Rattle.c_emit.specs.Flats.{flat_of}
 use Rattle.main_file.specs.MainFile.{Inventory, Bases, place_of_constant, place_of_variable, place_of_list, place_of_string, names_of, writing_of}
 use Rattle.named_items.specs.Items.{item_for}
 use Rattle.item_emission.specs.declared.known.Dimension.{Dimension}
+use Rattle.item_emission.specs.declared.known.Standing.TheVariants.{Own}
+use Rattle.item_emission.specs.declared.known.Giving.{Giving}
+use Rattle.item_emission.specs.declared.known.Giving.TheVariants as giving
 use Rattle.item_emission.specs.NamedEmission.{Knowledge, item_step}
 
 abbrev pub dimension_of : Bounds → Dimension
 dimension_of bounds = record { lower = bounds.lower; size = size_of_dimension bounds }
 
--- whether END and RETURN give the caller 0
-unfoldable pub gives_zero_in : UnitKind → Bool
-gives_zero_in MainProgram = true
-gives_zero_in SubroutineUnit = true
-gives_zero_in FunctionUnit = false
-gives_zero_in BlockDataUnit = false
+-- what END and RETURN give, but for the numbers of alternate returns and the results of functions
+unfoldable pub giving_in : UnitKind → Giving
+giving_in MainProgram = giving.Zero
+giving_in SubroutineUnit = giving.Zero
+giving_in FunctionUnit = giving.Nothing
+giving_in BlockDataUnit = giving.Nothing
 
--- what a file has and what is said of a unit, as what is known
+-- what a file has and what is said of a unit, as what is known: each name has an object of its own, and no procedure is known
 abbrev pub known_in : Inventory → Facts → (ℕ → Option ℕ) → Knowledge
 known_in v facts label = record {
   is_scalar = λ x. is_variable (facts.program.attribute x).class && is_numeric (facts.program.attribute x).basic && not (has_bounds (facts.program.attribute x).bounds);
   is_array = λ x. is_variable (facts.program.attribute x).class && is_numeric (facts.program.attribute x).basic && has_bounds (facts.program.attribute x).bounds;
   basic = λ x. (facts.program.attribute x).basic;
   dimensions = λ x. map dimension_of (facts.program.attribute x).bounds;
+  standing = λ x. Own;
+  is_procedure = λ x. false;
+  routine = λ x. None;
   temporaries = v.temporaries;
   has = λ z. is_some (place_of_constant v z);
   list = place_of_list v;
   label = label;
-  gives_zero = gives_zero_in facts.program.kind;
+  gives = giving_in facts.program.kind;
 }
 
 -- each variable and array of numbers is listed, and the objects of the function stand behind those of the file
@@ -54,5 +60,5 @@ EmissionsAgree = (v : Inventory) (b : Bases) (facts : Facts) (kind : ℕ → ℕ
     option_and_then (item_for (names_of v b)) (flat_of (writing_of v b facts kind) (λ m. m) label n st) ≡ item_step (known_in v facts label) (kind n) n st
 
 unfoldable pub agreeing_opened : Unit {0}
-unfolding gives_zero_in
+unfolding giving_in
 agreeing_opened = tt

@@ -1,16 +1,19 @@
 -- The C expressions and items for lowered values and steps over numbers, by names. None where a value is a text, takes a call of the library, or has a
--- number that C has no constant for, and for a step that is not emitted. ANSI X3.9-1978, sections 5.4, 6, 10, 11, 12, 13 and 15.10; C89, 3.3 and 3.6.
+-- number that C has no constant for, and for a step that is not emitted. An actual argument goes by the address of its place, or of the object that holds
+-- its value; a procedure by its function. ANSI X3.9-1978, sections 5.4, 6, 10, 11, 12, 13, 15.5, 15.6, 15.8, 15.9 and 15.10; C89, 3.3 and 3.6.
 use Rattle.std.specs.Prelude.{ℕ, zero, suc, ◌+◌, ◌-◌, nat_eq, nat_lt, ℤ, pos, negsuc, ◌+ℤ◌, Bool, true, false, ◌&&◌, List, [], ◌∷◌, map, length, Option, Some, None, option_map, option_and_then, slice_get, unwrap_or, codes, if◌then◌else◌}
 use Rattle.std.specs.Ordering.{int_eq}
 use Rattle.f_tree.specs.declared.names.Basic.{Basic}
 use Rattle.f_tree.specs.Values.{Bytes, Datum, IsInt, IsLog, in_range}
 use Rattle.f_tree.specs.Terms as fortran
+use Rattle.f_tree.specs.Terms.{Wanted, AsFunction}
 use Rattle.f_tree.specs.Facts.{Output, Listed, Controls}
-use Rattle.f_tree.specs.CNames.{variable_name, made_name, NumberTemporary, ControlList, ConstantOf}
+use Rattle.f_tree.specs.CNames.{variable_name, made_name, FunctionResult, NumberTemporary, ControlList, ConstantOf}
 use Rattle.l_core.specs.Pures.{Pure, Constant, Temporary, Load, Name, ElementOf, Prefixed, Operated, Applied, Chosen, Pures, NoPure, AndPure}
 use Rattle.l_core.specs.Steps as step
 use Rattle.l_core.specs.Steps.{Step}
 use Rattle.c_tree.specs.declared.types.CastType.TheVariants as to
+use Rattle.c_tree.specs.declared.types.FunctionType.TheVariants as pointer
 use Rattle.c_tree.specs.declared.expression.CExpr.{CExpr}
 use Rattle.c_tree.specs.declared.expression.CExpr.TheVariants as expr
 use Rattle.c_tree.specs.declared.expression.UnaryOp.TheVariants as prefix
@@ -19,14 +22,20 @@ use Rattle.c_tree.specs.declared.expression.Extreme.{Extreme}
 use Rattle.c_tree.specs.declared.expression.Extreme.TheVariants as extreme
 use Rattle.c_structure.specs.Expressions.{number_expr, with_two, with_three, one_more}
 use Rattle.c_image.specs.Operations.{prefix_for, operator_for}
+use Rattle.c_emit.specs.Numbers.{is_numeric}
 use Rattle.c_emit.specs.LibraryFunctions.{LibraryFunction, library_function}
 use Rattle.c_emit.specs.Types.{type_of_datum, type_behind, type_between, type_by, if_numeric}
 use Rattle.c_emit.specs.Calls.{is_plain, kind_number}
+use Rattle.named_items.specs.declared.item.Callee.{Callee}
 use Rattle.named_items.specs.declared.item.Item.{Item}
 use Rattle.named_items.specs.declared.item.Item.TheVariants as item
-use Rattle.named_items.specs.Items.{assign_by}
+use Rattle.named_items.specs.Items.{by_name, assign_by, call_by, set_call_by}
 use Rattle.named_items.specs.SamePlaces.{number_in}
 use Rattle.item_emission.specs.declared.known.Dimension.{Dimension}
+use Rattle.item_emission.specs.declared.known.Standing.{Standing}
+use Rattle.item_emission.specs.declared.known.Standing.TheVariants.{Own, Parameter, Result}
+use Rattle.item_emission.specs.declared.known.Giving.{Giving}
+use Rattle.item_emission.specs.declared.known.Giving.TheVariants as giving
 
 -- what is known of a program unit
 pub record Knowledge : Type 0 where
@@ -35,6 +44,11 @@ pub record Knowledge : Type 0 where
   pub is_array : Bytes → Bool
   pub basic : Bytes → Basic
   pub dimensions : Bytes → List Dimension
+  -- how a variable or an array stands in C
+  pub standing : Bytes → Standing
+  -- whether a name stands for a procedure that may be passed, and the function that is called by a name
+  pub is_procedure : Bytes → Bool
+  pub routine : Bytes → Option Callee
   -- how many temporaries hold numbers
   pub temporaries : ℕ
   -- whether a constant has an object of its own
@@ -43,8 +57,8 @@ pub record Knowledge : Type 0 where
   pub list : ℕ → Option ℕ
   -- the step of a label
   pub label : ℕ → Option ℕ
-  -- whether END and RETURN give the caller 0
-  pub gives_zero : Bool
+  -- what END and RETURN give
+  pub gives : Giving
 
 -- ## Numbers
 
@@ -115,9 +129,19 @@ index_expr ds k [] = number_expr (pos 0)
 index_expr ds k (e ∷ []) = distance_expr (dimension_at ds k) e
 index_expr ds k (e ∷ next ∷ later) = stepped_expr (dimension_at ds k) e (index_expr ds (suc k) (next ∷ later))
 
--- a variable by its name, and an element of an array
+-- a variable or a parameter by its name
 unfoldable pub variable_expr : Bytes → CExpr
 variable_expr x = expr.Name (variable_name x)
+
+-- by the variable for the result of a function
+unfoldable pub result_object : CExpr
+result_object = expr.Name (made_name FunctionResult)
+
+-- one number, as it stands
+unfoldable pub scalar_expr : Standing → Bytes → CExpr
+scalar_expr Own x = variable_expr x
+scalar_expr Parameter x = expr.Unary prefix.Deref (variable_expr x)
+scalar_expr Result x = result_object
 
 unfoldable pub element_expr : Bytes → List Dimension → Option (List CExpr) → Option CExpr
 element_expr x ds None = None
@@ -181,7 +205,7 @@ unfoldable mutual
   value_expr known p = None
 
   pub place_expr : Knowledge → Pure → Option CExpr
-  place_expr known (Name x) = expr_if (known.is_scalar x) (Some (variable_expr x))
+  place_expr known (Name x) = expr_if (known.is_scalar x) (Some (scalar_expr (known.standing x) x))
   place_expr known (ElementOf x ps) = expr_if (known.is_array x) (element_expr x (known.dimensions x) (value_exprs known ps))
   place_expr known p = None
 
@@ -245,12 +269,12 @@ held_exprs known (AndPure p ps) = one_more (held_expr known p) (held_exprs known
 
 -- a function of numbers, of operands that are held: what it gives is kept
 unfoldable pub computed_step : Option CExpr → Option LibraryFunction → Option (List CExpr) → Option Item
-computed_step (Some target) (Some function) (Some es) = Some (item.SetCall target function.name (map address_expr es))
+computed_step (Some target) (Some function) (Some es) = Some (item.SetCall target (by_name function.name) (map address_expr es))
 computed_step target function es = None
 
 -- the start of an output, by its control list
 unfoldable pub start_call : ℕ → Item
-start_call k = item.Call (codes "s_wsle") (address_expr (list_object k) ∷ [])
+start_call k = item.Call (by_name (codes "s_wsle")) (address_expr (list_object k) ∷ [])
 
 unfoldable pub start_if : Bool → Option ℕ → Option Item
 start_if true place = option_map start_call place
@@ -263,7 +287,7 @@ start_step known n controls ps = None
 -- an item, by the number of its type and by what holds it
 unfoldable pub output_call : ℤ → CExpr → Item
 output_call number e =
-    item.Call (codes "do_lio")
+    item.Call (by_name (codes "do_lio"))
     (address_expr (constant_object number) ∷ address_expr (constant_object (pos 1)) ∷ expr.Cast to.Chars (address_expr e) ∷ expr.Cast to.Length expr.SizeInt ∷ [])
 
 unfoldable pub output_if : Bool → Item → Option Item
@@ -280,15 +304,66 @@ output_step known kind ps = None
 
 -- the end of an output
 unfoldable pub finish_step : Pures → Option Item
-finish_step NoPure = Some (item.Call (codes "e_wsle") [])
+finish_step NoPure = Some (item.Call (by_name (codes "e_wsle")) [])
 finish_step ps = None
 
 -- the end of the run, with the text of STOP and its length
 unfoldable pub stop_call : Bytes → CExpr → Item
-stop_call text size = item.Call (codes "s_stop") (expr.Str text ∷ expr.Cast to.Length size ∷ [])
+stop_call text size = item.Call (by_name (codes "s_stop")) (expr.Str text ∷ expr.Cast to.Length size ∷ [])
 
 unfoldable pub stop_step : Bytes → Option Item
 stop_step text = option_map (stop_call text) (number_expr (pos (length text)))
+
+-- ## Arguments of procedures
+
+-- one number by its address; where a parameter points to it, by the parameter
+unfoldable pub scalar_passed : Standing → Bytes → CExpr
+scalar_passed Parameter x = variable_expr x
+scalar_passed Own x = address_expr (scalar_expr Own x)
+scalar_passed Result x = address_expr (scalar_expr Result x)
+
+-- a procedure, as a function whose result is not known
+unfoldable pub procedure_expr : Callee → CExpr
+procedure_expr callee = expr.Cast (to.Function pointer.Unknown) (expr.Name callee.name)
+
+unfoldable pub procedure_passed : Bool → Option Callee → Option CExpr
+procedure_passed true callee = option_map procedure_expr callee
+procedure_passed false callee = None
+
+-- a name that stands alone: one number, an array, or a procedure
+unfoldable pub name_passed : Knowledge → Bytes → Option CExpr
+name_passed known x =
+    if known.is_scalar x then Some (scalar_passed (known.standing x) x)
+    else (if known.is_array x then Some (variable_expr x) else procedure_passed (known.is_procedure x) (known.routine x))
+
+unfoldable pub argument_expr : Knowledge → Pure → Option CExpr
+argument_expr known (Constant d) = option_map address_expr (datum_held known d)
+argument_expr known (Temporary k) = option_map address_expr (temporary_expr known k)
+argument_expr known (Name x) = name_passed known x
+argument_expr known (ElementOf x ps) = option_map address_expr (place_expr known (ElementOf x ps))
+argument_expr known p = None
+
+-- arguments one after the other
+unfoldable pub argument_exprs : Knowledge → Pures → Option (List CExpr)
+argument_exprs known NoPure = Some []
+argument_exprs known (AndPure p ps) = one_more (argument_expr known p) (argument_exprs known ps)
+
+-- ## Calls of procedures
+
+-- a subroutine
+unfoldable pub call_step : Option Callee → Option (List CExpr) → Option Item
+call_step None arguments = None
+call_step (Some callee) arguments = call_by callee arguments
+
+-- is a function of numbers wanted
+unfoldable pub wants_number : Wanted → Bool
+wants_number (AsFunction basic width) = is_numeric basic
+wants_number other = false
+
+-- a function of numbers: what it gives is kept
+unfoldable pub call_for_step : Bool → Option CExpr → Option Callee → Option (List CExpr) → Option Item
+call_for_step true target (Some callee) arguments = set_call_by target callee arguments
+call_for_step wanted target callee arguments = None
 
 -- ## Steps
 
@@ -296,10 +371,20 @@ unfoldable pub branch_step : Option CExpr → ℕ → ℕ → Option Item
 branch_step None on off = None
 branch_step (Some test) on off = Some (item.Branch test on off)
 
--- END and RETURN of what is no function
-unfoldable pub return_step : Bool → Option Item
-return_step true = Some (item.Return (Some (expr.Number (pos 0))))
-return_step false = None
+-- END and RETURN
+unfoldable pub return_step : Option CExpr → Option Item
+return_step value = option_map (λ e. item.Return (Some e)) value
+
+unfoldable pub given_expr : Knowledge → Giving → Option CExpr
+given_expr known giving.Zero = Some (expr.Number (pos 0))
+given_expr known giving.Alternate = Some (expr.Number (pos 0))
+given_expr known (giving.Value x) = place_expr known (Name x)
+given_expr known giving.Nothing = None
+
+-- RETURN with the number of an alternate return
+unfoldable pub alternate_step : Giving → Option CExpr → Option Item
+alternate_step giving.Alternate value = return_step value
+alternate_step other value = None
 
 -- an act of a transfer
 unfoldable pub acting_step : Knowledge → Kinds → ℕ → step.Acting → Pures → ℕ → Option Item
@@ -319,11 +404,14 @@ item_step known kind n (step.Skip m) = Some (item.Jump (suc n + m))
 item_step known kind n (step.Again m) = Some (item.Jump (n - m))
 item_step known kind n (step.Jump l) = option_map item.Jump (known.label l)
 item_step known kind n step.Pass = Some item.Nothing
-item_step known kind n step.Back = return_step known.gives_zero
+item_step known kind n (step.CallFor k callee ps) = call_for_step (wants_number callee.want) (temporary_expr known k) (known.routine callee.name) (argument_exprs known ps)
+item_step known kind n (step.CallSub k x ps) = call_step (known.routine x) (argument_exprs known ps)
+item_step known kind n step.Back = return_step (given_expr known known.gives)
+item_step known kind n (step.BackBy p) = alternate_step known.gives (value_expr known p)
 item_step known kind n (step.Acts what ps m) = acting_step known kind n what ps m
 item_step known kind n (step.Halt text) = stop_step text
 item_step known kind n _ = None
 
 unfoldable pub named_emission_opened : Unit {0}
-unfolding negative_expr constant_expr datum_expr is_the_number added_expr sum_by sum_expr difference_expr product_expr sum_of dimension_at distance_expr stepped_expr index_expr variable_expr element_expr extreme_expr first_extreme alone_expr remainder_expr function_expr applied_expr expr_if temporary_object temporary_expr value_expr place_expr value_exprs type_at type_in constant_object list_object constant_held datum_held held_expr held_exprs computed_step start_call start_if start_step output_call output_if output_by output_step finish_step stop_call stop_step branch_step return_step acting_step item_step
+unfolding negative_expr constant_expr datum_expr is_the_number added_expr sum_by sum_expr difference_expr product_expr sum_of dimension_at distance_expr stepped_expr index_expr variable_expr result_object scalar_expr element_expr extreme_expr first_extreme alone_expr remainder_expr function_expr applied_expr expr_if temporary_object temporary_expr value_expr place_expr value_exprs type_at type_in constant_object list_object constant_held datum_held held_expr held_exprs computed_step start_call start_if start_step output_call output_if output_by output_step finish_step stop_call stop_step scalar_passed procedure_expr procedure_passed name_passed argument_expr argument_exprs call_step wants_number call_for_step branch_step return_step given_expr alternate_step acting_step item_step
 named_emission_opened = tt

@@ -1,4 +1,6 @@
-//! What is known of a main program where its items are written.
+//! What is known of a program unit where its items are written.
+
+use c_tree::expression::Text;
 
 /// A dimension of an array. ANSI X3.9-1978, section 5.1.
 #[derive(Clone, Copy, Debug, PartialEq, Eq)]
@@ -7,4 +9,28 @@ pub struct Dimension {
     pub lower: i32,
     /// How many elements it has.
     pub size: u64,
+}
+
+/// How a name stands in C. ANSI X3.9-1978, sections 2.4, 15.5.1 and 15.9.
+#[derive(Clone, Copy, Debug, PartialEq, Eq)]
+pub enum Standing {
+    /// By an object of its own.
+    Own,
+    /// By the parameter that points to it: a dummy argument.
+    Parameter,
+    /// By the variable for the result of a function.
+    Result,
+}
+
+/// What END and RETURN give. ANSI X3.9-1978, sections 14.1, 15.5.3, 15.6.3 and 15.8.
+#[derive(Drop)]
+pub enum Giving {
+    /// 0, in a main program.
+    Zero,
+    /// 0, or the number of an alternate return, in a subroutine.
+    Alternate,
+    /// What a variable has, by its name, in a function.
+    Value(Text),
+    /// Nothing.
+    Nothing,
 }

@@ -14,6 +14,7 @@ use Rattle.c_tree.specs.declared.expression.CExpr.{CExpr}
 use Rattle.c_emit.specs.Calls.{is_plain, is_unit_alone, kind_number}
 use Rattle.named_items.specs.declared.item.Item.{Item}
 use Rattle.named_items.specs.declared.item.Item.TheVariants as item
+use Rattle.named_items.specs.Items.{by_name}
 use Rattle.lowered_tree.specs.declared.steps.Word.{Word}
 use Rattle.lowered_tree.specs.declared.pures.Pure.{Pure}
 use Rattle.lowered_tree.specs.Shapes.{pure_of, pures_of, word_of}
@@ -147,7 +148,7 @@ pub finish-more : (p : Pure) (ps : List Pure) → finish_step (pures_of (p ∷ p
 unfolding finish_step
 finish-more p ps = ap finish_step (pures-more p ps)
 
-pub finish-none-listed : (ps : List Pure) → length ps ≡ 0 → finish_step (pures_of ps) ≡ Some (item.Call (codes "e_wsle") [])
+pub finish-none-listed : (ps : List Pure) → length ps ≡ 0 → finish_step (pures_of ps) ≡ Some (item.Call (by_name (codes "e_wsle")) [])
 unfolding finish_step
 finish-none-listed [] h = finish-none
 finish-none-listed (p ∷ ps) h = absurd (omega arith)

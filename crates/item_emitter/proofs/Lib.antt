@@ -5,3 +5,4 @@ pub mod FunctionWalks
 pub mod StepForms
 pub mod CallForms
 pub mod LibraryForms
+pub mod ArgumentForms

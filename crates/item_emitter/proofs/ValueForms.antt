@@ -13,7 +13,7 @@ use Rattle.lowered_tree.specs.declared.pures.Pure.{Pure}
 use Rattle.lowered_tree.specs.declared.pures.Pure as tree
 use Rattle.lowered_tree.specs.Shapes.{datum_of, prefix_of, operator_of, function_of, pure_of, pures_of}
 use Rattle.lowered_tree.proofs.ShapeForms.{pure-Constant, pure-Temporary, pure-Load, pure-Name, pure-AllOf, pure-ElementOf, pure-FirstOf, pure-Substring, pure-Concatenated, pure-Prefixed, pure-Operated, pure-Applied, pure-Chosen, pures-none, pures-more}
-use Rattle.item_emission.specs.NamedEmission.{Knowledge, datum_expr, temporary_expr, variable_expr, element_expr, applied_expr, expr_if, value_expr, place_expr, value_exprs}
+use Rattle.item_emission.specs.NamedEmission.{Knowledge, datum_expr, temporary_expr, scalar_expr, element_expr, applied_expr, expr_if, value_expr, place_expr, value_exprs}
 
 pub value-Constant : (known : Knowledge) (d : Literal) → value_expr known (pure_of (tree.Constant d)) ≡ datum_expr (datum_of d)
 unfolding value_expr
@@ -79,7 +79,7 @@ pub place-Load : (known : Knowledge) (p : Pure) → place_expr known (pure_of (t
 unfolding place_expr
 place-Load known p = ap (place_expr known) (pure-Load p)
 
-pub place-Name : (known : Knowledge) (x : Bytes) → place_expr known (pure_of (tree.Name x)) ≡ expr_if (known.is_scalar x) (Some (variable_expr x))
+pub place-Name : (known : Knowledge) (x : Bytes) → place_expr known (pure_of (tree.Name x)) ≡ expr_if (known.is_scalar x) (Some (scalar_expr (known.standing x) x))
 unfolding place_expr
 place-Name known x = ap (place_expr known) (pure-Name x)
 

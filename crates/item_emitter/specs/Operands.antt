@@ -9,6 +9,7 @@ use Rattle.c_emit.specs.LibraryFunctions.{LibraryFunction}
 use Rattle.c_emit.specs.Calls.{is_plain}
 use Rattle.named_items.specs.declared.item.Item.{Item}
 use Rattle.named_items.specs.declared.item.Item.TheVariants as item
+use Rattle.named_items.specs.Items.{by_name}
 use Rattle.item_emission.specs.NamedEmission.{Knowledge, address_expr, held_expr, held_exprs, start_if, start_step, finish_step}
 
 -- the integer that a value is
@@ -40,7 +41,7 @@ passed_exprs known ps = option_map (map address_expr) (held_exprs known ps)
 
 -- a call of a function of the library whose value is stored, where there are a place for it, a function and arguments
 unfoldable pub called : Option CExpr → Option LibraryFunction → Option (List CExpr) → Option Item
-called (Some target) (Some function) (Some arguments) = Some (item.SetCall target function.name arguments)
+called (Some target) (Some function) (Some arguments) = Some (item.SetCall target (by_name function.name) arguments)
 called target function arguments = None
 
 unfoldable pub operands_opened : Unit {0}

@@ -6,6 +6,7 @@ ghost use Rattle.c_emit.specs.Calls.{kind_number};
 ghost use Rattle.c_emit.specs.Calls as emit;
 ghost use Rattle.c_tree.specs.declared.types.CastType.TheVariants as to;
 ghost use Rattle.named_items.specs.declared.item.Item.TheVariants as item;
+ghost use Rattle.named_items.specs.Items.{by_name};
 ghost use Rattle.l_core.specs.Pures as core;
 ghost use Rattle.lowered_tree.specs.Shapes.{datum_of, pure_of, pures_of, word_of, controls_of, direction_of, layout_of, acting_of};
 ghost use Rattle.item_emitter.specs.Operands as operands;
@@ -23,7 +24,7 @@ use c_tree::types::CastType;
 use f_tree::Basic;
 use lowered_text::Kept;
 use lowered_tree::{Acting, Controls, Direction, Layout, Literal, Pure, Word};
-use named_items::Item;
+use named_items::{Callee, Item};
 use plain_data::{Boxed, Items};
 use std::alloc::{AllocError, Global};
 
@@ -63,7 +64,11 @@ fn constant_held(alloc: Global, known: &Known, value: i32) -> Result<Option<CExp
 
 /// The object of a value that is written.
 #[tactic(auto, unfolding(item_emission::specs::NamedEmission::datum_held))]
-fn literal_held(alloc: Global, known: &Known, value: &Literal) -> Result<Option<CExpr>, AllocError>
+pub(crate) fn literal_held(
+    alloc: Global,
+    known: &Known,
+    value: &Literal,
+) -> Result<Option<CExpr>, AllocError>
     ensures { IfOk result (λ e. e ≡ spec.datum_held (known_of known.now) (datum_of value.now)) }
 {
     match value {
@@ -108,16 +113,26 @@ fn number_of_type(basic: Basic) -> Option<i32>
     }
 }
 
+/// A function of the library, which is called by its name.
+pub(crate) fn library_callee(alloc: Global, name: &[u8]) -> Result<Callee, AllocError>
+    ensures { IfOk result (λ callee. callee ≡ by_name name.now) }
+{
+    Ok(Callee {
+        through: false,
+        name: Items::from_slice(alloc, name)?,
+    })
+}
+
 /// A call of a function of the library.
 pub(crate) fn library_call(
     alloc: Global,
     name: &[u8],
     arguments: Vec<CExpr>,
 ) -> Result<Item, AllocError>
-    ensures { IfOk result (λ i. i ≡ item.Call name.now arguments.items) }
+    ensures { IfOk result (λ i. i ≡ item.Call (by_name name.now) arguments.items) }
 {
-    let name = Items::from_slice(alloc, name)?;
-    Ok(Item::Call(name, Items::from_vec(arguments)))
+    let callee = library_callee(alloc, name)?;
+    Ok(Item::Call(callee, Items::from_vec(arguments)))
 }
 
 /// Two expressions in a row.

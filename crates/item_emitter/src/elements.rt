@@ -2,13 +2,14 @@
 
 ghost use Rattle.std.specs.Prelude.{◌≡◌, ◌++◌, ◌∷◌, [], Some, option_map, IfOk};
 ghost use Rattle.c_tree.specs.declared.expression.CExpr.TheVariants as expr;
+ghost use Rattle.c_tree.specs.declared.expression.UnaryOp.TheVariants as prefix;
 ghost use Rattle.c_structure.specs.Expressions.{with_two};
 ghost use Rattle.item_emission.specs.NamedEmission as spec;
 
-use crate::arithmetic::{constant, count, difference, product, sum};
+use crate::arithmetic::{constant, count, difference, prefixed, product, sum};
 use c_names::variable_name;
-use c_tree::expression::CExpr;
-use item_emission::Dimension;
+use c_tree::expression::{CExpr, UnaryOp};
+use item_emission::{Dimension, Standing};
 use plain_data::{Boxed, Items};
 use std::alloc::{AllocError, Global};
 
@@ -115,6 +116,38 @@ pub(crate) fn variable(alloc: Global, name: &[u8]) -> Result<CExpr, AllocError>
     ensures { IfOk result (λ e. e ≡ spec.variable_expr name.now) }
 {
     Ok(CExpr::Name(variable_name(alloc, name)?))
+}
+
+/// What a parameter points to.
+fn pointed(alloc: Global, name: &[u8]) -> Result<CExpr, AllocError>
+    ensures { IfOk result (λ e. e ≡ expr.Unary prefix.Deref (spec.variable_expr name.now)) }
+{
+    let parameter = variable(alloc, name)?;
+    prefixed(alloc, UnaryOp::Deref, parameter)
+}
+
+/// The variable for the result of a function.
+#[tactic(auto, unfolding(item_emission::specs::NamedEmission::result_object, f_tree::specs::CNames::made_name))]
+fn result_object(alloc: Global) -> Result<CExpr, AllocError>
+    ensures { IfOk result (λ e. e ≡ spec.result_object) }
+{
+    Ok(CExpr::Name(Items::from_slice(alloc, b"ret_val")?))
+}
+
+/// One number, as it stands.
+#[tactic(auto, unfolding(item_emission::specs::NamedEmission::scalar_expr))]
+pub(crate) fn number_object(
+    alloc: Global,
+    standing: Standing,
+    name: &[u8],
+) -> Result<CExpr, AllocError>
+    ensures { IfOk result (λ e. e ≡ spec.scalar_expr standing name.now) }
+{
+    match standing {
+        Standing::Own => variable(alloc, name),
+        Standing::Parameter => pointed(alloc, name),
+        Standing::Result => result_object(alloc),
+    }
 }
 
 /// An element of an array, by its index.

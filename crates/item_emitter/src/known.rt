@@ -1,16 +1,17 @@
-//! What is known of a main program where its steps are written.
+//! What is known of a program unit where its steps are written.
 
 ghost use Rattle.std.specs.Prelude.{◌≡◌, option_copied, position, nat_eq};
 ghost use Rattle.std.specs.List.{list_any};
 ghost use Rattle.std.specs.Ordering.{int_eq};
 ghost use Rattle.c_emit.specs.Numbers as numbers;
 ghost use Rattle.lowered_text.specs.Texts.{kinds_of};
-ghost use Rattle.item_emitter.specs.Knowing.{known_of, variable_in, has_dimensions, is_number, is_numbers, basic_of, dimensions_of};
+ghost use Rattle.item_emitter.specs.Knowing.{known_of, variable_in, routine_in, has_dimensions, is_number, is_numbers, basic_of, dimensions_of, standing_of};
 
 use f_tree::Basic;
 use indexmap::IndexMap;
-use item_emission::Dimension;
+use item_emission::{Dimension, Giving, Standing};
 use lowered_text::Kept;
+use named_items::Callee;
 
 /// What is known of a name.
 #[derive(Drop)]
@@ -21,13 +22,28 @@ pub struct Variable {
     pub basic: Basic,
     /// The dimensions of an array; none of a variable.
     pub dimensions: Vec<Dimension>,
+    /// How it stands in C.
+    pub standing: Standing,
 }
 
-/// What is known of a main program.
+/// What is known of the name of a procedure.
+#[derive(Drop)]
+pub struct Routine {
+    /// The function that is called by the name.
+    pub callee: Callee,
+    /// Whether the procedure may be passed by its name.
+    pub is_passed: bool,
+}
+
+/// What is known of a program unit.
 #[derive(Drop)]
 pub struct Known<'a> {
     /// What its names are.
     pub variables: IndexMap<&'a [u8], Variable>,
+    /// The functions of its procedures.
+    pub routines: IndexMap<&'a [u8], Routine>,
+    /// What END and RETURN give.
+    pub gives: Giving,
     /// How many temporaries it has.
     pub temporaries: usize,
     /// The constants that have an object of their own.
@@ -81,6 +97,25 @@ impl<'a> Known<'a> {
         ensures { option_copied result ≡ variable_in self.now name.now }
     {
         self.variables.get(name)
+    }
+
+    /// What is known of a procedure by its name.
+    #[tactic(auto, unfolding(crate::specs::Knowing::routine_in))]
+    pub(crate) fn routine(&self, name: &[u8]) -> Option<&Routine>
+        ensures { option_copied result ≡ routine_in self.now name.now }
+    {
+        self.routines.get(name)
+    }
+
+    /// How a name stands.
+    #[tactic(auto, unfolding(crate::specs::Knowing::standing_of))]
+    pub(crate) fn standing(&self, name: &[u8]) -> Standing
+        ensures { result ≡ (known_of self.now).standing name.now }
+    {
+        match self.variable(name) {
+            Some(variable) => variable.standing,
+            None => Standing::Own,
+        }
     }
 
     /// Whether a name stands for one number.

@@ -3,13 +3,14 @@
 ghost use Rattle.std.specs.Prelude.{◌≡◌, map, option_map, IfOk};
 ghost use Rattle.c_emit.specs.LibraryFunctions.{library_function};
 ghost use Rattle.named_items.specs.declared.item.Item.TheVariants as item;
+ghost use Rattle.named_items.specs.Items.{by_name};
 ghost use Rattle.lowered_tree.specs.Shapes.{function_of, pure_of, pures_of};
 ghost use Rattle.library_functions.specs.Described.{described};
 ghost use Rattle.item_emitter.specs.Knowing.{known_of};
 ghost use Rattle.item_emitter.specs.Operands as operands;
 ghost use Rattle.item_emission.specs.NamedEmission as spec;
 
-use crate::calls::{address, held};
+use crate::calls::{address, held, library_callee};
 use crate::known::Known;
 use crate::values::temporary;
 use c_tree::expression::CExpr;
@@ -55,10 +56,10 @@ fn set_call(
     function: LibraryFunction,
     arguments: Vec<CExpr>,
 ) -> Result<Item, AllocError>
-    ensures { IfOk result (λ i. i ≡ item.SetCall target (described function).name arguments.items) }
+    ensures { IfOk result (λ i. i ≡ item.SetCall target (by_name (described function).name) arguments.items) }
 {
-    let name = Items::from_slice(alloc, function.name)?;
-    Ok(Item::SetCall(target, name, Items::from_vec(arguments)))
+    let callee = library_callee(alloc, function.name)?;
+    Ok(Item::SetCall(target, callee, Items::from_vec(arguments)))
 }
 
 /// The call, where there are a place for its value, a function and arguments.

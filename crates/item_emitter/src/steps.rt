@@ -1,7 +1,6 @@
 //! Items of steps. ANSI X3.9-1978, sections 10 and 11; C89, 3.6.
 
 ghost use Rattle.std.specs.Prelude.{◌≡◌, ◌+◌, ◌-◌, pos, suc, true, Some, option_map, IfOk};
-ghost use Rattle.c_tree.specs.declared.expression.CExpr.TheVariants as expr;
 ghost use Rattle.named_items.specs.declared.item.Item.TheVariants as item;
 ghost use Rattle.named_items.specs.Items.{assign_by};
 ghost use Rattle.lowered_tree.specs.Shapes.{pure_of, pures_of, step_of, acting_of};
@@ -12,6 +11,7 @@ ghost use Rattle.item_emission.specs.NamedEmission as spec;
 use crate::calls::acting;
 use crate::known::Known;
 use crate::library::compute;
+use crate::procedures::{back, back_by, call, call_for};
 use crate::stops::stop;
 use crate::values::{place, temporary, value};
 use c_tree::expression::CExpr;
@@ -140,14 +140,6 @@ fn jump(known: &Known, label: u32) -> Option<Item>
     }
 }
 
-/// END and RETURN of a main program.
-#[tactic(auto, unfolding(item_emission::specs::NamedEmission::return_step))]
-fn back() -> Option<Item>
-    ensures { result ≡ spec.return_step true }
-{
-    Some(Item::Return(Some(CExpr::Number(0))))
-}
-
 /// The item of a step by its position, given what the step before it keeps in a temporary; none where the step is not emitted.
 ///
 /// # Errors
@@ -175,7 +167,14 @@ pub fn emit_step(
         Step::Again(back) => Ok(Some(Item::Jump(position.saturating_sub(*back)))),
         Step::Jump(label) => Ok(jump(known, *label)),
         Step::Pass => Ok(Some(Item::Nothing)),
-        Step::Back => Ok(back()),
+        Step::Back => back(alloc, known),
+        Step::BackBy(source) => back_by(alloc, known, source),
+        Step::CallFor(number, callee, operands) => {
+            call_for(alloc, known, *number, callee, operands.as_slice())
+        }
+        Step::CallSub(_, name, operands) => {
+            call(alloc, known, name.as_slice(), operands.as_slice())
+        }
         Step::Halt(text) => stop(alloc, text.as_slice()),
         Step::Acts(what, operands, passed) => acting(
             alloc,
@@ -190,9 +189,6 @@ pub fn emit_step(
         Step::PutLabel(_, _) => Ok(None),
         Step::Select(_, _) => Ok(None),
         Step::JumpBy(_, _) => Ok(None),
-        Step::CallFor(_, _, _) => Ok(None),
-        Step::CallSub(_, _, _) => Ok(None),
         Step::Branch(_) => Ok(None),
-        Step::BackBy(_) => Ok(None),
     }
 }

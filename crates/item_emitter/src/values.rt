@@ -9,7 +9,7 @@ ghost use Rattle.item_emitter.specs.Knowing.{known_of};
 ghost use Rattle.item_emission.specs.NamedEmission as spec;
 
 use crate::arithmetic::{between, constant, prefixed};
-use crate::elements::{element, variable};
+use crate::elements::{element, number_object};
 use crate::functions::applied;
 use crate::known::Known;
 use c_names::temporary_name;
@@ -148,11 +148,11 @@ fn chosen(
 
 /// A variable of one number.
 #[tactic(auto, unfolding(item_emission::specs::NamedEmission::expr_if))]
-fn scalar(alloc: Global, known: &Known, name: &[u8]) -> Result<Option<CExpr>, AllocError>
-    ensures { IfOk result (λ e. e ≡ spec.expr_if ((known_of known.now).is_scalar name.now) (Some (spec.variable_expr name.now))) }
+pub(crate) fn scalar(alloc: Global, known: &Known, name: &[u8]) -> Result<Option<CExpr>, AllocError>
+    ensures { IfOk result (λ e. e ≡ spec.expr_if ((known_of known.now).is_scalar name.now) (Some (spec.scalar_expr ((known_of known.now).standing name.now) name.now))) }
 {
     if known.is_scalar(name) {
-        Ok(Some(variable(alloc, name)?))
+        Ok(Some(number_object(alloc, known.standing(name), name)?))
     } else {
         Ok(None)
     }

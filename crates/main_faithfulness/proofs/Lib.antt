@@ -1,4 +1,5 @@
 pub mod Settings
 pub mod Signed
+pub mod LinkRules
 pub mod Links
 pub mod Faithfulness

@@ -2,6 +2,7 @@
 -- throughout. ANSI X3.9-1978, sections 8.2, 8.3, 9 and 17.1.
 use Rattle.std.specs.Prelude.{◌≡◌, ℕ, zero, suc, List, [], ◌∷◌, ◌++◌}
 use Rattle.std.proofs.Common.{refl, ap, ◌∙◌, subst}
+use Rattle.std.proofs.lemmas.List.{append-nil}
 use Rattle.f_tree.specs.Values.{Gives}
 use Rattle.f_tree.specs.Store.{Store}
 use Rattle.f_tree.specs.Facts.{Home, Member, Tie, ProgramUnit, Facts}
@@ -21,26 +22,22 @@ home_alone n = record { sequence = n; first = 0 }
 abbrev setting_by : List Home → List ℕ → Setting
 setting_by homes sizes = record { homes = homes ∷ []; sizes = sizes }
 
-homes_are : (n : ℕ) (ms : List Member) → homes_apart n ms ≡ homes_from n ms
+pub homes_are : (n : ℕ) (ms : List Member) → homes_apart n ms ≡ homes_from n ms
 unfolding homes_apart
 homes_are n [] = refl
 homes_are n (m ∷ ms) = ap (λ hs. home_alone n ∷ hs) (homes_are (suc n) ms)
 
-append_nothing : {A : Type 0} (xs : List A) → xs ++ [] ≡ xs
-append_nothing [] = refl
-append_nothing (x ∷ xs) = ap (λ ys. x ∷ ys) (append_nothing xs)
-
 apart_is_plain : (unit : ProgramUnit) → setting_apart (unit ∷ []) ≡ plain_setting unit
 unfolding setting_apart all_homes_apart all_sizes
 apart_is_plain unit =
-    ap (λ hs. setting_by hs (sizes_of unit.stored ++ [])) (homes_are 0 unit.stored) ∙ ap (setting_by (homes_from 0 unit.stored)) (append_nothing (sizes_of unit.stored))
+    ap (λ hs. setting_by hs (sizes_of unit.stored ++ [])) (homes_are 0 unit.stored) ∙ ap (setting_by (homes_from 0 unit.stored)) (append-nil (sizes_of unit.stored))
 
 pub plain_is_setting : (unit : ProgramUnit) → IsPlainMain unit → IsSetting (unit ∷ []) (plain_setting unit)
 plain_is_setting unit plain = subst (IsSetting (unit ∷ [])) (apart_is_plain unit) (unit_setting unit plain.blocks plain.ties plain.distinct)
 
 -- ## There is no other
 
-no_tie : (unit : ProgramUnit) → unit.ties ≡ [] → (t : Tie) → IsIn t unit.ties → ⊥
+pub no_tie : (unit : ProgramUnit) → unit.ties ≡ [] → (t : Tie) → IsIn t unit.ties → ⊥
 no_tie unit none t among = let never : IsIn t [] = subst (λ (ts : List Tie). IsIn t ts) none among in elim never [ ]
 
 plain_named : (unit : ProgramUnit) → IsPlainMain unit → IsNamed unit

@@ -1,5 +1,5 @@
 -- Tokens that spell the declarations of a main program, its function and its file.
-use Rattle.std.specs.Prelude.{◌≡◌, ◌≢◌, ℕ, zero, suc, ◌≤◌, nat_eq, nat_le, ℤ, pos, negsuc, Bool, true, false, ◌&&◌, ◌||◌, List, [], ◌∷◌, ◌++◌, map, codes, Option, Some, None, bytes_eq}
+use Rattle.std.specs.Prelude.{◌≡◌, ◌≢◌, ℕ, zero, suc, ◌≤◌, nat_eq, nat_le, ℤ, pos, negsuc, Bool, true, false, ◌&&◌, List, [], ◌∷◌, ◌++◌, map, codes, Option, Some, None, bytes_eq}
 use Rattle.std.proofs.Common.{refl, sym, ap, ◌∙◌, subst, arith}
 use Rattle.std.proofs.lemmas.Bool.{leb-true, eqb-true, eqb-false}
 use Rattle.std.proofs.lemmas.List.{map-append}
@@ -29,7 +29,7 @@ use Rattle.main_file.specs.MainFile.{Variable, Listing, Called, Inventory, varia
 use Rattle.c_tree.specs.Linking.{main_name}
 use Rattle.main_translation_laws.proofs.Lists.{AreApart, none_apart, one_apart}
 use Rattle.main_file_texts.specs.WellFormedMains.{IsSpelled}
-use Rattle.main_file_texts.proofs.Declared.{none_among, local_name, local_names, with_all, with_constants, constant_texts}
+use Rattle.main_file_texts.proofs.Declared.{none_left, none_right, none_both, none_among, local_name, local_names, with_all, with_constants, constant_texts}
 
 -- ## Values
 
@@ -59,7 +59,7 @@ value_spelled (negsuc n) holds = by (nat_le n 2147483647) refl holds
 
 -- ## Declarations
 
-temporary_spelled : (scope : Scope) (of : NumberType) (name : List ℕ) → IsSpelled (ReadsLocal scope (local.Number of name) name)
+pub temporary_spelled : (scope : Scope) (of : NumberType) (name : List ℕ) → IsSpelled (ReadsLocal scope (local.Number of name) name)
 temporary_spelled scope of name = record { from = λ behind. Word (number_word of) ∷ Word name ∷ Sign (codes ";") ∷ behind; reads = λ behind. a_number of name refl refl refl }
 
 types_separated : (of : ArgumentType) (types : List ArgumentType) → IsSpelled (Separated ReadsType (codes ")") (of ∷ types))
@@ -72,7 +72,7 @@ types_spelled : (types : List ArgumentType) → IsSpelled (ReadsTypes types)
 types_spelled [] = record { from = λ behind. Word (codes "void") ∷ Sign (codes ")") ∷ behind; reads = λ behind. no_type refl refl }
 types_spelled (of ∷ types) = let all = types_separated of types in record { from = all.from; reads = λ behind. some_types (all.reads behind) }
 
-extern_spelled : (scope : Scope) (of : ResultType) (name : List ℕ) (types : List ArgumentType) → IsSpelled (ReadsLocal scope (local.Extern of name types) name)
+pub extern_spelled : (scope : Scope) (of : ResultType) (name : List ℕ) (types : List ArgumentType) → IsSpelled (ReadsLocal scope (local.Extern of name types) name)
 extern_spelled scope of name types =
     let all = types_spelled types in
     record {
@@ -125,11 +125,11 @@ abbrev pub AreReadable : List CLocal → Type 0
 AreReadable [] = Unit {0}
 AreReadable (one ∷ later) = ((scope : Scope) → IsSpelled (ReadsLocal scope one (local_name one))) × AreReadable later
 
-readable_both : (xs ys : List CLocal) → AreReadable xs → AreReadable ys → AreReadable (xs ++ ys)
+pub readable_both : (xs ys : List CLocal) → AreReadable xs → AreReadable ys → AreReadable (xs ++ ys)
 readable_both [] ys one other = other
 readable_both (x ∷ xs) ys one other = (one.0, readable_both xs ys one.1 other)
 
-temporaries_readable : (k n : ℕ) → AreReadable (temporaries_from k n)
+pub temporaries_readable : (k n : ℕ) → AreReadable (temporaries_from k n)
 temporaries_readable k zero = tt
 temporaries_readable k (suc n) = ((λ scope. temporary_spelled scope number_type.Integer (made_name (NumberTemporary k))), temporaries_readable (suc k) n)
 
@@ -137,11 +137,11 @@ calls_readable : (calls : List Called) → AreReadable (map call_for calls)
 calls_readable [] = tt
 calls_readable (call ∷ calls) = ((λ scope. extern_spelled scope call.result call.name call.arguments), calls_readable calls)
 
-variables_readable : (vs : List Variable) → ((one : Variable) (n : ℕ) → IsIn one vs → one.count ≡ Some n → IsLength n) → AreReadable (map variable_for vs)
+pub variables_readable : (vs : List Variable) → ((one : Variable) (n : ℕ) → IsIn one vs → one.count ≡ Some n → IsLength n) → AreReadable (map variable_for vs)
 variables_readable [] fit = tt
 variables_readable (v ∷ vs) fit = ((λ scope. variable_spelled scope v.type (variable_name v.name) v.count (λ n is. fit v n first_in is)), variables_readable vs (λ one n o. fit one n (later_in o)))
 
-lists_readable : (k : ℕ) (ls : List Listing) → ((l : Listing) → IsIn l ls → in_range l.unit ≡ true) → AreReadable (lists_from k ls)
+pub lists_readable : (k : ℕ) (ls : List Listing) → ((l : Listing) → IsIn l ls → in_range l.unit ≡ true) → AreReadable (lists_from k ls)
 lists_readable k [] fit = tt
 lists_readable k (l ∷ ls) fit = ((λ scope. list_spelled scope k l (fit l first_in)), lists_readable (suc k) ls (λ m o. fit m (later_in o)))
 
@@ -153,7 +153,7 @@ locals_readable v fit fit' =
 
 -- ## Their names
 
-temporaries_named : (k n : ℕ) → local_names (temporaries_from k n) ≡ temporary_names k n
+pub temporaries_named : (k n : ℕ) → local_names (temporaries_from k n) ≡ temporary_names k n
 temporaries_named k zero = refl
 temporaries_named k (suc n) = ap (λ names. made_name (NumberTemporary k) ∷ names) (temporaries_named (suc k) n)
 
@@ -165,11 +165,11 @@ variable_named : (of : NumberType) (name : List ℕ) (count : Option ℕ) → lo
 variable_named of name None = refl
 variable_named of name (Some n) = refl
 
-variables_named : (vs : List Variable) → local_names (map variable_for vs) ≡ map (λ (one : Variable). variable_name one.name) vs
+pub variables_named : (vs : List Variable) → local_names (map variable_for vs) ≡ map (λ (one : Variable). variable_name one.name) vs
 variables_named [] = refl
 variables_named (v ∷ vs) = λ i. variable_named v.type (variable_name v.name) v.count i ∷ variables_named vs i
 
-lists_named : (k : ℕ) (ls : List Listing) → local_names (lists_from k ls) ≡ list_names k ls
+pub lists_named : (k : ℕ) (ls : List Listing) → local_names (lists_from k ls) ≡ list_names k ls
 lists_named k [] = refl
 lists_named k (l ∷ ls) = ap (λ names. made_name (ControlList k) ∷ names) (lists_named (suc k) ls)
 
@@ -221,18 +221,6 @@ function_spelled scope v body meet readable new statements =
 abbrev pub names_behind : List (List ℕ) → List CConstant → List (List ℕ)
 names_behind earlier [] = earlier
 names_behind earlier (one ∷ later) = names_behind (one.name ∷ earlier) later
-
-none_left : (a b : Bool) → (a || b) ≡ false → a ≡ false
-none_left true b h = h
-none_left false b h = refl
-
-none_right : (a b : Bool) → (a || b) ≡ false → b ≡ false
-none_right true b h = absurd (cc)
-none_right false b h = h
-
-none_both : (a b : Bool) → a ≡ false → b ≡ false → (a || b) ≡ false
-none_both true b h k = h
-none_both false b h k = k
 
 pub none_named : (x : List ℕ) (earlier : List (List ℕ)) (constants : List CConstant) → is_among x earlier ≡ false → is_among x (constant_texts constants) ≡ false → is_among x (names_behind earlier constants) ≡ false
 none_named x earlier [] one other = one

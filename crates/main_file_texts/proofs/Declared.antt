@@ -1,19 +1,22 @@
 -- What stands for an object or a function where a file is linked is declared where its text is read.
-use Rattle.std.specs.Prelude.{◌≡◌, ◌≢◌, ℕ, ◌+◌, pos, Bool, true, false, not, ◌||◌, List, [], ◌∷◌, map, Option, Some, None, bytes_eq, codes, cond, if◌then◌else◌}
+use Rattle.std.specs.Prelude.{◌≡◌, ◌≢◌, ℕ, ◌+◌, pos, Bool, true, false, not, ◌||◌, List, [], ◌∷◌, ◌++◌, map, Option, Some, None, bytes_eq, codes, cond, if◌then◌else◌}
 use Rattle.std.proofs.Common.{refl, sym, ap, ◌∙◌}
 use Rattle.std.proofs.lemmas.Slice.Eq.{bytes_eq-Decides}
 use Rattle.f_tree.specs.Setting.{IsIn, first_in, later_in}
 use Rattle.c_tree.specs.declared.declaration.CLocal.{CLocal}
 use Rattle.c_tree.specs.declared.declaration.CLocal.TheVariants as local
+use Rattle.c_tree.specs.declared.declaration.CParam.{CParam}
+use Rattle.c_tree.specs.declared.types.ParameterType.{ParameterType}
+use Rattle.c_tree.specs.declared.types.ParameterType.TheVariants as parameter
 use Rattle.c_tree.specs.declared.file.CConstant.{CConstant}
 use Rattle.c_tree.specs.Access.{ToFunction}
 use Rattle.c_tree.specs.Terms.{Term, Constant, Variable, Array, Routine, Unknown}
 use Rattle.c_tree.specs.CWords.{is_among}
 use Rattle.c_tree.specs.CExpressionText.{Scope, declared_before, an_object}
-use Rattle.c_tree.specs.CDeclarationText.{without, with_object, with_array, with_function, with_declared}
+use Rattle.c_tree.specs.CDeclarationText.{without, with_object, with_array, with_function, with_pointer, with_declared, with_parameter}
 use Rattle.c_tree.specs.CText.{no_names}
 use Rattle.c_tree.specs.Drafts as linking
-use Rattle.c_tree.specs.Declarations.{Declared, declared_statics, declared_automatics, declared_externs}
+use Rattle.c_tree.specs.Declarations.{Declared, parameter_access, declared_parameters, declared_statics, declared_automatics, declared_externs}
 use Rattle.c_tree.specs.Linking.{Routines, routine, known_objects, known_functions, included, declared_constants}
 use Rattle.linking_laws.specs.Linked.{names_of}
 use Rattle.linking_laws.proofs.Places.{other_bytes, same_bytes, skipped}
@@ -22,27 +25,27 @@ use Rattle.main_file_texts.specs.WellFormedMains.{Agrees}
 
 -- ## Truth of choices
 
-or_right : (a b : Bool) → b ≡ true → (a || b) ≡ true
+pub or_right : (a b : Bool) → b ≡ true → (a || b) ≡ true
 or_right true b h = refl
 or_right false b h = h
 
-or_left : (a b : Bool) → a ≡ true → (a || b) ≡ true
+pub or_left : (a b : Bool) → a ≡ true → (a || b) ≡ true
 or_left true b h = refl
 or_left false b h = absurd (cc)
 
-none_left : (a b : Bool) → (a || b) ≡ false → a ≡ false
+pub none_left : (a b : Bool) → (a || b) ≡ false → a ≡ false
 none_left true b h = h
 none_left false b h = refl
 
-none_right : (a b : Bool) → (a || b) ≡ false → b ≡ false
+pub none_right : (a b : Bool) → (a || b) ≡ false → b ≡ false
 none_right true b h = absurd (cc)
 none_right false b h = h
 
-none_both : (a b : Bool) → a ≡ false → b ≡ false → (a || b) ≡ false
+pub none_both : (a b : Bool) → a ≡ false → b ≡ false → (a || b) ≡ false
 none_both true b h k = h
 none_both false b h k = k
 
-same_text : (x y : List ℕ) → bytes_eq x y ≡ true → x ≡ y
+pub same_text : (x y : List ℕ) → bytes_eq x y ≡ true → x ≡ y
 same_text x y h = (bytes_eq-Decides x y).0 h
 
 -- ## Names among names
@@ -110,11 +113,14 @@ declares P (local.Numbers of x n) name scope f o a = o
 declares P (local.Chars x n) name scope f o a = o
 declares P (local.Addresses x n) name scope f o a = o
 
-abbrev IsObject : List ℕ → Scope → Type 0
+abbrev pub IsObject : List ℕ → Scope → Type 0
 IsObject x scope = is_among x scope.objects ≡ true
 
-abbrev IsFunction : List ℕ → Scope → Type 0
+abbrev pub IsFunction : List ℕ → Scope → Type 0
 IsFunction x scope = is_among x scope.functions ≡ true
+
+abbrev pub IsPointer : List ℕ → Scope → Type 0
+IsPointer x scope = is_among x scope.pointers ≡ true
 
 keeps_object : (x : List ℕ) (one : CLocal) (name : List ℕ) (scope : Scope) → bytes_eq x name ≡ false → IsObject x scope → IsObject x (with_declared one name scope)
 keeps_object x one name scope differ is =
@@ -127,6 +133,9 @@ keeps_function x one name scope differ is =
     let kept = without_keeps x name scope.functions differ is in
     declares (IsFunction x) one name scope (or_right (bytes_eq x name) (is_among x (without name scope.functions)) kept) kept kept
 
+keeps_pointer : (x : List ℕ) (one : CLocal) (name : List ℕ) (scope : Scope) → bytes_eq x name ≡ false → IsPointer x scope → IsPointer x (with_declared one name scope)
+keeps_pointer x one name scope differ is = let kept = without_keeps x name scope.pointers differ is in declares (IsPointer x) one name scope kept kept kept
+
 all_keep_object : (x : List ℕ) (ones : List CLocal) (scope : Scope) → is_among x (local_names ones) ≡ false → IsObject x scope → IsObject x (with_all scope ones)
 all_keep_object x [] scope none is = is
 all_keep_object x (one ∷ ones) scope none is =
@@ -138,6 +147,12 @@ all_keep_function x [] scope none is = is
 all_keep_function x (one ∷ ones) scope none is =
     all_keep_function x ones (with_declared one (local_name one) scope) (none_right (bytes_eq x (local_name one)) (is_among x (local_names ones)) none)
     (keeps_function x one (local_name one) scope (none_left (bytes_eq x (local_name one)) (is_among x (local_names ones)) none) is)
+
+all_keep_pointer : (x : List ℕ) (ones : List CLocal) (scope : Scope) → is_among x (local_names ones) ≡ false → IsPointer x scope → IsPointer x (with_all scope ones)
+all_keep_pointer x [] scope none is = is
+all_keep_pointer x (one ∷ ones) scope none is =
+    all_keep_pointer x ones (with_declared one (local_name one) scope) (none_right (bytes_eq x (local_name one)) (is_among x (local_names ones)) none)
+    (keeps_pointer x one (local_name one) scope (none_left (bytes_eq x (local_name one)) (is_among x (local_names ones)) none) is)
 
 -- the first name of a list that has none twice is none of the later ones
 apart_first : (x name : List ℕ) (names : List (List ℕ)) → bytes_eq x name ≡ true → AreApart (name ∷ names) → is_among x names ≡ false
@@ -244,17 +259,17 @@ none_of_all x (local.Addresses name n ∷ later) s a e = none_first x name (name
 -- ## What a name stands for
 
 -- an object, and a function
-abbrev is_place : Term → Bool
+abbrev pub is_place : Term → Bool
 is_place (Variable k access) = true
 is_place (Array k access) = true
 is_place other = false
 
-abbrev is_routine : Term → Bool
+abbrev pub is_routine : Term → Bool
 is_routine (Routine k) = true
 is_routine other = false
 
 -- a parameter that points to a function
-abbrev is_pointer : Term → Bool
+abbrev pub is_pointer : Term → Bool
 is_pointer (Variable k ToFunction) = true
 is_pointer other = false
 
@@ -315,14 +330,27 @@ no_place : (found : Option ℕ) → is_place (routine found) ≡ true → {A : T
 no_place None h = absurd (cc)
 no_place (Some k) h = absurd (cc)
 
--- a function is none of some objects
-is_outside : (number : ℕ) (ds : List Declared) (outer : linking.Scope) (x : List ℕ) → StandForObjects ds → is_routine (known_objects number ds outer x) ≡ true → (is_among x (names_of ds) ≡ false) × (is_routine (outer x) ≡ true)
-is_outside number [] outer x stand is = (refl, is)
-is_outside number (d ∷ later) outer x stand is = by (bytes_eq x d.name) is (is_outside (number + 1) later outer x stand.1)
+-- objects that stand for none of a kind
+abbrev StandForNone : (Term → Bool) → List Declared → Type 0
+StandForNone is [] = Unit {0}
+StandForNone is (d ∷ later) = ((m : ℕ) → is (d.stands m) ≡ false) × StandForNone is later
+
+no_functions : (ds : List Declared) → StandForObjects ds → StandForNone is_routine ds
+no_functions [] stand = tt
+no_functions (d ∷ later) stand = ((λ m. (stand.0 m).0), no_functions later stand.1)
+
+no_pointers : (ds : List Declared) → StandForObjects ds → StandForNone is_pointer ds
+no_pointers [] stand = tt
+no_pointers (d ∷ later) stand = ((λ m. (stand.0 m).1), no_pointers later stand.1)
+
+-- what is of the kind is none of these
+is_outside : (kind : Term → Bool) (number : ℕ) (ds : List Declared) (outer : linking.Scope) (x : List ℕ) → StandForNone kind ds → kind (known_objects number ds outer x) ≡ true → (is_among x (names_of ds) ≡ false) × (kind (outer x) ≡ true)
+is_outside kind number [] outer x stand is = (refl, is)
+is_outside kind number (d ∷ later) outer x stand is = by (bytes_eq x d.name) is (is_outside kind (number + 1) later outer x stand.1)
   where
-    by : (b : Bool) → is_routine (if b then d.stands number else known_objects (number + 1) later outer x) ≡ true
-        → (is_routine (known_objects (number + 1) later outer x) ≡ true → (is_among x (names_of later) ≡ false) × (is_routine (outer x) ≡ true)) → ((b || is_among x (names_of later)) ≡ false) × (is_routine (outer x) ≡ true)
-    by true h again = let no : true ≡ false = sym h ∙ (stand.0 number).0 in absurd (cc)
+    by : (b : Bool) → kind (if b then d.stands number else known_objects (number + 1) later outer x) ≡ true
+        → (kind (known_objects (number + 1) later outer x) ≡ true → (is_among x (names_of later) ≡ false) × (kind (outer x) ≡ true)) → ((b || is_among x (names_of later)) ≡ false) × (kind (outer x) ≡ true)
+    by true h again = let no : true ≡ false = sym h ∙ stand.0 number in absurd (cc)
     by false h again = again h
 
 -- nor is one of these a parameter
@@ -380,81 +408,246 @@ constant_there x (one ∷ later) scope is =
     split_or x one.name (names_of (declared_constants later)) (IsObject x (with_constants (with_object one.name scope) later)) is
     (λ same. constants_keep x later (with_object one.name scope) (first_object x one.name scope same)) (constant_there x later (with_object one.name scope))
 
--- ## A file with constants and one function
+-- ## Parameters
 
-module _ (numbers : Routines) (base frame first : ℕ) (main : List ℕ) (constants : List CConstant) (ones : List CLocal) (apart : AreApart (local_names ones)) (other : is_among main (names_of (declared_constants constants)) ≡ false) where
-  abbrev file_links : linking.Scope
-  file_links = known_objects first (declared_constants constants) (known_functions numbers (main ∷ []) included)
+abbrev pub parameter_names : List CParam → List (List ℕ)
+parameter_names params = map (λ (p : CParam). p.name) params
 
+abbrev pub with_params : Scope → List CParam → Scope
+with_params scope [] = scope
+with_params scope (p ∷ later) = with_params (with_parameter p.of p.name scope) later
+
+-- a parameter is an object, and one of a function points to that
+takes : (P : Scope → Type 0) (of : ParameterType) (name : List ℕ) (scope : Scope) → P (with_pointer name scope) → P (with_object name scope) → P (with_parameter of name scope)
+takes P (parameter.Function type) name scope p o = p
+takes P parameter.Integers name scope p o = o
+takes P parameter.Logicals name scope p o = o
+takes P parameter.Chars name scope p o = o
+takes P parameter.Length name scope p o = o
+takes P parameter.Int name scope p o = o
+
+params_keep_object : (x : List ℕ) (params : List CParam) (scope : Scope) → IsObject x scope → IsObject x (with_params scope params)
+params_keep_object x [] scope is = is
+params_keep_object x (p ∷ later) scope is =
+    let still = declared_still x p.name scope.objects is in params_keep_object x later (with_parameter p.of p.name scope) (takes (IsObject x) p.of p.name scope still still)
+
+params_keep_function : (x : List ℕ) (params : List CParam) (scope : Scope) → is_among x (parameter_names params) ≡ false → IsFunction x scope → IsFunction x (with_params scope params)
+params_keep_function x [] scope none is = is
+params_keep_function x (p ∷ later) scope none is =
+    let kept = without_keeps x p.name scope.functions (none_left (bytes_eq x p.name) (is_among x (parameter_names later)) none) is in
+    params_keep_function x later (with_parameter p.of p.name scope) (none_right (bytes_eq x p.name) (is_among x (parameter_names later)) none) (takes (IsFunction x) p.of p.name scope kept kept)
+
+params_keep_pointer : (x : List ℕ) (params : List CParam) (scope : Scope) → is_among x (parameter_names params) ≡ false → IsPointer x scope → IsPointer x (with_params scope params)
+params_keep_pointer x [] scope none is = is
+params_keep_pointer x (p ∷ later) scope none is =
+    let kept = without_keeps x p.name scope.pointers (none_left (bytes_eq x p.name) (is_among x (parameter_names later)) none) is in
+    params_keep_pointer x later (with_parameter p.of p.name scope) (none_right (bytes_eq x p.name) (is_among x (parameter_names later)) none)
+    (takes (IsPointer x) p.of p.name scope (or_right (bytes_eq x p.name) (is_among x (without p.name scope.pointers)) kept) kept)
+
+parameter_there : (x : List ℕ) (params : List CParam) (scope : Scope) → is_among x (parameter_names params) ≡ true → IsObject x (with_params scope params)
+parameter_there x [] scope is = absurd (cc)
+parameter_there x (p ∷ later) scope is =
+    split_or x p.name (parameter_names later) (IsObject x (with_params (with_parameter p.of p.name scope) later)) is
+    (λ same. let first = first_object x p.name scope same in params_keep_object x later (with_parameter p.of p.name scope) (takes (IsObject x) p.of p.name scope first first)) (parameter_there x later (with_parameter p.of p.name scope))
+
+pointer_first : (x : List ℕ) (of : ParameterType) (number : ℕ) (name : List ℕ) (scope : Scope) → is_pointer (Variable number (parameter_access of)) ≡ true → bytes_eq x name ≡ true → IsPointer x (with_parameter of name scope)
+pointer_first x (parameter.Function type) number name scope is same = or_left (bytes_eq x name) (is_among x (without name scope.pointers)) same
+pointer_first x parameter.Integers number name scope is same = absurd (cc)
+pointer_first x parameter.Logicals number name scope is same = absurd (cc)
+pointer_first x parameter.Chars number name scope is same = absurd (cc)
+pointer_first x parameter.Length number name scope is same = absurd (cc)
+pointer_first x parameter.Int number name scope is same = absurd (cc)
+
+pointer_there : (number : ℕ) (params : List CParam) (more : List Declared) (outer : linking.Scope) (x : List ℕ) (scope : Scope) → AreApart (parameter_names params) → is_among x (parameter_names params) ≡ true
+    → is_pointer (known_objects number (declared_parameters params ++ more) outer x) ≡ true → IsPointer x (with_params scope params)
+pointer_there number [] more outer x scope apart is points = absurd (cc)
+pointer_there number (p ∷ later) more outer x scope apart is points =
+    by (bytes_eq x p.name) refl is points (pointer_there (number + 1) later more outer x (with_parameter p.of p.name scope) (apart_later p.name (parameter_names later) apart))
+  where
+    by : (b : Bool) → bytes_eq x p.name ≡ b → (b || is_among x (parameter_names later)) ≡ true → is_pointer (if b then Variable number (parameter_access p.of) else known_objects (number + 1) (declared_parameters later ++ more) outer x) ≡ true
+        → (is_among x (parameter_names later) ≡ true → is_pointer (known_objects (number + 1) (declared_parameters later ++ more) outer x) ≡ true → IsPointer x (with_params (with_parameter p.of p.name scope) later))
+        → IsPointer x (with_params (with_parameter p.of p.name scope) later)
+    by true same h here again = params_keep_pointer x later (with_parameter p.of p.name scope) (apart_first x p.name (parameter_names later) same apart) (pointer_first x p.of number p.name scope here same)
+    by false other h there again = again h there
+
+-- what is none of them points to no function, where what is behind them does not
+no_pointer_among : (number : ℕ) (params : List CParam) (more : List Declared) (outer : linking.Scope) (x : List ℕ) → is_among x (parameter_names params) ≡ false → StandForObjects more → is_pointer (outer x) ≡ false
+    → is_pointer (known_objects number (declared_parameters params ++ more) outer x) ≡ false
+no_pointer_among number [] more outer x none stand nowhere = no_pointer_here number more outer x stand nowhere
+no_pointer_among number (p ∷ later) more outer x none stand nowhere = by (bytes_eq x p.name) none (λ h. no_pointer_among (number + 1) later more outer x h stand nowhere)
+  where
+    by : (b : Bool) → (b || is_among x (parameter_names later)) ≡ false → (is_among x (parameter_names later) ≡ false → is_pointer (known_objects (number + 1) (declared_parameters later ++ more) outer x) ≡ false)
+        → is_pointer (if b then Variable number (parameter_access p.of) else known_objects (number + 1) (declared_parameters later ++ more) outer x) ≡ false
+    by true h again = absurd (cc)
+    by false h again = again h
+
+parameters_no_functions : (params : List CParam) (more : List Declared) → StandForNone is_routine more → StandForNone is_routine (declared_parameters params ++ more)
+parameters_no_functions [] more stand = stand
+parameters_no_functions (p ∷ later) more stand = ((λ m. refl), parameters_no_functions later more stand)
+
+framed_names : (params : List CParam) (more : List Declared) → names_of (declared_parameters params ++ more) ≡ parameter_names params ++ names_of more
+framed_names [] more = refl
+framed_names (p ∷ later) more = ap (λ names. p.name ∷ names) (framed_names later more)
+
+among_either : (x : List ℕ) (names more : List (List ℕ)) (P : Type 0) → is_among x (names ++ more) ≡ true → (is_among x names ≡ true → P) → (is_among x more ≡ true → P) → P
+among_either x [] more P is one other = other is
+among_either x (y ∷ names) more P is one other =
+    split_or x y (names ++ more) P is (λ same. one (or_left (bytes_eq x y) (is_among x names) same)) (λ later. among_either x names more P later (λ h. one (or_right (bytes_eq x y) (is_among x names) h)) other)
+
+pub none_in_first : (x : List ℕ) (names more : List (List ℕ)) → is_among x (names ++ more) ≡ false → is_among x names ≡ false
+none_in_first x [] more none = refl
+none_in_first x (y ∷ names) more none =
+    none_both (bytes_eq x y) (is_among x names) (none_left (bytes_eq x y) (is_among x (names ++ more)) none) (none_in_first x names more (none_right (bytes_eq x y) (is_among x (names ++ more)) none))
+
+none_in_last : (x : List ℕ) (names more : List (List ℕ)) → is_among x (names ++ more) ≡ false → is_among x more ≡ false
+none_in_last x [] more none = none
+none_in_last x (y ∷ names) more none = none_in_last x names more (none_right (bytes_eq x y) (is_among x (names ++ more)) none)
+
+-- ## A function, inside what is around it
+
+-- what is around a function: an object and a function there are declared, and no parameter
+pub record IsAround (links : linking.Scope) (scope : Scope) : Type 0 where
+  pub objects : (x : List ℕ) → is_place (links x) ≡ true → IsObject x scope
+  pub functions : (x : List ℕ) → is_routine (links x) ≡ true → IsFunction x scope
+  pub no_pointer : (x : List ℕ) → is_pointer (links x) ≡ false
+
+module _ (numbers : Routines) (base frame : ℕ) (params : List CParam) (ones : List CLocal) (links : linking.Scope) (scope : Scope) (around : IsAround links scope) (first : AreApart (parameter_names params)) (apart : AreApart (local_names ones))
+    (differ : (x : List ℕ) → is_among x (parameter_names params) ≡ true → is_among x (local_names ones) ≡ false) where
   abbrev called_links : linking.Scope
-  called_links = known_functions numbers (declared_externs ones) file_links
+  called_links = known_functions numbers (declared_externs ones) links
 
   abbrev frame_links : linking.Scope
-  frame_links = known_objects frame (declared_automatics ones) called_links
+  frame_links = known_objects frame (declared_parameters params ++ declared_automatics ones) called_links
 
   abbrev all_links : linking.Scope
   all_links = known_objects base (declared_statics ones) frame_links
 
-  abbrev outer_scope : Scope
-  outer_scope = with_function main (with_constants no_names constants)
+  abbrev entered : Scope
+  entered = with_params scope params
 
-  in_file : (x : List ℕ) → is_place (file_links x) ≡ true → is_among x (local_names ones) ≡ false → IsObject x (with_all outer_scope ones)
-  in_file x is none = by (is_among x (names_of (declared_constants constants))) refl
-    where
-      by : (b : Bool) → is_among x (names_of (declared_constants constants)) ≡ b → IsObject x (with_all outer_scope ones)
-      by true h =
-          all_keep_object x ones outer_scope none
-          (without_keeps x main (with_constants no_names constants).objects
-          (other_bytes x main (λ same. let no : true ≡ false = sym h ∙ ap (λ y. is_among y (names_of (declared_constants constants))) same ∙ other in absurd (cc))) (constant_there x constants no_names h))
-      by false h = again (bytes_eq x main) (ap is_place (sym (past_objects first (declared_constants constants) (known_functions numbers (main ∷ []) included) x h)) ∙ is)
-        where
-          again : (b : Bool) → is_place (if b then routine (numbers x) else included x) ≡ true → IsObject x (with_all outer_scope ones)
-          again true k = no_place (numbers x) k
-          again false k = no_included_place x k
+  framed_is : (x : List ℕ) (b : Bool) → is_among x (names_of (declared_parameters params ++ declared_automatics ones)) ≡ b → is_among x (parameter_names params ++ names_of (declared_automatics ones)) ≡ b
+  framed_is x b h = ap (is_among x) (sym (framed_names params (declared_automatics ones))) ∙ h
 
-  object_declared : (x : List ℕ) → is_place (all_links x) ≡ true → IsObject x (with_all outer_scope ones)
+  object_declared : (x : List ℕ) → is_place (all_links x) ≡ true → IsObject x (with_all entered ones)
   object_declared x is = lasting (is_among x (names_of (declared_statics ones))) refl
     where
-      called : (b : Bool) → is_among x (declared_externs ones) ≡ b → is_place (called_links x) ≡ true → is_among x (names_of (declared_statics ones)) ≡ false → is_among x (names_of (declared_automatics ones)) ≡ false → IsObject x (with_all outer_scope ones)
-      called true h k s a = no_place (numbers x) (ap is_place (sym (at_function numbers (declared_externs ones) file_links x h)) ∙ k)
-      called false h k s a = in_file x (ap is_place (sym (past_functions numbers (declared_externs ones) file_links x h)) ∙ k) (none_of_all x ones s a h)
+      called : (b : Bool) → is_among x (declared_externs ones) ≡ b → is_place (called_links x) ≡ true → is_among x (names_of (declared_statics ones)) ≡ false → is_among x (names_of (declared_automatics ones)) ≡ false → IsObject x (with_all entered ones)
+      called true h k s a = no_place (numbers x) (ap is_place (sym (at_function numbers (declared_externs ones) links x h)) ∙ k)
+      called false h k s a =
+          all_keep_object x ones entered (none_of_all x ones s a h) (params_keep_object x params scope (around.objects x (ap is_place (sym (past_functions numbers (declared_externs ones) links x h)) ∙ k)))
 
-      framed : (b : Bool) → is_among x (names_of (declared_automatics ones)) ≡ b → is_place (frame_links x) ≡ true → is_among x (names_of (declared_statics ones)) ≡ false → IsObject x (with_all outer_scope ones)
-      framed true h k s = object_there x ones outer_scope apart (automatics_are_objects x ones h)
-      framed false h k s = called (is_among x (declared_externs ones)) refl (ap is_place (sym (past_objects frame (declared_automatics ones) called_links x h)) ∙ k) s h
+      framed : (b : Bool) → is_among x (names_of (declared_parameters params ++ declared_automatics ones)) ≡ b → is_place (frame_links x) ≡ true → is_among x (names_of (declared_statics ones)) ≡ false → IsObject x (with_all entered ones)
+      framed true h k s =
+          among_either x (parameter_names params) (names_of (declared_automatics ones)) (IsObject x (with_all entered ones)) (framed_is x true h) (λ p. all_keep_object x ones entered (differ x p) (parameter_there x params scope p))
+          (λ a. object_there x ones entered apart (automatics_are_objects x ones a))
+      framed false h k s =
+          called (is_among x (declared_externs ones)) refl (ap is_place (sym (past_objects frame (declared_parameters params ++ declared_automatics ones) called_links x h)) ∙ k) s
+          (none_in_last x (parameter_names params) (names_of (declared_automatics ones)) (framed_is x false h))
 
-      lasting : (b : Bool) → is_among x (names_of (declared_statics ones)) ≡ b → IsObject x (with_all outer_scope ones)
-      lasting true h = object_there x ones outer_scope apart (statics_are_objects x ones h)
-      lasting false h = framed (is_among x (names_of (declared_automatics ones))) refl (ap is_place (sym (past_objects base (declared_statics ones) frame_links x h)) ∙ is) h
+      lasting : (b : Bool) → is_among x (names_of (declared_statics ones)) ≡ b → IsObject x (with_all entered ones)
+      lasting true h = object_there x ones entered apart (statics_are_objects x ones h)
+      lasting false h =
+          framed (is_among x (names_of (declared_parameters params ++ declared_automatics ones))) refl (ap is_place (sym (past_objects base (declared_statics ones) frame_links x h)) ∙ is) h
 
-  main_declared : (x : List ℕ) → is_routine (file_links x) ≡ true → is_among x (local_names ones) ≡ false → IsFunction x (with_all outer_scope ones)
-  main_declared x is none = by (bytes_eq x main) refl (is_outside first (declared_constants constants) (known_functions numbers (main ∷ []) included) x (constants_stand constants) is).1
-    where
-      by : (b : Bool) → bytes_eq x main ≡ b → is_routine (if b then routine (numbers x) else included x) ≡ true → IsFunction x (with_all outer_scope ones)
-      by true h k = all_keep_function x ones outer_scope none (or_left (bytes_eq x main) (is_among x (without main (with_constants no_names constants).functions)) h)
-      by false h k = no_included_routine x k
-
-  function_declared : (x : List ℕ) → is_routine (all_links x) ≡ true → IsFunction x (with_all outer_scope ones)
+  function_declared : (x : List ℕ) → is_routine (all_links x) ≡ true → IsFunction x (with_all entered ones)
   function_declared x is =
-      let one = is_outside base (declared_statics ones) frame_links x (statics_stand ones) is in
-      let two = is_outside frame (declared_automatics ones) called_links x (automatics_stand ones) one.1 in
-      called (is_among x (declared_externs ones)) refl one.0 two.0 two.1
+      let one = is_outside is_routine base (declared_statics ones) frame_links x (no_functions (declared_statics ones) (statics_stand ones)) is in
+      let two = is_outside is_routine frame (declared_parameters params ++ declared_automatics ones) called_links x
+      (parameters_no_functions params (declared_automatics ones) (no_functions (declared_automatics ones) (automatics_stand ones))) one.1 in
+      called (is_among x (declared_externs ones)) refl one.0 (framed_is x false two.0) two.1
     where
-      called : (b : Bool) → is_among x (declared_externs ones) ≡ b → is_among x (names_of (declared_statics ones)) ≡ false → is_among x (names_of (declared_automatics ones)) ≡ false → is_routine (called_links x) ≡ true → IsFunction x (with_all outer_scope ones)
-      called true h s a k = function_there x ones outer_scope apart h
-      called false h s a k = main_declared x (ap is_routine (sym (past_functions numbers (declared_externs ones) file_links x h)) ∙ k) (none_of_all x ones s a h)
+      called : (b : Bool) → is_among x (declared_externs ones) ≡ b → is_among x (names_of (declared_statics ones)) ≡ false → is_among x (parameter_names params ++ names_of (declared_automatics ones)) ≡ false → is_routine (called_links x) ≡ true
+          → IsFunction x (with_all entered ones)
+      called true h s a k = function_there x ones entered apart h
+      called false h s a k =
+          all_keep_function x ones entered (none_of_all x ones s (none_in_last x (parameter_names params) (names_of (declared_automatics ones)) a) h)
+          (params_keep_function x params scope (none_in_first x (parameter_names params) (names_of (declared_automatics ones)) a)
+          (around.functions x (ap is_routine (sym (past_functions numbers (declared_externs ones) links x h)) ∙ k)))
 
-  points_nowhere : (x : List ℕ) → is_pointer (all_links x) ≡ false
-  points_nowhere x =
-      no_pointer_here base (declared_statics ones) frame_links x (statics_stand ones)
-      (no_pointer_here frame (declared_automatics ones) called_links x (automatics_stand ones)
-      (no_pointer_called numbers (declared_externs ones) file_links x
-      (no_pointer_here first (declared_constants constants) (known_functions numbers (main ∷ []) included) x (constants_stand constants) (no_pointer_called numbers (main ∷ []) included x (no_pointer_included x)))))
+  pointer_declared : (x : List ℕ) → is_pointer (all_links x) ≡ true → IsPointer x (with_all entered ones)
+  pointer_declared x is =
+      let one = is_outside is_pointer base (declared_statics ones) frame_links x (no_pointers (declared_statics ones) (statics_stand ones)) is in
+      framed (is_among x (parameter_names params)) refl one.1
+    where
+      framed : (b : Bool) → is_among x (parameter_names params) ≡ b → is_pointer (frame_links x) ≡ true → IsPointer x (with_all entered ones)
+      framed true h k = all_keep_pointer x ones entered (differ x h) (pointer_there frame params (declared_automatics ones) called_links x scope first h k)
+      framed false h k =
+          let no : true ≡ false =
+          sym k ∙ no_pointer_among frame params (declared_automatics ones) called_links x h (automatics_stand ones) (no_pointer_called numbers (declared_externs ones) links x (around.no_pointer x)) in
+          absurd (cc)
 
-  pub names_agree : Agrees all_links (with_all outer_scope ones)
+  pub names_agree : Agrees all_links (with_all entered ones)
   names_agree = record {
     variables = λ name k access h. declared_before (an_object (object_declared name (ap is_place h)));
     arrays = λ name k access h. declared_before (an_object (object_declared name (ap is_place h)));
     functions = λ name k h. function_declared name (ap is_routine h);
-    pointers = λ name k h. (let no : true ≡ false = sym (ap is_pointer h) ∙ points_nowhere name in absurd (cc));
+    pointers = λ name k h. pointer_declared name (ap is_pointer h);
+  }
+
+-- ## Around a main program: constants, and its own name
+
+module _ (numbers : Routines) (first : ℕ) (main : List ℕ) (constants : List CConstant) (other : is_among main (names_of (declared_constants constants)) ≡ false) where
+  abbrev file_links : linking.Scope
+  file_links = known_objects first (declared_constants constants) (known_functions numbers (main ∷ []) included)
+
+  abbrev outer_scope : Scope
+  outer_scope = with_function main (with_constants no_names constants)
+
+  object_around : (x : List ℕ) → is_place (file_links x) ≡ true → IsObject x outer_scope
+  object_around x is = by (is_among x (names_of (declared_constants constants))) refl
+    where
+      by : (b : Bool) → is_among x (names_of (declared_constants constants)) ≡ b → IsObject x outer_scope
+      by true h =
+          without_keeps x main (with_constants no_names constants).objects
+          (other_bytes x main (λ same. let no : true ≡ false = sym h ∙ ap (λ y. is_among y (names_of (declared_constants constants))) same ∙ other in absurd (cc))) (constant_there x constants no_names h)
+      by false h = again (bytes_eq x main) (ap is_place (sym (past_objects first (declared_constants constants) (known_functions numbers (main ∷ []) included) x h)) ∙ is)
+        where
+          again : (b : Bool) → is_place (if b then routine (numbers x) else included x) ≡ true → IsObject x outer_scope
+          again true k = no_place (numbers x) k
+          again false k = no_included_place x k
+
+  function_around : (x : List ℕ) → is_routine (file_links x) ≡ true → IsFunction x outer_scope
+  function_around x is =
+      by (bytes_eq x main) refl
+      (is_outside is_routine first (declared_constants constants) (known_functions numbers (main ∷ []) included) x (no_functions (declared_constants constants) (constants_stand constants)) is).1
+    where
+      by : (b : Bool) → bytes_eq x main ≡ b → is_routine (if b then routine (numbers x) else included x) ≡ true → IsFunction x outer_scope
+      by true h k = or_left (bytes_eq x main) (is_among x (without main (with_constants no_names constants).functions)) h
+      by false h k = no_included_routine x k
+
+  pub around_main : IsAround file_links outer_scope
+  around_main = record {
+    objects = object_around;
+    functions = function_around;
+    no_pointer = λ x. no_pointer_here first (declared_constants constants) (known_functions numbers (main ∷ []) included) x (constants_stand constants) (no_pointer_called numbers (main ∷ []) included x (no_pointer_included x));
+  }
+
+-- ## Around one of several functions: constants, and the functions before it with its own
+
+abbrev pub with_functions : Scope → List (List ℕ) → Scope
+with_functions scope [] = scope
+with_functions scope (name ∷ later) = with_functions (with_function name scope) later
+
+functions_keep_object : (x : List ℕ) (names : List (List ℕ)) (scope : Scope) → is_among x names ≡ false → IsObject x scope → IsObject x (with_functions scope names)
+functions_keep_object x [] scope none is = is
+functions_keep_object x (name ∷ later) scope none is =
+    functions_keep_object x later (with_function name scope) (none_right (bytes_eq x name) (is_among x later) none)
+    (without_keeps x name scope.objects (none_left (bytes_eq x name) (is_among x later) none) is)
+
+module _ (first : ℕ) (constants : List CConstant) (names : List (List ℕ)) (apart : (x : List ℕ) → is_among x (names_of (declared_constants constants)) ≡ true → is_among x names ≡ false) where
+  abbrev constant_links : linking.Scope
+  constant_links = known_objects first (declared_constants constants) included
+
+  constant_around : (x : List ℕ) → is_place (constant_links x) ≡ true → IsObject x (with_functions (with_constants no_names constants) names)
+  constant_around x is = by (is_among x (names_of (declared_constants constants))) refl
+    where
+      by : (b : Bool) → is_among x (names_of (declared_constants constants)) ≡ b → IsObject x (with_functions (with_constants no_names constants) names)
+      by true h = functions_keep_object x names (with_constants no_names constants) (apart x h) (constant_there x constants no_names h)
+      by false h = no_included_place x (ap is_place (sym (past_objects first (declared_constants constants) included x h)) ∙ is)
+
+  pub around_units : IsAround constant_links (with_functions (with_constants no_names constants) names)
+  around_units = record {
+    objects = constant_around;
+    functions = λ x is. no_included_routine x (is_outside is_routine first (declared_constants constants) included x (no_functions (declared_constants constants) (constants_stand constants)) is).1;
+    no_pointer = λ x. no_pointer_here first (declared_constants constants) included x (constants_stand constants) (no_pointer_included x);
   }

@@ -101,7 +101,7 @@ quantity_fieldless : (q : Quantity) → HasNoField (quantity_term q)
 quantity_fieldless (Written z) = number_fieldless z
 quantity_fieldless (Saved object) = tt
 
-address_fieldless : (address : Address) → HasNoField (number_term address)
+pub address_fieldless : (address : Address) → HasNoField (number_term address)
 address_fieldless (Alone object) = tt
 address_fieldless (Inside object before) = (tt, tt)
 address_fieldless (InTexts object before) = tt
@@ -129,7 +129,7 @@ three_fieldless form (Some t) (Some u) None term h one other third made = absurd
 three_fieldless form (Some t) None z term h one other third made = absurd (cc)
 three_fieldless form None y z term h one other third made = absurd (cc)
 
-more_fieldless : (x : Option Term) (xs : Option (List Term)) (ts : List Term) → one_more x xs ≡ Some ts → ((t : Term) → x ≡ Some t → HasNoField t) → ((us : List Term) → xs ≡ Some us → HaveNoField us)
+pub more_fieldless : (x : Option Term) (xs : Option (List Term)) (ts : List Term) → one_more x xs ≡ Some ts → ((t : Term) → x ≡ Some t → HasNoField t) → ((us : List Term) → xs ≡ Some us → HaveNoField us)
     → HaveNoField ts
 unfolding one_more
 more_fieldless (Some t) (Some us) ts h one others = subst HaveNoField (some_same (t ∷ us) ts h) (and_term (one t refl) (others us refl))

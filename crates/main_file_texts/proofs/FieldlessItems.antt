@@ -38,7 +38,7 @@ unfolding jump_to
 goto_fieldless place (Some n) item h = subst ItemHasNoField (some_same (Jump (place n)) item h) tt
 goto_fieldless place None item h = absurd (cc)
 
-return_fieldless : (kind : UnitKind) (item : Flat) → returned_by kind ≡ Some item → ItemHasNoField item
+pub return_fieldless : (kind : UnitKind) (item : Flat) → returned_by kind ≡ Some item → ItemHasNoField item
 unfolding returned_by
 return_fieldless facts.MainProgram item h = subst ItemHasNoField (some_same (Return (Some (c.Constant (pos 0)))) item h) tt
 return_fieldless facts.SubroutineUnit item h = subst ItemHasNoField (some_same (Return (Some (c.Constant (pos 0)))) item h) tt
@@ -73,7 +73,7 @@ module _ (w : Writing) where
   held_constant (IsLog false) t h = constant_fieldless (pos 0) t h
   held_constant d t h = absurd (cc)
 
-  held_is : (p : Pure) (t : Term) → held_term w p ≡ Some t → HasNoField t
+  pub held_is : (p : Pure) (t : Term) → held_term w p ≡ Some t → HasNoField t
   unfolding held_term
   held_is (Constant d) t h = held_constant d t h
   held_is (Temporary k) t h = held_fieldless (w.is_number k) (c.Variable (w.naming.temporary k) ToNumber) t h (λ holds. tt)
@@ -130,7 +130,7 @@ module _ (w : Writing) where
   unfolding stop_item
   stopped n text = call_fieldless w (codes "s_stop") (c.Array (w.library.text n) ToChar ∷ c.Cast to.Length (c.Constant (pos (length text))) ∷ []) (and_term tt (and_term tt no_terms))
 
-  flat_fieldless : (place : ℕ → ℕ) (label : ℕ → Option ℕ) (n : ℕ) (st : Step) (item : Flat) → flat_of w place label n st ≡ Some item → ItemHasNoField item
+  pub flat_fieldless : (place : ℕ → ℕ) (label : ℕ → Option ℕ) (n : ℕ) (st : Step) (item : Flat) → flat_of w place label n st ≡ Some item → ItemHasNoField item
   unfolding flat_of
   flat_fieldless place label n (step.Put target p) item h = assigned_fieldless (place_term w target) (value_term w p) item h (target_fieldless w target) (value_fieldless w p)
   flat_fieldless place label n (step.Keep k p) item h =
@@ -152,7 +152,7 @@ module _ (w : Writing) where
   flat_fieldless place label n (step.Halt text) item h = subst ItemHasNoField (some_same (stop_item w n text) item h) (stopped n text)
   flat_fieldless place label n st item h = absurd (cc)
 
-  before_fieldless : (x : Option Flat) (xs : Option (List Flat)) (items : List Flat) → item_before x xs ≡ Some items → ((item : Flat) → x ≡ Some item → ItemHasNoField item) → ((later : List Flat) → xs ≡ Some later → ItemsHaveNoField later) → ItemsHaveNoField items
+  pub before_fieldless : (x : Option Flat) (xs : Option (List Flat)) (items : List Flat) → item_before x xs ≡ Some items → ((item : Flat) → x ≡ Some item → ItemHasNoField item) → ((later : List Flat) → xs ≡ Some later → ItemsHaveNoField later) → ItemsHaveNoField items
   unfolding item_before
   before_fieldless (Some item) (Some later) items h one others = subst ItemsHaveNoField (some_same (item ∷ later) items h) (one item refl, others later refl)
   before_fieldless (Some item) None items h one others = absurd (cc)

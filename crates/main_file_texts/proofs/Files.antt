@@ -1,5 +1,5 @@
 -- The C file of a plain main program is well formed.
-use Rattle.std.specs.Prelude.{◌≡◌, ◌≢◌, ℕ, zero, suc, ◌+◌, ◌*◌, ◌<◌, ◌≤◌, ◌^◌, nat_eq, nat_lt, ℤ, pos, negsuc, Bool, true, false, not, ◌&&◌, ◌||◌, List, [], ◌∷◌, ◌++◌, map, length, position, Option, Some, None, slice_get, bytes_eq, if◌then◌else◌}
+use Rattle.std.specs.Prelude.{◌≡◌, ◌≢◌, ℕ, zero, suc, ◌+◌, ◌*◌, ◌<◌, ◌≤◌, ◌^◌, nat_eq, nat_lt, ℤ, pos, negsuc, Bool, true, false, not, ◌&&◌, List, [], ◌∷◌, ◌++◌, map, length, position, Option, Some, None, bytes_eq, if◌then◌else◌}
 use Rattle.std.specs.List.{list_all}
 use Rattle.std.proofs.Common.{refl, sym, ap, ◌∙◌, subst, arith}
 use Rattle.f_tree.specs.Facts.{ProgramUnit, Output, Listed, Labelled, Computed, Unformatted, Input, Direction, Layout, Controls}
@@ -48,7 +48,7 @@ use Rattle.main_file_texts.specs.WellFormedMains.{Agrees, AreSpelled, IsSpellabl
 use Rattle.main_file_texts.proofs.FieldlessItems.{items_fieldless}
 use Rattle.main_file_texts.proofs.SpelledStatements.{statements_are_spelled}
 use Rattle.main_file_texts.proofs.MeetingLabels.{labels_do_meet}
-use Rattle.main_file_texts.proofs.Declared.{local_names, with_all, with_constants, constant_texts, names_agree}
+use Rattle.main_file_texts.proofs.Declared.{or_right, or_left, local_names, with_all, with_constants, constant_texts, around_main, names_agree}
 use Rattle.main_file_texts.proofs.Words.{temporary_word, list_word, constant_word, made_label_word, statement_label_word, variable_word}
 use Rattle.main_file_texts.proofs.Declarations.{AreReadable, locals_readable, locals_named, AllNew, all_new, function_spelled, file_spelled}
 
@@ -72,20 +72,19 @@ whiles_count (one ∷ marks) = by (opens_while one.mark) (whiles_count marks)
     by true rest = omega (arith, rest)
     by false rest = omega (arith, rest)
 
-module _ (u : Text) (plain : IsPlainText u) where
+module _ (u : Text) (labels : (label : ℕ) → IsIn label (labels_in u.steps) → label < 2 ^ 64) (marks : 1 + length u.marks ≤ 2 ^ 64) where
   name_word : (n : ℕ) (name : List ℕ) (label loop : Option ℕ) → label_before u.position n (labels_in u.steps) ≡ label → position (nat_eq n) (whiles_in u.marks) ≡ loop → name_by label loop ≡ Some name → is_name name ≡ true
   unfolding name_by
   name_word n name (Some l) loop one other h =
-      subst (λ x. is_name x ≡ true) (some_same (made_name (StatementLabel l)) name h) (statement_label_word l (plain.labels l (among_labels u.position n (labels_in u.steps) l one)))
+      subst (λ x. is_name x ≡ true) (some_same (made_name (StatementLabel l)) name h) (statement_label_word l (labels l (among_labels u.position n (labels_in u.steps) l one)))
   name_word n name None (Some k) one other h =
       let found = position_finds (nat_eq n) (whiles_in u.marks) k other in
       let less = within (whiles_in u.marks) k found.one found.at in
       let few = whiles_count u.marks in
-      let fits = plain.marks in
-      subst (λ x. is_name x ≡ true) (some_same (made_name (MadeLabel (suc k))) name h) (made_label_word (suc k) (omega (arith, less, few, fits)))
+      subst (λ x. is_name x ≡ true) (some_same (made_name (MadeLabel (suc k))) name h) (made_label_word (suc k) (omega (arith, less, few, marks)))
   name_word n name None None one other h = absurd (cc)
 
-  label_word : (n : ℕ) (name : List ℕ) → label_at u n ≡ Some name → is_name name ≡ true
+  pub label_word : (n : ℕ) (name : List ℕ) → label_at u n ≡ Some name → is_name name ≡ true
   unfolding label_at
   label_word n name h = by (nat_lt n (length u.steps)) h
     where
@@ -106,7 +105,7 @@ unfolding start_item unit_of
 unit_fits w n controls (AndPure (Constant (IsInt z)) NoPure) item h unit is = subst (λ y. in_range y ≡ true) (some_same z unit is) (on_fits w n (is_plain controls) (in_range z) item h)
 unit_fits w n controls ps item h unit is = absurd (cc)
 
-started_fits : (w : Writing) (label : ℕ → Option ℕ) (n : ℕ) (way : Direction) (layout : Layout) (controls : Controls) (ps : Pures) (m : ℕ) (item : Flat) → flat_of w (λ k. k) label n (Acts (Starts way layout controls) ps m) ≡ Some item
+pub started_fits : (w : Writing) (label : ℕ → Option ℕ) (n : ℕ) (way : Direction) (layout : Layout) (controls : Controls) (ps : Pures) (m : ℕ) (item : Flat) → flat_of w (λ k. k) label n (Acts (Starts way layout controls) ps m) ≡ Some item
     → (unit : ℤ) → unit_of ps ≡ Some unit → in_range unit ≡ true
 unfolding flat_of
 started_fits w label n Output Listed controls ps m item h = unit_fits w n controls ps item h
@@ -115,19 +114,19 @@ started_fits w label n Output Computed controls ps m item h = absurd (cc)
 started_fits w label n Output Unformatted controls ps m item h = absurd (cc)
 started_fits w label n Input layout controls ps m item h = absurd (cc)
 
-record AreSplit (x : Option Flat) (xs : Option (List Flat)) : Type 0 where
-  item : Flat
-  later : List Flat
-  item_is : x ≡ Some item
-  later_is : xs ≡ Some later
+pub record AreSplit (x : Option Flat) (xs : Option (List Flat)) : Type 0 where
+  pub item : Flat
+  pub later : List Flat
+  pub item_is : x ≡ Some item
+  pub later_is : xs ≡ Some later
 
-split : (x : Option Flat) (xs : Option (List Flat)) (items : List Flat) → item_before x xs ≡ Some items → AreSplit x xs
+pub split : (x : Option Flat) (xs : Option (List Flat)) (items : List Flat) → item_before x xs ≡ Some items → AreSplit x xs
 unfolding item_before
 split (Some item) (Some later) items h = record { item = item; later = later; item_is = refl; later_is = refl }
 split (Some item) None items h = absurd (cc)
 split None xs items h = absurd (cc)
 
-listing_fits : (n : ℕ) (found : Option ℤ) (later : List Listing) → ((unit : ℤ) → found ≡ Some unit → in_range unit ≡ true) → ((l : Listing) → IsIn l later → in_range l.unit ≡ true) → (l : Listing) → IsIn l (listing_by n found ++ later) → in_range l.unit ≡ true
+pub listing_fits : (n : ℕ) (found : Option ℤ) (later : List Listing) → ((unit : ℤ) → found ≡ Some unit → in_range unit ≡ true) → ((l : Listing) → IsIn l later → in_range l.unit ≡ true) → (l : Listing) → IsIn l (listing_by n found ++ later) → in_range l.unit ≡ true
 unfolding listing_by
 listing_fits n None later one others l o = others l o
 listing_fits n (Some unit) later one others l o = by l o
@@ -146,32 +145,24 @@ listings_fit w label n (st ∷ later) items h l o = let s = split (flat_of w (λ
 
 -- ## Names that are told apart
 
-apart_by : (names : List (List ℕ)) → AreDistinct names → AreApart names
+pub apart_by : (names : List (List ℕ)) → AreDistinct names → AreApart names
 apart_by [] distinct = none_apart
 apart_by (x ∷ xs) distinct =
     one_apart
     (λ y o same. let found = at_in y xs o in let equal : 0 ≡ suc found.index = distinct 0 (suc found.index) x refl (found.at ∙ ap Some (sym same)) in absurd (let no : ⊥ = omega (arith, equal) in no))
     (apart_by xs (λ i j name one other. let equal = distinct (suc i) (suc j) name one other in omega (arith, equal)))
 
-or_right : (a b : Bool) → b ≡ true → (a || b) ≡ true
-or_right true b h = refl
-or_right false b h = h
-
-or_left : (a b : Bool) → a ≡ true → (a || b) ≡ true
-or_left true b h = refl
-or_left false b h = absurd (cc)
-
-is_in : (name : List ℕ) (list : List (List ℕ)) → IsIn name list → is_among name list ≡ true
+pub is_in : (name : List ℕ) (list : List (List ℕ)) → IsIn name list → is_among name list ≡ true
 is_in name [] among = elim among [ ]
 is_in name (y ∷ later) first_in = or_left (bytes_eq name name) (is_among name later) (same_bytes name name refl)
 is_in name (y ∷ later) (later_in among) = or_right (bytes_eq name y) (is_among name later) (is_in name later among)
 
 -- lists whose names are told apart as they stand
-no_twice : List (List ℕ) → Bool
+pub no_twice : List (List ℕ) → Bool
 no_twice [] = true
 no_twice (x ∷ xs) = not (is_among x xs) && no_twice xs
 
-apart_told : (names : List (List ℕ)) → no_twice names ≡ true → AreApart names
+pub apart_told : (names : List (List ℕ)) → no_twice names ≡ true → AreApart names
 unfolding no_twice
 apart_told [] told = none_apart
 apart_told (x ∷ xs) told = by (is_among x xs) refl told (apart_told xs)
@@ -184,40 +175,40 @@ apart_told (x ∷ xs) told = by (is_among x xs) refl told (apart_told xs)
         apart_from y o same none = let no : true ≡ false = sym (is_in x xs (subst (λ z. IsIn z xs) (sym same) o)) ∙ none in cc
 
 -- the names of all functions of the library that a main program may call
-abbrev all_names : List (List ℕ)
+abbrev pub all_names : List (List ℕ)
 all_names = map (λ (call : Called). call.name) all_calls
 
-all_apart_there : no_twice all_names ≡ true
+pub all_apart_there : no_twice all_names ≡ true
 unfolding no_twice function_called
 all_apart_there = refl
 
-all_words_there : list_all is_name all_names ≡ true
+pub all_words_there : list_all is_name all_names ≡ true
 unfolding function_called
 all_words_there = refl
 
-names_part : (steps : List Step) → IsPart (map (λ (call : Called). call.name) (calls_of steps)) all_names
+pub names_part : (steps : List Step) → IsPart (map (λ (call : Called). call.name) (calls_of steps)) all_names
 names_part steps = part_map (λ (call : Called). call.name) (calls_of steps) all_calls (calls_part steps)
 
-all_words : (names : List (List ℕ)) → list_all is_name names ≡ true → (name : List ℕ) → IsIn name names → is_name name ≡ true
+pub all_words : (names : List (List ℕ)) → list_all is_name names ≡ true → (name : List ℕ) → IsIn name names → is_name name ≡ true
 all_words [] all name o = elim o [ ]
 all_words (x ∷ xs) all _ first_in = and-first (is_name x) (list_all is_name xs) all
 all_words (x ∷ xs) all name (later_in o) = all_words xs (and-second (is_name x) (list_all is_name xs) all) name o
 
-temporaries_words : (k n : ℕ) → k + n ≤ 2 ^ 64 → (name : List ℕ) → IsIn name (temporary_names k n) → is_name name ≡ true
+pub temporaries_words : (k n : ℕ) → k + n ≤ 2 ^ 64 → (name : List ℕ) → IsIn name (temporary_names k n) → is_name name ≡ true
 temporaries_words k zero few name o = elim o [ ]
 temporaries_words k (suc n) few _ first_in = temporary_word k (omega (arith, few))
 temporaries_words k (suc n) few name (later_in o) = temporaries_words (suc k) n (omega (arith, few)) name o
 
-lists_words : (k : ℕ) (ls : List Listing) → k + length ls ≤ 2 ^ 64 → (name : List ℕ) → IsIn name (list_names k ls) → is_name name ≡ true
+pub lists_words : (k : ℕ) (ls : List Listing) → k + length ls ≤ 2 ^ 64 → (name : List ℕ) → IsIn name (list_names k ls) → is_name name ≡ true
 lists_words k [] few name o = elim o [ ]
 lists_words k (l ∷ ls) few _ first_in = list_word k (omega (arith, few))
 lists_words k (l ∷ ls) few name (later_in o) = lists_words (suc k) ls (omega (arith, few)) name o
 
-constants_named : (zs : List ℤ) → constant_texts (map constant_for zs) ≡ map (λ z. made_name (ConstantOf z)) zs
+pub constants_named : (zs : List ℤ) → constant_texts (map constant_for zs) ≡ map (λ z. made_name (ConstantOf z)) zs
 constants_named [] = refl
 constants_named (z ∷ zs) = ap (λ names. made_name (ConstantOf z) ∷ names) (constants_named zs)
 
-declared_named : (constants : List CConstant) → linked.names_of (linking.declared_constants constants) ≡ constant_texts constants
+pub declared_named : (constants : List CConstant) → linked.names_of (linking.declared_constants constants) ≡ constant_texts constants
 declared_named [] = refl
 declared_named (one ∷ later) = ap (λ names. one.name ∷ names) (declared_named later)
 
@@ -227,7 +218,7 @@ main_is_none [] = refl
 main_is_none (pos n ∷ zs) = main_is_none zs
 main_is_none (negsuc n ∷ zs) = main_is_none zs
 
-constant_fit : (zs : List ℤ) → ((z : ℤ) → IsIn z zs → in_range z ≡ true) → (one : CConstant) → IsIn one (map constant_for zs) → in_range one.value ≡ true
+pub constant_fit : (zs : List ℤ) → ((z : ℤ) → IsIn z zs → in_range z ≡ true) → (one : CConstant) → IsIn one (map constant_for zs) → in_range one.value ≡ true
 constant_fit zs fit one o = let found = in_map constant_for zs one o in subst (λ (c : CConstant). in_range c.value ≡ true) found.is (fit found.from found.among)
 
 -- the scope behind the constants of its file and its own name
@@ -322,14 +313,16 @@ module _ (unit : ProgramUnit) (u : Text) (body : List CStmt) (plain : IsPlainMai
       (linking.local_scope (routines (main_name ∷ [])) (first_objects (inventory_of unit u)).function frame [] (linking.file_scope (routines (main_name ∷ [])) (λ name. None) (first_objects (inventory_of unit u)).file (main_file (inventory_of unit u) (other_body u)))
       (main_locals (inventory_of unit u))) (with_all (outer unit u) (main_locals (inventory_of unit u)))
   agrees frame =
-      names_agree (routines (main_name ∷ [])) (first_objects (inventory_of unit u)).function frame (first_objects (inventory_of unit u)).file main_name (map constant_for (inventory_of unit u).constants) (main_locals (inventory_of unit u)) apart
-      (ap (is_among main_name) (declared_named (map constant_for (inventory_of unit u).constants)) ∙ no_main_constant)
+      names_agree (routines (main_name ∷ [])) (first_objects (inventory_of unit u)).function frame [] (main_locals (inventory_of unit u))
+      (linking.file_scope (routines (main_name ∷ [])) (λ name. None) (first_objects (inventory_of unit u)).file (main_file (inventory_of unit u) (other_body u))) (outer unit u)
+      (around_main (routines (main_name ∷ [])) (first_objects (inventory_of unit u)).file main_name (map constant_for (inventory_of unit u).constants)
+      (ap (is_among main_name) (declared_named (map constant_for (inventory_of unit u).constants)) ∙ no_main_constant)) none_apart apart (λ x is. absurd (cc))
 
   spelled : AreSpelled (outline_of (inventory_of unit u) (first_objects (inventory_of unit u)) u) (with_all (outer unit u) (main_locals (inventory_of unit u))) body
   spelled =
       statements_are_spelled (outline_of (inventory_of unit u) (first_objects (inventory_of unit u)) u)
       (scope_in (routines (main_name ∷ [])) (λ name. None) (inventory_of unit u) (first_objects (inventory_of unit u)) (other_body u)) (with_all (outer unit u) (main_locals (inventory_of unit u))) (length made.items) 0 made.items body
-      (agrees (linked.frame (first_objects (inventory_of unit u)).function (main_function (inventory_of unit u) (other_body u)))) (label_word u small) made.statements known
+      (agrees (linked.frame (first_objects (inventory_of unit u)).function (main_function (inventory_of unit u) (other_body u)))) (label_word u small.labels small.marks) made.statements known
       (items_fieldless (writing_of (inventory_of unit u) (first_objects (inventory_of unit u)) u.facts (kind_at u)) u.position 0 u.steps made.items made.emitted)
 
   marks : (body_of_all body).labels 0 ≡ marks_from (label_at u) 0 made.items

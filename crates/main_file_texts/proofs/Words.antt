@@ -85,7 +85,7 @@ statement_label_word l small = named_by (codes "L" ++ decimal l) refl (decimal_w
 same_text : (x y : List ℕ) → bytes_eq x y ≡ true → x ≡ y
 same_text x y h = (bytes_eq-Decides x y).0 h
 
-passed_by : (test : List ℕ → Bool) (list : List (List ℕ)) (name : List ℕ) → list_all test list ≡ true → is_among name list ≡ true → test name ≡ true
+pub passed_by : (test : List ℕ → Bool) (list : List (List ℕ)) (name : List ℕ) → list_all test list ≡ true → is_among name list ≡ true → test name ≡ true
 passed_by test [] name all is = absurd (true≢false (sym is))
 passed_by test (first ∷ later) name all is = by (bytes_eq name first) refl is (passed_by test later name (and-second (test first) (list_all test later) all))
   where
@@ -108,19 +108,19 @@ is_byte : (byte : ℕ) → names.is_name_byte byte ≡ true → is_word_byte byt
 unfolding names.is_name_byte
 is_byte byte h = grind (arith, nat_tests)
 
-all_bytes : (text : List ℕ) → list_all names.is_name_byte text ≡ true → list_all is_word_byte text ≡ true
+pub all_bytes : (text : List ℕ) → list_all names.is_name_byte text ≡ true → list_all is_word_byte text ≡ true
 all_bytes [] all = refl
 all_bytes (byte ∷ text) all =
     subst (λ z. (z && list_all is_word_byte text) ≡ true) (sym (is_byte byte (and-first (names.is_name_byte byte) (list_all names.is_name_byte text) all)))
     (all_bytes text (and-second (names.is_name_byte byte) (list_all names.is_name_byte text) all))
 
-all_append : (test : ℕ → Bool) (text more : List ℕ) → list_all test text ≡ true → list_all test more ≡ true → list_all test (text ++ more) ≡ true
+pub all_append : (test : ℕ → Bool) (text more : List ℕ) → list_all test text ≡ true → list_all test more ≡ true → list_all test (text ++ more) ≡ true
 all_append test [] more one other = other
 all_append test (byte ∷ text) more one other =
     subst (λ z. (z && list_all test (text ++ more)) ≡ true) (sym (and-first (test byte) (list_all test text) one))
     (all_append test text more (and-second (test byte) (list_all test text) one) other)
 
-begins_append : (text more : List ℕ) → begins_with is_letter text ≡ true → begins_with is_letter (text ++ more) ≡ true
+pub begins_append : (text more : List ℕ) → begins_with is_letter text ≡ true → begins_with is_letter (text ++ more) ≡ true
 begins_append [] more h = absurd (true≢false (sym h))
 begins_append (byte ∷ text) more h = h
 

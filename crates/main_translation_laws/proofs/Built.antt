@@ -1,5 +1,5 @@
 -- The statements that are made for a text are built as the laws of main files ask: labels stand once, and each step that calls the library is listed.
-use Rattle.std.specs.Prelude.{◌≡◌, ◌≢◌, ℕ, zero, suc, ◌+◌, ◌<◌, ◌≤◌, ◌^◌, nat_eq, nat_lt, ℤ, Bool, true, false, ◌&&◌, List, [], ◌∷◌, ◌++◌, length, position, Option, Some, None, is_none, option_and_then, slice_get, codes, decimal, if◌then◌else◌}
+use Rattle.std.specs.Prelude.{◌≡◌, ◌≢◌, ℕ, suc, ◌+◌, ◌<◌, ◌≤◌, ◌^◌, nat_eq, nat_lt, ℤ, Bool, true, false, ◌&&◌, List, [], ◌∷◌, ◌++◌, length, position, Option, Some, None, is_none, option_and_then, slice_get, codes, decimal, if◌then◌else◌}
 use Rattle.std.specs.Str.Parse.{AllDigits}
 use Rattle.std.proofs.Common.{refl, sym, ap, ◌∙◌, subst, arith}
 use Rattle.std.proofs.lemmas.Bool.{ltb-true, eqb-true}
@@ -15,6 +15,7 @@ use Rattle.l_core.specs.Pures.{Constant, Pures, NoPure, AndPure}
 use Rattle.l_core.specs.Steps.{Starts, Takes, Finishes, Step, Compute, Halt, Acts, Marked, Text}
 use Rattle.c_tree.specs.declared.statement.CStmt as stmt
 use Rattle.c_tree.specs.declared.statement.CStmt.{CStmt}
+use Rattle.c_tree.specs.declared.file.CFunction.{CFunction}
 use Rattle.c_tree.specs.Flat.{Flat}
 use Rattle.c_tree.specs.FlatForm.{is_return, ends}
 use Rattle.c_tree.specs.Meaning.{wrapped_by}
@@ -22,16 +23,17 @@ use Rattle.c_emit.specs.Numbers.{Writing}
 use Rattle.c_emit.specs.LibraryFunctions.{LibraryFunction, library_function}
 use Rattle.c_emit.specs.Calls.{start_item, unit_of}
 use Rattle.c_emit.specs.Flats.{flat_of}
-use Rattle.c_structure.specs.Statements.{statements_for}
+use Rattle.c_structure.specs.Expressions.{Names}
+use Rattle.c_structure.specs.Statements.{Outline, statements_for}
 use Rattle.linking_laws.specs.Linked.{IsBuilt}
 use Rattle.linking_laws.proofs.Places.{some_same, within}
-use Rattle.main_file.specs.MainFile.{Inventory, Bases, main_function}
+use Rattle.main_file.specs.MainFile.{Inventory, Bases, main_function, names_of}
 use Rattle.main_file.specs.MainItems.{item_before, flats_from}
 use Rattle.main_file_laws.specs.BuiltMain.{FunctionIsCalled, IsListed, AreListed}
 use Rattle.main_file_laws.proofs.Known.{position_finds}
 use Rattle.main_translation.specs.Flow.{are_on}
 use Rattle.main_translation.specs.Contents.{begins_output, takes_item, ends_output, stops_run, inventory_of, first_objects}
-use Rattle.main_translation.specs.Outlined.{labels_in, stands_at, label_before, opens_while, whiles_in, name_by, label_at, passes_arms, outline_of, returns, returns_last, if_returned, items_of, body_of}
+use Rattle.main_translation.specs.Outlined.{labels_in, stands_at, label_before, opens_while, whiles_in, name_by, label_at, passes_arms, loop_at, outline_of, returns, returns_last, if_returned, items_of, body_of}
 use Rattle.main_translation_laws.specs.PlainMains.{IsPlainText}
 use Rattle.main_translation_laws.proofs.Contents.{listed_at, starts_called, item_called, ends_called, stop_called, function_is_called}
 
@@ -85,7 +87,7 @@ pub record HasBody (unit : ProgramUnit) (u : Text) (body : List CStmt) : Type 0 
   pub statements : statements_for (outline_of (inventory_of unit u) (first_objects (inventory_of unit u)) u) (length items) 0 items ≡ Some body
   pub returned : returns_last body ≡ true
 
-returned_by : (ss body : List CStmt) → if_returned ss ≡ Some body → (returns_last ss ≡ true) × (ss ≡ body)
+pub returned_by : (ss body : List CStmt) → if_returned ss ≡ Some body → (returns_last ss ≡ true) × (ss ≡ body)
 unfolding if_returned
 returned_by ss body h = by (returns_last ss) refl h
   where
@@ -127,7 +129,7 @@ pub record AreSplit (x : Option Flat) (xs : Option (List Flat)) (items : List Fl
   pub later_is : xs ≡ Some later
   pub is : item ∷ later ≡ items
 
-split : (x : Option Flat) (xs : Option (List Flat)) (items : List Flat) → item_before x xs ≡ Some items → AreSplit x xs items
+pub split : (x : Option Flat) (xs : Option (List Flat)) (items : List Flat) → item_before x xs ≡ Some items → AreSplit x xs items
 unfolding item_before
 split (Some item) (Some later) items h = record { item = item; later = later; item_is = refl; later_is = refl; is = cc }
 split (Some item) None items h = absurd (cc)
@@ -141,6 +143,11 @@ items_count w label n (st ∷ later) items h =
     ap length (sym s.is) ∙ ap suc (items_count w label (suc n) later s.later s.later_is)
 
 -- ## Labels
+
+-- labels that have 64 bits
+pub record HasFewLabels (u : Text) : Type 0 where
+  pub marks : 1 + length u.marks ≤ 2 ^ 64
+  pub labels : (label : ℕ) → IsIn label (labels_in u.steps) → label < 2 ^ 64
 
 data IsNamedBy (u : Text) (n : ℕ) (name : List ℕ) : Type 0 where
   by_label : (label : ℕ) → u.position label ≡ Some n → IsIn label (labels_in u.steps) → name ≡ made_name (StatementLabel label) → IsNamedBy u n name
@@ -217,13 +224,13 @@ whiles_count (one ∷ marks) = by (opens_while one.mark) (whiles_count marks)
     by true rest = omega (arith, rest)
     by false rest = omega (arith, rest)
 
-made_small : (u : Text) (k n : ℕ) → IsPlainText u → slice_get (whiles_in u.marks) k ≡ Some n → suc k < 2 ^ 64
+made_small : (u : Text) (k n : ℕ) → HasFewLabels u → slice_get (whiles_in u.marks) k ≡ Some n → suc k < 2 ^ 64
 made_small u k n plain at =
     let less = within (whiles_in u.marks) k n at in
     let few = whiles_count u.marks in
     let fits = plain.marks in omega (arith, less, few, fits)
 
-told : (u : Text) → IsPlainText u → (m n : ℕ) (name : List ℕ) → IsNamedBy u m name → IsNamedBy u n name → m ≡ n
+told : (u : Text) → HasFewLabels u → (m n : ℕ) (name : List ℕ) → IsNamedBy u m name → IsNamedBy u n name → m ≡ n
 told u plain m n name (by_label l at among e) (by_label k at' among' f) =
     let same = statement_labels_told l k (plain.labels l among) (plain.labels k among') (sym e ∙ f) in
     some_same m n (sym at ∙ ap u.position same ∙ at')
@@ -239,25 +246,33 @@ bare true None h = refl
 bare true (Some name) h = absurd (cc)
 bare false found h = absurd (cc)
 
-pub is_built : (v : Inventory) (b : Bases) (u : Text) (items : List Flat) (body : List CStmt) → IsPlainText u → length items ≡ length u.steps
-    → statements_for (outline_of v b u) (length items) 0 items ≡ Some body → returns_last body ≡ true → IsBuilt (outline_of v b u) items (main_function v body)
-is_built v b u items body plain counted statements returned = record {
+-- what the statements of a text are built from, given the names
+abbrev pub outline_by : Names → Text → Outline
+outline_by names u = record { names = names; label = label_at u; ends_arm = λ n. passes_arms (slice_get u.steps n) && is_none (label_at u n); loop = loop_at u }
+
+pub built_by : (names : Names) (u : Text) (items : List Flat) (function : CFunction) → HasFewLabels u → length items ≡ length u.steps → statements_for (outline_by names u) (length items) 0 items ≡ Some function.body → returns_last function.body ≡ true
+    → IsBuilt (outline_by names u) items function
+built_by names u items function few counted statements returned = record {
   turns = length items;
   statements = statements;
-  ended = ends_last body returned;
+  ended = ends_last function.body returned;
   inside = λ n name at. let within = (labelled u n name at).inside in omega (arith, within, counted);
-  alone = λ m n name at at'. told u plain m n name (labelled u m name at).named (labelled u n name at').named;
+  alone = λ m n name at at'. told u few m n name (labelled u m name at).named (labelled u n name at').named;
   none = λ n arm. bare (passes_arms (slice_get u.steps n)) (label_at u n) arm;
 }
 
+pub is_built : (v : Inventory) (b : Bases) (u : Text) (items : List Flat) (body : List CStmt) → IsPlainText u → length items ≡ length u.steps
+    → statements_for (outline_of v b u) (length items) 0 items ≡ Some body → returns_last body ≡ true → IsBuilt (outline_of v b u) items (main_function v body)
+is_built v b u items body plain counted statements returned = built_by (names_of v b) u items (main_function v body) (record { marks = plain.marks; labels = plain.labels }) counted statements returned
+
 -- ## What steps call is listed
 
-unit_there : (w : Writing) (n : ℕ) (controls : Controls) (ps : Pures) (item : Flat) → start_item w n controls ps ≡ Some item → (unit : ℤ) × (unit_of ps ≡ Some unit)
+pub unit_there : (w : Writing) (n : ℕ) (controls : Controls) (ps : Pures) (item : Flat) → start_item w n controls ps ≡ Some item → (unit : ℤ) × (unit_of ps ≡ Some unit)
 unfolding start_item unit_of
 unit_there w n controls (AndPure (Constant (IsInt unit)) NoPure) item h = (unit, refl)
 unit_there w n controls ps item h = absurd (cc)
 
-started : (w : Writing) (label : ℕ → Option ℕ) (n : ℕ) (way : Direction) (layout : Layout) (controls : Controls) (ps : Pures) (m : ℕ) (item : Flat) → flat_of w (λ k. k) label n (Acts (Starts way layout controls) ps m) ≡ Some item
+pub started : (w : Writing) (label : ℕ → Option ℕ) (n : ℕ) (way : Direction) (layout : Layout) (controls : Controls) (ps : Pures) (m : ℕ) (item : Flat) → flat_of w (λ k. k) label n (Acts (Starts way layout controls) ps m) ≡ Some item
     → (unit : ℤ) × (unit_of ps ≡ Some unit)
 unfolding flat_of
 started w label n Output Listed controls ps m item h = unit_there w n controls ps item h

@@ -2,7 +2,7 @@
 use Rattle.std.specs.List.{list_any, list_all}
 use Rattle.std.specs.BTreeSet.{insert_key}
 use Rattle.std.specs.Ordering.{int_cmp, match_ordering, ordering_reverse}
-use Rattle.std.specs.Prelude.{◌≡◌, ◌≢◌, ℕ, zero, suc, ◌+◌, ◌<◌, ◌≤◌, ◌^◌, nat_eq, nat_le, ℤ, pos, negsuc, nat_abs, Bool, true, false, ◌&&◌, ◌||◌, List, [], ◌∷◌, ◌++◌, map, filter, cond, fold, length, position, Option, Some, None, option_map, option_and_then, slice_get, bytes_eq, codes, if◌then◌else◌}
+use Rattle.std.specs.Prelude.{◌≡◌, ◌≢◌, ℕ, zero, suc, ◌+◌, ◌<◌, ◌≤◌, ◌^◌, nat_eq, nat_le, ℤ, pos, negsuc, nat_abs, Bool, true, false, ◌&&◌, ◌||◌, List, [], ◌∷◌, ◌++◌, map, filter, cond, fold, length, position, Option, Some, None, option_map, option_and_then, slice_get, codes, if◌then◌else◌}
 use Rattle.std.proofs.Common.{refl, sym, ap, ◌∙◌, subst, arith, Ordering, Less, Equal, Greater}
 use Rattle.std.proofs.lemmas.Bool.{eq-eqb, ne_eqb, leb-true}
 use Rattle.std.proofs.lemmas.Cmp.{int_cmp_total}
@@ -22,7 +22,7 @@ use Rattle.c_laws.proofs.TokenSpellings.{and-first, and-second}
 use Rattle.linking_laws.proofs.Places.{some_same, same_bytes, position_step, taken, skipped}
 use Rattle.main_file.specs.MainFile.{Listing, Called}
 use Rattle.main_translation.specs.Contents.{with_new, own_value, own_values, item_type, kind_value, passed_by, passed_from, constants_of, listing_by, listings_from, if_called, start_output, output_item, end_output, stop_run, is_function, computes, function_called, functions_of, calls_of, begins_output, takes_item, ends_output, stops_run}
-use Rattle.main_translation_laws.proofs.Lists.{AreApart, none_apart, one_apart, InEither, in_one, in_other, in_either, IsPart, no_part, left_out, taken_too, in_part, part_map, filter_part}
+use Rattle.main_translation_laws.proofs.Lists.{AreApart, none_apart, one_apart, InEither, in_one, in_other, in_either, in_mapped, IsPart, left_out, taken_too, in_part, part_map, filter_part}
 use Rattle.main_translation_laws.proofs.Names.{IsCalledName, begins, looks_called, called_name}
 
 -- ## Constants
@@ -32,10 +32,10 @@ only_one z _ first_in = refl
 only_one z y (later_in o) = elim o [ ]
 
 -- each value is above
-abbrev AreAbove : ℤ → List ℤ → Type 0
+abbrev pub AreAbove : ℤ → List ℤ → Type 0
 AreAbove x ys = (y : ℤ) → IsIn y ys → int_cmp x y ≡ Less
 
-data AreAscending : List ℤ → Type 0 where
+pub data AreAscending : List ℤ → Type 0 where
   none_ascending : AreAscending []
   one_ascending : {z : ℤ} {zs : List ℤ} → AreAbove z zs → AreAscending zs → AreAscending (z ∷ zs)
 
@@ -88,7 +88,7 @@ with_new_ascends : (zs : List ℤ) (z : ℤ) → AreAscending zs → AreAscendin
 unfolding with_new
 with_new_ascends zs z ascending = inserted_ascends zs z ascending
 
-fold_ascends : (more zs : List ℤ) → AreAscending zs → AreAscending (fold with_new zs more)
+pub fold_ascends : (more zs : List ℤ) → AreAscending zs → AreAscending (fold with_new zs more)
 fold_ascends [] zs ascending = ascending
 fold_ascends (z ∷ more) zs ascending = fold_ascends more (with_new zs z) (with_new_ascends zs z ascending)
 
@@ -98,15 +98,15 @@ not_below x y less same =
     let itself : int_cmp x x ≡ Less = ap (int_cmp x) same ∙ less in
     let back : Less ≡ Greater = sym itself ∙ (int_cmp_total.antisymm x x ∙ ap ordering_reverse itself) in absurd (cc)
 
-apart : (zs : List ℤ) → AreAscending zs → AreApart zs
-apart [] none_ascending = none_apart
-apart (z ∷ zs) (one_ascending above rest) = one_apart (λ y o. not_below z y (above y o)) (apart zs rest)
+pub ascending_apart : (zs : List ℤ) → AreAscending zs → AreApart zs
+ascending_apart [] none_ascending = none_apart
+ascending_apart (z ∷ zs) (one_ascending above rest) = one_apart (λ y o. not_below z y (above y o)) (ascending_apart zs rest)
 
 pub constants_apart : (u : Text) → AreApart (constants_of u)
 unfolding constants_of
-constants_apart u = apart (constants_of u) (fold_ascends (passed_from u 0 u.steps) [] none_ascending)
+constants_apart u = ascending_apart (constants_of u) (fold_ascends (passed_from u 0 u.steps) [] none_ascending)
 
-abbrev AllFit : List ℤ → Type 0
+abbrev pub AllFit : List ℤ → Type 0
 AllFit zs = (z : ℤ) → IsIn z zs → in_range z ≡ true
 
 fit_new : (zs : List ℤ) (z : ℤ) → in_range z ≡ true → AllFit zs → AllFit (with_new zs z)
@@ -116,21 +116,21 @@ fit_new zs z fits all y o = by (old_or_new zs z y o)
     by (is_old p) = all y p
     by (is_new same) = ap in_range same ∙ fits
 
-fold_fit : (more zs : List ℤ) → AllFit more → AllFit zs → AllFit (fold with_new zs more)
+pub fold_fit : (more zs : List ℤ) → AllFit more → AllFit zs → AllFit (fold with_new zs more)
 fold_fit [] zs fit all = all
 fold_fit (z ∷ more) zs fit all = fold_fit more (with_new zs z) (λ y o. fit y (later_in o)) (fit_new zs z (fit z first_in) all)
 
-fit_both : (xs ys : List ℤ) → AllFit xs → AllFit ys → AllFit (xs ++ ys)
+pub fit_both : (xs ys : List ℤ) → AllFit xs → AllFit ys → AllFit (xs ++ ys)
 fit_both xs ys one other z o = by (in_either z xs ys o)
   where
     by : InEither z xs ys → in_range z ≡ true
     by (in_one p) = one z p
     by (in_other q) = other z q
 
-fit_none : AllFit []
+pub fit_none : AllFit []
 fit_none z o = elim o [ ]
 
-fit_one : (y : ℤ) → in_range y ≡ true → AllFit (y ∷ [])
+pub fit_one : (y : ℤ) → in_range y ≡ true → AllFit (y ∷ [])
 fit_one y fits z o = ap in_range (only_one y z o) ∙ fits
 
 eight : in_range (pos 8) ≡ true
@@ -141,7 +141,7 @@ three : in_range (pos 3) ≡ true
 unfolding in_range
 three = refl
 
-one : in_range (pos 1) ≡ true
+pub one : in_range (pos 1) ≡ true
 unfolding in_range
 one = refl
 
@@ -149,7 +149,7 @@ nought : in_range (pos 0) ≡ true
 unfolding in_range
 nought = refl
 
-kind_fits : (basic : Option Basic) → AllFit (kind_value (option_and_then kind_number basic))
+pub kind_fits : (basic : Option Basic) → AllFit (kind_value (option_and_then kind_number basic))
 unfolding kind_value kind_number
 kind_fits None = fit_none
 kind_fits (Some Integer) = fit_one (pos 3) three
@@ -172,11 +172,11 @@ constant_fits (IsProc x) = fit_none
 constant_fits (IsLabel l) = fit_none
 constant_fits Nothing = fit_none
 
-own_fits : (p : Pure) → AllFit (own_value p)
+pub own_fits : (p : Pure) → AllFit (own_value p)
 own_fits (Constant d) = constant_fits d
 own_fits p = let none : own_value p ≡ [] = (unfold own_value in refl) in subst AllFit (sym none) fit_none
 
-owns_fit : (ps : Pures) → AllFit (own_values ps)
+pub owns_fit : (ps : Pures) → AllFit (own_values ps)
 unfolding own_values
 owns_fit NoPure = fit_none
 owns_fit (AndPure p ps) = fit_both (own_value p) (own_values ps) (own_fits p) (owns_fit ps)
@@ -367,10 +367,6 @@ kept_by_filter : {A : Type 0} (test : A → Bool) (x : A) (xs : List A) → test
 kept_by_filter test x [] passes o = elim o [ ]
 kept_by_filter test x (_ ∷ xs) passes first_in = subst (λ b. IsIn x (cond b (x ∷ filter test xs) (filter test xs))) (sym passes) first_in
 kept_by_filter test x (y ∷ xs) passes (later_in o) = among_rest (test y) x y (filter test xs) (kept_by_filter test x xs passes o)
-
-in_mapped : {A B : Type 0} (f : A → B) (x : A) (xs : List A) → IsIn x xs → IsIn (f x) (map f xs)
-in_mapped f x _ first_in = first_in
-in_mapped f x _ (later_in o) = later_in (in_mapped f x _ o)
 
 among_in : (call : Called) (calls : List Called) → IsIn call calls → IsAmong call.name calls
 among_in call _ first_in = record { index = 0; at = refl }

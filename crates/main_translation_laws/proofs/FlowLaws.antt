@@ -1,6 +1,6 @@
 -- What is said of types and outputs fits the steps of every text, wherever they lead.
 use Rattle.std.specs.List.{list_any}
-use Rattle.std.specs.Prelude.{◌≡◌, ℕ, zero, suc, ◌+◌, nat_eq, ℤ, Bool, true, false, ◌&&◌, ◌||◌, List, [], ◌∷◌, ◌++◌, Option, Some, None, is_some, slice_get, if◌then◌else◌}
+use Rattle.std.specs.Prelude.{◌≡◌, ℕ, zero, suc, ◌+◌, nat_eq, ℤ, Bool, true, false, ◌||◌, List, [], ◌∷◌, ◌++◌, Option, Some, None, is_some, slice_get, if◌then◌else◌}
 use Rattle.std.proofs.Common.{refl, sym, ap, ◌∙◌, subst, arith}
 use Rattle.std.proofs.lemmas.Bool.{eq-eqb}
 use Rattle.f_tree.specs.declared.names.Basic.{Basic}
@@ -22,7 +22,7 @@ use Rattle.c_laws.proofs.TokenSpellings.{and-first, and-second}
 
 -- ## Where steps lead
 
-data Led (u : Text) (n : ℕ) (st : Step) (m : ℕ) : Type 0 where
+pub data Led (u : Text) (n : ℕ) (st : Step) (m : ℕ) : Type 0 where
   to_next : m ≡ suc n → Led u n st m
   to_target : IsIn m (targets_of u n st) → Led u n st m
 
@@ -38,7 +38,7 @@ unfolding target_in labelled
 same_label None = refl
 same_label (Some n) = refl
 
-leads_to : (u : Text) (n : ℕ) (st : Step) (m : ℕ) → IsIn m (leads u n st) → Led u n st m
+pub leads_to : (u : Text) (n : ℕ) (st : Step) (m : ℕ) → IsIn m (leads u n st) → Led u n st m
 unfolding leads targets_of
 leads_to u n (Unless p k) _ first_in = to_next refl
 leads_to u n (Unless p k) m (later_in o) = to_target o
@@ -63,11 +63,11 @@ leads_to u n (Branch k) m o = only_next u n (Branch k) m o
 leads_to u n (BackBy p) m o = only_next u n (BackBy p) m o
 leads_to u n (Acts what ps k) m o = only_next u n (Acts what ps k) m o
 
-in_front : {A : Type 0} (x : A) (xs ys : List A) → IsIn x xs → IsIn x (xs ++ ys)
+pub in_front : {A : Type 0} (x : A) (xs ys : List A) → IsIn x xs → IsIn x (xs ++ ys)
 in_front x _ ys first_in = first_in
 in_front x _ ys (later_in o) = later_in (in_front x _ ys o)
 
-in_back : {A : Type 0} (x : A) (xs ys : List A) → IsIn x ys → IsIn x (xs ++ ys)
+pub in_back : {A : Type 0} (x : A) (xs ys : List A) → IsIn x ys → IsIn x (xs ++ ys)
 in_back x [] ys o = o
 in_back x (y ∷ xs) ys o = later_in (in_back x xs ys o)
 
@@ -89,12 +89,12 @@ any_in : (m : ℕ) (ms : List ℕ) → IsIn m ms → list_any (nat_eq m) ms ≡ 
 any_in m _ (first_in {as' = ms}) = ap (λ b. b || list_any (nat_eq m) ms) (eq-eqb m m refl)
 any_in m _ (later_in {b = k} {as' = ms} o) = or_true (nat_eq m k) (list_any (nat_eq m) ms) (any_in m ms o)
 
-reached : (u : Text) (n : ℕ) (st : Step) (m : ℕ) → slice_get u.steps n ≡ Some st → IsIn m (targets_of u n st) → is_target u m ≡ true
+pub reached : (u : Text) (n : ℕ) (st : Step) (m : ℕ) → slice_get u.steps n ≡ Some st → IsIn m (targets_of u n st) → is_target u m ≡ true
 unfolding is_target
 reached u n st m stands o = any_in m (targets_from u 0 u.steps) (target_among u 0 u.steps n n st m (omega arith) stands o)
 
 -- a step that is not reached by a branch is led to by the step before alone
-only_behind : (u : Text) (n : ℕ) (st : Step) (m : ℕ) → slice_get u.steps n ≡ Some st → IsIn m (leads u n st) → is_target u m ≡ false → m ≡ suc n
+pub only_behind : (u : Text) (n : ℕ) (st : Step) (m : ℕ) → slice_get u.steps n ≡ Some st → IsIn m (leads u n st) → is_target u m ≡ false → m ≡ suc n
 only_behind u n st m stands o alone = by (leads_to u n st m o)
   where
     by : Led u n st m → m ≡ suc n
@@ -103,7 +103,7 @@ only_behind u n st m stands o alone = by (leads_to u n st m o)
 
 -- ## Types
 
-kept_types : (w : Writing) (n : ℕ) (p : Pure) (basic : Basic) → kept_type w.facts p ≡ Some basic → type_of w n p ≡ Some basic
+pub kept_types : (w : Writing) (n : ℕ) (p : Pure) (basic : Basic) → kept_type w.facts p ≡ Some basic → type_of w n p ≡ Some basic
 unfolding kept_type type_of type_at
 kept_types w n (Constant d) basic h = h
 kept_types w n (Temporary k) basic h = absurd (cc)
@@ -132,11 +132,11 @@ kept_types w n (Applied f ps) basic h = h
 kept_types w n (Chosen p a b) basic h = absurd (cc)
 
 -- what is said behind a step that is reached from there alone
-data IsKept (c : Facts) (k : ℕ) (found : Option Step) (basic : Basic) : Type 0 where
+pub data IsKept (c : Facts) (k : ℕ) (found : Option Step) (basic : Basic) : Type 0 where
   by_keep : (j : ℕ) (p : Pure) → found ≡ Some (Keep j p) → nat_eq k j ≡ true → kept_type c p ≡ Some basic → IsKept c k found basic
   by_compute : (j : ℕ) (f : Function) (ps : Pures) → found ≡ Some (Compute j f ps) → nat_eq k j ≡ true → library_type f ≡ Some basic → IsKept c k found basic
 
-kept_by : (c : Facts) (k : ℕ) (found : Option Step) (basic : Basic) → kept_at c false k found ≡ Some basic → IsKept c k found basic
+pub kept_by : (c : Facts) (k : ℕ) (found : Option Step) (basic : Basic) → kept_at c false k found ≡ Some basic → IsKept c k found basic
 unfolding kept_at
 kept_by c k (Some (Keep j p)) basic h = by (nat_eq k j) refl h
   where
@@ -150,9 +150,57 @@ kept_by c k (Some (Compute j f ps)) basic h = by (nat_eq k j) refl h
     by false same g = absurd (cc)
 kept_by c k found basic h = absurd (cc)
 
-kept_nowhere : (c : Facts) (k : ℕ) (found : Option Step) (basic : Basic) → kept_at c true k found ≡ Some basic → ⊥
+pub kept_nowhere : (c : Facts) (k : ℕ) (found : Option Step) (basic : Basic) → kept_at c true k found ≡ Some basic → ⊥
 unfolding kept_at
 kept_nowhere c k found basic h = cc
+
+-- ## Outputs
+
+pub same_stage : (now : Option ℤ) (st : Step) → stage_after now st ≡ stage_behind now st
+unfolding stage_after stage_behind
+same_stage now (Acts (Starts way layout controls) ps m) = refl
+same_stage now (Acts Finishes ps m) = refl
+same_stage now (Acts Takes ps m) = refl
+same_stage now (Acts (Auxiliary which controls) ps m) = refl
+same_stage now (Keep k p) = refl
+same_stage now (Put place p) = refl
+same_stage now (PutText place ps) = refl
+same_stage now (PutLabel place l) = refl
+same_stage now (Compute k f ps) = refl
+same_stage now (Unless p m) = refl
+same_stage now (Skip m) = refl
+same_stage now (Again m) = refl
+same_stage now (AgainIf p m) = refl
+same_stage now (Jump l) = refl
+same_stage now (Select p ls) = refl
+same_stage now (JumpBy p ls) = refl
+same_stage now Pass = refl
+same_stage now (CallFor k callee ps) = refl
+same_stage now (CallSub k x ps) = refl
+same_stage now (Branch k) = refl
+same_stage now Back = refl
+same_stage now (BackBy p) = refl
+same_stage now (Halt text) = refl
+
+pub none_reached : (now : Option ℤ) (found : Option Step) (unit : ℤ) → flow.stage_behind true now found ≡ Some unit → ⊥
+unfolding flow.stage_behind
+none_reached now found unit h = cc
+
+pub at_stage : (now : Option ℤ) (st : Step) → flow.stage_behind false now (Some st) ≡ stage_after now st
+unfolding flow.stage_behind
+at_stage now st = refl
+
+some_unit : (stage : Option ℤ) → is_some stage ≡ true → (unit : ℤ) × (stage ≡ Some unit)
+some_unit (Some unit) h = (unit, refl)
+some_unit None h = absurd (cc)
+
+pub goes_on : (st : Step) (stage : Option ℤ) → is_of_output st ≡ true → is_on st stage ≡ true → (unit : ℤ) × (stage ≡ Some unit)
+unfolding is_of_output is_on
+goes_on (Acts Takes ps m) stage is on = some_unit stage on
+goes_on (Acts Finishes ps m) stage is on = some_unit stage on
+goes_on st stage is on = absurd (cc)
+
+-- ## A text and its file
 
 module _ (v : Inventory) (b : Bases) (u : Text) where
   by_step : {found : Option Step} (n : ℕ) (st : Step) (k : ℕ) (basic : Basic) → ((it : Step) → found ≡ Some it → st ≡ it) → IsKept u.facts k found basic → kind_behind (writing_of v b u.facts (kind_at u)) n st k ≡ Some basic
@@ -175,42 +223,6 @@ module _ (v : Inventory) (b : Bases) (u : Text) where
           let here : m ≡ n = omega (arith, same) in
           by_step n st k basic (λ found is. some_same st found (sym stands ∙ ap (slice_get u.steps) (sym here) ∙ is)) (kept_by u.facts k (slice_get u.steps m) basic g)
 
-  -- ## Outputs
-
-  same_stage : (now : Option ℤ) (st : Step) → stage_after now st ≡ stage_behind now st
-  unfolding stage_after stage_behind
-  same_stage now (Acts (Starts way layout controls) ps m) = refl
-  same_stage now (Acts Finishes ps m) = refl
-  same_stage now (Acts Takes ps m) = refl
-  same_stage now (Acts (Auxiliary which controls) ps m) = refl
-  same_stage now (Keep k p) = refl
-  same_stage now (Put place p) = refl
-  same_stage now (PutText place ps) = refl
-  same_stage now (PutLabel place l) = refl
-  same_stage now (Compute k f ps) = refl
-  same_stage now (Unless p m) = refl
-  same_stage now (Skip m) = refl
-  same_stage now (Again m) = refl
-  same_stage now (AgainIf p m) = refl
-  same_stage now (Jump l) = refl
-  same_stage now (Select p ls) = refl
-  same_stage now (JumpBy p ls) = refl
-  same_stage now Pass = refl
-  same_stage now (CallFor k callee ps) = refl
-  same_stage now (CallSub k x ps) = refl
-  same_stage now (Branch k) = refl
-  same_stage now Back = refl
-  same_stage now (BackBy p) = refl
-  same_stage now (Halt text) = refl
-
-  none_reached : (now : Option ℤ) (found : Option Step) (unit : ℤ) → flow.stage_behind true now found ≡ Some unit → ⊥
-  unfolding flow.stage_behind
-  none_reached now found unit h = cc
-
-  at_stage : (now : Option ℤ) (st : Step) → flow.stage_behind false now (Some st) ≡ stage_after now st
-  unfolding flow.stage_behind
-  at_stage now st = refl
-
   stages : (n : ℕ) (st : Step) (m : ℕ) → slice_get u.steps n ≡ Some st → IsIn m (leads u n st) → (unit : ℤ) → stage_at u m ≡ Some unit → stage_behind (stage_at u n) st ≡ Some unit
   unfolding stage_at
   stages n st zero stands o unit h = absurd (cc)
@@ -232,16 +244,6 @@ module _ (v : Inventory) (b : Bases) (u : Text) where
       let it : first ≡ st = some_same first st stands in
       subst (λ s. is_on s (stage_at u k) ≡ true) it (subst (λ j. is_on first (stage_at u j) ≡ true) (sym same) (and-first (is_on first (stage_at u n)) (are_on u (suc n) later) on))
   on_at n (first ∷ later) (suc i) k st at on stands = on_at (suc n) later i k st (omega (arith, at)) (and-second (is_on first (stage_at u n)) (are_on u (suc n) later) on) stands
-
-  some_unit : (stage : Option ℤ) → is_some stage ≡ true → (unit : ℤ) × (stage ≡ Some unit)
-  some_unit (Some unit) h = (unit, refl)
-  some_unit None h = absurd (cc)
-
-  goes_on : (st : Step) (stage : Option ℤ) → is_of_output st ≡ true → is_on st stage ≡ true → (unit : ℤ) × (stage ≡ Some unit)
-  unfolding is_of_output is_on
-  goes_on (Acts Takes ps m) stage is on = some_unit stage on
-  goes_on (Acts Finishes ps m) stage is on = some_unit stage on
-  goes_on st stage is on = absurd (cc)
 
   pub steps_fit : are_on u 0 u.steps ≡ true → u.begins 0 ≡ 0 → StepsFit v b u (kind_at u) (stage_at u)
   unfolding stage_at

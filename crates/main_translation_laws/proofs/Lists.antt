@@ -47,6 +47,10 @@ in_map f [] y o = elim o [ ]
 in_map f (x ∷ xs) _ first_in = record { from = x; among = first_in; is = refl }
 in_map f (x ∷ xs) y (later_in o) = let found = in_map f xs y o in record { from = found.from; among = later_in found.among; is = found.is }
 
+pub in_mapped : {A B : Type 0} (f : A → B) (x : A) (xs : List A) → IsIn x xs → IsIn (f x) (map f xs)
+in_mapped f x _ first_in = first_in
+in_mapped f x _ (later_in o) = later_in (in_mapped f x _ o)
+
 pub apart_append : {A : Type 0} (xs ys : List A) → AreApart xs → AreApart ys → ((x y : A) → IsIn x xs → IsIn y ys → x ≢ y) → AreApart (xs ++ ys)
 apart_append [] ys one other differ = other
 apart_append (x ∷ xs) ys (one_apart none later) other differ =

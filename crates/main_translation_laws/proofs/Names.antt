@@ -10,7 +10,7 @@ use Rattle.f_tree.specs.Setting.{IsIn, first_in, later_in}
 use Rattle.fortran_laws.proofs.CNameLaws.{variable_name-injective, variable_name-not_made}
 use Rattle.main_file.specs.MainFile.{Variable, Listing, Called, Inventory, Bases, list_names, temporary_names, constant_names, lasting_names, called_names}
 use Rattle.main_file_laws.specs.KnownFile.{NamesDiffer}
-use Rattle.main_translation_laws.proofs.Lists.{AreApart, none_apart, one_apart, InEither, in_one, in_other, in_either, in_map, in_at, apart_append, apart_map, distinct_by, none_by}
+use Rattle.main_translation_laws.proofs.Lists.{AreApart, none_apart, one_apart, InEither, in_one, in_other, in_either, in_map, in_mapped, in_at, apart_append, apart_map, distinct_by, none_by}
 
 -- ## Sorts of names
 
@@ -33,6 +33,7 @@ pub record IsCalledName (name : List ℕ) : Type 0 where
   pub no_temporary : (rest : List ℕ) → name ≢ 105 ∷ (95 ∷ (95 ∷ rest))
   pub no_list : (rest : List ℕ) → name ≢ 105 ∷ (111 ∷ rest)
   pub no_c : (rest : List ℕ) → name ≢ 99 ∷ rest
+  pub no_result : (rest : List ℕ) → name ≢ 114 ∷ (101 ∷ rest)
 
 -- the same by a test
 unfoldable pub begins : List ℕ → List ℕ → Bool
@@ -41,14 +42,14 @@ begins (b ∷ front) [] = false
 begins (b ∷ front) (c ∷ name) = nat_eq b c && begins front name
 
 unfoldable pub looks_called : List ℕ → Bool
-looks_called name = has_underscore name && (not (begins (95 ∷ []) (reverse name)) && (not (begins (codes "i__") name) && (not (begins (codes "io") name) && not (begins (codes "c") name))))
+looks_called name = has_underscore name && (not (begins (95 ∷ []) (reverse name)) && (not (begins (codes "i__") name) && (not (begins (codes "io") name) && (not (begins (codes "c") name) && not (begins (codes "re") name)))))
 
 begins_with : (front rest : List ℕ) → begins front (front ++ rest) ≡ true
 unfolding begins
 begins_with [] rest = refl
 begins_with (b ∷ front) rest = (λ i. eq-eqb b b refl i && begins_with front rest i)
 
-not_begun : (front rest name : List ℕ) → not (begins front name) ≡ true → name ≢ front ++ rest
+pub not_begun : (front rest name : List ℕ) → not (begins front name) ≡ true → name ≢ front ++ rest
 not_begun front rest name h same = let begun : begins front name ≡ true = ap (begins front) same ∙ begins_with front rest in let no : false ≡ true = sym (ap not begun) ∙ h in absurd (cc)
 
 first_of : (a b : Bool) → a && b ≡ true → a ≡ true
@@ -70,7 +71,8 @@ called_name name h =
       closed = λ rest. not_begun (95 ∷ []) rest (reverse name) (first_of (not (begins (95 ∷ []) (reverse name))) _ behind);
       no_temporary = λ rest. not_begun (codes "i__") rest name (first_of (not (begins (codes "i__") name)) _ later);
       no_list = λ rest. not_begun (codes "io") rest name (first_of (not (begins (codes "io") name)) _ last);
-      no_c = λ rest. not_begun (codes "c") rest name (other_of (not (begins (codes "io") name)) _ last);
+      no_c = λ rest. not_begun (codes "c") rest name (first_of (not (begins (codes "c") name)) _ (other_of (not (begins (codes "io") name)) _ last));
+      no_result = λ rest. not_begun (codes "re") rest name (other_of (not (begins (codes "c") name)) _ (other_of (not (begins (codes "io") name)) _ last));
     }
 
 pub same_first : (a b : ℕ) (x y : List ℕ) → a ∷ x ≡ b ∷ y → a ≡ b
@@ -81,47 +83,47 @@ same_rest a b x y e = cc
 
 -- ## Names of two sorts
 
-constant_front : (z : ℤ) → (rest : List ℕ) × (made_name (ConstantOf z) ≡ 99 ∷ rest)
+pub constant_front : (z : ℤ) → (rest : List ℕ) × (made_name (ConstantOf z) ≡ 99 ∷ rest)
 unfolding made_name constant_name
 constant_front (pos n) = (codes "__" ++ decimal n, refl)
 constant_front (negsuc n) = (codes "_n" ++ decimal (suc n), refl)
 
-temporary_front : (k : ℕ) → made_name (NumberTemporary k) ≡ 105 ∷ 95 ∷ (95 ∷ decimal k)
+pub temporary_front : (k : ℕ) → made_name (NumberTemporary k) ≡ 105 ∷ 95 ∷ (95 ∷ decimal k)
 unfolding made_name
 temporary_front k = refl
 
-list_front : (k : ℕ) → made_name (ControlList k) ≡ 105 ∷ 111 ∷ (codes "___" ++ decimal k)
+pub list_front : (k : ℕ) → made_name (ControlList k) ≡ 105 ∷ 111 ∷ (codes "___" ++ decimal k)
 unfolding made_name
 list_front k = refl
 
-constant_temporary : (x y : List ℕ) → IsConstantName x → IsTemporaryName y → x ≢ y
+pub constant_temporary : (x y : List ℕ) → IsConstantName x → IsTemporaryName y → x ≢ y
 constant_temporary x y (of_constant z _ e) (of_temporary k _ f) h =
     let c = constant_front z in omega (arith, same_first 99 105 c.0 (95 ∷ (95 ∷ decimal k)) (sym c.1 ∙ sym e ∙ h ∙ f ∙ temporary_front k))
 
-constant_list : (x y : List ℕ) → IsConstantName x → IsListName y → x ≢ y
+pub constant_list : (x y : List ℕ) → IsConstantName x → IsListName y → x ≢ y
 constant_list x y (of_constant z _ e) (of_list k _ f) h =
     let c = constant_front z in omega (arith, same_first 99 105 c.0 (111 ∷ (codes "___" ++ decimal k)) (sym c.1 ∙ sym e ∙ h ∙ f ∙ list_front k))
 
-constant_variable : (x y : List ℕ) → IsConstantName x → IsVariableName y → x ≢ y
+pub constant_variable : (x y : List ℕ) → IsConstantName x → IsVariableName y → x ≢ y
 constant_variable x y (of_constant z small e) (of_variable v named f) h = variable_name-not_made v named (ConstantOf z) small (sym f ∙ sym h ∙ e)
 
-constant_called : (x y : List ℕ) → IsConstantName x → IsCalledName y → x ≢ y
+pub constant_called : (x y : List ℕ) → IsConstantName x → IsCalledName y → x ≢ y
 constant_called x y (of_constant z _ e) called h = let c = constant_front z in called.no_c c.0 (sym h ∙ e ∙ c.1)
 
-temporary_list : (x y : List ℕ) → IsTemporaryName x → IsListName y → x ≢ y
+pub temporary_list : (x y : List ℕ) → IsTemporaryName x → IsListName y → x ≢ y
 temporary_list x y (of_temporary k _ e) (of_list j _ f) h =
     omega (arith, same_first 95 111 (95 ∷ decimal k) (codes "___" ++ decimal j) (same_rest 105 105 (95 ∷ (95 ∷ decimal k)) (111 ∷ (codes "___" ++ decimal j)) (sym (temporary_front k) ∙ sym e ∙ h ∙ f ∙ list_front j)))
 
-temporary_variable : (x y : List ℕ) → IsTemporaryName x → IsVariableName y → x ≢ y
+pub temporary_variable : (x y : List ℕ) → IsTemporaryName x → IsVariableName y → x ≢ y
 temporary_variable x y (of_temporary k small e) (of_variable v named f) h = variable_name-not_made v named (NumberTemporary k) small (sym f ∙ sym h ∙ e)
 
-variable_list : (x y : List ℕ) → IsVariableName x → IsListName y → x ≢ y
+pub variable_list : (x y : List ℕ) → IsVariableName x → IsListName y → x ≢ y
 variable_list x y (of_variable v named e) (of_list k small f) h = variable_name-not_made v named (ControlList k) small (sym e ∙ h ∙ f)
 
-called_temporary : (x y : List ℕ) → IsCalledName x → IsTemporaryName y → x ≢ y
+pub called_temporary : (x y : List ℕ) → IsCalledName x → IsTemporaryName y → x ≢ y
 called_temporary x y called (of_temporary k _ f) h = called.no_temporary (decimal k) (h ∙ f ∙ temporary_front k)
 
-called_list : (x y : List ℕ) → IsCalledName x → IsListName y → x ≢ y
+pub called_list : (x y : List ℕ) → IsCalledName x → IsListName y → x ≢ y
 called_list x y called (of_list k _ f) h = called.no_list (codes "___" ++ decimal k) (h ∙ f ∙ list_front k)
 
 left_false : (a b : Bool) → (a || b) ≡ false → a ≡ true → {A : Type 0} → A
@@ -137,12 +139,12 @@ called_by name v called false h e =
     let short : name ≡ v = e ∙ rw h refl in
     left_false (has_underscore v) (is_reserved v) h (ap has_underscore (sym short) ∙ called.underscored)
 
-called_variable : (x y : List ℕ) → IsCalledName x → IsVariableName y → x ≢ y
+pub called_variable : (x y : List ℕ) → IsCalledName x → IsVariableName y → x ≢ y
 called_variable x y called (of_variable v named f) h = called_by x v called (takes_underscores v) refl (h ∙ f)
 
 -- ## Names of one sort
 
-constants_told : (y z : ℤ) → nat_abs y < 2 ^ 64 → nat_abs z < 2 ^ 64 → made_name (ConstantOf y) ≡ made_name (ConstantOf z) → y ≡ z
+pub constants_told : (y z : ℤ) → nat_abs y < 2 ^ 64 → nat_abs z < 2 ^ 64 → made_name (ConstantOf y) ≡ made_name (ConstantOf z) → y ≡ z
 unfolding made_name constant_name
 constants_told (pos m) (pos n) p q e = ap pos (decimal_injective m n p q (append_cancel_left (codes "c__") (decimal m) (decimal n) e))
 constants_told (pos m) (negsuc n) p q e =
@@ -163,13 +165,13 @@ lists_told j k p q e = decimal_injective j k p q (append_cancel_left (codes "io_
 
 -- ## The lists of names
 
-record IsNumbered (f : ℕ → List ℕ) (first count : ℕ) (name : List ℕ) : Type 0 where
-  number : ℕ
-  from : first ≤ number
-  below : number < first + count
-  is : name ≡ f number
+pub record IsNumbered (f : ℕ → List ℕ) (first count : ℕ) (name : List ℕ) : Type 0 where
+  pub number : ℕ
+  pub from : first ≤ number
+  pub below : number < first + count
+  pub is : name ≡ f number
 
-list_among : (k : ℕ) (ls : List Listing) (name : List ℕ) → IsIn name (list_names k ls) → IsNumbered (λ j. made_name (ControlList j)) k (length ls) name
+pub list_among : (k : ℕ) (ls : List Listing) (name : List ℕ) → IsIn name (list_names k ls) → IsNumbered (λ j. made_name (ControlList j)) k (length ls) name
 list_among k [] name o = elim o [ ]
 list_among k (l ∷ ls) _ first_in = record { number = k; from = omega arith; below = omega arith; is = refl }
 list_among k (l ∷ ls) name (later_in o) =
@@ -178,7 +180,7 @@ list_among k (l ∷ ls) name (later_in o) =
     let below = found.below in
     record { number = found.number; from = omega (arith, from); below = omega (arith, below); is = found.is }
 
-lists_apart : (k : ℕ) (ls : List Listing) → k + length ls ≤ 2 ^ 64 → AreApart (list_names k ls)
+pub lists_apart : (k : ℕ) (ls : List Listing) → k + length ls ≤ 2 ^ 64 → AreApart (list_names k ls)
 lists_apart k [] few = none_apart
 lists_apart k (l ∷ ls) few =
     one_apart
@@ -190,7 +192,7 @@ lists_apart k (l ∷ ls) few =
     absurd (omega (arith, equal, from)))
     (lists_apart (suc k) ls (omega (arith, few)))
 
-temporary_among : (k n : ℕ) (name : List ℕ) → IsIn name (temporary_names k n) → IsNumbered (λ j. made_name (NumberTemporary j)) k n name
+pub temporary_among : (k n : ℕ) (name : List ℕ) → IsIn name (temporary_names k n) → IsNumbered (λ j. made_name (NumberTemporary j)) k n name
 temporary_among k zero name o = elim o [ ]
 temporary_among k (suc n) _ first_in = record { number = k; from = omega arith; below = omega arith; is = refl }
 temporary_among k (suc n) name (later_in o) =
@@ -199,7 +201,7 @@ temporary_among k (suc n) name (later_in o) =
     let below = found.below in
     record { number = found.number; from = omega (arith, from); below = omega (arith, below); is = found.is }
 
-temporaries_apart : (k n : ℕ) → k + n ≤ 2 ^ 64 → AreApart (temporary_names k n)
+pub temporaries_apart : (k n : ℕ) → k + n ≤ 2 ^ 64 → AreApart (temporary_names k n)
 temporaries_apart k zero few = none_apart
 temporaries_apart k (suc n) few =
     one_apart
@@ -211,9 +213,14 @@ temporaries_apart k (suc n) few =
     absurd (omega (arith, equal, from)))
     (temporaries_apart (suc k) n (omega (arith, few)))
 
-name_in : (one : Variable) (ones : List Variable) → IsIn one ones → IsIn one.name (map (λ (a : Variable). a.name) ones)
-name_in one _ first_in = first_in
-name_in one _ (later_in o) = later_in (name_in one _ o)
+-- names in C of what is told apart by its name
+pub variable_names_apart : {A : Type 0} (name : A → Bytes) (xs : List A) → AreApart (map name xs) → AreApart (map (λ one. variable_name (name one)) xs)
+variable_names_apart name [] none_apart = none_apart
+variable_names_apart name (x ∷ xs) (one_apart none later) =
+    one_apart
+    (λ y o same. let found = in_map (λ one. variable_name (name one)) xs y o in
+    none (name found.from) (in_mapped name found.from xs found.among) (variable_name-injective (name x) (name found.from) (same ∙ sym found.is)))
+    (variable_names_apart name xs later)
 
 -- ## All names of a file
 
@@ -258,19 +265,11 @@ module _ (v : Inventory) (b : Bases) (has : HasNames v b) where
       by (in_one p) = no_variable other (variable_sort other p)
       by (in_other p) = no_list other (list_sort other p)
 
-  same_variables : (xs : List Variable) → AreApart (map (λ (one : Variable). one.name) xs) → AreApart (map (λ (one : Variable). variable_name one.name) xs)
-  same_variables [] none_apart = none_apart
-  same_variables (x ∷ xs) (one_apart none later) =
-      one_apart
-      (λ y o same. let found = in_map (λ (one : Variable). variable_name one.name) xs y o in
-      none found.from.name (name_in found.from xs found.among) (variable_name-injective x.name found.from.name (same ∙ sym found.is)))
-      (same_variables xs later)
-
   pub names_differ : NamesDiffer v b
   names_differ = record {
     constants = distinct_by (constant_names v) (apart_map (λ z. made_name (ConstantOf z)) v.constants (λ y z p q e. constants_told y z (has.small y p) (has.small z q) e) has.constants);
     lasting = distinct_by (lasting_names v)
-        (apart_append (map (λ (one : Variable). variable_name one.name) v.variables) (list_names 1 v.lists) (same_variables v.variables has.variables) (lists_apart 1 v.lists has.lists)
+        (apart_append (map (λ (one : Variable). variable_name one.name) v.variables) (list_names 1 v.lists) (variable_names_apart (λ (one : Variable). one.name) v.variables has.variables) (lists_apart 1 v.lists has.lists)
         (λ x y p q. variable_list x y (variable_sort x p) (list_sort y q)));
     temporaries = distinct_by (temporary_names 1 v.temporaries) (temporaries_apart 1 v.temporaries has.temporaries);
     not_lasting = λ i name at. let sort = temporary_sort name (in_at (temporary_names 1 v.temporaries) i name at) in

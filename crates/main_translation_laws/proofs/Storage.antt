@@ -53,12 +53,12 @@ pub count_is : (unit : ProgramUnit) (m : Member) → (variable_of unit m).count 
 unfolding variable_of
 count_is unit m = refl
 
-record IsPlacedAt (unit : ProgramUnit) (ms : List Member) (x : Bytes) : Type 0 where
-  index : ℕ
-  member : Member
-  place : position (λ (one : Variable). bytes_eq x one.name) (map (variable_of unit) ms) ≡ Some index
-  at : slice_get ms index ≡ Some member
-  called : member.name ≡ x
+pub record IsPlacedAt (unit : ProgramUnit) (ms : List Member) (x : Bytes) : Type 0 where
+  pub index : ℕ
+  pub member : Member
+  pub place : position (λ (one : Variable). bytes_eq x one.name) (map (variable_of unit) ms) ≡ Some index
+  pub at : slice_get ms index ≡ Some member
+  pub called : member.name ≡ x
 
 placed_first : (unit : ProgramUnit) (m : Member) (ms : List Member) (x : Bytes) → bytes_eq x m.name ≡ true → IsPlacedAt unit (m ∷ ms) x
 placed_first unit m ms x same = record {
@@ -85,12 +85,12 @@ placed_by : (unit : ProgramUnit) (m : Member) (ms : List Member) (x : Bytes) (b 
 placed_by unit m ms x true same later = placed_first unit m ms x same
 placed_by unit m ms x false other later = placed_later unit m ms x other (later refl)
 
-placed_at : (unit : ProgramUnit) (x : Bytes) (ms : List Member) → IsMember x ms → IsPlacedAt unit ms x
+pub placed_at : (unit : ProgramUnit) (x : Bytes) (ms : List Member) → IsMember x ms → IsPlacedAt unit ms x
 placed_at unit x _ (here {n = n} {ms = ms}) = placed_first unit (record { name = x; size = n }) ms x (same_bytes x x refl)
 placed_at unit x _ (there {m = m} {ms = ms} o) = placed_by unit m ms x (bytes_eq x m.name) refl (λ other. placed_at unit x ms o)
 
 -- a stored name stands at its own place
-own_place : (unit : ProgramUnit) (ms : List Member) (i : ℕ) (m : Member) → AreDistinct ms → slice_get ms i ≡ Some m → position (λ (one : Variable). bytes_eq m.name one.name) (map (variable_of unit) ms) ≡ Some i
+pub own_place : (unit : ProgramUnit) (ms : List Member) (i : ℕ) (m : Member) → AreDistinct ms → slice_get ms i ≡ Some m → position (λ (one : Variable). bytes_eq m.name one.name) (map (variable_of unit) ms) ≡ Some i
 unfolding placed_first
 own_place unit [] i m distinct at = absurd (cc)
 own_place unit (k ∷ ms) zero m distinct at = (placed_first unit k ms m.name (same_bytes m.name k.name (ap (λ (o : Member). o.name) (sym (some_same k m at))))).place

@@ -1,5 +1,5 @@
 -- A plain main program is translated as the law of main programs asks, and so it runs as its file does.
-use Rattle.std.specs.Prelude.{◌≡◌, ℕ, zero, suc, ◌+◌, ◌<◌, ◌≤◌, ℤ, Bool, true, false, List, [], ◌∷◌, length, map, position, Option, Some, None, slice_get, bytes_eq}
+use Rattle.std.specs.Prelude.{◌≡◌, ℕ, zero, suc, ◌+◌, ◌<◌, ◌≤◌, Bool, true, false, List, [], ◌∷◌, length, map, position, Option, Some, None, slice_get, bytes_eq}
 use Rattle.std.proofs.Common.{refl, sym, ap, ◌∙◌, subst, arith}
 use Rattle.std.proofs.lemmas.List.{append-nil}
 use Rattle.f_tree.specs.Facts.{Facts, Line, ProgramUnit}
@@ -44,8 +44,8 @@ use Rattle.main_translation_laws.proofs.Built.{HasBody, has_body, items_count, i
 
 -- ## The text
 
-record IsTextOf (c : Facts) (u : Text) : Type 0 where
-  facts : u.facts ≡ c
+pub record IsTextOf (c : Facts) (u : Text) : Type 0 where
+  pub facts : u.facts ≡ c
   pub begins : u.begins ≡ start_of c.program
 
 text_by : (c : Facts) (u : Text) (found : Option (List Step)) → text_with c found ≡ Some u → IsTextOf c u
@@ -53,7 +53,7 @@ unfolding text_with
 text_by c u (Some steps) h = record { facts = ap (λ (t : Text). t.facts) (sym (some_same _ u h)); begins = ap (λ (t : Text). t.begins) (sym (some_same _ u h)) }
 text_by c u None h = absurd (cc)
 
-text_is : (c : Facts) (u : Text) → lowered_unit c ≡ Some u → IsTextOf c u
+pub text_is : (c : Facts) (u : Text) → lowered_unit c ≡ Some u → IsTextOf c u
 unfolding lowered_unit
 text_is c u h = text_by c u (lines_code c.program 0 c.program.lines) h
 
@@ -62,7 +62,7 @@ unfolding size_before
 none_before u [] = refl
 none_before u (line ∷ lines) = refl
 
-first_start : (u : ProgramUnit) → start_of u 0 ≡ 0
+pub first_start : (u : ProgramUnit) → start_of u 0 ≡ 0
 unfolding start_of
 first_start u = none_before u u.lines
 
@@ -90,7 +90,7 @@ strings_count (suc n) = ap suc (strings_count n)
 abbrev pub other_body : Text → List CStmt
 other_body u = strings_body (length (stops_from 0 u.steps))
 
-body_count : (n : ℕ) → length (whole_body (strings_body n)).items.strings ≡ n
+pub body_count : (n : ℕ) → length (whole_body (strings_body n)).items.strings ≡ n
 body_count n = same_strings (ends (strings_body n)) (body_of_all (strings_body n)) ∙ strings_count n
 
 -- ## The whole

@@ -18,10 +18,11 @@ use Rattle.name_facts.specs.declared.fact.Bound.{Bound}
 use Rattle.name_facts.specs.declared.fact.NameFact.{NameFact}
 use Rattle.name_facts.specs.declared.table.NameFacts.{NameFacts}
 use Rattle.name_facts.specs.GivenFacts.{IsNameFact, bounds_of, fact_in}
-use Rattle.item_emission.specs.Agreeing.{dimension_of, gives_zero_in, known_in}
+use Rattle.item_emission.specs.Agreeing.{dimension_of, giving_in, known_in}
+use Rattle.item_emission.specs.declared.known.Standing.TheVariants.{Own}
 use Rattle.item_emitter.specs.declared.known.Variable.{Variable}
 use Rattle.item_emitter.specs.declared.known.Known.{Known}
-use Rattle.item_emitter.specs.Knowing.{variable_in, has_dimensions, is_number, is_numbers, basic_of, dimensions_of, known_of}
+use Rattle.item_emitter.specs.Knowing.{variable_in, routine_in, has_dimensions, is_number, is_numbers, basic_of, dimensions_of, standing_of, is_passed, callee_in, known_of}
 use Rattle.main_contents.specs.declared.contents.Listing.{Listing}
 use Rattle.main_contents.specs.declared.contents.Contents.{Contents}
 use Rattle.main_contents.specs.MainContents.{AreContents, listing_of}
@@ -68,6 +69,7 @@ record IsSeen (a : Attribute) (found : Option Variable) : Type 0 where
   numbers : is_numbers found ≡ (is_variable a.class && is_numeric a.basic && has_bounds a.bounds)
   basic : basic_of found ≡ a.basic
   dimensions : dimensions_of found ≡ map dimension_of a.bounds
+  standing : standing_of found ≡ Own
 
 all_three : (a b c : Bool) → (a && (b && c)) ≡ (a && b && c)
 all_three true b c = refl
@@ -84,7 +86,7 @@ has_same [] = refl
 has_same (b ∷ bs) = refl
 
 seen_some : (v : Variable) (f : NameFact) (a : Attribute) → seen_of v ≡ seen_by f → IsNameFact a f → IsSeen a (Some v)
-unfolding seen_of seen_by is_number is_numbers basic_of dimensions_of
+unfolding seen_of seen_by is_number is_numbers basic_of dimensions_of standing_of
 seen_some v f a same is =
     let kind : v.is_variable ≡ is_variable a.class = ap (λ (s : Seen). s.is_variable) same ∙ ap is_variable is.class in
     let basic : v.basic ≡ a.basic = ap (λ (s : Seen). s.basic) same ∙ is.basic in
@@ -97,15 +99,17 @@ seen_some v f a same is =
       numbers = numbers ∙ all_three (is_variable a.class) (is_numeric a.basic) (has_bounds a.bounds);
       basic = basic;
       dimensions = dimensions;
+      standing = ap (λ (s : Seen). s.standing) same;
     }
 
 seen_none : (a : Attribute) → IsNoName a → IsSeen a None
-unfolding is_variable is_number is_numbers basic_of dimensions_of
+unfolding is_variable is_number is_numbers basic_of dimensions_of standing_of
 seen_none a none = record {
   number = sym (ap (λ c. is_variable c && is_numeric a.basic && not (has_bounds a.bounds)) none.class);
   numbers = sym (ap (λ c. is_variable c && is_numeric a.basic && has_bounds a.bounds) none.class);
   basic = sym none.basic;
   dimensions = sym (ap (map dimension_of) none.bounds);
+  standing = refl;
 }
 
 seen_case : (a : Attribute) (f : NameFact) (among : Bool) (found : Option Variable) → option_map seen_of found ≡ (if among then Some (seen_by f) else None) → IsNameFact a f → (among ≡ false → IsNoName a) → IsSeen a found
@@ -128,9 +132,17 @@ module _ (table : NameFacts) (names : List Bytes) (t : LoweredText) (c : Content
   list_place : (n : ℕ) → position (nat_eq n) k.lists.items ≡ file.place_of_list (inventory_of u.facts.program u) n
   list_place n = ap (position (nat_eq n)) tells.lists ∙ listed_position n c.lists.items ∙ ap (position (λ (l : file.Listing). nat_eq n l.step)) contents.lists
 
-  zero_given : true ≡ gives_zero_in u.facts.program.kind
-  unfolding gives_zero_in
-  zero_given = sym (ap gives_zero_in told.kind)
+  zero_given : k.gives ≡ giving_in u.facts.program.kind
+  unfolding giving_in
+  zero_given = tells.gives ∙ sym (ap giving_in told.kind)
+
+  none_passed : (x : Bytes) → is_passed (routine_in k x) ≡ false
+  unfolding is_passed
+  none_passed x = ap is_passed (tells.routines x)
+
+  none_called : (x : Bytes) → callee_in (routine_in k x) ≡ None
+  unfolding callee_in
+  none_called x = ap callee_in (tells.routines x)
 
   label_place : (l : ℕ) → get_by (nat_eq l) k.labels ≡ u.position l
   label_place l = tells.labels l ∙ text.labels l
@@ -144,9 +156,12 @@ module _ (table : NameFacts) (names : List Bytes) (t : LoweredText) (c : Content
     is_array = λ x. (seen x).numbers i;
     basic = λ x. (seen x).basic i;
     dimensions = λ x. (seen x).dimensions i;
+    standing = λ x. (seen x).standing i;
+    is_procedure = λ x. none_passed x i;
+    routine = λ x. none_called x i;
     temporaries = temporaries_same i;
     has = λ z. has_constant z i;
     list = λ n. list_place n i;
     label = λ l. label_place l i;
-    gives_zero = zero_given i;
+    gives = zero_given i;
   }

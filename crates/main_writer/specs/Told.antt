@@ -11,27 +11,32 @@ use Rattle.name_facts.specs.declared.fact.NameFact.{NameFact}
 use Rattle.name_facts.specs.declared.table.NameFacts.{NameFacts}
 use Rattle.name_facts.specs.GivenFacts.{bounds_of, fact_in}
 use Rattle.item_emission.specs.declared.known.Dimension.{Dimension}
+use Rattle.item_emission.specs.declared.known.Standing.{Standing}
+use Rattle.item_emission.specs.declared.known.Standing.TheVariants.{Own}
+use Rattle.item_emission.specs.declared.known.Giving.TheVariants as giving
 use Rattle.item_emission.specs.Agreeing.{dimension_of}
 use Rattle.item_emitter.specs.declared.known.Variable.{Variable}
 use Rattle.item_emitter.specs.declared.known.Known.{Known}
-use Rattle.item_emitter.specs.Knowing.{variable_in}
+use Rattle.item_emitter.specs.Knowing.{variable_in, routine_in}
 use Rattle.main_contents.specs.declared.contents.Listing.{Listing}
 use Rattle.main_contents.specs.declared.contents.Contents.{Contents}
 
--- what is seen of a name: whether it is a variable or an array, its type, and its dimensions
+-- what is seen of a name: whether it is a variable or an array, its type, its dimensions, and how it stands
 pub record Seen : Type 0 where
   pub is_variable : Bool
   pub basic : Basic
   pub dimensions : List Dimension
+  pub standing : Standing
 
 unfoldable pub dimension_by : Bound → Dimension
 dimension_by b = dimension_of (bounds_of b)
 
 unfoldable pub seen_of : Variable → Seen
-seen_of v = record { is_variable = v.is_variable; basic = v.basic; dimensions = v.dimensions.items }
+seen_of v = record { is_variable = v.is_variable; basic = v.basic; dimensions = v.dimensions.items; standing = v.standing }
 
+-- each variable of a main program has an object of its own
 unfoldable pub seen_by : NameFact → Seen
-seen_by f = record { is_variable = is_variable f.class; basic = f.basic; dimensions = map dimension_by f.bounds }
+seen_by f = record { is_variable = is_variable f.class; basic = f.basic; dimensions = map dimension_by f.bounds; standing = Own }
 
 -- what is seen of a name among some
 unfoldable pub seen_among : NameFacts → List Bytes → Bytes → Option Seen
@@ -40,9 +45,11 @@ seen_among table names x = if list_any (bytes_eq x) names then Some (seen_by (fa
 abbrev pub step_of_list : Listing → ℕ
 step_of_list l = l.step
 
--- what is known of a main program is what its table, its names, its text and its contents tell
+-- what is known of a main program is what its table, its names, its text and its contents tell; it calls no procedure, and gives 0
 pub record Tells (table : NameFacts) (names : List Bytes) (t : LoweredText) (c : Contents) (k : Known) : Type 0 where
   pub variables : (x : Bytes) → option_map seen_of (variable_in k x) ≡ seen_among table names x
+  pub routines : (x : Bytes) → routine_in k x ≡ None
+  pub gives : k.gives ≡ giving.Zero
   pub temporaries : k.temporaries ≡ c.temporaries
   pub constants : k.constants.items ≡ c.constants.items
   pub lists : k.lists.items ≡ map step_of_list c.lists.items

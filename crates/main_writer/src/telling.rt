@@ -1,7 +1,7 @@
 //! What is known of a main program where its steps are written. Sections 4.1, 5.1, 5.3 and 18.
 
 ghost use Rattle.std.specs.HashMap.{get_by};
-ghost use Rattle.std.specs.Prelude.{◌≡◌, ℕ, IfOk, List, OnOk, map, nat_eq, option_map, bytes_eq, if◌then◌else◌, Some};
+ghost use Rattle.std.specs.Prelude.{◌≡◌, ℕ, IfOk, List, OnOk, map, nat_eq, option_map, bytes_eq, if◌then◌else◌, None, Some};
 ghost use Rattle.c_emit.specs.Numbers as numbers;
 ghost use Rattle.name_facts.specs.GivenFacts.{fact_in};
 ghost use Rattle.main_writer.specs.Told as told;
@@ -9,8 +9,8 @@ ghost use Rattle.main_writer.specs.Told as told;
 use crate::bounds::{bounds_in, size};
 use f_tree::Class;
 use indexmap::IndexMap;
-use item_emission::Dimension;
-use item_emitter::{Known, Variable};
+use item_emission::{Dimension, Giving, Standing};
+use item_emitter::{Known, Routine, Variable};
 use lowered_text::LoweredText;
 use main_contents::{Contents, Listing};
 use name_facts::{Bound, NameFacts};
@@ -54,6 +54,7 @@ fn variable(alloc: Global, table: &NameFacts, name: &[u8]) -> Result<Variable, A
         is_variable: is_variable(table.class(name)),
         basic: table.basic(name),
         dimensions: dimensions(alloc, bounds_in(table, name))?,
+        standing: Standing::Own,
     })
 }
 
@@ -89,6 +90,13 @@ fn variables<'a>(
     Ok(found)
 }
 
+/// A main program that is a file of its own calls no procedure.
+fn routines<'a>(alloc: Global) -> IndexMap<&'a [u8], Routine>
+    ensures { (x : List ℕ) → get_by (λ k. bytes_eq x k.now) result ≡ None }
+{
+    IndexMap::new(alloc)
+}
+
 /// The steps that begin an output, in the order of their control lists.
 fn steps_of_lists(alloc: Global, lists: &[Listing]) -> Result<Vec<usize>, AllocError>
     ensures { IfOk result (λ steps. steps.items ≡ map told.step_of_list lists.now) }
@@ -115,6 +123,8 @@ pub(crate) fn known<'a>(
 {
     Ok(Known {
         variables: variables(alloc, table, names)?,
+        routines: routines(alloc),
+        gives: Giving::Zero,
         temporaries: contents.temporaries,
         constants: Vec::from_slice(alloc, &contents.constants)?,
         lists: steps_of_lists(alloc, &contents.lists)?,

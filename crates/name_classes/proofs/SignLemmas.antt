@@ -145,7 +145,7 @@ listed_is u signs x known =
     among_listed signs.used.with_list (from_all (used_as_in with_list (arrays_of u)) u.statements) x known.used.with_list
     ∙ ap (is_among x) (uses_from with_list (arrays_of u) u.statements) ∙ used_is with_list x (unit_uses u)
 
-called_is : (u : WrittenUnit) (signs : Signs) (x : Bytes) → AreSigns u signs → is_among x (names_in signs.used.called) ≡ is_used_as called x (unit_uses u)
+pub called_is : (u : WrittenUnit) (signs : Signs) (x : Bytes) → AreSigns u signs → is_among x (names_in signs.used.called) ≡ is_used_as called x (unit_uses u)
 called_is u signs x known =
     among_listed signs.used.called (from_all (used_as_in called (arrays_of u)) u.statements) x known.used.called
     ∙ ap (is_among x) (uses_from called (arrays_of u) u.statements) ∙ used_is called x (unit_uses u)

@@ -7,8 +7,9 @@ use Rattle.c_tree.specs.declared.expression.CExpr.{CExpr}
 use Rattle.c_tree.specs.declared.statement.CNext.{CNext}
 use Rattle.c_tree.specs.declared.statement.CStmt.{CStmt}
 use Rattle.c_tree.specs.declared.statement.CStmt.TheVariants as stmt
-use Rattle.c_tree.specs.Terms.{Term}
-use Rattle.c_tree.specs.Flat.{Flat, Assign, Branch, Jump, Invoke, Return, Nothing, Ignored, Kept, Direct}
+use Rattle.c_tree.specs.Access.{ToFunction}
+use Rattle.c_tree.specs.Terms.{Term, Variable}
+use Rattle.c_tree.specs.Flat.{Flat, Assign, Branch, Jump, Invoke, Return, Nothing, Ignored, Kept, Direct, Through}
 use Rattle.c_structure.specs.Expressions.{expr_for, exprs_for}
 use Rattle.c_structure.specs.Statements.{Outline, with_label}
 use Rattle.c_structure.specs.Statements as flat
@@ -16,12 +17,12 @@ use Rattle.named_items.specs.declared.item.Item.{Item}
 use Rattle.named_items.specs.declared.item.Item.TheVariants as item
 use Rattle.named_items.specs.declared.part.Part.{Part}
 use Rattle.named_items.specs.declared.part.Head.{Head}
-use Rattle.named_items.specs.Items.{item_for, items_for}
+use Rattle.named_items.specs.Items.{by_name, through, item_for, items_for}
 use Rattle.named_items.specs.Structured as named
 use Rattle.named_items.specs.Structured.{part}
 use Rattle.named_items.specs.Agreement.{places_of, TellsPlaces, ItemsAreStructured}
 use Rattle.named_items.proofs.WrittenAlike.{left_true, right_true}
-use Rattle.named_items.proofs.NamedItems.{some_same, mapped_by, assigned, set_call, items_first, items_later, no_items, no_flats, items_take, items_drop, items_length, items_at, tells_take, tells_later, tells_drop, set_from, test_from, ends_alike, back_alike}
+use Rattle.named_items.proofs.NamedItems.{some_same, mapped_by, assigned, called, set_call, items_first, items_later, no_items, no_flats, items_take, items_drop, items_length, items_at, tells_take, tells_later, tells_drop, set_from, test_from, ends_alike, back_alike}
 use Rattle.named_items.proofs.Growth.{Told, next_alike}
 
 -- ## One item
@@ -41,11 +42,17 @@ statement_alike o (Branch t on off) i s is h =
     let clash : None ≡ Some s = ap (named.statement_of (places_of o)) m.is ∙ h in absurd (cc)
 statement_alike o (Jump position) i s is h = goto_alike (o.label position) ∙ ap (named.statement_of (places_of o)) (some_same (item.Jump position) i is) ∙ h
 statement_alike o (Invoke Ignored (Direct k) arguments) i s is h =
-    let m = mapped_by (item.Call (o.names.routine k)) (exprs_for o.names arguments) i is in
+    let m = called (by_name (o.names.routine k)) (exprs_for o.names arguments) i is in
     ap (flat.call_by false (o.names.routine k)) m.one_is ∙ ap (named.statement_of (places_of o)) m.is ∙ h
 statement_alike o (Invoke (Kept t) (Direct k) arguments) i s is h =
-    let m = set_call (expr_for o.names t) (o.names.routine k) (exprs_for o.names arguments) i is in
+    let m = set_call (expr_for o.names t) (by_name (o.names.routine k)) (exprs_for o.names arguments) i is in
     (λ k'. flat.set_call_by false (o.names.routine k) (m.place_is k') (m.arguments_are k')) ∙ ap (named.statement_of (places_of o)) m.is ∙ h
+statement_alike o (Invoke Ignored (Through (Variable k ToFunction)) arguments) i s is h =
+    let m = called (through (o.names.object k)) (exprs_for o.names arguments) i is in
+    ap (flat.call_by true (o.names.object k)) m.one_is ∙ ap (named.statement_of (places_of o)) m.is ∙ h
+statement_alike o (Invoke (Kept t) (Through (Variable k ToFunction)) arguments) i s is h =
+    let m = set_call (expr_for o.names t) (through (o.names.object k)) (exprs_for o.names arguments) i is in
+    (λ k'. flat.set_call_by true (o.names.object k) (m.place_is k') (m.arguments_are k')) ∙ ap (named.statement_of (places_of o)) m.is ∙ h
 statement_alike o (Return None) i s is h = ap (named.statement_of (places_of o)) (some_same (item.Return None) i is) ∙ h
 statement_alike o (Return (Some t)) i s is h =
     let m = mapped_by (λ e. item.Return (Some e)) (expr_for o.names t) i is in
@@ -281,8 +288,8 @@ module _ (o : Outline) where
       goes_as W n fs (flat.item_for o W n f fs) (flat.item_for o W n (Branch t.test on off) fs) p (ap (λ g. flat.item_for o W n g fs) t.is) (test_goes W V agree n on off t.test e fs is p t.test_is items tells h)
   plain_goes W V agree n f fs (item.Assign a b) is p named items tells h = one_goes W n f fs (item.Assign a b) p named (λ e on off g. cc) h
   plain_goes W V agree n f fs (item.Jump position) is p named items tells h = one_goes W n f fs (item.Jump position) p named (λ e on off g. cc) h
-  plain_goes W V agree n f fs (item.Call name arguments) is p named items tells h = one_goes W n f fs (item.Call name arguments) p named (λ e on off g. cc) h
-  plain_goes W V agree n f fs (item.SetCall target name arguments) is p named items tells h = one_goes W n f fs (item.SetCall target name arguments) p named (λ e on off g. cc) h
+  plain_goes W V agree n f fs (item.Call callee arguments) is p named items tells h = one_goes W n f fs (item.Call callee arguments) p named (λ e on off g. cc) h
+  plain_goes W V agree n f fs (item.SetCall target callee arguments) is p named items tells h = one_goes W n f fs (item.SetCall target callee arguments) p named (λ e on off g. cc) h
   plain_goes W V agree n f fs (item.Return value) is p named items tells h = one_goes W n f fs (item.Return value) p named (λ e on off g. cc) h
   plain_goes W V agree n f fs item.Nothing is p named items tells h = one_goes W n f fs item.Nothing p named (λ e on off g. cc) h
 

@@ -2,13 +2,15 @@
 use Rattle.std.specs.Prelude.{◌≡◌, ℕ, zero, suc, true, nat_eq, List, [], ◌∷◌, length, take, drop, Option, Some, None, option_map, slice_get}
 use Rattle.std.proofs.Common.{refl, sym, ap, ◌∙◌}
 use Rattle.c_tree.specs.declared.expression.CExpr.{CExpr}
-use Rattle.c_tree.specs.Terms.{Term}
-use Rattle.c_tree.specs.Flat.{Flat, Assign, Branch, Jump, Invoke, Return, Nothing, Ignored, Kept, Direct}
+use Rattle.c_tree.specs.Access.{ToFunction}
+use Rattle.c_tree.specs.Terms.{Term, Variable}
+use Rattle.c_tree.specs.Flat.{Flat, Assign, Branch, Jump, Invoke, Return, Nothing, Ignored, Kept, Direct, Through}
 use Rattle.c_structure.specs.Expressions.{Names, expr_for, exprs_for}
 use Rattle.c_structure.specs.Statements as flat
+use Rattle.named_items.specs.declared.item.Callee.{Callee}
 use Rattle.named_items.specs.declared.item.Item.{Item}
 use Rattle.named_items.specs.declared.item.Item.TheVariants as item
-use Rattle.named_items.specs.Items.{assign_by, set_call_by, item_for, before_items, items_for}
+use Rattle.named_items.specs.Items.{by_name, through, assign_by, call_by, set_call_by, item_for, before_items, items_for}
 use Rattle.named_items.specs.Structured as named
 use Rattle.named_items.specs.Agreement.{TellsPlaces}
 
@@ -38,18 +40,22 @@ assigned (Some a) (Some b) i h = record { place = a; value = b; place_is = refl;
 assigned (Some a) None i h = absurd (cc)
 assigned None y i h = absurd (cc)
 
-pub record IsSetCall (x : Option CExpr) (name : List ℕ) (xs : Option (List CExpr)) (i : Item) : Type 0 where
+pub record IsSetCall (x : Option CExpr) (callee : Callee) (xs : Option (List CExpr)) (i : Item) : Type 0 where
   pub place : CExpr
   pub arguments : List CExpr
   pub place_is : x ≡ Some place
   pub arguments_are : xs ≡ Some arguments
-  pub is : item.SetCall place name arguments ≡ i
+  pub is : item.SetCall place callee arguments ≡ i
 
-pub set_call : (x : Option CExpr) (name : List ℕ) (xs : Option (List CExpr)) (i : Item) → set_call_by x name xs ≡ Some i → IsSetCall x name xs i
+pub set_call : (x : Option CExpr) (callee : Callee) (xs : Option (List CExpr)) (i : Item) → set_call_by x callee xs ≡ Some i → IsSetCall x callee xs i
 unfolding set_call_by
-set_call (Some a) name (Some es) i h = record { place = a; arguments = es; place_is = refl; arguments_are = refl; is = some_same (item.SetCall a name es) i h }
-set_call (Some a) name None i h = absurd (cc)
-set_call None name xs i h = absurd (cc)
+set_call (Some a) callee (Some es) i h = record { place = a; arguments = es; place_is = refl; arguments_are = refl; is = some_same (item.SetCall a callee es) i h }
+set_call (Some a) callee None i h = absurd (cc)
+set_call None callee xs i h = absurd (cc)
+
+pub called : (callee : Callee) (xs : Option (List CExpr)) (i : Item) → call_by callee xs ≡ Some i → IsMapped (item.Call callee) xs i
+unfolding call_by
+called callee xs i h = mapped_by (item.Call callee) xs i h
 
 -- ## Lists
 
@@ -166,11 +172,17 @@ set_from names (Branch test on off) a b h =
     let is : item.Branch m.one on off ≡ item.Assign a b = m.is in absurd (cc)
 set_from names (Jump position) a b h = absurd (cc)
 set_from names (Invoke Ignored (Direct k) arguments) a b h =
-    let m = mapped_by (item.Call (names.routine k)) (exprs_for names arguments) (item.Assign a b) h in
-    let is : item.Call (names.routine k) m.one ≡ item.Assign a b = m.is in absurd (cc)
+    let m = called (by_name (names.routine k)) (exprs_for names arguments) (item.Assign a b) h in
+    let is : item.Call (by_name (names.routine k)) m.one ≡ item.Assign a b = m.is in absurd (cc)
 set_from names (Invoke (Kept t) (Direct k) arguments) a b h =
-    let m = set_call (expr_for names t) (names.routine k) (exprs_for names arguments) (item.Assign a b) h in
-    let is : item.SetCall m.place (names.routine k) m.arguments ≡ item.Assign a b = m.is in absurd (cc)
+    let m = set_call (expr_for names t) (by_name (names.routine k)) (exprs_for names arguments) (item.Assign a b) h in
+    let is : item.SetCall m.place (by_name (names.routine k)) m.arguments ≡ item.Assign a b = m.is in absurd (cc)
+set_from names (Invoke Ignored (Through (Variable k ToFunction)) arguments) a b h =
+    let m = called (through (names.object k)) (exprs_for names arguments) (item.Assign a b) h in
+    let is : item.Call (through (names.object k)) m.one ≡ item.Assign a b = m.is in absurd (cc)
+set_from names (Invoke (Kept t) (Through (Variable k ToFunction)) arguments) a b h =
+    let m = set_call (expr_for names t) (through (names.object k)) (exprs_for names arguments) (item.Assign a b) h in
+    let is : item.SetCall m.place (through (names.object k)) m.arguments ≡ item.Assign a b = m.is in absurd (cc)
 set_from names (Return None) a b h = absurd (cc)
 set_from names (Return (Some t)) a b h =
     let m = mapped_by (λ e. item.Return (Some e)) (expr_for names t) (item.Assign a b) h in
@@ -197,11 +209,17 @@ test_from names (Assign t u) e on off h =
     let is : item.Assign m.place m.value ≡ item.Branch e on off = m.is in absurd (cc)
 test_from names (Jump position) e on off h = absurd (cc)
 test_from names (Invoke Ignored (Direct k) arguments) e on off h =
-    let m = mapped_by (item.Call (names.routine k)) (exprs_for names arguments) (item.Branch e on off) h in
-    let is : item.Call (names.routine k) m.one ≡ item.Branch e on off = m.is in absurd (cc)
+    let m = called (by_name (names.routine k)) (exprs_for names arguments) (item.Branch e on off) h in
+    let is : item.Call (by_name (names.routine k)) m.one ≡ item.Branch e on off = m.is in absurd (cc)
 test_from names (Invoke (Kept t) (Direct k) arguments) e on off h =
-    let m = set_call (expr_for names t) (names.routine k) (exprs_for names arguments) (item.Branch e on off) h in
-    let is : item.SetCall m.place (names.routine k) m.arguments ≡ item.Branch e on off = m.is in absurd (cc)
+    let m = set_call (expr_for names t) (by_name (names.routine k)) (exprs_for names arguments) (item.Branch e on off) h in
+    let is : item.SetCall m.place (by_name (names.routine k)) m.arguments ≡ item.Branch e on off = m.is in absurd (cc)
+test_from names (Invoke Ignored (Through (Variable k ToFunction)) arguments) e on off h =
+    let m = called (through (names.object k)) (exprs_for names arguments) (item.Branch e on off) h in
+    let is : item.Call (through (names.object k)) m.one ≡ item.Branch e on off = m.is in absurd (cc)
+test_from names (Invoke (Kept t) (Through (Variable k ToFunction)) arguments) e on off h =
+    let m = set_call (expr_for names t) (through (names.object k)) (exprs_for names arguments) (item.Branch e on off) h in
+    let is : item.SetCall m.place (through (names.object k)) m.arguments ≡ item.Branch e on off = m.is in absurd (cc)
 test_from names (Return None) e on off h = absurd (cc)
 test_from names (Return (Some t)) e on off h =
     let m = mapped_by (λ d. item.Return (Some d)) (expr_for names t) (item.Branch e on off) h in
@@ -219,11 +237,17 @@ jump_from names (Branch t a b) p h =
     let m = mapped_by (λ d. item.Branch d a b) (expr_for names t) (item.Jump p) h in
     let is : item.Branch m.one a b ≡ item.Jump p = m.is in absurd (cc)
 jump_from names (Invoke Ignored (Direct k) arguments) p h =
-    let m = mapped_by (item.Call (names.routine k)) (exprs_for names arguments) (item.Jump p) h in
-    let is : item.Call (names.routine k) m.one ≡ item.Jump p = m.is in absurd (cc)
+    let m = called (by_name (names.routine k)) (exprs_for names arguments) (item.Jump p) h in
+    let is : item.Call (by_name (names.routine k)) m.one ≡ item.Jump p = m.is in absurd (cc)
 jump_from names (Invoke (Kept t) (Direct k) arguments) p h =
-    let m = set_call (expr_for names t) (names.routine k) (exprs_for names arguments) (item.Jump p) h in
-    let is : item.SetCall m.place (names.routine k) m.arguments ≡ item.Jump p = m.is in absurd (cc)
+    let m = set_call (expr_for names t) (by_name (names.routine k)) (exprs_for names arguments) (item.Jump p) h in
+    let is : item.SetCall m.place (by_name (names.routine k)) m.arguments ≡ item.Jump p = m.is in absurd (cc)
+jump_from names (Invoke Ignored (Through (Variable k ToFunction)) arguments) p h =
+    let m = called (through (names.object k)) (exprs_for names arguments) (item.Jump p) h in
+    let is : item.Call (through (names.object k)) m.one ≡ item.Jump p = m.is in absurd (cc)
+jump_from names (Invoke (Kept t) (Through (Variable k ToFunction)) arguments) p h =
+    let m = set_call (expr_for names t) (through (names.object k)) (exprs_for names arguments) (item.Jump p) h in
+    let is : item.SetCall m.place (through (names.object k)) m.arguments ≡ item.Jump p = m.is in absurd (cc)
 jump_from names (Return None) p h = absurd (cc)
 jump_from names (Return (Some t)) p h =
     let m = mapped_by (λ d. item.Return (Some d)) (expr_for names t) (item.Jump p) h in

@@ -10,6 +10,7 @@ use Rattle.c_tree.specs.declared.statement.CNext.TheVariants as next
 use Rattle.c_tree.specs.declared.statement.CStmt.{CStmt}
 use Rattle.c_tree.specs.declared.statement.CStmt.TheVariants as stmt
 use Rattle.c_structure.specs.Statements.{with_label}
+use Rattle.named_items.specs.declared.item.Callee.{Callee}
 use Rattle.named_items.specs.declared.item.Item.{Item}
 use Rattle.named_items.specs.declared.item.Item.TheVariants.{Assign, Branch, Jump, Call, SetCall, Return, Nothing}
 use Rattle.named_items.specs.declared.part.Head.{Head}
@@ -30,21 +31,21 @@ unfoldable pub goto_label : Option (List ℕ) → Option CStmt
 goto_label None = None
 goto_label (Some name) = Some (stmt.Goto name)
 
--- a call of a function by its name
-unfoldable pub call_of : List ℕ → List CExpr → CStmt
-call_of name arguments = stmt.Call (record { through = false; name = name; arguments = arguments })
+-- a call of a function
+unfoldable pub call_of : Callee → List CExpr → CStmt
+call_of callee arguments = stmt.Call (record { through = callee.through; name = callee.name; arguments = arguments })
 
--- a call of a function by its name, whose value is stored
-unfoldable pub set_call_of : CExpr → List ℕ → List CExpr → CStmt
-set_call_of target name arguments = stmt.SetCall target (record { through = false; name = name; arguments = arguments })
+-- a call of a function, whose value is stored
+unfoldable pub set_call_of : CExpr → Callee → List CExpr → CStmt
+set_call_of target callee arguments = stmt.SetCall target (record { through = callee.through; name = callee.name; arguments = arguments })
 
 -- the statement of one item
 unfoldable pub statement_of : Layout → Item → Option CStmt
 statement_of l (Assign a b) = Some (stmt.Set a b)
 statement_of l (Branch test on off) = None
 statement_of l (Jump position) = goto_label (l.label position)
-statement_of l (Call name arguments) = Some (call_of name arguments)
-statement_of l (SetCall target name arguments) = Some (set_call_of target name arguments)
+statement_of l (Call callee arguments) = Some (call_of callee arguments)
+statement_of l (SetCall target callee arguments) = Some (set_call_of target callee arguments)
 statement_of l (Return value) = Some (stmt.Return value)
 statement_of l Nothing = Some stmt.Empty
 

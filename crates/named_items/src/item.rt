@@ -3,6 +3,15 @@
 use c_tree::expression::{CExpr, Text};
 use plain_data::Items;
 
+/// The function that a call names.
+#[derive(Drop)]
+pub struct Callee {
+    /// Whether it is called through a parameter that points to a function.
+    pub through: bool,
+    /// The function's name, or the parameter's.
+    pub name: Text,
+}
+
 /// One flat item of a function, by names.
 #[derive(Drop)]
 pub enum Item {
@@ -12,10 +21,10 @@ pub enum Item {
     Branch(CExpr, usize, usize),
     /// A jump to a position.
     Jump(usize),
-    /// A call of a function, by its name, with its arguments.
-    Call(Text, Items<CExpr>),
-    /// `lvalue = name(..);`, a call of a function, by its name, with its arguments, whose value is stored.
-    SetCall(CExpr, Text, Items<CExpr>),
+    /// `name(..);` or `(*name)(..);`, a call of a function with its arguments.
+    Call(Callee, Items<CExpr>),
+    /// `lvalue = name(..);` or `lvalue = (*name)(..);`, a call of a function with its arguments, whose value is stored.
+    SetCall(CExpr, Callee, Items<CExpr>),
     /// `return;` or `return expr;`
     Return(Option<CExpr>),
     /// `;`

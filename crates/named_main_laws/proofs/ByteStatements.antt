@@ -79,8 +79,8 @@ unfolding items.statement_of items.call_of items.set_call_of trees_opened
 stated l (Assign a b) h = h
 stated l (Branch test on off) h = refl
 stated l (Jump position) h = jumped (l.label position)
-stated l (Call name arguments) h = h
-stated l (SetCall target name arguments) h = h
+stated l (Call callee arguments) h = h
+stated l (SetCall target callee arguments) h = h
 stated l (Return value) h = h
 stated l Nothing h = refl
 

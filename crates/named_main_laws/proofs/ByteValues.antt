@@ -6,7 +6,7 @@ use Rattle.std.proofs.Common.{refl}
 use Rattle.f_tree.specs.Values.{Bytes, Datum, IsInt, IsLog, in_range}
 use Rattle.f_tree.specs.Terms as fortran
 use Rattle.f_tree.specs.Facts.{Output, Listed, Controls}
-use Rattle.f_tree.specs.CNames.{variable_name, made_name, NumberTemporary, ControlList, ConstantOf}
+use Rattle.f_tree.specs.CNames.{variable_name, made_name, FunctionResult, NumberTemporary, ControlList, ConstantOf}
 use Rattle.l_core.specs.Pures.{Pure, Constant, Temporary, Load, Name, ElementOf, Prefixed, Operated, Applied, Chosen, Pures, NoPure, AndPure}
 use Rattle.l_core.specs.Steps as step
 use Rattle.l_core.specs.Steps.{Step}
@@ -24,11 +24,16 @@ use Rattle.c_image.specs.Operations.{prefix_for, operator_for}
 use Rattle.c_emit.specs.LibraryFunctions.{LibraryFunction, library_function}
 use Rattle.c_emit.specs.Calls.{is_plain, kind_number}
 use Rattle.c_spelling.specs.Spelled.{of_bytes, expression_of_bytes, value_of_bytes}
+use Rattle.named_items.specs.declared.item.Callee.{Callee}
 use Rattle.named_items.specs.declared.item.Item.{Item}
 use Rattle.named_items.specs.declared.item.Item.TheVariants as item
-use Rattle.named_items.specs.Items.{assign_by}
+use Rattle.named_items.specs.Items.{assign_by, call_by, set_call_by}
 use Rattle.named_items.specs.SamePlaces.{number_in}
 use Rattle.item_emission.specs.declared.known.Dimension.{Dimension}
+use Rattle.item_emission.specs.declared.known.Standing.{Standing}
+use Rattle.item_emission.specs.declared.known.Standing.TheVariants.{Own, Parameter, Result}
+use Rattle.item_emission.specs.declared.known.Giving.{Giving}
+use Rattle.item_emission.specs.declared.known.Giving.TheVariants as giving
 use Rattle.item_emission.specs.NamedEmission as emission
 use Rattle.item_emission.specs.NamedEmission.{Knowledge, Kinds}
 use Rattle.named_mains.specs.NamedMains.{item_ahead, items_from}
@@ -206,6 +211,12 @@ of_array x ds None h = refl
 of_array x ds (Some es) h =
     mapped expression_of_bytes expression_of_bytes (expr.Index (emission.variable_expr x)) (emission.index_expr ds 0 es) (λ index is. element (emission.variable_expr x) index (name (variable_name x)) is) (indexed ds 0 es h)
 
+scalar : (standing : Standing) (x : Bytes) → expression_of_bytes (emission.scalar_expr standing x) ≡ true
+unfolding emission.scalar_expr emission.variable_expr emission.result_object
+scalar Own x = name (variable_name x)
+scalar Parameter x = unary prefix.Deref (expr.Name (variable_name x)) (name (variable_name x))
+scalar Result x = name (made_name FunctionResult)
+
 -- ## Functions
 
 extremes : (which : Extreme) (best : CExpr) (es : List CExpr) → expression_of_bytes best ≡ true → of_expressions es ≡ true → expression_of_bytes (emission.extreme_expr which best es) ≡ true
@@ -272,7 +283,7 @@ mutual
   value known p = refl
 
   place : (known : Knowledge) (p : Pure) → passes expression_of_bytes (emission.place_expr known p) ≡ true
-  place known (Name x) = where_so (known.is_scalar x) (Some (emission.variable_expr x)) (name (variable_name x))
+  place known (Name x) = where_so (known.is_scalar x) (Some (emission.scalar_expr (known.standing x) x)) (scalar (known.standing x) x)
   place known (ElementOf x ps) =
       where_so (known.is_array x) (emission.element_expr x (known.dimensions x) (emission.value_exprs known ps)) (of_array x (known.dimensions x) (emission.value_exprs known ps) (values known ps))
   place known p = refl
@@ -288,8 +299,8 @@ abbrev pub item_of_bytes : Item → Bool
 item_of_bytes (item.Assign a b) = expression_of_bytes a && expression_of_bytes b
 item_of_bytes (item.Branch test on off) = expression_of_bytes test
 item_of_bytes (item.Jump position) = true
-item_of_bytes (item.Call name arguments) = list_all expression_of_bytes arguments
-item_of_bytes (item.SetCall target name arguments) = expression_of_bytes target && list_all expression_of_bytes arguments
+item_of_bytes (item.Call callee arguments) = list_all expression_of_bytes arguments
+item_of_bytes (item.SetCall target callee arguments) = expression_of_bytes target && list_all expression_of_bytes arguments
 item_of_bytes (item.Return value) = value_of_bytes value
 item_of_bytes item.Nothing = true
 
@@ -399,6 +410,60 @@ stopped : (text : Bytes) → of_bytes text ≡ true → passes item_of_bytes (em
 unfolding emission.stop_step
 stopped text h = mapped expression_of_bytes item_of_bytes (emission.stop_call text) (number_expr (pos (length text))) (λ size one. stop_called text size h one) (number (pos (length text)))
 
+-- ## Calls of procedures
+
+passed : (standing : Standing) (x : Bytes) → expression_of_bytes (emission.scalar_passed standing x) ≡ true
+unfolding emission.scalar_passed emission.variable_expr
+passed Own x = address (emission.scalar_expr Own x) (scalar Own x)
+passed Parameter x = name (variable_name x)
+passed Result x = address (emission.scalar_expr Result x) (scalar Result x)
+
+procedure : (callee : Callee) → expression_of_bytes (emission.procedure_expr callee) ≡ true
+unfolding emission.procedure_expr trees_opened
+procedure callee = refl
+
+procedure_passed : (b : Bool) (x : Option Callee) → passes expression_of_bytes (emission.procedure_passed b x) ≡ true
+unfolding emission.procedure_passed
+procedure_passed true x = made expression_of_bytes emission.procedure_expr x procedure
+procedure_passed false x = refl
+
+name_passed : (known : Knowledge) (x : Bytes) → passes expression_of_bytes (emission.name_passed known x) ≡ true
+unfolding emission.name_passed emission.variable_expr
+name_passed known x =
+    chosen expression_of_bytes (known.is_scalar x) (Some (emission.scalar_passed (known.standing x) x)) (if known.is_array x then Some (emission.variable_expr x) else emission.procedure_passed (known.is_procedure x) (known.routine x))
+    (passed (known.standing x) x)
+    (chosen expression_of_bytes (known.is_array x) (Some (emission.variable_expr x)) (emission.procedure_passed (known.is_procedure x) (known.routine x)) (name (variable_name x)) (procedure_passed (known.is_procedure x) (known.routine x)))
+
+argument : (known : Knowledge) (p : Pure) → passes expression_of_bytes (emission.argument_expr known p) ≡ true
+unfolding emission.argument_expr
+argument known (Constant d) = mapped expression_of_bytes expression_of_bytes emission.address_expr (emission.datum_held known d) address (datum_held known d)
+argument known (Temporary k) = mapped expression_of_bytes expression_of_bytes emission.address_expr (emission.temporary_expr known k) address (temporary known k)
+argument known (Name x) = name_passed known x
+argument known (ElementOf x ps) = mapped expression_of_bytes expression_of_bytes emission.address_expr (emission.place_expr known (ElementOf x ps)) address (place known (ElementOf x ps))
+argument known p = refl
+
+arguments : (known : Knowledge) (ps : Pures) → passes of_expressions (emission.argument_exprs known ps) ≡ true
+unfolding emission.argument_exprs
+arguments known NoPure = refl
+arguments known (AndPure p ps) = more (emission.argument_expr known p) (emission.argument_exprs known ps) (argument known p) (arguments known ps)
+
+called : (callee : Option Callee) (xs : Option (List CExpr)) → passes of_expressions xs ≡ true → passes item_of_bytes (emission.call_step callee xs) ≡ true
+unfolding emission.call_step call_by
+called None xs h = refl
+called (Some callee) xs h = mapped of_expressions item_of_bytes (item.Call callee) xs (λ es is. is) h
+
+stored_call : (callee : Callee) (x : Option CExpr) (xs : Option (List CExpr)) → passes expression_of_bytes x ≡ true → passes of_expressions xs ≡ true → passes item_of_bytes (set_call_by x callee xs) ≡ true
+unfolding set_call_by
+stored_call callee (Some e) (Some es) one others = both (expression_of_bytes e) (of_expressions es) one others
+stored_call callee (Some e) None one others = refl
+stored_call callee None xs one others = refl
+
+called_for : (wanted : Bool) (x : Option CExpr) (callee : Option Callee) (xs : Option (List CExpr)) → passes expression_of_bytes x ≡ true → passes of_expressions xs ≡ true → passes item_of_bytes (emission.call_for_step wanted x callee xs) ≡ true
+unfolding emission.call_for_step
+called_for true x (Some callee) xs one others = stored_call callee x xs one others
+called_for true x None xs one others = refl
+called_for false x callee xs one others = refl
+
 -- ## Steps
 
 acting : (known : Knowledge) (kind : Kinds) (n : ℕ) (what : step.Acting) (ps : Pures) (m : ℕ) → passes item_of_bytes (emission.acting_step known kind n what ps m) ≡ true
@@ -408,10 +473,21 @@ acting known kind n step.Takes ps m = output known kind ps
 acting known kind n step.Finishes ps zero = finished ps
 acting known kind n what ps m = refl
 
-returned : (b : Bool) → passes item_of_bytes (emission.return_step b) ≡ true
+returned : (x : Option CExpr) → passes expression_of_bytes x ≡ true → passes item_of_bytes (emission.return_step x) ≡ true
 unfolding emission.return_step
-returned true = written (pos 0)
-returned false = refl
+returned x h = mapped expression_of_bytes item_of_bytes (λ e. item.Return (Some e)) x (λ e is. is) h
+
+given : (known : Knowledge) (gives : Giving) → passes expression_of_bytes (emission.given_expr known gives) ≡ true
+unfolding emission.given_expr
+given known giving.Zero = written (pos 0)
+given known giving.Alternate = written (pos 0)
+given known (giving.Value x) = place known (Name x)
+given known giving.Nothing = refl
+
+alternate : (gives : Giving) (x : Option CExpr) → passes expression_of_bytes x ≡ true → passes item_of_bytes (emission.alternate_step gives x) ≡ true
+unfolding emission.alternate_step
+alternate giving.Alternate x h = returned x h
+alternate other x h = refl
 
 one_step : (known : Knowledge) (kind : Kinds) (n : ℕ) (st : Step) → step_of_bytes st ≡ true → passes item_of_bytes (emission.item_step known kind n st) ≡ true
 unfolding emission.item_step
@@ -424,7 +500,11 @@ one_step known kind n (step.Skip m) h = refl
 one_step known kind n (step.Again m) h = refl
 one_step known kind n (step.Jump l) h = made item_of_bytes item.Jump (known.label l) (λ position. refl)
 one_step known kind n step.Pass h = refl
-one_step known kind n step.Back h = returned known.gives_zero
+one_step known kind n (step.CallFor k callee ps) h =
+    called_for (emission.wants_number callee.want) (emission.temporary_expr known k) (known.routine callee.name) (emission.argument_exprs known ps) (temporary known k) (arguments known ps)
+one_step known kind n (step.CallSub k x ps) h = called (known.routine x) (emission.argument_exprs known ps) (arguments known ps)
+one_step known kind n step.Back h = returned (emission.given_expr known known.gives) (given known known.gives)
+one_step known kind n (step.BackBy p) h = alternate known.gives (emission.value_expr known p) (value known p)
 one_step known kind n (step.Acts what ps m) h = acting known kind n what ps m
 one_step known kind n (step.Halt text) h = stopped text h
 one_step known kind n st h = refl

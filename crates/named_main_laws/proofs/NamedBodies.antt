@@ -7,7 +7,10 @@ use Rattle.l_core.specs.Steps.{Step, Halt, Text}
 use Rattle.lowering.specs.Units.{lines_code, text_with, lowered_unit}
 use Rattle.c_tree.specs.declared.statement.CStmt.{CStmt}
 use Rattle.c_structure.specs.Statements.{statements_for}
-use Rattle.main_file.specs.MainFile.{names_of, writing_of}
+use Rattle.c_emit.specs.Numbers.{Writing}
+use Rattle.c_emit.specs.Flats.{flat_of}
+use Rattle.main_file.specs.MainFile.{Bases, names_of, writing_of}
+use Rattle.main_file.specs.MainItems.{flats_from}
 use Rattle.main_programs.specs.MainRuns.{plain_facts}
 use Rattle.main_translation.specs.Flow.{kind_at, are_on}
 use Rattle.main_translation.specs.Contents.{text_at, inventory_of, first_objects}
@@ -20,21 +23,22 @@ use Rattle.named_items.proofs.Agreeing.{items_are_structured}
 use Rattle.named_items.proofs.NamedItems.{some_same, items_length}
 use Rattle.item_emission.specs.Agreeing.{known_in, NumbersAreListed, IsListed}
 use Rattle.item_emission.specs.NamedEmission.{item_step}
+use Rattle.item_emission.proofs.StepsAgree.{emissions_agree}
 use Rattle.named_mains.specs.NamedMains.{items_from, statements_of, named_body_of}
 use Rattle.named_main_laws.specs.NamedBodies.{EachNamedBodyIsABody}
-use Rattle.named_main_laws.proofs.NamedPlaces.{tells_places}
-use Rattle.named_main_laws.proofs.NamedValues.{flats_set}
-use Rattle.named_main_laws.proofs.NamedNames.{IsNumberObject, objects_told, writes_objects, numbers_listed}
+use Rattle.named_main_laws.proofs.NamedPlaces.{Reach, OwnAlone, tells_places}
+use Rattle.named_main_laws.proofs.NamedValues.{EmitsEach, flats_emitted, step_sets, all_set}
+use Rattle.named_main_laws.proofs.NamedNames.{IsNumberObject, reaches_told, writes_objects, numbers_listed}
 use Rattle.named_main_laws.proofs.NamedSteps.{AreFlat, step_listed, are_flat}
 
 -- ## The text
 
-facts_by : (c : Facts) (u : Text) (found : Option (List Step)) → text_with c found ≡ Some u → u.facts ≡ c
+pub facts_by : (c : Facts) (u : Text) (found : Option (List Step)) → text_with c found ≡ Some u → u.facts ≡ c
 unfolding text_with
 facts_by c u (Some steps) h = ap (λ (t : Text). t.facts) (sym (some_same _ u h))
 facts_by c u None h = absurd (cc)
 
-program_is : (unit : ProgramUnit) (u : Text) → lowered_unit (plain_facts unit) ≡ Some u → u.facts.program ≡ unit
+pub program_is : (unit : ProgramUnit) (u : Text) → lowered_unit (plain_facts unit) ≡ Some u → u.facts.program ≡ unit
 unfolding lowered_unit
 program_is unit u h = ap (λ (f : Facts). f.program) (facts_by (plain_facts unit) u (lines_code (plain_facts unit).program 0 (plain_facts unit).program.lines) h)
 
@@ -48,16 +52,16 @@ record HasItems (unit : ProgramUnit) (u : Text) (body : List CStmt) : Type 0 whe
   structure : structured (places_of (outline_of (inventory_of unit u) (first_objects (inventory_of unit u)) u)) (length items) 0 items ≡ Some statements
   returned : if_returned statements ≡ Some body
 
-record IsBehind {A B : Type 0} (next : A → Option B) (o : Option A) (b : B) : Type 0 where
-  one : A
-  is : o ≡ Some one
-  gives : next one ≡ Some b
+pub record IsBehind {A B : Type 0} (next : A → Option B) (o : Option A) (b : B) : Type 0 where
+  pub one : A
+  pub is : o ≡ Some one
+  pub gives : next one ≡ Some b
 
-behind : {A B : Type 0} (next : A → Option B) (o : Option A) (b : B) → option_and_then next o ≡ Some b → IsBehind next o b
+pub behind : {A B : Type 0} (next : A → Option B) (o : Option A) (b : B) → option_and_then next o ≡ Some b → IsBehind next o b
 behind next (Some a) b h = record { one = a; is = refl; gives = h }
 behind next None b h = absurd (cc)
 
-if_some : {B : Type 0} (t : Bool) (o : Option B) (b : B) → (if t then o else None) ≡ Some b → (t ≡ true) × (o ≡ Some b)
+pub if_some : {B : Type 0} (t : Bool) (o : Option B) (b : B) → (if t then o else None) ≡ Some b → (t ≡ true) × (o ≡ Some b)
 if_some true o b h = (refl, h)
 if_some false o b h = absurd (cc)
 
@@ -86,15 +90,27 @@ module _ (unit : ProgramUnit) (u : Text) (body : List CStmt) (plain : IsPlainMai
       let same : k ≡ i = omega (arith, at) in
       step_listed (inventory_of unit u) u.facts (kind_at u) u.position k u.steps st item refl (text_there k) (ap (slice_get u.steps) same ∙ got) is
 
-  flat : AreFlat (inventory_of unit u) (first_objects (inventory_of unit u)) u.facts (kind_at u) u.position 0 u.steps made.items
-  flat = are_flat (inventory_of unit u) (first_objects (inventory_of unit u)) u.facts (kind_at u) u.position numbers 0 u.steps made.items listed made.given
+  abbrev b : Bases
+  b = first_objects (inventory_of unit u)
 
-  tells : TellsPlaces (names_of (inventory_of unit u) (first_objects (inventory_of unit u))) flat.flats
+  abbrev w : Writing
+  w = writing_of (inventory_of unit u) b u.facts (kind_at u)
+
+  abbrev IsObject : Reach → ℕ → Type 0
+  IsObject = OwnAlone (IsNumberObject (inventory_of unit u) b)
+
+  emitted : EmitsEach (flat_of w (λ m. m) u.position) (flats_from w u.position)
+  emitted = flats_emitted w u.position
+
+  flat : AreFlat (flats_from w u.position) (names_of (inventory_of unit u) b) 0 u.steps made.items
+  flat =
+      are_flat (flat_of w (λ m. m) u.position) (flats_from w u.position) emitted (names_of (inventory_of unit u) b) (known_in (inventory_of unit u) u.facts u.position) (kind_at u) 0 u.steps made.items
+      (λ i k st item at got is. emissions_agree (inventory_of unit u) b u.facts (kind_at u) u.position k st numbers (listed i k st item at got is)) made.given
+
+  tells : TellsPlaces (names_of (inventory_of unit u) b) flat.flats
   tells =
-      tells_places (IsNumberObject (inventory_of unit u) (first_objects (inventory_of unit u))) (names_of (inventory_of unit u) (first_objects (inventory_of unit u)))
-      (objects_told (inventory_of unit u) (first_objects (inventory_of unit u)) small.temporaries) flat.flats
-      (flats_set (IsNumberObject (inventory_of unit u) (first_objects (inventory_of unit u))) (writing_of (inventory_of unit u) (first_objects (inventory_of unit u)) u.facts (kind_at u))
-      (writes_objects unit u plain (first_objects (inventory_of unit u)) u.facts (program_is unit u lowered) (kind_at u)) u.position 0 u.steps flat.flats flat.emitted)
+      tells_places IsObject (names_of (inventory_of unit u) b) (reaches_told (inventory_of unit u) b small.temporaries) flat.flats
+      (all_set IsObject (flat_of w (λ m. m) u.position) (flats_from w u.position) emitted (step_sets IsObject w (writes_objects unit u plain b u.facts (program_is unit u lowered) (kind_at u)) u.position) 0 u.steps flat.flats flat.emitted)
 
   statements_are : statements_for (outline_of (inventory_of unit u) (first_objects (inventory_of unit u)) u) (length flat.flats) 0 flat.flats ≡ Some made.statements
   statements_are =

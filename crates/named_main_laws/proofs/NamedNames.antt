@@ -12,13 +12,14 @@ use Rattle.f_tree.specs.Values.{Bytes}
 use Rattle.fortran_laws.proofs.CNameLaws.{variable_name-injective, variable_name-not_made}
 use Rattle.l_core.specs.Steps.{Text}
 use Rattle.c_emit.specs.Numbers.{is_numeric, is_variable, has_bounds, has_number, is_scalar, is_array}
-use Rattle.main_file.specs.MainFile.{Inventory, Bases, first_temporary, place_of_variable, place_or_none, object_name, writing_of}
+use Rattle.main_file.specs.MainFile.{Inventory, Bases, first_temporary, place_of_variable, place_or_none, object_name, names_of, writing_of}
 use Rattle.main_translation.specs.Contents.{inventory_of}
 use Rattle.main_translation_laws.specs.PlainMains.{IsPlainMain}
 use Rattle.main_translation_laws.proofs.Storage.{variables_listed}
 use Rattle.named_items.proofs.WrittenAlike.{left_true}
 use Rattle.item_emission.specs.Agreeing.{known_in, NumbersAreListed}
 use Rattle.item_emission.proofs.ObjectNames.{variable_object, temporary_is}
+use Rattle.named_main_laws.proofs.NamedPlaces.{Own, Pointed, OwnAlone, AreTold}
 use Rattle.named_main_laws.proofs.NamedValues.{WritesObjects}
 
 -- the object of a variable, of an array or of a temporary
@@ -28,7 +29,7 @@ pub data IsNumberObject (v : Inventory) (b : Bases) (k : ℕ) : Type 0 where
 
 -- ## Names
 
-temporaries_told : (i j : ℕ) → i < 2 ^ 64 → j < 2 ^ 64 → made_name (NumberTemporary i) ≡ made_name (NumberTemporary j) → i ≡ j
+pub temporaries_told : (i j : ℕ) → i < 2 ^ 64 → j < 2 ^ 64 → made_name (NumberTemporary i) ≡ made_name (NumberTemporary j) → i ≡ j
 unfolding made_name
 temporaries_told i j p q e = decimal_injective i j p q (append_cancel_left (codes "i__") (decimal i) (decimal j) e)
 
@@ -45,7 +46,7 @@ module _ (v : Inventory) (b : Bases) (few : 1 + v.temporaries ≤ 2 ^ 64) where
   variable_no_temporary : {A : Type 0} (x : Bytes) (i : ℕ) → is_name x ≡ true → nat_lt i v.temporaries ≡ true → variable_name x ≡ made_name (NumberTemporary (suc i)) → A
   variable_no_temporary x i named below same = absurd (variable_name-not_made x named (NumberTemporary (suc i)) (number_fits i below) same)
 
-  pub objects_told : (j k : ℕ) → IsNumberObject v b j → IsNumberObject v b k → object_name v b j ≡ object_name v b k → j ≡ k
+  objects_told : (j k : ℕ) → IsNumberObject v b j → IsNumberObject v b k → object_name v b j ≡ object_name v b k → j ≡ k
   objects_told j k (of_variable x i is named at) (of_variable y m also _ beside) same =
       let one : x ≡ y = variable_name-injective x y (sym (variable_called j x i is at) ∙ same ∙ variable_called k y m also beside) in
       at ∙ ap (λ z. b.function + place_or_none (place_of_variable v z)) one ∙ sym beside
@@ -55,9 +56,14 @@ module _ (v : Inventory) (b : Bases) (few : 1 + v.temporaries ≤ 2 ^ 64) where
       let numbers : suc i ≡ suc m = temporaries_told (suc i) (suc m) (number_fits i below) (number_fits m also) (sym (temporary_called j i below at) ∙ same ∙ temporary_called k m also beside) in
       omega (arith, at, beside, numbers)
 
+  pub reaches_told : AreTold (OwnAlone (IsNumberObject v b)) (names_of v b)
+  reaches_told Own Own j k one other same = (refl, objects_told j k one other same)
+  reaches_told Own Pointed j k one other same = absurd other
+  reaches_told Pointed s j k one other same = absurd one
+
 -- ## The objects of a unit
 
-stored_named : (x : Bytes) (ms : List Member) → IsMember x ms → ((m : Member) → IsIn m ms → is_name m.name ≡ true) → is_name x ≡ true
+pub stored_named : (x : Bytes) (ms : List Member) → IsMember x ms → ((m : Member) → IsIn m ms → is_name m.name ≡ true) → is_name x ≡ true
 stored_named x _ (here {n = n} {ms = ms}) named = named (record { name = x; size = n }) first_in
 stored_named x _ (there {m = m} {ms = ms} o) named = stored_named x ms o (λ one p. named one (later_in p))
 
@@ -80,7 +86,7 @@ module _ (unit : ProgramUnit) (u : Text) (main : IsPlainMain unit) (b : Bases) (
       let found = listed.arrays x is in
       of_variable x found.0 found.3 (number_named x (left_true (has_number (writing_of (inventory_of unit u) b facts kind) x) (has_bounds (facts.program.attribute x).bounds) is)) refl
 
-  pub writes_objects : WritesObjects (IsNumberObject (inventory_of unit u) b) (writing_of (inventory_of unit u) b facts kind)
+  pub writes_objects : WritesObjects (OwnAlone (IsNumberObject (inventory_of unit u) b)) (writing_of (inventory_of unit u) b facts kind)
   writes_objects = record {
     scalars = λ x is. scalar_object x is;
     arrays = λ x is index. array_object x is;

@@ -8,7 +8,7 @@ use Rattle.c_tree.specs.declared.expression.CExpr.TheVariants as expr
 use Rattle.c_tree.specs.declared.expression.UnaryOp.{UnaryOp}
 use Rattle.c_tree.specs.declared.expression.UnaryOp.TheVariants as prefix
 use Rattle.c_tree.specs.declared.expression.BinaryOp.TheVariants as op
-use Rattle.c_tree.specs.Access.{Access, ToNumber}
+use Rattle.c_tree.specs.Access.{Access, ToNumber, ToPointer}
 use Rattle.c_tree.specs.Terms.{Term, Constant, Variable, Array, Routine, Unknown, Prefixed, Cast, Between, Choice, Element, Field, Size, Most, Magnitude}
 use Rattle.c_tree.specs.Flat.{Flat, Assign}
 use Rattle.c_structure.specs.Expressions.{Names, with_two, with_three, number_expr, array_expr, expr_for}
@@ -20,20 +20,32 @@ use Rattle.named_items.proofs.NamedItems.{some_same, mapped_by}
 
 -- ## Terms whose places are objects of a kind
 
--- a number in an object, an element of an array, a sum that begins with one, and what is no place
-abbrev pub NamesObjects : (ℕ → Type 0) → Term → Type 0
-NamesObjects IsObject (Variable k ToNumber) = IsObject k
+-- an object that is the place itself, and a parameter that points to it
+pub data Reach : Type 0 where
+  Own : Reach
+  Pointed : Reach
+
+-- objects that are places themselves, and no parameters
+abbrev pub OwnAlone : (ℕ → Type 0) → Reach → ℕ → Type 0
+OwnAlone IsObject Own k = IsObject k
+OwnAlone IsObject Pointed k = ⊥
+
+-- a number in an object, or where a parameter points; an element of an array; a sum that begins with one; and what is no place
+abbrev pub NamesObjects : (Reach → ℕ → Type 0) → Term → Type 0
+NamesObjects IsObject (Variable k ToNumber) = IsObject Own k
 NamesObjects IsObject (Variable k access) = ⊥
 NamesObjects IsObject (Array k access) = ⊥
 NamesObjects IsObject (Routine k) = ⊥
+NamesObjects IsObject (Prefixed prefix.Deref (Variable k (ToPointer ToNumber))) = IsObject Pointed k
 NamesObjects IsObject (Prefixed prefix.Deref t) = ⊥
 NamesObjects IsObject (Between sign t u) = NamesObjects IsObject t
-NamesObjects IsObject (Element (Array k ToNumber) t) = IsObject k
+NamesObjects IsObject (Element (Array k ToNumber) t) = IsObject Own k
+NamesObjects IsObject (Element (Variable k (ToPointer ToNumber)) t) = IsObject Pointed k
 NamesObjects IsObject (Element t u) = ⊥
 NamesObjects IsObject t = Unit {0}
 
 -- an item that sets a place
-abbrev pub SetsObjects : (ℕ → Type 0) → Flat → Type 0
+abbrev pub SetsObjects : (Reach → ℕ → Type 0) → Flat → Type 0
 SetsObjects IsObject (Assign t u) = NamesObjects IsObject t × NamesObjects IsObject u
 SetsObjects IsObject item = Unit {0}
 
@@ -50,7 +62,7 @@ data IsDrawn (names : Names) : Term → CExpr → Type 0 where
   of_variable : (k : ℕ) (access : Access) → IsDrawn names (Variable k access) (expr.Name (names.object k))
   of_array : (k : ℕ) (access : Access) → IsDrawn names (Array k access) (array_expr (names.string k) (names.object k))
   of_routine : (k : ℕ) → IsDrawn names (Routine k) (expr.Name (names.routine k))
-  of_prefix : (sign : UnaryOp) (t : Term) (e : CExpr) → IsDrawn names (Prefixed sign t) (expr.Unary sign e)
+  of_prefix : (sign : UnaryOp) (t : Term) (e : CExpr) → IsDrawn names t e → IsDrawn names (Prefixed sign t) (expr.Unary sign e)
   of_element : (t u : Term) (e i : CExpr) → IsDrawn names t e → IsDrawn names u i → IsDrawn names (Element t u) (expr.Index e i)
   of_other : (t : Term) (e : CExpr) → IsNoPlace e → IsDrawn names t e
 
@@ -98,7 +110,7 @@ module _ (names : Names) where
   drawn (Array k access) e h = subst (IsDrawn names (Array k access)) (some_same (array_expr (names.string k) (names.object k)) e h) (of_array k access)
   drawn (Routine k) e h = subst (IsDrawn names (Routine k)) (some_same (expr.Name (names.routine k)) e h) (of_routine k)
   drawn Unknown e h = absurd (cc)
-  drawn (Prefixed sign t) e h = let m = mapped_by (expr.Unary sign) (expr_for names t) e h in subst (IsDrawn names (Prefixed sign t)) m.is (of_prefix sign t m.one)
+  drawn (Prefixed sign t) e h = let m = mapped_by (expr.Unary sign) (expr_for names t) e h in subst (IsDrawn names (Prefixed sign t)) m.is (of_prefix sign t m.one (drawn t m.one m.one_is))
   drawn (Cast type t) e h = let m = mapped_by (expr.Cast type) (expr_for names t) e h in other_drawn (Cast type t) (expr.Cast type m.one) e m.is refl refl refl refl
   drawn (Between sign t u) e h =
       let m = two_by (expr.Binary sign) (expr_for names t) (expr_for names u) e h in other_drawn (Between sign t u) (expr.Binary sign m.one m.other) e m.is refl refl refl refl
@@ -120,17 +132,29 @@ record IsNumber (t : Term) (z : ℤ) : Type 0 where
   is : t ≡ Constant (pos value)
   same : z ≡ pos value
 
-record IsVariable (IsObject : ℕ → Type 0) (names : Names) (t : Term) (name : List ℕ) : Type 0 where
+record IsVariable (IsObject : Reach → ℕ → Type 0) (names : Names) (t : Term) (name : List ℕ) : Type 0 where
   object : ℕ
   is : t ≡ Variable object ToNumber
-  known : IsObject object
+  known : IsObject Own object
   called : names.object object ≡ name
 
-record IsElement (IsObject : ℕ → Type 0) (names : Names) (t : Term) (name : List ℕ) (z : ℤ) : Type 0 where
+record IsPointed (IsObject : Reach → ℕ → Type 0) (names : Names) (t : Term) (name : List ℕ) : Type 0 where
+  object : ℕ
+  is : t ≡ Prefixed prefix.Deref (Variable object (ToPointer ToNumber))
+  known : IsObject Pointed object
+  called : names.object object ≡ name
+
+-- where an array begins
+abbrev pub start_of : Reach → ℕ → Term
+start_of Own k = Array k ToNumber
+start_of Pointed k = Variable k (ToPointer ToNumber)
+
+record IsElement (IsObject : Reach → ℕ → Type 0) (names : Names) (t : Term) (name : List ℕ) (z : ℤ) : Type 0 where
+  reach : Reach
   object : ℕ
   index : ℕ
-  is : t ≡ Element (Array object ToNumber) (Constant (pos index))
-  known : IsObject object
+  is : t ≡ Element (start_of reach object) (Constant (pos index))
+  known : IsObject reach object
   called : names.object object ≡ name
   counted : z ≡ pos index
 
@@ -153,11 +177,11 @@ number_at names _ _ z (of_number n) h = record { value = n; is = refl; same = sy
 number_at names _ _ z (of_variable k access) h = absurd (cc)
 number_at names _ _ z (of_array k access) h = none_some (number_in (array_expr (names.string k) (names.object k))) z (no_number_in_array (names.string k) (names.object k)) h
 number_at names _ _ z (of_routine k) h = absurd (cc)
-number_at names _ _ z (of_prefix sign t e) h = absurd (cc)
+number_at names _ _ z (of_prefix sign t e _) h = absurd (cc)
 number_at names _ _ z (of_element t u e i _ _) h = absurd (cc)
 number_at names _ _ z (of_other t e none) h = none_some (number_in e) z none.number h
 
-module _ (IsObject : ℕ → Type 0) (names : Names) where
+module _ (IsObject : Reach → ℕ → Type 0) (names : Names) where
   variable_at : (t : Term) (e : CExpr) (name : List ℕ) → IsDrawn names t e → NamesObjects IsObject t → name_in e ≡ Some name → IsVariable IsObject names t name
   unfolding name_in trees_opened
   variable_at _ _ name (of_number n) known h = absurd (cc)
@@ -165,25 +189,47 @@ module _ (IsObject : ℕ → Type 0) (names : Names) where
   variable_at _ _ name (of_variable k access) known h = absurd known
   variable_at _ _ name (of_array k access) known h = absurd known
   variable_at _ _ name (of_routine k) known h = absurd known
-  variable_at _ _ name (of_prefix sign t e) known h = absurd (cc)
+  variable_at _ _ name (of_prefix sign t e _) known h = absurd (cc)
   variable_at _ _ name (of_element t u e i _ _) known h = absurd (cc)
   variable_at _ _ name (of_other t e none) known h = none_some (name_in e) name none.name h
 
-  no_pointer_at : {A : Type 0} (t : Term) (e : CExpr) (name : List ℕ) → IsDrawn names t e → NamesObjects IsObject t → pointer_in e ≡ Some name → A
+  pointed_at : (t : Term) (e : CExpr) (name : List ℕ) → IsDrawn names t e → NamesObjects IsObject (Prefixed prefix.Deref t) → name_in e ≡ Some name → IsPointed IsObject names (Prefixed prefix.Deref t) name
+  unfolding name_in trees_opened
+  pointed_at _ _ name (of_number n) known h = absurd known
+  pointed_at _ _ name (of_variable k (ToPointer ToNumber)) known h = record { object = k; is = refl; known = known; called = some_same (names.object k) name h }
+  pointed_at _ _ name (of_variable k access) known h = absurd known
+  pointed_at _ _ name (of_array k access) known h = absurd known
+  pointed_at _ _ name (of_routine k) known h = absurd known
+  pointed_at _ _ name (of_prefix sign t e _) known h = absurd known
+  pointed_at _ _ name (of_element t u e i _ _) known h = absurd known
+  pointed_at _ _ name (of_other t e none) known h = none_some (name_in e) name none.name h
+
+  pointer_at : (t : Term) (e : CExpr) (name : List ℕ) → IsDrawn names t e → NamesObjects IsObject t → pointer_in e ≡ Some name → IsPointed IsObject names t name
   unfolding pointer_in pointed_in trees_opened
-  no_pointer_at _ _ name (of_number n) known h = absurd (cc)
-  no_pointer_at _ _ name (of_variable k access) known h = absurd (cc)
-  no_pointer_at _ _ name (of_array k access) known h = absurd known
-  no_pointer_at _ _ name (of_routine k) known h = absurd known
-  no_pointer_at _ _ name (of_prefix prefix.Deref t e) known h = absurd known
-  no_pointer_at _ _ name (of_prefix sign t e) known h = absurd (cc)
-  no_pointer_at _ _ name (of_element t u e i _ _) known h = absurd (cc)
-  no_pointer_at _ _ name (of_other t e none) known h = none_some (pointer_in e) name none.pointer h
+  pointer_at _ _ name (of_number n) known h = absurd (cc)
+  pointer_at _ _ name (of_variable k access) known h = absurd (cc)
+  pointer_at _ _ name (of_array k access) known h = absurd known
+  pointer_at _ _ name (of_routine k) known h = absurd known
+  pointer_at _ _ name (of_prefix prefix.Deref t e is) known h = pointed_at t e name is known h
+  pointer_at _ _ name (of_prefix sign t e _) known h = absurd (cc)
+  pointer_at _ _ name (of_element t u e i _ _) known h = absurd (cc)
+  pointer_at _ _ name (of_other t e none) known h = none_some (pointer_in e) name none.pointer h
 
   indexed_at : (t u : Term) (e i : CExpr) (name : List ℕ) (z : ℤ) → IsDrawn names t e → IsNumber u z → NamesObjects IsObject (Element t u) → name_in e ≡ Some name → IsElement IsObject names (Element t u) name z
+  unfolding name_in trees_opened
   indexed_at _ u _ i name z (of_number n) number known h = absurd known
+  indexed_at _ u _ i name z (of_variable k (ToPointer ToNumber)) number known h = record {
+    reach = Pointed;
+    object = k;
+    index = number.value;
+    is = ap (Element (Variable k (ToPointer ToNumber))) number.is;
+    known = known;
+    called = some_same (names.object k) name h;
+    counted = number.same;
+  }
   indexed_at _ u _ i name z (of_variable k access) number known h = absurd known
   indexed_at _ u _ i name z (of_array k ToNumber) number known h = record {
+    reach = Own;
     object = k;
     index = number.value;
     is = ap (Element (Array k ToNumber)) number.is;
@@ -193,7 +239,7 @@ module _ (IsObject : ℕ → Type 0) (names : Names) where
   }
   indexed_at _ u _ i name z (of_array k access) number known h = absurd known
   indexed_at _ u _ i name z (of_routine k) number known h = absurd known
-  indexed_at _ u _ i name z (of_prefix sign t e) number known h = absurd known
+  indexed_at _ u _ i name z (of_prefix sign t e _) number known h = absurd known
   indexed_at _ u _ i name z (of_element s t e f _ _) number known h = absurd known
   indexed_at _ u _ i name z (of_other t e none) number known h = none_some (name_in e) name none.name h
 
@@ -203,7 +249,7 @@ module _ (IsObject : ℕ → Type 0) (names : Names) where
   element_at _ _ name z (of_variable k access) known h g = absurd (cc)
   element_at _ _ name z (of_array k access) known h g = absurd known
   element_at _ _ name z (of_routine k) known h g = absurd known
-  element_at _ _ name z (of_prefix sign t e) known h g = absurd (cc)
+  element_at _ _ name z (of_prefix sign t e _) known h g = absurd (cc)
   element_at _ _ name z (of_element t u e i is at) known h g = indexed_at t u e i name z is (number_at names u i z at g) known h
   element_at _ _ name z (of_other t e none) known h g = none_some (array_in e) name none.array h
 
@@ -246,24 +292,37 @@ and_both : (s t : Bool) → s ≡ true → t ≡ true → s && t ≡ true
 and_both true t h k = k
 and_both false t h k = absurd (cc)
 
-module _ (IsObject : ℕ → Type 0) (names : Names) (told : (j k : ℕ) → IsObject j → IsObject k → names.object j ≡ names.object k → j ≡ k) where
+-- names tell objects apart, and those that are places themselves from parameters that point to places
+abbrev pub AreTold : (Reach → ℕ → Type 0) → Names → Type 0
+AreTold IsObject names = (r s : Reach) (j k : ℕ) → IsObject r j → IsObject s k → names.object j ≡ names.object k → (r ≡ s) × (j ≡ k)
+
+element_same : (r : Reach) (k index : ℕ) → same_place (Element (start_of r k) (Constant (pos index))) (Element (start_of r k) (Constant (pos index))) ≡ true
+unfolding same_place
+element_same Own k index = and_both (nat_eq k k) (nat_eq index index) (eq-eqb k k refl) (eq-eqb index index refl)
+element_same Pointed k index = and_both (nat_eq k k) (nat_eq index index) (eq-eqb k k refl) (eq-eqb index index refl)
+
+module _ (IsObject : Reach → ℕ → Type 0) (names : Names) (told : AreTold IsObject names) where
   same_variable : (t u : Term) (name : List ℕ) → IsVariable IsObject names t name → IsVariable IsObject names u name → same_place t u ≡ true
   unfolding same_place
   same_variable t u name one other =
-      (λ i. same_place (one.is i) (other.is i)) ∙ eq-eqb one.object other.object (told one.object other.object one.known other.known (one.called ∙ sym other.called))
+      (λ i. same_place (one.is i) (other.is i)) ∙ eq-eqb one.object other.object (told Own Own one.object other.object one.known other.known (one.called ∙ sym other.called)).1
+
+  same_pointed : (t u : Term) (name : List ℕ) → IsPointed IsObject names t name → IsPointed IsObject names u name → same_place t u ≡ true
+  unfolding same_place
+  same_pointed t u name one other =
+      (λ i. same_place (one.is i) (other.is i)) ∙ eq-eqb one.object other.object (told Pointed Pointed one.object other.object one.known other.known (one.called ∙ sym other.called)).1
 
   same_element : (t u : Term) (name : List ℕ) (z : ℤ) → IsElement IsObject names t name z → IsElement IsObject names u name z → same_place t u ≡ true
-  unfolding same_place
   same_element t u name z one other =
       let numbers : pos one.index ≡ pos other.index = sym one.counted ∙ other.counted in
       let index : one.index ≡ other.index = cc in
-      (λ i. same_place (one.is i) (other.is i))
-      ∙ and_both (nat_eq one.object other.object) (nat_eq one.index other.index)
-      (eq-eqb one.object other.object (told one.object other.object one.known other.known (one.called ∙ sym other.called))) (eq-eqb one.index other.index index)
+      let same = told one.reach other.reach one.object other.object one.known other.known (one.called ∙ sym other.called) in
+      let place : Element (start_of one.reach one.object) (Constant (pos one.index)) ≡ u = (λ i. Element (start_of (same.0 i) (same.1 i)) (Constant (pos (index i)))) ∙ sym other.is in
+      (λ i. same_place (one.is i) (sym place i)) ∙ element_same one.reach one.object one.index
 
   same_by : (t u : Term) (a b : CExpr) → IsDrawn names t a → IsDrawn names u b → NamesObjects IsObject t → NamesObjects IsObject u → a ≡ b → IsPlace a → same_place t u ≡ true
   same_by t u a b one other known also same (a_name name is) = same_variable t u name (variable_at IsObject names t a name one known is) (variable_at IsObject names u b name other also (ap name_in (sym same) ∙ is))
-  same_by t u a b one other known also same (a_pointer name is) = no_pointer_at IsObject names t a name one known is
+  same_by t u a b one other known also same (a_pointer name is) = same_pointed t u name (pointer_at IsObject names t a name one known is) (pointer_at IsObject names u b name other also (ap pointer_in (sym same) ∙ is))
   same_by t u a b one other known also same (an_element name z is at) =
       same_element t u name z (element_at IsObject names t a name z one known is at) (element_at IsObject names u b name z other also (ap array_in (sym same) ∙ is) (ap element_in (sym same) ∙ at))
 

@@ -2,7 +2,6 @@
 use Rattle.std.specs.Prelude.{◌≡◌, ℕ, zero, suc, ◌+◌, nat_eq, Bool, true, false, ◌&&◌, List, [], ◌∷◌, position, Option, Some, None, option_map, option_and_then, slice_get}
 use Rattle.std.proofs.Common.{refl, sym, ap, ◌∙◌, subst, arith}
 use Rattle.std.proofs.lemmas.Bool.{eq-eqb}
-use Rattle.f_tree.specs.declared.names.Basic.{Basic}
 use Rattle.f_tree.specs.Facts.{Facts, Output, Listed, Controls}
 use Rattle.f_tree.specs.Values.{Bytes, IsInt, in_range}
 use Rattle.l_core.specs.Pures.{Constant, Pures, NoPure, AndPure}
@@ -12,21 +11,20 @@ use Rattle.linking_laws.proofs.Places.{position_step, taken, skipped}
 use Rattle.c_tree.specs.Flat.{Flat}
 use Rattle.c_structure.specs.Expressions.{Names}
 use Rattle.c_emit.specs.Calls.{is_plain}
-use Rattle.c_emit.specs.Flats.{flat_of}
-use Rattle.main_file.specs.MainFile.{Inventory, Bases, place_of_list, names_of, writing_of}
-use Rattle.main_file.specs.MainItems.{item_before, flats_from, stops_from}
+use Rattle.main_file.specs.MainFile.{Inventory}
+use Rattle.main_file.specs.MainItems.{item_before, stops_from}
 use Rattle.named_items.specs.declared.item.Item.{Item}
 use Rattle.named_items.specs.Items.{item_for, before_items, items_for}
 use Rattle.named_items.proofs.NamedItems.{some_same, mapped_by}
-use Rattle.item_emission.specs.NamedEmission.{Kinds, start_call, start_if, start_step, acting_step, item_step}
-use Rattle.item_emission.specs.Agreeing.{known_in, NumbersAreListed, IsListed}
-use Rattle.item_emission.proofs.StepsAgree.{emissions_agree}
+use Rattle.item_emission.specs.NamedEmission.{Knowledge, Kinds, start_call, start_if, start_step, acting_step, item_step}
+use Rattle.item_emission.specs.Agreeing.{known_in, IsListed}
 use Rattle.named_mains.specs.NamedMains.{item_ahead, items_from}
+use Rattle.named_main_laws.proofs.NamedValues.{EmitsEach}
 
 -- ## What is listed
 
 -- the string of STOP
-stop_placed : (n i k : ℕ) (steps : List Step) (text : Bytes) → k ≡ n + i → slice_get steps i ≡ Some (Halt text) → (j : ℕ) × (position (nat_eq k) (stops_from n steps) ≡ Some j)
+pub stop_placed : (n i k : ℕ) (steps : List Step) (text : Bytes) → k ≡ n + i → slice_get steps i ≡ Some (Halt text) → (j : ℕ) × (position (nat_eq k) (stops_from n steps) ≡ Some j)
 unfolding stops_from
 stop_placed n i k [] text there at = absurd (cc)
 stop_placed n zero k (st ∷ later) text there at =
@@ -43,22 +41,22 @@ stop_placed n (suc i) k (st ∷ later) text there at = passed st (stop_placed (s
     passed (Halt other) found = by (nat_eq k n) refl found
     passed st found = found
 
+list_placed : (t : Bool) (place : Option ℕ) (item : Item) → start_if t place ≡ Some item → (i : ℕ) × (place ≡ Some i)
+unfolding start_if
+list_placed true place item h = let m = mapped_by start_call place item h in (m.one, m.one_is)
+list_placed false place item h = absurd (cc)
+
+pub start_listed : (known : Knowledge) (n : ℕ) (controls : Controls) (ps : Pures) (item : Item) → start_step known n controls ps ≡ Some item → (i : ℕ) × (known.list n ≡ Some i)
+unfolding start_step
+start_listed known n controls (AndPure (Constant (IsInt unit)) NoPure) item h = list_placed (is_plain controls && in_range unit) (known.list n) item h
+start_listed known n controls ps item h = absurd (cc)
+
 module _ (v : Inventory) (facts : Facts) (kind : ℕ → Kinds) (label : ℕ → Option ℕ) where
-  list_placed : (t : Bool) (place : Option ℕ) (item : Item) → start_if t place ≡ Some item → (i : ℕ) × (place ≡ Some i)
-  unfolding start_if
-  list_placed true place item h = let m = mapped_by start_call place item h in (m.one, m.one_is)
-  list_placed false place item h = absurd (cc)
-
-  start_listed : (n : ℕ) (controls : Controls) (ps : Pures) (item : Item) → start_step (known_in v facts label) n controls ps ≡ Some item → (i : ℕ) × (place_of_list v n ≡ Some i)
-  unfolding start_step
-  start_listed n controls (AndPure (Constant (IsInt unit)) NoPure) item h = list_placed (is_plain controls && in_range unit) (place_of_list v n) item h
-  start_listed n controls ps item h = absurd (cc)
-
   -- a step with an item has its control list, or its string
   pub step_listed : (n : ℕ) (steps : List Step) (st : Step) (item : Item) → v.strings ≡ stops_from 0 steps → ((text : Bytes) → slice_get steps n ≡ Some (Halt text) → v.texts n ≡ text) → slice_get steps n ≡ Some st
       → item_step (known_in v facts label) (kind n) n st ≡ Some item → IsListed v n st
   unfolding item_step acting_step
-  step_listed n steps (step.Acts (step.Starts Output Listed controls) ps m) item strings texts at h = start_listed n controls ps item h
+  step_listed n steps (step.Acts (step.Starts Output Listed controls) ps m) item strings texts at h = start_listed (known_in v facts label) n controls ps item h
   step_listed n steps (step.Acts (step.Starts way layout controls) ps m) item strings texts at h = absurd (cc)
   step_listed n steps (Halt text) item strings texts at h =
       let placed = stop_placed 0 n n steps text (omega arith) at in (placed.0, ap (position (nat_eq n)) strings ∙ placed.1, texts text at)
@@ -84,24 +82,27 @@ flat_item : (names : Names) (o : Option Flat) (item : Item) → option_and_then 
 flat_item names (Some one) item h = (one, refl, h)
 flat_item names None item h = absurd (cc)
 
-pub record AreFlat (v : Inventory) (b : Bases) (facts : Facts) (kind : ℕ → ℕ → Option Basic) (label : ℕ → Option ℕ) (n : ℕ) (steps : List Step) (items : List Item) : Type 0 where
+pub record AreFlat (emits : ℕ → List Step → Option (List Flat)) (names : Names) (n : ℕ) (steps : List Step) (items : List Item) : Type 0 where
   pub flats : List Flat
-  pub emitted : flats_from (writing_of v b facts kind) label n steps ≡ Some flats
-  pub named : items_for (names_of v b) flats ≡ Some items
+  pub emitted : emits n steps ≡ Some flats
+  pub named : items_for names flats ≡ Some items
 
-module _ (v : Inventory) (b : Bases) (facts : Facts) (kind : ℕ → ℕ → Option Basic) (label : ℕ → Option ℕ) (numbers : NumbersAreListed v b (known_in v facts label)) where
-  pub are_flat : (n : ℕ) (steps : List Step) (items : List Item)
-      → ((i k : ℕ) (st : Step) (item : Item) → k ≡ n + i → slice_get steps i ≡ Some st → item_step (known_in v facts label) (kind k) k st ≡ Some item → IsListed v k st)
-      → items_from (known_in v facts label) kind n steps ≡ Some items → AreFlat v b facts kind label n steps items
-  unfolding items_from flats_from item_before items_for before_items
-  are_flat n [] items listed h = record { flats = []; emitted = refl; named = h }
-  are_flat n (st ∷ later) items listed h =
-      let s = ahead_of (item_step (known_in v facts label) (kind n) n st) (items_from (known_in v facts label) kind (suc n) later) items h in
-      let there = listed 0 n st s.item (omega arith) refl s.item_is in
-      let one = flat_item (names_of v b) (flat_of (writing_of v b facts kind) (λ m. m) label n st) s.item (emissions_agree v b facts kind label n st numbers there ∙ s.item_is) in
-      let rest = are_flat (suc n) later s.later (λ i k other item at got is. listed (suc i) k other item (omega (arith, at)) got is) s.later_is in
+module _ (emit : ℕ → Step → Option Flat) (emits : ℕ → List Step → Option (List Flat)) (each : EmitsEach emit emits) (names : Names) (known : Knowledge) (kind : ℕ → Kinds) where
+  -- what the item of a step is by names
+  abbrev Agrees : ℕ → Step → Type 0
+  Agrees k st = option_and_then (item_for names) (emit k st) ≡ item_step known (kind k) k st
+
+  pub are_flat : (n : ℕ) (steps : List Step) (items : List Item) → ((i k : ℕ) (st : Step) (item : Item) → k ≡ n + i → slice_get steps i ≡ Some st → item_step known (kind k) k st ≡ Some item → Agrees k st)
+      → items_from known kind n steps ≡ Some items → AreFlat emits names n steps items
+  unfolding items_from item_before items_for before_items
+  are_flat n [] items agree h = record { flats = []; emitted = each.none n; named = h }
+  are_flat n (st ∷ later) items agree h =
+      let s = ahead_of (item_step known (kind n) n st) (items_from known kind (suc n) later) items h in
+      let there = agree 0 n st s.item (omega arith) refl s.item_is in
+      let one = flat_item names (emit n st) s.item (there ∙ s.item_is) in
+      let rest = are_flat (suc n) later s.later (λ i k other item at got is. agree (suc i) k other item (omega (arith, at)) got is) s.later_is in
       record {
         flats = one.0 ∷ rest.flats;
-        emitted = (λ i. item_before (one.1 i) (rest.emitted i));
+        emitted = each.more n st later ∙ (λ i. item_before (one.1 i) (rest.emitted i));
         named = (λ i. before_items (one.2 i) (rest.named i)) ∙ ap Some s.is;
       }

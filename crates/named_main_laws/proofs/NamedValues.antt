@@ -1,6 +1,6 @@
 -- The terms of lowered values, and the flat items of steps, name objects as their unit does. ANSI X3.9-1978, section 6; C89, 3.3.
 use Rattle.std.specs.Prelude.{◌≡◌, ℕ, zero, suc, ◌+◌, ◌-◌, ℤ, pos, negsuc, nat_eq, Bool, true, false, ◌&&◌, List, [], ◌∷◌, Option, Some, None, option_map, option_and_then, slice_get, if◌then◌else◌}
-use Rattle.std.proofs.Common.{refl, ap, ◌∙◌, subst}
+use Rattle.std.proofs.Common.{refl, sym, ap, ◌∙◌, subst}
 use Rattle.f_tree.specs.Values.{Bytes, Datum, IsInt, IsLog, in_range}
 use Rattle.f_tree.specs.Facts.{Output, Listed, Controls, UnitKind, MainProgram, SubroutineUnit, FunctionUnit, BlockDataUnit}
 use Rattle.f_tree.specs.Terms.{Prefix, Negate, Complement}
@@ -26,33 +26,42 @@ use Rattle.c_emit.specs.Types.{type_of}
 use Rattle.c_emit.specs.Flats.{assigned, jump_to, returned_by, flat_of}
 use Rattle.main_file.specs.MainItems.{item_before, flats_from}
 use Rattle.named_items.proofs.NamedItems.{some_same}
-use Rattle.named_main_laws.proofs.NamedPlaces.{NamesObjects, SetsObjects}
+use Rattle.named_main_laws.proofs.NamedPlaces.{Reach, Own, NamesObjects, SetsObjects}
 
 -- what a unit writes for its names and temporaries are objects of a kind
-pub record WritesObjects (IsObject : ℕ → Type 0) (w : Writing) : Type 0 where
+pub record WritesObjects (IsObject : Reach → ℕ → Type 0) (w : Writing) : Type 0 where
   pub scalars : (x : Bytes) → is_scalar w x ≡ true → NamesObjects IsObject (number_term (w.naming.address x))
   pub arrays : (x : Bytes) → is_array w x ≡ true → (index : Term) → NamesObjects IsObject (element_term (w.naming.address x) index)
-  pub temporaries : (k : ℕ) → w.is_number k ≡ true → IsObject (w.naming.temporary k)
+  pub temporaries : (k : ℕ) → w.is_number k ≡ true → IsObject Own (w.naming.temporary k)
 
 -- ## What may be there
 
-abbrev MayName : (ℕ → Type 0) → Option Term → Type 0
+abbrev pub MayName : (Reach → ℕ → Type 0) → Option Term → Type 0
 MayName IsObject None = Unit {0}
 MayName IsObject (Some t) = NamesObjects IsObject t
 
-abbrev AllName : (ℕ → Type 0) → List Term → Type 0
+abbrev AllName : (Reach → ℕ → Type 0) → List Term → Type 0
 AllName IsObject [] = Unit {0}
 AllName IsObject (t ∷ ts) = NamesObjects IsObject t × AllName IsObject ts
 
-abbrev MayAllName : (ℕ → Type 0) → Option (List Term) → Type 0
+abbrev MayAllName : (Reach → ℕ → Type 0) → Option (List Term) → Type 0
 MayAllName IsObject None = Unit {0}
 MayAllName IsObject (Some ts) = AllName IsObject ts
 
-abbrev MaySet : (ℕ → Type 0) → Option Flat → Type 0
+abbrev pub MaySet : (Reach → ℕ → Type 0) → Option Flat → Type 0
 MaySet IsObject None = Unit {0}
 MaySet IsObject (Some item) = SetsObjects IsObject item
 
 -- ## Lists of items
+
+-- steps have items one for one
+pub record EmitsEach (emit : ℕ → Step → Option Flat) (emits : ℕ → List Step → Option (List Flat)) : Type 0 where
+  pub none : (n : ℕ) → emits n [] ≡ Some []
+  pub more : (n : ℕ) (st : Step) (later : List Step) → emits n (st ∷ later) ≡ item_before (emit n st) (emits (suc n) later)
+
+pub flats_emitted : (w : Writing) (label : ℕ → Option ℕ) → EmitsEach (flat_of w (λ m. m) label) (flats_from w label)
+unfolding flats_from
+flats_emitted w label = record { none = λ n. refl; more = λ n st later. refl }
 
 record AreSplit (o : Option Flat) (os : Option (List Flat)) (flats : List Flat) : Type 0 where
   first : Flat
@@ -67,7 +76,7 @@ split (Some first) (Some rest) flats h = record { first = first; rest = rest; fi
 split (Some first) None flats h = absurd (cc)
 split None os flats h = absurd (cc)
 
-module _ (IsObject : ℕ → Type 0) where
+module _ (IsObject : Reach → ℕ → Type 0) where
   -- ## Values
 
   negative_names : (less : ℕ) (t : Bool) → NamesObjects IsObject (if t then c.Between op.Subtract (c.Prefixed prefix.Minus (c.Constant (pos 2147483647))) (c.Constant (pos 1)) else c.Prefixed prefix.Minus (c.Constant (pos (suc less))))
@@ -152,7 +161,7 @@ module _ (IsObject : ℕ → Type 0) where
   jump_sets None = tt
   jump_sets (Some m) = tt
 
-  return_sets : (kind : UnitKind) → MaySet IsObject (returned_by kind)
+  pub return_sets : (kind : UnitKind) → MaySet IsObject (returned_by kind)
   unfolding returned_by
   return_sets MainProgram = tt
   return_sets SubroutineUnit = tt
@@ -247,7 +256,7 @@ module _ (IsObject : ℕ → Type 0) where
     computed_sets (Some t) None xs = tt
     computed_sets None function xs = tt
 
-    step_sets : (label : ℕ → Option ℕ) (n : ℕ) (st : Step) → MaySet IsObject (flat_of w (λ m. m) label n st)
+    pub step_sets : (label : ℕ → Option ℕ) (n : ℕ) (st : Step) → MaySet IsObject (flat_of w (λ m. m) label n st)
     unfolding flat_of
     step_sets label n (step.Put target p) = assigned_sets (place_term w target) (value_term w p) (place_names target) (value_names p)
     step_sets label n (step.Keep k p) =
@@ -267,14 +276,16 @@ module _ (IsObject : ℕ → Type 0) where
     step_sets label n (step.Halt text) = stop_sets w n text
     step_sets label n st = tt
 
-    later_sets : (first : Flat) (rest : List Flat) → SetsObjects IsObject first → ((k : ℕ) (item : Flat) → slice_get rest k ≡ Some item → SetsObjects IsObject item) → (i : ℕ) (item : Flat)
-        → slice_get (first ∷ rest) i ≡ Some item → SetsObjects IsObject item
-    later_sets first rest sets also zero item at = subst (SetsObjects IsObject) (some_same first item at) sets
-    later_sets first rest sets also (suc i) item at = also i item at
+  -- ## Items of steps, by what each of them sets
 
-    pub flats_set : (label : ℕ → Option ℕ) (n : ℕ) (steps : List Step) (flats : List Flat) → flats_from w label n steps ≡ Some flats → (i : ℕ) (item : Flat) → slice_get flats i ≡ Some item → SetsObjects IsObject item
-    unfolding flats_from
-    flats_set label n [] flats h i item at = absurd (let none : None ≡ Some item = ap (λ fs. slice_get fs i) (some_same [] flats h) ∙ at in cc)
-    flats_set label n (st ∷ later) flats h i item at =
-        let s = split (flat_of w (λ m. m) label n st) (flats_from w label (suc n) later) flats h in
-        later_sets s.first s.rest (subst (MaySet IsObject) s.first_is (step_sets label n st)) (flats_set label (suc n) later s.rest s.rest_is) i item (ap (λ fs. slice_get fs i) s.is ∙ at)
+  later_sets : (first : Flat) (rest : List Flat) → SetsObjects IsObject first → ((k : ℕ) (item : Flat) → slice_get rest k ≡ Some item → SetsObjects IsObject item) → (i : ℕ) (item : Flat)
+      → slice_get (first ∷ rest) i ≡ Some item → SetsObjects IsObject item
+  later_sets first rest sets also zero item at = subst (SetsObjects IsObject) (some_same first item at) sets
+  later_sets first rest sets also (suc i) item at = also i item at
+
+  module _ (emit : ℕ → Step → Option Flat) (emits : ℕ → List Step → Option (List Flat)) (each : EmitsEach emit emits) (sets : (n : ℕ) (st : Step) → MaySet IsObject (emit n st)) where
+    pub all_set : (n : ℕ) (steps : List Step) (flats : List Flat) → emits n steps ≡ Some flats → (i : ℕ) (item : Flat) → slice_get flats i ≡ Some item → SetsObjects IsObject item
+    all_set n [] flats h i item at = absurd (let none : None ≡ Some item = ap (λ fs. slice_get fs i) (some_same [] flats (sym (each.none n) ∙ h)) ∙ at in cc)
+    all_set n (st ∷ later) flats h i item at =
+        let s = split (emit n st) (emits (suc n) later) flats (sym (each.more n st later) ∙ h) in
+        later_sets s.first s.rest (subst (MaySet IsObject) s.first_is (sets n st)) (all_set (suc n) later s.rest s.rest_is) i item (ap (λ fs. slice_get fs i) s.is ∙ at)

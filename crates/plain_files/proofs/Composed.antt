@@ -1,7 +1,7 @@
 -- The laws of plain main programs, of their files and of printed texts, put together.
 use Rattle.std.specs.List.{list_all}
-use Rattle.std.specs.Prelude.{◌≡◌, ℕ, ◌≤◌, Bool, true, false, ◌&&◌, List, [], ◌∷◌, ◌++◌, map, Option, Some, None}
-use Rattle.std.proofs.Common.{refl, sym, subst}
+use Rattle.std.specs.Prelude.{◌≡◌, ℕ, ◌≤◌, Bool, true, List, [], ◌∷◌, ◌++◌, map, Option, Some, None}
+use Rattle.std.proofs.Common.{sym, subst}
 use Rattle.std.proofs.lemmas.Bool.{leb-true}
 use Rattle.f_tree.specs.declared.names.Options.{Options}
 use Rattle.f_tree.specs.declared.refusals.Refusal.{Refusal}
@@ -37,7 +37,7 @@ each_of test (y ∷ ys) all x (later_in o) = each_of test ys (and-second (test y
 
 -- ## Names
 
-named : (unit : ProgramUnit) → is_spellable unit ≡ true → (m : Member) → IsIn m unit.stored → is_spellable_name unit m ≡ true
+pub named : (unit : ProgramUnit) → is_spellable unit ≡ true → (m : Member) → IsIn m unit.stored → is_spellable_name unit m ≡ true
 unfolding is_spellable
 named unit is m o = each_of (is_spellable_name unit) unit.stored is m o
 

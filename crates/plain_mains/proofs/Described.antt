@@ -1,7 +1,8 @@
 -- What holds of each described name of a unit holds of what each name is, and the bounds of each name are constant.
 use Rattle.std.specs.List.{list_all}
 use Rattle.std.specs.Prelude.{◌≡◌, ℕ, zero, suc, ◌*◌, ℤ, pos, ◌+ℤ◌, ◌-ℤ◌, nat_abs, Bool, true, false, List, [], ◌∷◌, ◌++◌, Option, Some, None, slice_get, bytes_eq, if◌then◌else◌}
-use Rattle.std.proofs.Common.{refl, sym, ap, arith}
+use Rattle.std.proofs.Common.{refl, sym, ap, subst, arith}
+use Rattle.std.proofs.lemmas.Slice.Eq.{bytes_eq-Decides}
 use Rattle.std.proofs.lemmas.Bool.{and_parts}
 use Rattle.f_tree.specs.declared.names.Class.TheVariants as class
 use Rattle.f_tree.specs.declared.units.Unit.{Unit as WrittenUnit}
@@ -10,7 +11,7 @@ use Rattle.f_tree.specs.Facts.{Dimension, Bounds, Attribute}
 use Rattle.f_tree.specs.Setting.{IsIn, first_in, later_in}
 use Rattle.f_tree.specs.Valuing.{elements_of, extent_of}
 use Rattle.f_tree.specs.Uses.{Use}
-use Rattle.f_tree.specs.Attributes.{Constant, Expansion, bare, bounds_between, constant_term, constant_upper, constant_bounds, without_expansion, with_dimensions, with_expansions, attribute_of, Described, attribute_in}
+use Rattle.f_tree.specs.Attributes.{Constant, Expansion, bare, bounds_between, constant_term, constant_upper, constant_bounds, without_expansion, with_dimensions, with_expansions, attribute_of, Described, described, attribute_in, all_described}
 use Rattle.main_translation.specs.Contents.{count_by}
 use Rattle.main_programs.specs.MainRuns.{bytes_in}
 use Rattle.main_translation_laws.proofs.Lists.{in_at}
@@ -39,6 +40,29 @@ each_attribute P [] x none each = none
 each_attribute P (d ∷ ds) x none each =
     chosen P (bytes_eq d.name x) d.attribute (attribute_in ds x) (each d first_in) (each_attribute P ds x none (λ e o. each e (later_in o)))
 
+-- what a test says of each described name, and of one that is not described, it says of what each name is
+pub each_told : (test : Described → Bool) (ds : List Described) (x : Bytes) → list_all test ds ≡ true → test (record { name = x; attribute = bare class.Unit None }) ≡ true →
+    test (record { name = x; attribute = attribute_in ds x }) ≡ true
+unfolding attribute_in
+each_told test [] x all none = none
+each_told test (d ∷ ds) x all none = let parts = and_parts (test d) (list_all test ds) all in by (bytes_eq d.name x) refl parts.0 (each_told test ds x parts.1 none)
+  where
+    by : (t : Bool) → bytes_eq d.name x ≡ t → test d ≡ true → test (record { name = x; attribute = attribute_in ds x }) ≡ true →
+        test (record { name = x; attribute = if t then d.attribute else attribute_in ds x }) ≡ true
+    by true same one later = subst (λ y. test (record { name = y; attribute = d.attribute }) ≡ true) ((bytes_eq-Decides d.name x).0 same) one
+    by false other one later = later
+
+-- what holds of what the unit makes of a name, and of a name that is not of the unit, holds of it
+pub own_described : (P : Attribute → Type 0) (u : WrittenUnit) (uses : List Use) (cs : List Constant) (es : List Expansion) (xs : List Bytes) (x : Bytes) →
+    P (bare class.Unit None) → P (attribute_of u uses cs es x) → P (attribute_in (described u uses cs es xs) x)
+unfolding described attribute_in
+own_described P u uses cs es [] x none own = none
+own_described P u uses cs es (y ∷ xs) x none own = by (bytes_eq y x) refl (own_described P u uses cs es xs x none own)
+  where
+    by : (t : Bool) → bytes_eq y x ≡ t → P (attribute_in (described u uses cs es xs) x) → P (if t then attribute_of u uses cs es y else attribute_in (described u uses cs es xs) x)
+    by true same later = subst (λ z. P (attribute_of u uses cs es z)) (sym ((bytes_eq-Decides y x).0 same)) own
+    by false other later = later
+
 -- ## Constant bounds
 
 -- each dimension has its last subscript
@@ -65,6 +89,11 @@ closed_attribute u uses cs es x = closed_constant _
 pub closed_bare : AreClosed (bare class.Unit None).bounds
 unfolding bare
 closed_bare = none_closed
+
+-- the bounds are those of the dimensions that are constant
+pub constant_attribute : (u : WrittenUnit) (x : Bytes) → (attribute_in (all_described u) x).bounds ≡ constant_bounds (attribute_in (all_described u) x).dimensions
+unfolding all_described bare attribute_of with_expansions without_expansion with_dimensions constant_bounds
+constant_attribute u x = own_described (λ a. a.bounds ≡ constant_bounds a.dimensions) u _ _ _ _ x refl refl
 
 -- so each has its last subscript, and the number of elements is known
 pub last_of : (bs : List Bounds) → AreClosed bs → (k : ℕ) (b : Bounds) → slice_get bs k ≡ Some b → (last : ℤ) × (b.upper ≡ Some last)

@@ -26,7 +26,7 @@ use Rattle.plain_mains.proofs.StoredNames.{plain_member, distinct_stored}
 
 -- ## The unit and its storage
 
-none_is : {A : Type 0} (xs : List A) → has_none xs ≡ true → xs ≡ []
+pub none_is : {A : Type 0} (xs : List A) → has_none xs ≡ true → xs ≡ []
 unfolding has_none
 none_is [] is = refl
 none_is (x ∷ xs) is = absurd (cc)
@@ -47,12 +47,12 @@ one_entry u is =
     ∙ ap (λ later. record { name = name_or_none u.name; formals = []; start = 0 } ∷ later) (none_is (entries_from 0 u.statements) parts.1)
 
 -- no blocks, no ties and no images
-record HasOwnStorage (options : Options) (u : WrittenUnit) : Type 0 where
-  blocks : (unit_read options u).blocks ≡ []
-  ties : (unit_read options u).ties ≡ []
-  images : (unit_read options u).images ≡ []
+pub record HasOwnStorage (options : Options) (u : WrittenUnit) : Type 0 where
+  pub blocks : (unit_read options u).blocks ≡ []
+  pub ties : (unit_read options u).ties ≡ []
+  pub images : (unit_read options u).images ≡ []
 
-own_storage : (options : Options) (u : WrittenUnit) → has_own_storage u ≡ true → HasOwnStorage options u
+pub own_storage : (options : Options) (u : WrittenUnit) → has_own_storage u ≡ true → HasOwnStorage options u
 unfolding has_own_storage unit_read with_ties program_of blocks_from ties_of
 own_storage options u is =
     let names : Naming = attribute_in (all_described u) in
@@ -77,12 +77,12 @@ fit_by p true some is =
     with_loops (record { nested = record { ended = nested.0; contained = nested.1 }; blocks = entered.0; branches = rest.0; entries = rest.1 })
 
 -- what is asked of the statements
-record HasPlainLines (p : ProgramUnit) : Type 0 where
-  direct : are_direct p.lines ≡ true
-  ended : has_end p.lines ≡ true
-  loops : LoopsFit p
+pub record HasPlainLines (p : ProgramUnit) : Type 0 where
+  pub direct : are_direct p.lines ≡ true
+  pub ended : has_end p.lines ≡ true
+  pub loops : LoopsFit p
 
-plain_lines : (p : ProgramUnit) → has_plain_lines p ≡ true → HasPlainLines p
+pub plain_lines : (p : ProgramUnit) → has_plain_lines p ≡ true → HasPlainLines p
 unfolding has_plain_lines loops_fit
 plain_lines p is =
     let parts = and_parts (are_direct p.lines) (has_end p.lines && loops_fit p) is in
@@ -117,11 +117,11 @@ fitting_by d plain =
 each_fits : (u : WrittenUnit) → list_all is_plain_name (all_described u) ≡ true → (x : Bytes) → IsFitting (attribute_in (all_described u) x)
 each_fits u plain x = each_attribute IsFitting (all_described u) x fitting_bare (λ d o. fitting_by d (all_in is_plain_name (all_described u) d plain o))
 
-each_closed : (u : WrittenUnit) (x : Bytes) → AreClosed (attribute_in (all_described u) x).bounds
+pub each_closed : (u : WrittenUnit) (x : Bytes) → AreClosed (attribute_in (all_described u) x).bounds
 unfolding all_described
 each_closed u x = each_described (λ a. AreClosed a.bounds) u _ _ _ _ x closed_bare (λ y. closed_attribute u _ _ _ y)
 
-bound_is : (b : Bounds) → bound_fits b ≡ true → BoundFits b
+pub bound_is : (b : Bounds) → bound_fits b ≡ true → BoundFits b
 unfolding bound_fits
 bound_is b fits = let parts = and_parts (in_range b.lower) (in_range (pos (size_of_dimension b))) fits in record { lower = parts.0; size = λ last is. parts.1 }
 

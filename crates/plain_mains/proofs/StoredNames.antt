@@ -68,7 +68,7 @@ by_third P false true c k l m n first second third is = second
 by_third P false false true k l m n first second third is = third
 by_third P false false false k l m n first second third is = absurd (cc)
 
-either_class : (P : Class → Type 0) (t : Bool) (k l : Class) → P k → P l → P (if t then k else l)
+pub either_class : (P : Class → Type 0) (t : Bool) (k l : Class) → P k → P l → P (if t then k else l)
 either_class P true k l one other = one
 either_class P false k l one other = other
 
@@ -180,7 +180,7 @@ pub record IsPlainMember (a : Attribute) (m : Member) : Type 0 where
   pub small : m.size < 2147483648
   pub bounded : size_of a < 67108865
 
-four_units : (width : Option ℕ) → has_four_units width ≡ true → width ≡ Some 4
+pub four_units : (width : Option ℕ) → has_four_units width ≡ true → width ≡ Some 4
 unfolding has_four_units
 four_units None is = absurd (cc)
 four_units (Some n) is = ap Some (eqb-true n 4 is)
@@ -215,19 +215,33 @@ member_by u uses cs es m size plain =
       bounded = ltb-true (size_of a) 67108865 rest.1;
     }
 
-plain_among : (u : WrittenUnit) (uses : List Use) (cs : List Constant) (es : List Expansion) (xs : List Bytes) → list_all is_plain_name (described u uses cs es xs) ≡ true →
-    (m : Member) → IsIn m (stored_among (described u uses cs es xs)) → IsPlainMember (attribute_in (described u uses cs es xs) m.name) m
-plain_among u uses cs es xs plain m o =
+-- a test that tells that what is stored is a plain variable
+abbrev pub TellsStored : (Described → Bool) → Type 0
+TellsStored test = (d : Described) → test d ≡ true → is_stored d.attribute ≡ true → is_plain_variable d ≡ true
+
+plain_among : (test : Described → Bool) → TellsStored test → (u : WrittenUnit) (uses : List Use) (cs : List Constant) (es : List Expansion) (xs : List Bytes) →
+    list_all test (described u uses cs es xs) ≡ true → (m : Member) → IsIn m (stored_among (described u uses cs es xs)) → IsPlainMember (attribute_in (described u uses cs es xs) m.name) m
+plain_among test tells u uses cs es xs plain m o =
     let kept = kept_name u uses cs es xs m o in
     let own : Described = record { name = m.name; attribute = attribute_of u uses cs es m.name } in
-    let variable = plain_variable own (all_in is_plain_name (described u uses cs es xs) own plain (described_at u uses cs es xs m.name kept.among)) kept.stored in
+    let variable = tells own (all_in test (described u uses cs es xs) own plain (described_at u uses cs es xs m.name kept.among)) kept.stored in
     subst (λ a. IsPlainMember a m) (sym (found_name u uses cs es xs m.name kept.among)) (member_by u uses cs es m kept.size variable)
 
 -- ## Of a unit
 
-pub plain_member : (u : WrittenUnit) → list_all is_plain_name (all_described u) ≡ true → (m : Member) → IsIn m (stored_among (all_described u)) → IsPlainMember (attribute_in (all_described u) m.name) m
+-- what a test tells of each name tells what is stored
+pub told_member : (test : Described → Bool) → TellsStored test → (u : WrittenUnit) → list_all test (all_described u) ≡ true → (m : Member) → IsIn m (stored_among (all_described u)) →
+    IsPlainMember (attribute_in (all_described u) m.name) m
 unfolding all_described
-plain_member u plain m o = plain_among u _ _ _ _ plain m o
+told_member test tells u plain m o = plain_among test tells u _ _ _ _ plain m o
+
+pub plain_member : (u : WrittenUnit) → list_all is_plain_name (all_described u) ≡ true → (m : Member) → IsIn m (stored_among (all_described u)) → IsPlainMember (attribute_in (all_described u) m.name) m
+plain_member = told_member is_plain_name plain_variable
+
+pub stored_member : (u : WrittenUnit) (m : Member) → IsIn m (stored_among (all_described u)) → is_stored (attribute_in (all_described u) m.name) ≡ true
+unfolding all_described
+stored_member u m o =
+    let kept = kept_name u _ _ _ _ m o in subst (λ a. is_stored a ≡ true) (sym (found_name u _ _ _ _ m.name kept.among)) kept.stored
 
 pub distinct_stored : (u : WrittenUnit) → AreDistinct (stored_among (all_described u))
 unfolding all_described names_of

@@ -51,9 +51,8 @@ all-mapped : {A B : Type 0} (test : B → Bool) (f : A → B) (xs : List A) → 
 all-mapped test f [] = refl
 all-mapped test f (x ∷ xs) = ap (λ t. test (f x) && t) (all-mapped test f xs)
 
-plain-known : (u : WrittenUnit) → list_all (λ x. is_plain_name (described_in u x)) (all_names u) ≡ names_are_plain u
-unfolding names_are_plain
-plain-known u = sym (ap (list_all is_plain_name) (all-described u) ∙ all-mapped is_plain_name (described_in u) (all_names u))
+asked-known : (asked : Described → Bool) (u : WrittenUnit) → list_all (λ x. asked (described_in u x)) (all_names u) ≡ list_all asked (all_described u)
+asked-known asked u = sym (ap (list_all asked) (all-described u) ∙ all-mapped asked (described_in u) (all_names u))
 
 -- ## Spelled names
 
@@ -95,9 +94,16 @@ by-table test asked u table names are all tells =
     ∙ same-tests (λ x. test x (fact_in table x)) (λ x. asked (record { name = x; attribute = given_names u x })) (all_names u)
     (λ x. tells x (given_names u x) (fact_in table x) (are.facts x))
 
+-- so is one of what each name is described as
+pub all_asked : (test : Bytes → NameFact → Bool) (asked : Described → Bool) (u : WrittenUnit) (table : NameFacts) (names : List (Bor Bytes)) → AreNameFacts u table →
+    map (λ (name : Bor Bytes). name.now) names ≡ all_names u → ((x : Bytes) (a : Attribute) (fact : NameFact) → IsNameFact a fact → test x fact ≡ asked (record { name = x; attribute = a })) →
+    list_all (λ (name : Bor Bytes). test name.now (fact_in table name.now)) names ≡ list_all asked (all_described u)
+all_asked test asked u table names are all tells = by-table test asked u table names are all tells ∙ asked-known asked u
+
 pub all_plain : (u : WrittenUnit) (table : NameFacts) (names : List (Bor Bytes)) → AreNameFacts u table → map (λ (name : Bor Bytes). name.now) names ≡ all_names u →
     list_all (λ (name : Bor Bytes). is_plain name.now (fact_in table name.now)) names ≡ names_are_plain u
-all_plain u table names are all = by-table is_plain is_plain_name u table names are all plain-told ∙ plain-known u
+unfolding names_are_plain
+all_plain u table names are all = all_asked is_plain is_plain_name u table names are all plain-told
 
 pub all_spelled : (options : Options) (u : WrittenUnit) (table : NameFacts) (names : List (Bor Bytes)) → AreNameFacts u table → map (λ (name : Bor Bytes). name.now) names ≡ all_names u →
     list_all (λ (name : Bor Bytes). told.is_spelled name.now (fact_in table name.now)) names ≡ is_spellable (unit_read options u)

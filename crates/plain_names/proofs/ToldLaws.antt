@@ -24,7 +24,7 @@ use Rattle.plain_names.specs.ToldNames.{is_stored_class, is_number, has_plain_bo
 use Rattle.plain_names.specs.ToldNames as told_names
 use Rattle.plain_names.proofs.ElementLaws.{elements-known, element-known}
 
-number-told : (a : Attribute) (fact : NameFact) → IsNameFact a fact → is_number fact ≡ plain.is_number a
+pub number-told : (a : Attribute) (fact : NameFact) → IsNameFact a fact → is_number fact ≡ plain.is_number a
 unfolding is_number Rattle.plain_forms.specs.PlainUnits.is_number
 number-told a fact told = ap (λ b. is_numeric b && has_four_units fact.width) told.basic ∙ ap (λ w. is_numeric a.basic && has_four_units w) told.width
 
@@ -33,7 +33,7 @@ unfolding fits
 all-fit [] = refl
 all-fit (b ∷ bs) = ap (λ t. bound_fits (bounds_of b) && t) (all-fit bs)
 
-bounds-told : (a : Attribute) (fact : NameFact) → IsNameFact a fact → has_plain_bounds fact ≡ plain.has_plain_bounds a
+pub bounds-told : (a : Attribute) (fact : NameFact) → IsNameFact a fact → has_plain_bounds fact ≡ plain.has_plain_bounds a
 unfolding has_plain_bounds Rattle.plain_forms.specs.PlainUnits.has_plain_bounds
 bounds-told a fact told =
     ap (λ t. nat_eq (length fact.bounds) fact.rank && t) (all-fit fact.bounds)
@@ -41,7 +41,7 @@ bounds-told a fact told =
     ∙ ap (λ bs. nat_eq (length bs) fact.rank && list_all bound_fits bs) told.bounds
     ∙ ap (λ n. nat_eq (length a.bounds) n && list_all bound_fits a.bounds) told.rank
 
-stored-told : (a : Attribute) (fact : NameFact) → IsNameFact a fact → is_stored_class fact.class ≡ is_stored a
+pub stored-told : (a : Attribute) (fact : NameFact) → IsNameFact a fact → is_stored_class fact.class ≡ is_stored a
 unfolding is_stored_class is_stored
 stored-told a fact told = ap is_stored_class told.class ∙ by a.class
   where
@@ -71,7 +71,7 @@ if-true : (t x y : Bool) → (t ≡ true → x ≡ y) → (t && x) ≡ (t && y)
 if-true true x y h = h refl
 if-true false x y h = refl
 
-variable-told : (x : Bytes) (a : Attribute) (fact : NameFact) → IsNameFact a fact → is_plain_variable x fact ≡ plain.is_plain_variable (record { name = x; attribute = a })
+pub variable-told : (x : Bytes) (a : Attribute) (fact : NameFact) → IsNameFact a fact → is_plain_variable x fact ≡ plain.is_plain_variable (record { name = x; attribute = a })
 unfolding is_plain_variable Rattle.plain_forms.specs.PlainUnits.is_plain_variable
 variable-told x a fact told =
     ap (λ t. is_name x && (t && nat_lt (elements_in fact.bounds * 4) 67108865)) (number-told a fact told)

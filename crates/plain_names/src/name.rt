@@ -47,7 +47,7 @@ fn has_four_units(width: Option<u32>) -> bool
 
 /// Whether a name is that of an integer or a logical, or of an array of them. Section 4.1.
 #[tactic(auto, unfolding(crate::specs::ToldNames::is_number))]
-fn is_number(fact: &NameFact) -> bool
+pub fn is_number(fact: &NameFact) -> bool
     ensures { result ≡ spec.is_number fact.now }
 {
     is_numeric(fact.basic) && has_four_units(fact.width)
@@ -55,7 +55,7 @@ fn is_number(fact: &NameFact) -> bool
 
 /// Whether each dimension that is written has constant bounds, and they fit. Section 5.1.1.
 #[tactic(auto, unfolding(crate::specs::ToldNames::has_plain_bounds))]
-fn has_plain_bounds(fact: &NameFact) -> bool
+pub fn has_plain_bounds(fact: &NameFact) -> bool
     ensures { result ≡ spec.has_plain_bounds fact.now }
 {
     fact.bounds.len() == fact.rank && all_fit(fact.bounds.as_slice())
@@ -71,7 +71,7 @@ fn is_name_byte(byte: &u8) -> bool
 
 /// Whether a name has letters, digits and underscores alone.
 #[tactic(auto, unfolding(f_tree::specs::CNames::is_name))]
-fn is_name(name: &[u8]) -> bool
+pub fn is_name(name: &[u8]) -> bool
     ensures { result ≡ c_names.is_name name.now }
 {
     name.iter().all(is_name_byte)
@@ -79,7 +79,7 @@ fn is_name(name: &[u8]) -> bool
 
 /// Whether a name is that of a variable or an array of numbers, which has less than 2 ^ 31 bytes.
 #[tactic(auto, unfolding(crate::specs::ToldNames::is_plain_variable))]
-fn is_plain_variable(name: &[u8], fact: &NameFact) -> bool
+pub fn is_plain_variable(name: &[u8], fact: &NameFact) -> bool
     ensures { result ≡ spec.is_plain_variable name.now fact.now }
 {
     is_name(name) && is_number(fact) && is_small(fact.bounds.as_slice())

@@ -10,7 +10,7 @@ use crate::name::is_stored;
 use name_facts::{NameFact, NameFacts};
 
 /// Whether a name begins with a letter.
-fn begins_with_letter(name: &[u8]) -> bool
+pub fn begins_with_letter(name: &[u8]) -> bool
     ensures { result ≡ begins_with is_letter name.now }
 {
     match name.first() {

@@ -10,7 +10,7 @@ use f_tree::{Body, Stmt, Unit, UnitKind};
 
 /// Whether a unit is a main program. Section 14.
 #[tactic(auto, unfolding(f_tree::specs::Lines::unit_kind, plain_forms::specs::PlainUnits::is_main))]
-pub(crate) fn is_main(unit: &Unit) -> bool
+pub fn is_main(unit: &Unit) -> bool
     ensures { result ≡ plain.is_main (unit_kind unit.now) }
 {
     match &unit.kind {
@@ -30,7 +30,7 @@ fn is_no_entry(statement: &Stmt) -> bool
 }
 
 /// Whether none of statements is an ENTRY.
-fn have_no_entry(statements: &[Stmt]) -> bool
+pub fn have_no_entry(statements: &[Stmt]) -> bool
     ensures { result ≡ list_all spec.is_no_entry statements.now }
 {
     statements.iter().all(is_no_entry)
@@ -63,7 +63,7 @@ fn keep_storage_apart(statements: &[Stmt]) -> bool
 }
 
 /// Whether a unit has no COMMON, no EQUIVALENCE and no DATA. Sections 8.2, 8.3 and 9.
-pub(crate) fn has_own_storage(unit: &Unit) -> bool
+pub fn has_own_storage(unit: &Unit) -> bool
     ensures { result ≡ plain.has_own_storage unit.now }
 {
     keep_storage_apart(unit.statements.as_slice())

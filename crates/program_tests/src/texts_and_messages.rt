@@ -139,7 +139,8 @@ fn worked_rows(rt: HostRuntime) -> Result<(), Fail> {
     expect_text(&rt, alloc, C_WORD_CARDS, C_WORD_TEXT)?;
     expect_refusal(&rt, alloc, b"", NOT_BUILT_AT_1)?;
     expect_bad_word(&rt, alloc, &["-q"], b"f2c: word 1: -q\n")?;
-    expect_bad_word(&rt, alloc, &["a.f", "-q"], b"f2c: word 1: a.f\n")?;
+    expect_bad_word(&rt, alloc, &["a.f", "-q"], b"f2c: word 2: -q\n")?;
+    expect_bad_word(&rt, alloc, &["a.f", "b/a.f"], b"f2c: word 2: b/a.f\n")?;
     expect_bad_word(&rt, alloc, &["-72", "-q"], b"f2c: word 2: -q\n")?;
     let (status, shelf) = call(alloc, &["-72", "-72"], C_WORD_CARDS, 0)?;
     assert_eq!(rt; status, 1);

@@ -1,3 +1,2 @@
 pub mod FilesInOrder
-pub mod OneFile
 pub mod SourceAnswers

@@ -7,6 +7,7 @@ use Rattle.f_tree.specs.declared.refusals.Refusal.{Refusal}
 use Rattle.f_tree.specs.declared.units.File.{File}
 use Rattle.f_tree.specs.declared.units.FileSet.{FileSet}
 use Rattle.c_tree.specs.declared.file.CFile.{CFile}
+use Rattle.declaration_rows.specs.GlobalRows.{all_units, units_global_rows}
 use Rattle.declaration_rows.specs.Verdicts.{first_of}
 use Rattle.translated_forms.specs.TranslatedForms.{file_of, files_not_translated}
 use Rattle.source_acceptance.specs.SourceFiles.{Source}
@@ -32,6 +33,23 @@ abbrev pub IsSourceTranslated : Options → List (List ℕ) → List (List ℕ) 
 IsSourceTranslated options files names included (Ok made) = AreFilesOfSource options (source_of files names included) made
 IsSourceTranslated options files names included (Err (fail.Refused r)) = IsFirstOfAll options files (entries names included) r
 IsSourceTranslated options files names included (Err fail.NoMemory) = Unit {0}
+
+-- the C files of some trees, whose units share no name and no second main program
+pub record AreFilesOfSet (options : Options) (trees : List File) (made : List CFile) : Type 0 where
+  pub formed : first_of (files_not_translated options trees) ≡ None
+  pub apart : first_of (units_global_rows (all_units trees)) ≡ None
+  pub files : AreFilesOf options trees made
+
+-- the first of the rows F99 of some trees, or else of the rows F51 and F52
+pub data IsFirstRow (options : Options) (trees : List File) (r : Refusal) : Type 0 where
+  of_forms : first_of (files_not_translated options trees) ≡ Some r → IsFirstRow options trees r
+  of_names : first_of (files_not_translated options trees) ≡ None → first_of (units_global_rows (all_units trees)) ≡ Some r → IsFirstRow options trees r
+
+-- the C files of some trees, or the first of these rows; want of memory says nothing
+abbrev pub IsSetTranslated : Options → List File → Result (List CFile) Fail → Type 0
+IsSetTranslated options trees (Ok made) = AreFilesOfSet options trees made
+IsSetTranslated options trees (Err (fail.Refused r)) = IsFirstRow options trees r
+IsSetTranslated options trees (Err fail.NoMemory) = Unit {0}
 
 -- the C files of some trees, or the first of their rows F99; want of memory says nothing
 abbrev pub AreTranslated : Options → List File → Result (List CFile) Fail → Type 0

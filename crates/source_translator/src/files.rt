@@ -1,20 +1,18 @@
 //! The C files of trees.
 
-ghost use Rattle.source_translator.specs.TranslatedSource.{AreTranslated};
+ghost use Rattle.source_reader.specs.Trees.{IsUnless};
+ghost use Rattle.source_translator.specs.TranslatedSource.{AreTranslated, IsSetTranslated};
 
 use c_tree::file::CFile;
-use f_tree::{Fail, File, Options};
+use f_tree::{Fail, File, Options, Refusal};
 use plain_data::Items;
 use refusal_order::earlier_of;
+use set_judge::global_fault;
 use std::alloc::Global;
 use translator::translate_file;
 
 /// The C files of some files, one for each, or the first statement of all that is of a form that is not translated.
-pub(crate) fn translate_files(
-    alloc: Global,
-    options: Options,
-    files: &[File],
-) -> Result<Items<CFile>, Fail>
+fn translate_files(alloc: Global, options: Options, files: &[File]) -> Result<Items<CFile>, Fail>
     ensures { AreTranslated options files.now result }
 {
     let mut made = Items::new(alloc);
@@ -29,5 +27,31 @@ pub(crate) fn translate_files(
     match found {
         Some(refusal) => Err(Fail::Refused(refusal)),
         None => Ok(made),
+    }
+}
+
+/// A value, unless it is refused.
+fn unless<T: Drop>(refused: Option<Refusal>, value: T) -> Result<T, Fail>
+    ensures { IsUnless refused value result }
+{
+    match refused {
+        Some(row) => Err(Fail::Refused(row)),
+        None => Ok(value),
+    }
+}
+
+/// The C files of the files of a set, one for each, or the first statement of all that is of a form that is not translated, or else the first row
+/// of the names that their units share and of their main programs.
+pub(crate) fn translate_set(
+    alloc: Global,
+    options: Options,
+    files: &[File],
+) -> Result<Items<CFile>, Fail>
+    ensures { IsSetTranslated options files.now result }
+{
+    let shared = global_fault(alloc, files)?;
+    match translate_files(alloc, options, files) {
+        Ok(made) => unless(shared, made),
+        Err(fail) => Err(fail),
     }
 }

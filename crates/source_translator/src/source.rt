@@ -4,7 +4,7 @@ ghost use Rattle.std.specs.Prelude.{◌≡◌, length, List, ℕ};
 ghost use Rattle.source_reader.specs.SourceReading.{IsNamed};
 ghost use Rattle.source_translator.specs.TranslatedSource.{IsSourceTranslated};
 
-use crate::files::translate_files;
+use crate::files::translate_set;
 use c_tree::file::CFile;
 use f_tree::names::Options;
 use f_tree::{Fail, Text};
@@ -19,7 +19,8 @@ use unit_judge::set_fault;
 /// # Errors
 ///
 /// The first refusal of the source: of its cards (F01 to F07, F47), of its statements (F10 to F17), of its nests of blocks (F17), of its declarations
-/// (F20 to F33, F39 to F45), or of the forms that are not translated yet (F99); or want of memory.
+/// (F20 to F33, F39 to F45), of the forms that are not translated yet (F99), or of the names that units share and of main programs (F51, F52); or
+/// want of memory.
 pub fn translate_source(
     alloc: Global,
     named: &NamedFiles,
@@ -35,6 +36,6 @@ pub fn translate_source(
     };
     match set_fault(alloc, *options, set.files.as_slice())? {
         Some(refusal) => Err(Fail::Refused(refusal)),
-        None => translate_files(alloc, *options, set.files.as_slice()),
+        None => translate_set(alloc, *options, set.files.as_slice()),
     }
 }

@@ -5,10 +5,10 @@ use Rattle.std.proofs.Common.{refl, sym, ap, subst, ◌∙◌}
 use Rattle.f_tree.specs.declared.names.Options.{Options}
 use Rattle.f_tree.specs.declared.refusals.Kind.{Kind}
 use Rattle.f_tree.specs.declared.refusals.Refusal.{Refusal}
-use Rattle.f_tree.specs.Setting.{IsIn}
+use Rattle.f_tree.specs.Setting.{IsIn, first_in, later_in}
 use Rattle.fortran_text.specs.FirstFault.{most_cards, FaultOfCards, IsSound}
 use Rattle.fortran_text.specs.declared.source.Statement.{Statement}
-use Rattle.source_acceptance.specs.SourceFiles.{Included, Source, included_name, statements_in, cards_of_included, passes_at}
+use Rattle.source_acceptance.specs.SourceFiles.{Included, Source, included_name, names_in, statements_in, cards_of_included, passes_at}
 use Rattle.source_acceptance.specs.Acceptance.{HasFile, HasIncluded, Counts, CardFault, of_file, of_included, too_many_included, end_or_include}
 use Rattle.source_verdict.proofs.LongFiles.{Alike, the_same, both_refused, alike_back}
 
@@ -59,7 +59,7 @@ counted_same refused counted one other counts (both_refused a b) =
 by_name : (b : Bool) (x y xs ys : ℕ) → x ≡ y → xs ≡ ys → (if b then x else xs) ≡ (if b then y else ys)
 by_name b x y xs ys first rest = cc
 
-cards_same : (refused : Bool) (counted : List ℕ → ℕ) (is js : List Included) → Counts refused counted → AlikeIncluded refused is js → (name : List ℕ) →
+pub cards_same : (refused : Bool) (counted : List ℕ → ℕ) (is js : List Included) → Counts refused counted → AlikeIncluded refused is js → (name : List ℕ) →
     cards_of_included counted name is ≡ cards_of_included counted name js
 unfolding cards_of_included
 cards_same refused counted _ _ counts no_more name = refl
@@ -77,18 +77,31 @@ goes_by counted included sum s ss found = elim found [
       if nat_lt most_cards now then Some s.card else later
 ]
 
+abbrev names_by : List Statement → Option (List ℕ) → List (List ℕ)
+names_by ss found = elim found [ None ↦ names_in ss | Some name ↦ name ∷ names_in ss ]
+
+-- the names of statements count the same among two lists of included files
+abbrev pub CountSame : (List ℕ → ℕ) → List Included → List Included → List (List ℕ) → Type 0
+CountSame counted is js names = (name : List ℕ) → IsIn name names → cards_of_included counted name is ≡ cards_of_included counted name js
+
+pub passes_alike : (counted : List ℕ → ℕ) (is js : List Included) (sum : ℕ) (ss : List Statement) → CountSame counted is js (names_in ss) →
+    passes_at counted is sum ss ≡ passes_at counted js sum ss
+unfolding passes_at names_in
+passes_alike counted is js sum [] same = refl
+passes_alike counted is js sum (s ∷ ss) same = by (included_name s) same (λ n its. passes_alike counted is js n ss its)
+  where
+    by : (found : Option (List ℕ)) → CountSame counted is js (names_by ss found) →
+        ((n : ℕ) → CountSame counted is js (names_in ss) → passes_at counted is n ss ≡ passes_at counted js n ss) →
+        goes_by counted is sum s ss found ≡ goes_by counted js sum s ss found
+    by None its rest = rest sum its
+    by (Some name) its rest =
+        ap (λ n. if nat_lt most_cards (sum + n) then Some s.card else passes_at counted is (sum + n) ss) (its name first_in)
+        ∙ ap (λ later. if nat_lt most_cards (sum + cards_of_included counted name js) then Some s.card else later)
+        (rest (sum + cards_of_included counted name js) (λ n among. its n (later_in among)))
+
 passes_same : (refused : Bool) (counted : List ℕ → ℕ) (is js : List Included) → Counts refused counted → AlikeIncluded refused is js → (sum : ℕ) (ss : List Statement) →
     passes_at counted is sum ss ≡ passes_at counted js sum ss
-unfolding passes_at
-passes_same refused counted is js counts alike sum [] = refl
-passes_same refused counted is js counts alike sum (s ∷ ss) = by (included_name s) (λ n. passes_same refused counted is js counts alike n ss)
-  where
-    by : (found : Option (List ℕ)) → ((n : ℕ) → passes_at counted is n ss ≡ passes_at counted js n ss) → goes_by counted is sum s ss found ≡ goes_by counted js sum s ss found
-    by None rest = rest sum
-    by (Some name) rest =
-        ap (λ n. if nat_lt most_cards (sum + n) then Some s.card else passes_at counted is (sum + n) ss) (cards_same refused counted is js counts alike name)
-        ∙ ap (λ later. if nat_lt most_cards (sum + cards_of_included counted name js) then Some s.card else later)
-        (rest (sum + cards_of_included counted name js))
+passes_same refused counted is js counts alike sum ss = passes_alike counted is js sum ss (λ name among. cards_same refused counted is js counts alike name)
 
 -- THE FAULTS
 has_file : (s t : Source) (file : ℕ) (bytes : List ℕ) → s.files ≡ t.files → HasFile s file bytes → HasFile t file bytes

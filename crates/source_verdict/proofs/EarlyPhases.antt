@@ -10,7 +10,7 @@ use Rattle.f_tree.specs.declared.units.Unit.{Unit as ProgramUnit}
 use Rattle.f_tree.specs.RefusalRows.{IsNotAfter}
 use Rattle.f_tree.specs.Setting.{IsIn, first_in, later_in}
 use Rattle.fortran_grammar.specs.SyntaxRows.{unit_deep_rows}
-use Rattle.declaration_rows.specs.GlobalRows.{all_units}
+use Rattle.declaration_rows.specs.GlobalRows.{all_units, units_global_rows}
 use Rattle.declaration_rows.specs.SetRows.{set_faults}
 use Rattle.declaration_rows.specs.Verdicts.{first_of, IsFirstOf}
 use Rattle.refusal_order.proofs.RefusalOrder.{IsChosen, none_there, first_there, first_is_chosen}
@@ -18,7 +18,7 @@ use Rattle.source_acceptance.specs.SourceFiles.{Included, Source, names_of, ment
 use Rattle.source_acceptance.specs.Acceptance as table
 use Rattle.source_acceptance.specs.Acceptance.{CardFault, SyntaxFault, deep_rows_of, tree_faults}
 use Rattle.translated_forms.specs.TranslatedForms.{files_not_translated}
-use Rattle.source_verdict.specs.SourceRows.{Phase, Cards, Syntax, Nesting, Declarations, Forms, place_of, Fault, of_cards, of_syntax, of_nests, of_declarations, of_forms, IsRead, IsFirstRefusal, IsAccepted}
+use Rattle.source_verdict.specs.SourceRows.{Phase, Cards, Syntax, Nesting, Declarations, Forms, Sharing, place_of, Fault, of_cards, of_syntax, of_nests, of_declarations, of_forms, of_sharing, IsRead, IsFirstRefusal, IsAccepted}
 use Rattle.source_verdict.specs.Fronts.{IsSourceOf}
 use Rattle.source_verdict.proofs.OneSet.{one_set}
 
@@ -154,6 +154,7 @@ before_syntax options source cards Syntax q before h = absurd (omega (arith, bef
 before_syntax options source cards Nesting q before h = absurd (omega (arith, before))
 before_syntax options source cards Declarations q before h = absurd (omega (arith, before))
 before_syntax options source cards Forms q before h = absurd (omega (arith, before))
+before_syntax options source cards Sharing q before h = absurd (omega (arith, before))
 
 refused_by_syntax : (options : Options) (source : Source) (r : Refusal) → IsClear options source table.Cards → table.Fault options source table.Syntax r →
     IsLeast options source table.Syntax r → IsFirstRefusal options source r
@@ -171,6 +172,7 @@ before_nests options source cards rows Syntax q before h = rows q (syntax_up opt
 before_nests options source cards rows Nesting q before h = absurd (omega (arith, before))
 before_nests options source cards rows Declarations q before h = absurd (omega (arith, before))
 before_nests options source cards rows Forms q before h = absurd (omega (arith, before))
+before_nests options source cards rows Sharing q before h = absurd (omega (arith, before))
 
 refused_by_nests : (options : Options) (source : Source) (r : Refusal) → IsClear options source table.Cards → IsClear options source table.Syntax →
     table.Fault options source table.Nesting r → IsLeast options source table.Nesting r → IsFirstRefusal options source r
@@ -205,7 +207,7 @@ pub early_refusal : (options : Options) (source : Source) (r : Refusal) (first :
     IsFirstRefusal options source r
 early_refusal options source r first early = by_phase options source r first first.phase refl early
 
--- DECLARATIONS AND FORMS, where no earlier phase refuses
+-- DECLARATIONS, FORMS AND WHAT UNITS SHARE, where no earlier phase refuses
 pub record IsSpelledClear (options : Options) (source : Source) (set : FileSet) : Type 0 where
   pub whole : IsWhole source
   pub spells : SpellsSource source set
@@ -250,6 +252,7 @@ before_declarations options source set clear Syntax q before h = clear.rows q (s
 before_declarations options source set clear Nesting q before h = clear.nests q (nests_up options source q h)
 before_declarations options source set clear Declarations q before h = absurd (omega (arith, before))
 before_declarations options source set clear Forms q before h = absurd (omega (arith, before))
+before_declarations options source set clear Sharing q before h = absurd (omega (arith, before))
 
 pub declarations_refused : (options : Options) (source : Source) (set : FileSet) (r : Refusal) → IsSpelledClear options source set →
     first_of (set_faults options set) ≡ Some r → IsFirstRefusal options source r
@@ -271,6 +274,7 @@ before_forms options source set clear declared Nesting q before h = clear.nests 
 before_forms options source set clear declared Declarations q before h =
     no_row (set_faults options set) declared q (declared_in_set options source set clear.spells q h)
 before_forms options source set clear declared Forms q before h = absurd (omega (arith, before))
+before_forms options source set clear declared Sharing q before h = absurd (omega (arith, before))
 
 pub forms_refused : (options : Options) (source : Source) (set : FileSet) (r : Refusal) → IsSpelledClear options source set →
     first_of (set_faults options set) ≡ None → first_of (files_not_translated options set.files) ≡ Some r → IsFirstRefusal options source r
@@ -283,30 +287,63 @@ forms_refused options source set r clear declared is =
       least = λ q h. first.least q (formed_in_set options source set clear.spells q h);
     }
 
+-- what the units of the one set share
+shared_in_set : (options : Options) (source : Source) (set : FileSet) → SpellsSource source set → (q : Refusal) → Fault options source Sharing q →
+    IsIn q (units_global_rows (all_units set.files))
+shared_in_set options source set spells q (of_sharing other _ its among) =
+    subst (λ (s : FileSet). IsIn q (units_global_rows (all_units s.files))) (one_set source other set its spells) among
+
+before_sharing : (options : Options) (source : Source) (set : FileSet) → IsSpelledClear options source set → first_of (set_faults options set) ≡ None →
+    first_of (files_not_translated options set.files) ≡ None → IsRead options source Sharing
+unfolding place_of
+before_sharing options source set clear declared formed Cards q before h = clear.cards q (cards_up options source q h)
+before_sharing options source set clear declared formed Syntax q before h = clear.rows q (syntax_up options source q h)
+before_sharing options source set clear declared formed Nesting q before h = clear.nests q (nests_up options source q h)
+before_sharing options source set clear declared formed Declarations q before h =
+    no_row (set_faults options set) declared q (declared_in_set options source set clear.spells q h)
+before_sharing options source set clear declared formed Forms q before h =
+    no_row (files_not_translated options set.files) formed q (formed_in_set options source set clear.spells q h)
+before_sharing options source set clear declared formed Sharing q before h = absurd (omega (arith, before))
+
+pub sharing_refused : (options : Options) (source : Source) (set : FileSet) (r : Refusal) → IsSpelledClear options source set →
+    first_of (set_faults options set) ≡ None → first_of (files_not_translated options set.files) ≡ None →
+    first_of (units_global_rows (all_units set.files)) ≡ Some r → IsFirstRefusal options source r
+sharing_refused options source set r clear declared formed is =
+    let first : IsFirstOf (units_global_rows (all_units set.files)) r = first_among (units_global_rows (all_units set.files)) r is in
+    record {
+      phase = Sharing;
+      read = before_sharing options source set clear declared formed;
+      holds = of_sharing set r clear.spells first.is;
+      least = λ q h. first.least q (shared_in_set options source set clear.spells q h);
+    }
+
 no_fault : (options : Options) (source : Source) (set : FileSet) → IsSpelledClear options source set → first_of (set_faults options set) ≡ None →
-    first_of (files_not_translated options set.files) ≡ None → (phase : Phase) (r : Refusal) → Fault options source phase r → ⊥
-no_fault options source set clear declared formed Cards r h = clear.cards r (cards_up options source r h)
-no_fault options source set clear declared formed Syntax r h = clear.rows r (syntax_up options source r h)
-no_fault options source set clear declared formed Nesting r h = clear.nests r (nests_up options source r h)
-no_fault options source set clear declared formed Declarations r h =
+    first_of (files_not_translated options set.files) ≡ None → first_of (units_global_rows (all_units set.files)) ≡ None → (phase : Phase) (r : Refusal) →
+    Fault options source phase r → ⊥
+no_fault options source set clear declared formed shared Cards r h = clear.cards r (cards_up options source r h)
+no_fault options source set clear declared formed shared Syntax r h = clear.rows r (syntax_up options source r h)
+no_fault options source set clear declared formed shared Nesting r h = clear.nests r (nests_up options source r h)
+no_fault options source set clear declared formed shared Declarations r h =
     no_row (set_faults options set) declared r (declared_in_set options source set clear.spells r h)
-no_fault options source set clear declared formed Forms r h =
+no_fault options source set clear declared formed shared Forms r h =
     no_row (files_not_translated options set.files) formed r (formed_in_set options source set clear.spells r h)
+no_fault options source set clear declared formed shared Sharing r h =
+    no_row (units_global_rows (all_units set.files)) shared r (shared_in_set options source set clear.spells r h)
 
 pub set_accepted : (options : Options) (source : Source) (set : FileSet) → IsSpelledClear options source set → first_of (set_faults options set) ≡ None →
-    first_of (files_not_translated options set.files) ≡ None → IsAccepted options source set
-set_accepted options source set clear declared formed = record {
+    first_of (files_not_translated options set.files) ≡ None → first_of (units_global_rows (all_units set.files)) ≡ None → IsAccepted options source set
+set_accepted options source set clear declared formed shared = record {
   whole = clear.whole;
   spelled = clear.spells;
-  sound = no_fault options source set clear declared formed;
+  sound = no_fault options source set clear declared formed shared;
 }
 
--- and what is accepted breaks no row of declarations, and has no form that is not translated
+-- and what is accepted breaks no row of declarations nor of what units share, and has no form that is not translated
 not_empty : (rs : List Refusal) → ((r : Refusal) → IsIn r rs → ⊥) → (found : Option Refusal) → IsChosen rs found → rs ≡ []
 not_empty rs none _ (none_there empty) = empty
 not_empty rs none _ (first_there r first) = absurd (none r first.is)
 
-is_empty : (rs : List Refusal) → ((r : Refusal) → IsIn r rs → ⊥) → rs ≡ []
+pub is_empty : (rs : List Refusal) → ((r : Refusal) → IsIn r rs → ⊥) → rs ≡ []
 is_empty rs none = not_empty rs none (first_of rs) (first_is_chosen rs)
 
 pub accepted_declarations : (options : Options) (source : Source) (set : FileSet) → IsAccepted options source set → set_faults options set ≡ []
@@ -317,8 +354,12 @@ pub accepted_forms : (options : Options) (source : Source) (set : FileSet) → I
 accepted_forms options source set accepted =
     is_empty (files_not_translated options set.files) (λ r among. accepted.sound Forms r (of_forms set r accepted.spelled among))
 
+pub accepted_sharing : (options : Options) (source : Source) (set : FileSet) → IsAccepted options source set → units_global_rows (all_units set.files) ≡ []
+accepted_sharing options source set accepted =
+    is_empty (units_global_rows (all_units set.files)) (λ r among. accepted.sound Sharing r (of_sharing set r accepted.spelled among))
+
 -- A WHOLE SOURCE has no further files
-names_append : (is js : List Included) → names_of (is ++ js) ≡ names_of is ++ names_of js
+pub names_append : (is js : List Included) → names_of (is ++ js) ≡ names_of is ++ names_of js
 unfolding names_of
 names_append [] js = refl
 names_append (i ∷ is) js = ap (λ ns. i.name ∷ ns) (names_append is js)

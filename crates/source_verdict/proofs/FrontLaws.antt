@@ -1,18 +1,26 @@
 -- What is read of a source, the fronts of its files, has its first refusal; and where it is accepted it is the source.
-use Rattle.std.specs.Prelude.{◌≡◌, ℕ, zero, suc, ◌+◌, ◌<◌, ◌≤◌, nat_lt, Bool, true, false, List, [], ◌∷◌, length, slice_get, Some}
-use Rattle.std.proofs.Common.{refl, sym, ap, subst, ◌∙◌, arith}
+use Rattle.std.specs.Prelude.{◌≡◌, ℕ, zero, suc, ◌+◌, ◌-◌, ◌<◌, ◌≤◌, nat_lt, Bool, true, false, List, [], ◌∷◌, ◌++◌, length, take, drop, map, bytes_eq, slice_get, Option, Some, None, option_map, if◌then◌else◌}
+use Rattle.std.proofs.Common.{refl, sym, ap, subst, ◌∙◌, arith, append_assoc}
+use Rattle.std.proofs.Math.Seq.{take-append_seam, take-append-add}
 use Rattle.std.proofs.lemmas.Bool.{ltb-true, ltb-false}
+use Rattle.std.proofs.lemmas.List.{take-append-drop}
+use Rattle.std.proofs.lemmas.Option.{slice_get-map, slice_get_within}
+use Rattle.std.proofs.lemmas.Slice.Eq.{bytes_eq-Decides}
 use Rattle.f_tree.specs.declared.names.Options.{Options}
+use Rattle.f_tree.specs.declared.refusals.Kind.{Kind}
 use Rattle.f_tree.specs.declared.refusals.Refusal.{Refusal}
 use Rattle.f_tree.specs.declared.units.FileSet.{FileSet}
 use Rattle.f_tree.specs.RefusalRows.{IsNotAfter}
+use Rattle.f_tree.specs.Setting.{IsIn, first_in, later_in}
 use Rattle.fortran_text.specs.FirstFault.{most_bytes, FaultOfFile, of_cards as cards_of_file, IsSound}
-use Rattle.source_acceptance.specs.SourceFiles.{Included, Source, names_of, mentioned_from, first_mentions}
-use Rattle.source_acceptance.specs.Acceptance.{HasIncluded, CardFault, of_file, of_included, too_many_included, end_or_include}
-use Rattle.source_verdict.specs.SourceRows.{Phase, Cards, Syntax, Nesting, Declarations, Forms, place_of, Fault, of_cards, IsFirstRefusal, IsAccepted}
+use Rattle.source_acceptance.specs.SourceFiles.{Included, Source, names_of, names_in, statements_in, cards_of_included, passes_at, IsWhole}
+use Rattle.source_acceptance.specs.Acceptance.{Counts, CardFault, of_file, of_included, too_many_included, end_or_include}
+use Rattle.source_verdict.specs.SourceRows.{Phase, Cards, Syntax, Nesting, Declarations, Forms, Sharing, place_of, Fault, of_cards, IsFirstRefusal, IsAccepted}
 use Rattle.source_verdict.specs.Fronts.{front_of, fronts, IsSourceOf, IsFirstOfAll, IsReadOf, RefusedByFronts, AcceptedByFronts}
-use Rattle.source_verdict.proofs.LongFiles.{Alike, the_same, both_refused, SameFaults, long_fault, front_alike, whole_where_short}
-use Rattle.source_verdict.proofs.AlikeSources.{AlikeIncluded, no_more, one_more, AlikeSources, sources_back, card_fault, same_source}
+use Rattle.source_verdict.proofs.LongFiles.{Alike, the_same, both_refused, alike_back, front_alike, a_fault, front_fault, whole_where_short}
+use Rattle.source_verdict.proofs.AlikeSources.{AlikeIncluded, no_more, one_more, AlikeSources, sources_back, cards_same, CountSame, passes_alike, card_fault, same_source}
+use Rattle.source_verdict.proofs.EarlyPhases.{names_append}
+use Rattle.source_verdict.proofs.FirstMentions.{BeginsWith, mentions_of, mentions_more, mentioned_in}
 
 -- THE FRONTS of included files
 names_kept : (is : List Included) → names_of (fronts is) ≡ names_of is
@@ -25,67 +33,191 @@ unfolding fronts
 fronts_alike refused [] = no_more
 fronts_alike refused (i ∷ is) = one_more (record { name = i.name; bytes = front_of i.bytes }) i (fronts is) is refl (front_alike refused i.bytes) (fronts_alike refused is)
 
--- ALIKE SOURCES have one first refusal
+-- A PHASE is that of cards, or a later one
+data CardsOrLater (phase : Phase) : Type 0 where
+  is_cards : phase ≡ Cards → CardsOrLater phase
+  is_later : place_of Cards < place_of phase → CardsOrLater phase
+
+cards_or_later : (phase : Phase) → CardsOrLater phase
+unfolding place_of
+cards_or_later Cards = is_cards refl
+cards_or_later Syntax = is_later (omega arith)
+cards_or_later Nesting = is_later (omega arith)
+cards_or_later Declarations = is_later (omega arith)
+cards_or_later Forms = is_later (omega arith)
+cards_or_later Sharing = is_later (omega arith)
+
 none_before_cards : (earlier : Phase) → place_of earlier < place_of Cards → ⊥
 unfolding place_of
 none_before_cards earlier before = omega (arith, before)
 
-least_cards : (options : Options) (s t : Source) (r : Refusal) → AlikeSources options.long_cards t s → ((q : Refusal) → Fault options s Cards q → IsNotAfter r q) →
-    (q : Refusal) → Fault options t Cards q → IsNotAfter r q
-least_cards options s t r same least q (of_cards _ h) = least q (of_cards q (card_fault options t s q same h))
+-- a first refusal by cards
+card_of : (options : Options) (source : Source) (r : Refusal) → Fault options source Cards r → CardFault options source r
+card_of options source r (of_cards _ h) = h
 
-refused_cards : (options : Options) (s t : Source) (r : Refusal) → AlikeSources options.long_cards s t → Fault options s Cards r →
-    ((q : Refusal) → Fault options s Cards q → IsNotAfter r q) → IsFirstRefusal options t r
-refused_cards options s t r same (of_cards _ h) least = record {
+first_by_cards : (options : Options) (source : Source) (r : Refusal) → CardFault options source r → ((q : Refusal) → CardFault options source q → IsNotAfter r q) →
+    IsFirstRefusal options source r
+first_by_cards options source r holds least = record {
   phase = Cards;
   read = λ earlier q before. absurd (none_before_cards earlier before);
-  holds = of_cards r (card_fault options s t r same h);
-  least = least_cards options s t r (sources_back options.long_cards s t same) least;
+  holds = of_cards r holds;
+  least = λ q h. least q (card_of options source q h);
 }
 
-behind_cards : (options : Options) (s t : Source) (r : Refusal) → AlikeSources options.long_cards s t → (first : IsFirstRefusal options s r) →
-    place_of Cards < place_of first.phase → IsFirstRefusal options t r
-behind_cards options s t r same first behind =
+-- ALIKE SOURCES have one first refusal
+alike_by : (options : Options) (s t : Source) (r : Refusal) → AlikeSources options.long_cards s t → (first : IsFirstRefusal options s r) → CardsOrLater first.phase →
+    IsFirstRefusal options t r
+alike_by options s t r same first (is_cards is) =
+    first_by_cards options t r (card_fault options s t r same (card_of options s r (subst (λ p. Fault options s p r) is first.holds)))
+    (λ q h.
+    first.least q
+    (subst (λ p. Fault options s p q) (sym is) (of_cards q (card_fault options t s q (sources_back options.long_cards s t same) h))))
+alike_by options s t r same first (is_later behind) =
     subst (λ x. IsFirstRefusal options x r) (same_source options s t (λ q h. first.read Cards q behind (of_cards q h)) same) first
 
-by_phase : (options : Options) (s t : Source) (r : Refusal) → AlikeSources options.long_cards s t → (first : IsFirstRefusal options s r) →
-    (phase : Phase) → first.phase ≡ phase → IsFirstRefusal options t r
-unfolding place_of
-by_phase options s t r same first Cards is =
-    refused_cards options s t r same (subst (λ p. Fault options s p r) is first.holds) (subst (λ p. (q : Refusal) → Fault options s p q → IsNotAfter r q) is first.least)
-by_phase options s t r same first Syntax is = behind_cards options s t r same first (subst (λ p. 0 < place_of p) (sym is) (omega arith))
-by_phase options s t r same first Nesting is = behind_cards options s t r same first (subst (λ p. 0 < place_of p) (sym is) (omega arith))
-by_phase options s t r same first Declarations is = behind_cards options s t r same first (subst (λ p. 0 < place_of p) (sym is) (omega arith))
-by_phase options s t r same first Forms is = behind_cards options s t r same first (subst (λ p. 0 < place_of p) (sym is) (omega arith))
-
 alike_refusal : (options : Options) (s t : Source) (r : Refusal) → AlikeSources options.long_cards s t → IsFirstRefusal options s r → IsFirstRefusal options t r
-alike_refusal options s t r same first = by_phase options s t r same first first.phase refl
+alike_refusal options s t r same first = alike_by options s t r same first (cards_or_later first.phase)
 
--- A FILE THAT IS READ WHOLE
-abbrev front_source : List ℕ → Source → Source
-front_source bytes source = record { files = front_of bytes ∷ []; included = fronts source.included }
+-- FILES THAT ARE READ WHOLE, and the first that is too long
+unfoldable AreShort : List (List ℕ) → Type 0
+AreShort [] = Unit {0}
+AreShort (bytes ∷ more) = (length bytes ≤ most_bytes) × AreShort more
 
-fronts_of_source : (bytes : List ℕ) (read : List Included) (source : Source) → IsReadOf bytes read source → front_of bytes ≡ bytes →
-    IsSourceOf (front_of bytes ∷ []) read (front_source bytes source)
-fronts_of_source bytes read source reads short = record {
+whole_files : (files : List (List ℕ)) → AreShort files → map front_of files ≡ files
+unfolding AreShort
+whole_files [] short = refl
+whole_files (bytes ∷ more) short =
+    ap (λ b. b ∷ map front_of more) (whole_where_short bytes short.0) ∙ ap (λ fs. bytes ∷ fs) (whole_files more short.1)
+
+data FirstLong (files : List (List ℕ)) : Type 0 where
+  none_long : AreShort files → FirstLong files
+  one_long : (before : List (List ℕ)) (long : List ℕ) (behind : List (List ℕ)) → files ≡ before ++ long ∷ behind → AreShort before → most_bytes < length long
+      → FirstLong files
+
+long_by : (bytes : List ℕ) (more : List (List ℕ)) (long : Bool) → nat_lt most_bytes (length bytes) ≡ long → FirstLong more → FirstLong (bytes ∷ more)
+unfolding AreShort
+long_by bytes more true is rest = one_long [] bytes more refl tt (ltb-true most_bytes (length bytes) is)
+long_by bytes more false is (none_long short) = none_long (ltb-false most_bytes (length bytes) is, short)
+long_by bytes more false is (one_long before long behind same short past) =
+    one_long (bytes ∷ before) long behind (ap (λ fs. bytes ∷ fs) same) (ltb-false most_bytes (length bytes) is, short) past
+
+first_long : (files : List (List ℕ)) → FirstLong files
+unfolding AreShort
+first_long [] = none_long tt
+first_long (bytes ∷ more) = long_by bytes more (nat_lt most_bytes (length bytes)) refl (first_long more)
+
+abbrev front_source : Source → Source
+front_source source = record { files = map front_of source.files; included = fronts source.included }
+
+short_alike : (options : Options) (source : Source) → AreShort source.files → AlikeSources options.long_cards (front_source source) source
+short_alike options source short = record { files = whole_files source.files short; included = fronts_alike options.long_cards source.included }
+
+fronts_of_source : (read : List Included) (source : Source) → IsReadOf source.files read source → AreShort source.files →
+    IsSourceOf (map front_of source.files) read (front_source source)
+fronts_of_source read source reads short = record {
   files_are = refl;
-  whole = record {
-    included = names_kept source.included
-        ∙ (reads.whole.included ∙ (ap (λ fs. first_mentions [] (mentioned_from 0 fs)) reads.file ∙ ap (λ b. first_mentions [] (mentioned_from 0 (b ∷ []))) (sym short)));
-  };
+  whole = record { included = names_kept source.included ∙ (reads.whole.included ∙ sym (ap mentions_of (whole_files source.files short))) };
   rest = reads.rest;
   included = reads.included;
 }
 
-short_refused : (options : Options) (bytes : List ℕ) (read : List Included) (r : Refusal) (source : Source) → IsFirstOfAll options (front_of bytes ∷ []) read r →
-    IsReadOf bytes read source → front_of bytes ≡ bytes → IsFirstRefusal options source r
-short_refused options bytes read r source first reads short =
-    alike_refusal options (front_source bytes source) source r
-    (record { files = ap (λ b. b ∷ []) short ∙ sym reads.file; included = fronts_alike options.long_cards source.included })
-    (first (front_source bytes source) (fronts_of_source bytes read source reads short))
+short_refused : (options : Options) (read : List Included) (r : Refusal) (source : Source) → IsFirstOfAll options (map front_of source.files) read r →
+    IsReadOf source.files read source → AreShort source.files → IsFirstRefusal options source r
+short_refused options read r source first reads short =
+    alike_refusal options (front_source source) source r (short_alike options source short)
+    (first (front_source source) (fronts_of_source read source reads short))
 
--- A FILE THAT IS TOO LONG: each of its included files may be anything
-pub empty_files : List (List ℕ) → List Included
+-- THE FAULTS UP TO A FILE that has one are those of another source
+record HasAlike (refused : Bool) (one : List ℕ) (files : List (List ℕ)) (file : ℕ) : Type 0 where
+  other : List ℕ
+  at : slice_get files file ≡ Some other
+  alike : Alike refused one other
+
+record Moves (refused : Bool) (s t : Source) (place : ℕ) : Type 0 where
+  bytes : List ℕ
+  at : slice_get s.files place ≡ Some bytes
+  card : ℕ
+  kind : Kind
+  fault : FaultOfFile refused bytes card kind
+  alike : (file : ℕ) (one : List ℕ) → slice_get s.files file ≡ Some one → HasAlike refused one t.files file
+  same : (file : ℕ) (one : List ℕ) → file < place → slice_get s.files file ≡ Some one → slice_get t.files file ≡ Some one
+  counted : (file : ℕ) (one : List ℕ) (counts : List ℕ → ℕ) → file < place → slice_get s.files file ≡ Some one → Counts refused counts →
+      CountSame counts s.included t.included (names_in (statements_in file one))
+
+some_same : {A : Type 0} (a b : A) → Some a ≡ Some b → a ≡ b
+some_same a b is = cc
+
+file_fault : (refused : Bool) (one other : List ℕ) (card : ℕ) (kind : Kind) → Alike refused one other → FaultOfFile refused one card kind → FaultOfFile refused other card kind
+file_fault refused one other card kind (the_same is) h = subst (λ b. FaultOfFile refused b card kind) is h
+file_fault refused one other card kind (both_refused a b) h = a.file card kind h
+
+module _ (options : Options) (s t : Source) (place : ℕ) (m : Moves options.long_cards s t place) where
+  behind_files : (n file : ℕ) → file ≡ length s.files + n → file ≤ place → ⊥
+  behind_files n file is low =
+      let within : place < length s.files = slice_get_within s.files place m.bytes m.at in
+      omega (arith, is, low, within)
+
+  unsound : (file : ℕ) (one : List ℕ) → file ≡ place → slice_get s.files file ≡ Some one → IsSound (FaultOfFile options.long_cards one) → ⊥
+  unsound file one is at sound =
+      let here : slice_get s.files place ≡ Some one = subst (λ k. slice_get s.files k ≡ Some one) is at in
+      let its : m.bytes ≡ one = some_same m.bytes one (sym m.at ∙ here) in
+      sound m.card m.kind (subst (λ b. FaultOfFile options.long_cards b m.card m.kind) its m.fault)
+
+  many : (r : Refusal) (bytes : List ℕ) (counts : List ℕ → ℕ) (file card : ℕ) → slice_get s.files file ≡ Some bytes → IsSound (FaultOfFile options.long_cards bytes) →
+      Counts options.long_cards counts → file ≤ place → (before : Bool) → nat_lt file place ≡ before → (sum : ℕ) →
+      passes_at counts s.included sum (statements_in file bytes) ≡ Some card →
+      (slice_get t.files file ≡ Some bytes) × (passes_at counts t.included sum (statements_in file bytes) ≡ Some card)
+  many r bytes counts file card at sound counting low true is sum passes =
+      let before : file < place = ltb-true file place is in
+      (m.same file bytes before at, sym (passes_alike counts s.included t.included sum (statements_in file bytes) (m.counted file bytes counts before at counting)) ∙ passes)
+  many r bytes counts file card at sound counting low false is sum passes =
+      let behind : place ≤ file = ltb-false file place is in
+      absurd (unsound file bytes (omega (arith, low, behind)) at sound)
+
+  moved : (r : Refusal) → r.file ≤ place → CardFault options s r → CardFault options t r
+  moved r low (of_file bytes h fault) =
+      let its = m.alike r.file bytes h in
+      of_file its.other its.at (file_fault options.long_cards bytes its.other r.card r.kind its.alike fault)
+  moved r low (of_included bytes h fault) = absurd (behind_files h.place r.file h.file_is low)
+  moved r low (too_many_included bytes counts h sound counting passes kind) =
+      let its = many r bytes counts r.file r.card h sound counting low (nat_lt r.file place) refl _ passes in
+      too_many_included bytes counts its.0 sound counting its.1 kind
+  moved r low (end_or_include bytes st h sound among ends card kind) = absurd (behind_files h.place r.file h.file_is low)
+
+  -- it has a fault itself
+  abbrev its_row : Refusal
+  its_row = record { file = place; card = m.card; kind = m.kind }
+
+  has_row : CardFault options s its_row
+  has_row = of_file m.bytes m.at m.fault
+
+later_file : (r q : Refusal) (place : ℕ) → r.file ≤ place → place < q.file → IsNotAfter r q
+later_file r q place low high = record {
+  file = omega (arith, low, high);
+  card = λ same. absurd (omega (arith, low, high, same));
+  number = λ same card. absurd (omega (arith, low, high, same));
+}
+
+module _ (options : Options) (s t : Source) (place : ℕ) (there : Moves options.long_cards s t place) (back : Moves options.long_cards t s place) (r : Refusal) where
+  least_by : r.file ≤ place → ((q : Refusal) → CardFault options s q → IsNotAfter r q) → (q : Refusal) → CardFault options t q → (past : Bool) → nat_lt place q.file ≡ past →
+      IsNotAfter r q
+  least_by low least q h true is = later_file r q place low (ltb-true place q.file is)
+  least_by low least q h false is = least q (moved options t s place back q (ltb-false place q.file is) h)
+
+  moved_by : (first : IsFirstRefusal options s r) → CardsOrLater first.phase → IsFirstRefusal options t r
+  moved_by first (is_later behind) =
+      absurd (first.read Cards (its_row options s t place there) behind (of_cards (its_row options s t place there) (has_row options s t place there)))
+  moved_by first (is_cards is) =
+      let holds : CardFault options s r = card_of options s r (subst (λ p. Fault options s p r) is first.holds) in
+      let least : ((q : Refusal) → CardFault options s q → IsNotAfter r q) = λ q h. first.least q (subst (λ p. Fault options s p q) (sym is) (of_cards q h)) in
+      let low : r.file ≤ place = (least (its_row options s t place there) (has_row options s t place there)).file in
+      first_by_cards options t r (moved options s t place there r low holds) (λ q h. least_by low least q h (nat_lt place q.file) refl)
+
+  moved_refusal : IsFirstRefusal options s r → IsFirstRefusal options t r
+  moved_refusal first = moved_by first (cards_or_later first.phase)
+
+-- A FILE THAT IS TOO LONG: what is included behind it may be anything
+empty_files : List (List ℕ) → List Included
 empty_files [] = []
 empty_files (name ∷ more) = record { name = name; bytes = [] } ∷ empty_files more
 
@@ -94,155 +226,236 @@ unfolding names_of empty_files
 names_of_empty [] = refl
 names_of_empty (name ∷ more) = ap (λ ns. name ∷ ns) (names_of_empty more)
 
-abbrev pub alone : List ℕ → Source
-alone bytes = record { files = bytes ∷ []; included = empty_files (first_mentions [] (mentioned_from 0 (bytes ∷ []))) }
+names_take : (count : ℕ) (is : List Included) → names_of (take count is) ≡ take count (names_of is)
+unfolding names_of
+names_take zero [] = refl
+names_take zero (i ∷ is) = refl
+names_take (suc count) [] = refl
+names_take (suc count) (i ∷ is) = ap (λ ns. i.name ∷ ns) (names_take count is)
 
-pub is_alone : (bytes : List ℕ) → IsSourceOf (bytes ∷ []) [] (alone bytes)
-is_alone bytes = record {
-  files_are = refl;
-  whole = record { included = names_of_empty (first_mentions [] (mentioned_from 0 (bytes ∷ []))) };
-  rest = empty_files (first_mentions [] (mentioned_from 0 (bytes ∷ [])));
-  included = refl;
-}
+fronts_take : (count : ℕ) (is : List Included) → take count (fronts is) ≡ fronts (take count is)
+unfolding fronts
+fronts_take zero [] = refl
+fronts_take zero (i ∷ is) = refl
+fronts_take (suc count) [] = refl
+fronts_take (suc count) (i ∷ is) = ap (λ js. record { name = i.name; bytes = front_of i.bytes } ∷ js) (fronts_take count is)
 
--- a fault of the first file, and those of the others behind it
-the_file : (bytes other : List ℕ) (file : ℕ) → slice_get (bytes ∷ []) file ≡ Some other → (file ≡ 0) × (bytes ≡ other)
-the_file bytes other zero is = (refl, cc)
-the_file bytes other (suc file) is = absurd (cc)
+begins_take : {A : Type 0} (front whole : List A) → BeginsWith front whole → take (length front) whole ≡ front
+begins_take front whole begins = ap (take (length front)) begins.is ∙ take-append_seam front begins.rest
 
-abbrev IsOfFirst : Options → List ℕ → Refusal → Type 0
-IsOfFirst options bytes r = (r.file ≡ 0) × FaultOfFile options.long_cards bytes r.card r.kind
+-- files by their places
+record HasFront (files : List (List ℕ)) (file : ℕ) (one : List ℕ) : Type 0 where
+  whole : List ℕ
+  at : slice_get files file ≡ Some whole
+  is : one ≡ front_of whole
 
-included_behind : (source : Source) (bytes : List ℕ) (file : ℕ) (b : List ℕ) → source.files ≡ bytes ∷ [] → HasIncluded source file b → 0 < file
-included_behind source bytes file b files h =
-    let one : length source.files ≡ 1 = ap length files in
-    let at : file ≡ length source.files + h.place = h.file_is in
-    omega (arith, one, at)
+front_by : (files : List (List ℕ)) (file : ℕ) (one : List ℕ) (found : Option (List ℕ)) → slice_get files file ≡ found → option_map front_of found ≡ Some one →
+    HasFront files file one
+front_by files file one None at is = absurd (cc)
+front_by files file one (Some whole) at is = record { whole = whole; at = at; is = sym (some_same (front_of whole) one is) }
 
-data OfLong (options : Options) (bytes : List ℕ) (r : Refusal) : Type 0 where
-  in_first : IsOfFirst options bytes r → OfLong options bytes r
-  in_another : 0 < r.file → OfLong options bytes r
+front_back : (files : List (List ℕ)) (file : ℕ) (one : List ℕ) → slice_get (map front_of files) file ≡ Some one → HasFront files file one
+front_back files file one at = front_by files file one (slice_get files file) refl (sym (slice_get-map front_of files file) ∙ at)
 
-of_long : (options : Options) (source : Source) (bytes : List ℕ) (r : Refusal) → source.files ≡ bytes ∷ [] → (IsSound (FaultOfFile options.long_cards bytes) → ⊥) →
-    CardFault options source r → OfLong options bytes r
-of_long options source bytes r files unsound (of_file b h fault) =
-    let here = the_file bytes b r.file (sym (ap (λ fs. slice_get fs r.file) files) ∙ h) in
-    in_first (here.0, subst (λ x. FaultOfFile options.long_cards x r.card r.kind) (sym here.1) fault)
-of_long options source bytes r files unsound (of_included b h fault) = in_another (included_behind source bytes r.file b files h)
-of_long options source bytes r files unsound (too_many_included b counted h sound counts passes kind) =
-    let here = the_file bytes b r.file (sym (ap (λ fs. slice_get fs r.file) files) ∙ h) in
-    absurd (unsound (subst (λ x. IsSound (FaultOfFile options.long_cards x)) (sym here.1) sound))
-of_long options source bytes r files unsound (end_or_include b st h sound among its card kind) = in_another (included_behind source bytes r.file b files h)
+front_there : (files : List (List ℕ)) (file : ℕ) (whole : List ℕ) → slice_get files file ≡ Some whole → slice_get (map front_of files) file ≡ Some (front_of whole)
+front_there files file whole at = slice_get-map front_of files file ∙ ap (option_map front_of) at
 
-first_fault : (options : Options) (source : Source) (bytes : List ℕ) (r : Refusal) → source.files ≡ bytes ∷ [] → IsOfFirst options bytes r → CardFault options source r
-first_fault options source bytes r files here =
-    of_file bytes (ap (λ fs. slice_get fs r.file) files ∙ ap (λ k. slice_get (bytes ∷ []) k) here.0) here.1
+at_seam : (before behind : List (List ℕ)) (x : List ℕ) → slice_get (before ++ x ∷ behind) (length before) ≡ Some x
+at_seam [] behind x = refl
+at_seam (b ∷ before) behind x = at_seam before behind x
 
-abbrev a_refusal : (refused : Bool) (one other : List ℕ) → SameFaults refused one other → Refusal
-a_refusal refused one other same = record { file = 0; card = same.card; kind = same.kind }
+at_front : (before behind : List (List ℕ)) (file : ℕ) → file < length before → slice_get (before ++ behind) file ≡ slice_get before file
+at_front [] behind file within = absurd (omega (arith, within))
+at_front (b ∷ before) behind zero within = refl
+at_front (b ∷ before) behind (suc file) within = at_front before behind file (omega (arith, within))
 
-a_row : (options : Options) (source : Source) (bytes other : List ℕ) → source.files ≡ bytes ∷ [] → (same : SameFaults options.long_cards bytes other) →
-    CardFault options source (a_refusal options.long_cards bytes other same)
-a_row options source bytes other files same =
-    first_fault options source bytes (a_refusal options.long_cards bytes other same) files (refl, cards_of_file same.fault)
+short_at : (before : List (List ℕ)) (file : ℕ) (one : List ℕ) → AreShort before → slice_get before file ≡ Some one → front_of one ≡ one
+unfolding AreShort
+short_at [] file one short at = absurd (cc)
+short_at (b ∷ before) zero one short at = subst (λ x. front_of x ≡ x) (some_same b one at) (whole_where_short b short.0)
+short_at (b ∷ before) (suc file) one short at = short_at before file one short.1 at
 
-moved : (options : Options) (one other : List ℕ) (r : Refusal) → SameFaults options.long_cards one other → IsOfFirst options one r → IsOfFirst options other r
-moved options one other r same here = (here.0, same.file r.card r.kind here.1)
+-- what is counted is found where the name stands first
+chosen : {A : Type 0} (b : Bool) (x y z : A) → b ≡ true → (if b then x else y) ≡ (if b then x else z)
+chosen b x y z is = ap (λ c. if c then x else y) is ∙ sym (ap (λ c. if c then x else z) is)
 
-is_before_others : (r q : Refusal) → r.file ≡ 0 → 0 < q.file → IsNotAfter r q
-is_before_others r q first behind = record {
-  file = omega (arith, first);
-  card = λ same. absurd (omega (arith, first, behind, same));
-  number = λ same card. absurd (omega (arith, first, behind, same));
-}
+found_first : (counts : List ℕ → ℕ) (name : List ℕ) (is js : List Included) → IsIn name (names_of is) →
+    cards_of_included counts name (is ++ js) ≡ cards_of_included counts name is
+unfolding cards_of_included names_of
+found_first counts name [] js among = elim among [ ]
+found_first counts _ (i ∷ is) js first_in =
+    chosen (bytes_eq i.name i.name) (counts i.bytes) (cards_of_included counts i.name (is ++ js)) (cards_of_included counts i.name is)
+    ((bytes_eq-Decides i.name i.name).1 refl)
+found_first counts name (i ∷ is) js (later_in among) =
+    ap (λ n. if bytes_eq i.name name then counts i.bytes else n) (found_first counts name is js among)
 
-in_the_first : (options : Options) (bytes : List ℕ) (r : Refusal) → r.file ≤ 0 → OfLong options bytes r → IsOfFirst options bytes r
-in_the_first options bytes r low (in_first here) = here
-in_the_first options bytes r low (in_another behind) = absurd (omega (arith, low, behind))
+module _ (options : Options) (before : List (List ℕ)) (long : List ℕ) (behind : List (List ℕ)) (included : List Included) (short : AreShort before) (past : most_bytes < length long) where
+  abbrev files : List (List ℕ)
+  files = before ++ long ∷ behind
 
-long_least : (options : Options) (s t : Source) (one other : List ℕ) (r : Refusal) → s.files ≡ one ∷ [] → t.files ≡ other ∷ [] → SameFaults options.long_cards other one →
-    r.file ≡ 0 → ((q : Refusal) → CardFault options s q → IsNotAfter r q) → (q : Refusal) → OfLong options other q → IsNotAfter r q
-long_least options s t one other r files others same first least q (in_first here) = least q (first_fault options s one q files (moved options other one q same here))
-long_least options s t one other r files others same first least q (in_another behind) = is_before_others r q first behind
+  abbrev whole_source : Source
+  whole_source = record { files = files; included = included }
 
-least_long : (options : Options) (s t : Source) (one other : List ℕ) (r : Refusal) → s.files ≡ one ∷ [] → t.files ≡ other ∷ [] → SameFaults options.long_cards other one →
-    r.file ≡ 0 → ((q : Refusal) → Fault options s Cards q → IsNotAfter r q) → (q : Refusal) → Fault options t Cards q → IsNotAfter r q
-least_long options s t one other r files others same first least q (of_cards _ h) =
-    long_least options s t one other r files others same first (λ p f. least p (of_cards p f)) q (of_long options t other q others (long_fault options.long_cards other one same) h)
+  abbrev count : ℕ
+  count = length (mentions_of before)
 
-long_cards : (options : Options) (s t : Source) (one other : List ℕ) (r : Refusal) → s.files ≡ one ∷ [] → t.files ≡ other ∷ [] →
-    SameFaults options.long_cards one other → SameFaults options.long_cards other one → Fault options s Cards r →
-    ((q : Refusal) → Fault options s Cards q → IsNotAfter r q) → IsFirstRefusal options t r
-long_cards options s t one other r files others same back (of_cards _ h) least =
-    let low : r.file ≤ 0 = (least (a_refusal options.long_cards one other same) (of_cards _ (a_row options s one other files same))).file in
-    let here : IsOfFirst options one r = in_the_first options one r low (of_long options s one r files (long_fault options.long_cards one other same) h) in
-    record {
-      phase = Cards;
-      read = λ earlier q before. absurd (none_before_cards earlier before);
-      holds = of_cards r (first_fault options t other r others (moved options one other r same here));
-      least = least_long options s t one other r files others back here.0 least;
-    }
+  abbrev known : List Included
+  known = take count (fronts included) ++ empty_files (drop count (mentions_of (map front_of files)))
 
-long_phase : (options : Options) (s t : Source) (one other : List ℕ) (r : Refusal) → s.files ≡ one ∷ [] → t.files ≡ other ∷ [] →
-    SameFaults options.long_cards one other → SameFaults options.long_cards other one → (first : IsFirstRefusal options s r) → (phase : Phase) → first.phase ≡ phase →
-    IsFirstRefusal options t r
-unfolding place_of
-long_phase options s t one other r files others same back first Cards is =
-    long_cards options s t one other r files others same back (subst (λ p. Fault options s p r) is first.holds)
-    (subst (λ p. (q : Refusal) → Fault options s p q → IsNotAfter r q) is first.least)
-long_phase options s t one other r files others same back first Syntax is =
-    absurd (first.read Cards _ (subst (λ p. 0 < place_of p) (sym is) (omega arith)) (of_cards _ (a_row options s one other files same)))
-long_phase options s t one other r files others same back first Nesting is =
-    absurd (first.read Cards _ (subst (λ p. 0 < place_of p) (sym is) (omega arith)) (of_cards _ (a_row options s one other files same)))
-long_phase options s t one other r files others same back first Declarations is =
-    absurd (first.read Cards _ (subst (λ p. 0 < place_of p) (sym is) (omega arith)) (of_cards _ (a_row options s one other files same)))
-long_phase options s t one other r files others same back first Forms is =
-    absurd (first.read Cards _ (subst (λ p. 0 < place_of p) (sym is) (omega arith)) (of_cards _ (a_row options s one other files same)))
+  abbrev known_source : Source
+  known_source = record { files = map front_of files; included = known }
 
-long_refused : (options : Options) (bytes : List ℕ) (read : List Included) (r : Refusal) (source : Source) → IsFirstOfAll options (front_of bytes ∷ []) read r →
-    IsReadOf bytes read source → read ≡ [] → SameFaults options.long_cards (front_of bytes) bytes → SameFaults options.long_cards bytes (front_of bytes) →
-    IsFirstRefusal options source r
-long_refused options bytes read r source first reads none same back =
-    let found : IsFirstRefusal options (alone (front_of bytes)) r =
-    first (alone (front_of bytes)) (subst (λ is. IsSourceOf (front_of bytes ∷ []) is (alone (front_of bytes))) (sym none) (is_alone (front_of bytes))) in
-    long_phase options (alone (front_of bytes)) source (front_of bytes) bytes r refl reads.file same back found found.phase refl
+  map_append : (one other : List (List ℕ)) → map front_of (one ++ other) ≡ map front_of one ++ map front_of other
+  map_append [] other = refl
+  map_append (b ∷ one) other = ap (λ fs. front_of b ∷ fs) (map_append one other)
 
-by_length : (options : Options) (bytes : List ℕ) (read : List Included) (r : Refusal) (source : Source) → IsFirstOfAll options (front_of bytes ∷ []) read r →
-    IsReadOf bytes read source → (long : Bool) → nat_lt most_bytes (length bytes) ≡ long → Alike options.long_cards (front_of bytes) bytes → IsFirstRefusal options source r
-by_length options bytes read r source first reads long is (the_same short) = short_refused options bytes read r source first reads short
-by_length options bytes read r source first reads true is (both_refused same back) =
-    long_refused options bytes read r source first reads (reads.none (ltb-true most_bytes (length bytes) is)) same back
-by_length options bytes read r source first reads false is (both_refused same back) =
-    short_refused options bytes read r source first reads (whole_where_short bytes (ltb-false most_bytes (length bytes) is))
+  fronts_are : map front_of files ≡ before ++ front_of long ∷ map front_of behind
+  fronts_are = map_append before (long ∷ behind) ∙ ap (λ fs. fs ++ front_of long ∷ map front_of behind) (whole_files before short)
+
+  first_names : take count (mentions_of files) ≡ mentions_of before
+  first_names = begins_take (mentions_of before) (mentions_of files) (mentions_more before (long ∷ behind))
+
+  first_front_names : take count (mentions_of (map front_of files)) ≡ mentions_of before
+  first_front_names =
+      ap (λ fs. take count (mentions_of fs)) fronts_are
+      ∙ begins_take (mentions_of before) _ (mentions_more before (front_of long ∷ map front_of behind))
+
+  known_names : IsWhole whole_source → names_of (take count included) ≡ mentions_of before
+  known_names whole = names_take count included ∙ (ap (take count) whole.included ∙ first_names)
+
+  known_front_names : IsWhole whole_source → names_of (take count (fronts included)) ≡ mentions_of before
+  known_front_names whole = names_take count (fronts included) ∙ (ap (take count) (names_kept included ∙ whole.included) ∙ first_names)
+
+  is_whole : IsWhole whole_source → IsWhole known_source
+  is_whole whole = record {
+    included = names_append (take count (fronts included)) (empty_files (drop count (mentions_of (map front_of files))))
+        ∙ (ap (λ ns. ns ++ names_of (empty_files (drop count (mentions_of (map front_of files))))) (known_front_names whole ∙ sym first_front_names)
+        ∙ (ap (λ ns. take count (mentions_of (map front_of files)) ++ ns) (names_of_empty (drop count (mentions_of (map front_of files))))
+        ∙ take-append-drop count (mentions_of (map front_of files))));
+  }
+
+  -- the included files that were read are among those that are known
+  knows : (read rest : List Included) → IsWhole whole_source → fronts included ≡ read ++ rest → length read ≤ count → IsSourceOf (map front_of files) read known_source
+  knows read rest whole is few =
+      let size : count ≡ length read + (count - length read) = omega (arith, few) in
+      record {
+        files_are = refl;
+        whole = is_whole whole;
+        rest = take (count - length read) rest ++ empty_files (drop count (mentions_of (map front_of files)));
+        included = ap (λ es. es ++ empty_files (drop count (mentions_of (map front_of files))))
+            (ap (take count) is ∙ (ap (λ n. take n (read ++ rest)) size ∙ take-append-add read rest (count - length read)))
+            ∙ append_assoc read (take (count - length read) rest) (empty_files (drop count (mentions_of (map front_of files))));
+      }
+
+  count_same : (counts : List ℕ → ℕ) → Counts options.long_cards counts → IsWhole whole_source → CountSame counts known included (mentions_of before)
+  count_same counts counting whole name among =
+      found_first counts name (take count (fronts included)) (empty_files (drop count (mentions_of (map front_of files))))
+      (subst (IsIn name) (sym (known_front_names whole)) among)
+      ∙ (ap (cards_of_included counts name) (fronts_take count included)
+      ∙ (cards_same options.long_cards counts (fronts (take count included)) (take count included) counting (fronts_alike options.long_cards (take count included)) name
+      ∙ (sym (found_first counts name (take count included) (drop count included) (subst (IsIn name) (sym (known_names whole)) among))
+      ∙ ap (cards_of_included counts name) (take-append-drop count included))))
+
+  -- the files before it
+  in_before : (file : ℕ) (one : List ℕ) → file < length before → slice_get files file ≡ Some one → slice_get before file ≡ Some one
+  in_before file one within at = sym (at_front before (long ∷ behind) file within) ∙ at
+
+  whole_before : (file : ℕ) (one : List ℕ) → file < length before → slice_get files file ≡ Some one → front_of one ≡ one
+  whole_before file one within at = short_at before file one short (in_before file one within at)
+
+  same_back : (file : ℕ) (one : List ℕ) → file < length before → slice_get files file ≡ Some one → slice_get (map front_of files) file ≡ Some one
+  same_back file one within at = front_there files file one at ∙ ap Some (whole_before file one within at)
+
+  same_there : (file : ℕ) (one : List ℕ) → file < length before → slice_get (map front_of files) file ≡ Some one → slice_get files file ≡ Some one
+  same_there file one within at =
+      let its = front_back files file one at in
+      its.at ∙ ap Some (sym (whole_before file its.whole within its.at) ∙ sym its.is)
+
+  counted_before : (file : ℕ) (one : List ℕ) (counts : List ℕ → ℕ) → IsWhole whole_source → file < length before → slice_get files file ≡ Some one →
+      Counts options.long_cards counts → CountSame counts known included (names_in (statements_in file one))
+  counted_before file one counts whole within at counting name among =
+      count_same counts counting whole name (mentioned_in before file one name (in_before file one within at) among)
+
+  there : IsWhole whole_source → Moves options.long_cards known_source whole_source (length before)
+  there whole =
+      let fault = front_fault options.long_cards long past in
+      record {
+        bytes = front_of long;
+        at = front_there files (length before) long (at_seam before behind long);
+        card = fault.0;
+        kind = _;
+        fault = cards_of_file fault.1;
+        alike = λ file one at.
+            let its = front_back files file one at in
+            record { other = its.whole; at = its.at; alike = subst (λ b. Alike options.long_cards b its.whole) (sym its.is) (front_alike options.long_cards its.whole) };
+        same = same_there;
+        counted = λ file one counts within at counting. counted_before file one counts whole within (same_there file one within at) counting;
+      }
+
+  back : IsWhole whole_source → Moves options.long_cards whole_source known_source (length before)
+  back whole =
+      let fault = a_fault options.long_cards long past in
+      record {
+        bytes = long;
+        at = at_seam before behind long;
+        card = fault.0;
+        kind = _;
+        fault = cards_of_file fault.1;
+        alike = λ file one at.
+            record {
+              other = front_of one;
+              at = front_there files file one at;
+              alike = alike_back options.long_cards (front_of one) one (front_alike options.long_cards one);
+            };
+        same = same_back;
+        counted = λ file one counts within at counting name among. sym (counted_before file one counts whole within at counting name among);
+      }
+
+  refused_long : (read rest : List Included) (r : Refusal) → IsWhole whole_source → fronts included ≡ read ++ rest → length read ≤ count →
+      IsFirstOfAll options (map front_of files) read r → IsFirstRefusal options whole_source r
+  refused_long read rest r whole is few first =
+      moved_refusal options known_source whole_source (length before) (there whole) (back whole) r (first known_source (knows read rest whole is few))
+
+long_refused : (options : Options) (fs : List (List ℕ)) (read : List Included) (r : Refusal) (included : List Included) (before : List (List ℕ)) (long : List ℕ) (behind : List (List ℕ)) →
+    fs ≡ before ++ long ∷ behind → AreShort before → most_bytes < length long → IsFirstOfAll options (map front_of fs) read r →
+    IsReadOf fs read (record { files = fs; included = included }) → IsFirstRefusal options (record { files = fs; included = included }) r
+long_refused options fs read r included before long behind is short past first reads =
+    subst (λ f. IsFirstRefusal options (record { files = f; included = included }) r) (sym is)
+    (refused_long options before long behind included short past read reads.rest r (subst (λ f. IsWhole (record { files = f; included = included })) is reads.whole)
+    reads.included (reads.within before long behind is past) (subst (λ f. IsFirstOfAll options (map front_of f) read r) is first))
+
+by_length : (options : Options) (read : List Included) (r : Refusal) (source : Source) → IsFirstOfAll options (map front_of source.files) read r →
+    IsReadOf source.files read source → FirstLong source.files → IsFirstRefusal options source r
+by_length options read r source first reads (none_long short) = short_refused options read r source first reads short
+by_length options read r source first reads (one_long before long behind is short past) =
+    long_refused options source.files read r source.included before long behind is short past first reads
 
 pub refused_by_fronts : RefusedByFronts
-refused_by_fronts options bytes read r source first reads =
-    by_length options bytes read r source first reads (nat_lt most_bytes (length bytes)) refl (front_alike options.long_cards bytes)
+refused_by_fronts options files read r source first reads =
+    by_length options read r source (subst (λ fs. IsFirstOfAll options (map front_of fs) read r) (sym reads.files_are) first)
+    (subst (λ fs. IsReadOf fs read source) (sym reads.files_are) reads) (first_long source.files)
 
 -- WHAT IS ACCEPTED was read whole
-accepted_whole : (options : Options) (bytes : List ℕ) (read : List Included) (source : Source) →
-    ((q : Refusal) → CardFault options (record { files = front_of bytes ∷ []; included = read }) q → ⊥) → source.files ≡ bytes ∷ [] → fronts source.included ≡ read →
-    Alike options.long_cards (front_of bytes) bytes → record { files = front_of bytes ∷ []; included = read } ≡ source
-accepted_whole options bytes read source none file included (the_same short) =
-    same_source options (record { files = front_of bytes ∷ []; included = read }) source none
-    (record {
-      files = ap (λ b. b ∷ []) short ∙ sym file;
-      included = subst (λ is. AlikeIncluded options.long_cards is source.included) included (fronts_alike options.long_cards source.included);
-    })
-accepted_whole options bytes read source none file included (both_refused same back) =
-    absurd (none _ (a_row options (record { files = front_of bytes ∷ []; included = read }) (front_of bytes) bytes refl same))
+none_too_long : (options : Options) (files : List (List ℕ)) (read : List Included) →
+    ((q : Refusal) → CardFault options (record { files = map front_of files; included = read }) q → ⊥) → FirstLong files → AreShort files
+none_too_long options files read none (none_long short) = short
+none_too_long options files read none (one_long before long behind is short past) =
+    let fault = front_fault options.long_cards long past in
+    absurd (none (record { file = length before; card = fault.0; kind = _ })
+    (of_file (front_of long) (front_there files (length before) long (ap (λ fs. slice_get fs (length before)) is ∙ at_seam before behind long)) (cards_of_file fault.1)))
 
-pub accepted_front : (options : Options) (bytes : List ℕ) (read : List Included) (set : FileSet) → IsAccepted options (record { files = front_of bytes ∷ []; included = read }) set →
-    front_of bytes ≡ bytes
-accepted_front options bytes read set accepted = by (front_alike options.long_cards bytes)
-  where
-    by : Alike options.long_cards (front_of bytes) bytes → front_of bytes ≡ bytes
-    by (the_same is) = is
-    by (both_refused same back) =
-        absurd (accepted.sound Cards _ (of_cards _ (a_row options (record { files = front_of bytes ∷ []; included = read }) (front_of bytes) bytes refl same)))
+accepted_short : (options : Options) (files : List (List ℕ)) (read : List Included) (set : FileSet) →
+    IsAccepted options (record { files = map front_of files; included = read }) set → AreShort files
+accepted_short options files read set accepted = none_too_long options files read (λ q h. accepted.sound Cards q (of_cards q h)) (first_long files)
+
+pub accepted_fronts : (options : Options) (files : List (List ℕ)) (read : List Included) (set : FileSet) →
+    IsAccepted options (record { files = map front_of files; included = read }) set → map front_of files ≡ files
+accepted_fronts options files read set accepted = whole_files files (accepted_short options files read set accepted)
 
 pub accepted_by_fronts : AcceptedByFronts
-accepted_by_fronts options bytes read set source accepted file included =
-    let fronted : Source = record { files = front_of bytes ∷ []; included = read } in
-    let none : (q : Refusal) → CardFault options fronted q → ⊥ = λ q h. accepted.sound Cards q (of_cards q h) in
-    sym (accepted_whole options bytes read source none file included (front_alike options.long_cards bytes))
+accepted_by_fronts options files read set source accepted files_are included =
+    sym (same_source options (record { files = map front_of files; included = read }) source (λ q h. accepted.sound Cards q (of_cards q h))
+    (record {
+      files = accepted_fronts options files read set accepted ∙ sym files_are;
+      included = subst (λ is. AlikeIncluded options.long_cards is source.included) included (fronts_alike options.long_cards source.included);
+    }))

@@ -2,5 +2,6 @@ pub mod LongFiles
 pub mod AlikeSources
 pub mod OneSet
 pub mod OneRefusal
-pub mod FrontLaws
 pub mod EarlyPhases
+pub mod FirstMentions
+pub mod FrontLaws

@@ -117,7 +117,7 @@ pub alike_back : (refused : Bool) (one other : List ℕ) → Alike refused one o
 alike_back refused one other (the_same is) = the_same (sym is)
 alike_back refused one other (both_refused a b) = both_refused b a
 
-a_fault : (refused : Bool) (bytes : List ℕ) → most_bytes < length bytes → (card : ℕ) × FaultOfCards refused bytes card FileTooLong
+pub a_fault : (refused : Bool) (bytes : List ℕ) → most_bytes < length bytes → (card : ℕ) × FaultOfCards refused bytes card FileTooLong
 a_fault refused bytes long = by (too_long bytes) refl
   where
     by : (found : Option ℕ) → too_long bytes ≡ found → (card : ℕ) × FaultOfCards refused bytes card FileTooLong
@@ -151,6 +151,9 @@ long_fault refused one other same sound = sound same.card same.kind (of_cards sa
 
 pub long_is_unsound : (refused : Bool) (bytes : List ℕ) → most_bytes < length bytes → IsSound (FaultOfFile refused bytes) → ⊥
 long_is_unsound refused bytes long sound = let f = a_fault refused bytes long in sound f.0 FileTooLong (of_cards f.1)
+
+pub front_fault : (refused : Bool) (bytes : List ℕ) → most_bytes < length bytes → (card : ℕ) × FaultOfCards refused (front_of bytes) card FileTooLong
+front_fault refused bytes long = a_fault refused (front_of bytes) (front_is_long most_bytes bytes long)
 
 pub whole_where_short : (bytes : List ℕ) → length bytes ≤ most_bytes → front_of bytes ≡ bytes
 whole_where_short bytes short = short_is_whole most_bytes bytes short

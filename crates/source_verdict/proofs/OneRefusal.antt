@@ -6,7 +6,7 @@ use Rattle.f_tree.specs.declared.names.Options.{Options}
 use Rattle.f_tree.specs.declared.refusals.Refusal.{Refusal}
 use Rattle.f_tree.specs.RefusalRows.{number_of, IsNotAfter}
 use Rattle.source_acceptance.specs.SourceFiles.{Source}
-use Rattle.source_verdict.specs.SourceRows.{Phase, Cards, Syntax, Nesting, Declarations, Forms, place_of, Fault, IsFirstRefusal, AcceptedIsNotRefused, OneSetIsAccepted, OneFirstRefusal}
+use Rattle.source_verdict.specs.SourceRows.{Phase, Cards, Syntax, Nesting, Declarations, Forms, Sharing, place_of, Fault, IsFirstRefusal, AcceptedIsNotRefused, OneSetIsAccepted, OneFirstRefusal}
 use Rattle.source_verdict.proofs.OneSet.{one_set}
 
 -- two numbers, compared
@@ -50,7 +50,8 @@ phase_at zero = Cards
 phase_at (suc zero) = Syntax
 phase_at (suc (suc zero)) = Nesting
 phase_at (suc (suc (suc zero))) = Declarations
-phase_at (suc (suc (suc (suc n)))) = Forms
+phase_at (suc (suc (suc (suc zero)))) = Forms
+phase_at (suc (suc (suc (suc (suc n))))) = Sharing
 
 phase_back : (p : Phase) → phase_at (place_of p) ≡ p
 unfolding phase_at place_of
@@ -59,6 +60,7 @@ phase_back Syntax = refl
 phase_back Nesting = refl
 phase_back Declarations = refl
 phase_back Forms = refl
+phase_back Sharing = refl
 
 same_phase : (p q : Phase) → place_of p ≡ place_of q → p ≡ q
 same_phase p q same = sym (phase_back p) ∙ (ap phase_at same ∙ phase_back q)

@@ -1,11 +1,11 @@
--- What is read of a source: the front of each file, with one byte more than a file may have; so a longer file is told from it. Files that are
--- included are read only where the file that is translated has no fault of its cards.
-use Rattle.std.specs.Prelude.{◌≡◌, ℕ, suc, ◌<◌, List, [], ◌∷◌, ◌++◌, length, take}
+-- What is read of a source: the front of each file, with one byte more than a file may have; so a longer file is told from it. The files that are
+-- mentioned behind the first file with a fault of its cards are not read.
+use Rattle.std.specs.Prelude.{◌≡◌, ℕ, suc, ◌<◌, ◌≤◌, List, [], ◌∷◌, ◌++◌, length, take, map}
 use Rattle.f_tree.specs.declared.names.Options.{Options}
 use Rattle.f_tree.specs.declared.refusals.Refusal.{Refusal}
 use Rattle.f_tree.specs.declared.units.FileSet.{FileSet}
 use Rattle.fortran_text.specs.FirstFault.{most_bytes}
-use Rattle.source_acceptance.specs.SourceFiles.{Included, Source, IsWhole}
+use Rattle.source_acceptance.specs.SourceFiles.{Included, Source, mentioned_from, first_mentions, IsWhole}
 use Rattle.source_verdict.specs.SourceRows.{IsFirstRefusal, IsAccepted}
 
 abbrev pub front_of : List ℕ → List ℕ
@@ -26,23 +26,24 @@ pub record IsSourceOf (files : List (List ℕ)) (given : List Included) (source 
 abbrev pub IsFirstOfAll : Options → List (List ℕ) → List Included → Refusal → Type 0
 IsFirstOfAll options files given r = (source : Source) → IsSourceOf files given source → IsFirstRefusal options source r
 
--- A source of one file, of which fronts were read: the front of the file, and the fronts of the first files that it includes, none where it is too
--- long itself.
-pub record IsReadOf (bytes : List ℕ) (read : List Included) (source : Source) : Type 0 where
-  pub file : source.files ≡ bytes ∷ []
+-- A source of which fronts were read: those of its files, and those of the first files that they include, of which none is mentioned only by a file that
+-- is too long or behind it.
+pub record IsReadOf (files : List (List ℕ)) (read : List Included) (source : Source) : Type 0 where
+  pub files_are : source.files ≡ files
   pub whole : IsWhole source
   pub rest : List Included
   pub included : fronts source.included ≡ read ++ rest
-  pub none : most_bytes < length bytes → read ≡ []
+  pub within : (before : List (List ℕ)) (long : List ℕ) (behind : List (List ℕ)) → files ≡ before ++ long ∷ behind → most_bytes < length long
+      → length read ≤ length (first_mentions [] (mentioned_from 0 before))
 
 -- LAWS
 -- what is refused by fronts is refused
 abbrev pub RefusedByFronts : Type 0
-RefusedByFronts = (options : Options) (bytes : List ℕ) (read : List Included) (r : Refusal) (source : Source) →
-    IsFirstOfAll options (front_of bytes ∷ []) read r → IsReadOf bytes read source → IsFirstRefusal options source r
+RefusedByFronts = (options : Options) (files : List (List ℕ)) (read : List Included) (r : Refusal) (source : Source) →
+    IsFirstOfAll options (map front_of files) read r → IsReadOf files read source → IsFirstRefusal options source r
 
 -- what is accepted by fronts is accepted: each file was read whole
 abbrev pub AcceptedByFronts : Type 0
-AcceptedByFronts = (options : Options) (bytes : List ℕ) (read : List Included) (set : FileSet) (source : Source) →
-    IsAccepted options (record { files = front_of bytes ∷ []; included = read }) set → source.files ≡ bytes ∷ [] → fronts source.included ≡ read →
-    source ≡ record { files = front_of bytes ∷ []; included = read }
+AcceptedByFronts = (options : Options) (files : List (List ℕ)) (read : List Included) (set : FileSet) (source : Source) →
+    IsAccepted options (record { files = map front_of files; included = read }) set → source.files ≡ files → fronts source.included ≡ read →
+    source ≡ record { files = map front_of files; included = read }

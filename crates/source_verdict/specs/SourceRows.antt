@@ -1,6 +1,6 @@
 -- When a source is accepted for translation, and its first refusal: by phase, then file, then card, then number. A later phase is read only where
--- no earlier one refuses. The rows of storage and of what units share are not judged here yet: forms that have them are not translated, and are
--- refused as such. ANSI X3.9-1978, sections 3 to 15; MIL-STD-1753.
+-- no earlier one refuses. The rows of storage are not judged here yet: forms that have them are not translated, and are refused as such. ANSI
+-- X3.9-1978, sections 2 to 18; MIL-STD-1753.
 use Rattle.std.specs.Prelude.{◌≡◌, ℕ, ◌<◌}
 use Rattle.f_tree.specs.declared.names.Options.{Options}
 use Rattle.f_tree.specs.declared.refusals.Refusal.{Refusal}
@@ -10,6 +10,7 @@ use Rattle.f_tree.specs.declared.units.FileSet.{FileSet}
 use Rattle.f_tree.specs.RefusalRows.{number_of, IsNotAfter}
 use Rattle.f_tree.specs.Setting.{IsIn}
 use Rattle.fortran_grammar.specs.SyntaxRows.{unit_deep_rows}
+use Rattle.declaration_rows.specs.GlobalRows.{all_units, units_global_rows}
 use Rattle.declaration_rows.specs.SetRows.{set_faults}
 use Rattle.source_acceptance.specs.SourceFiles.{Source, IsWhole, SpellsSource}
 use Rattle.source_acceptance.specs.TextRows.{CardFault, SyntaxFault}
@@ -25,6 +26,8 @@ pub data Phase : Type 0 where
   Declarations : Phase
   -- F99, forms that are not translated yet
   Forms : Phase
+  -- F51 and F52, global names and main programs of the set
+  Sharing : Phase
 
 unfoldable pub place_of : Phase → ℕ
 place_of Cards = 0
@@ -32,6 +35,7 @@ place_of Syntax = 1
 place_of Nesting = 2
 place_of Declarations = 3
 place_of Forms = 4
+place_of Sharing = 5
 
 -- a row of a phase holds in the source, at a file and a card
 pub data Fault (options : Options) (source : Source) : Phase → Refusal → Type 0 where
@@ -41,6 +45,7 @@ pub data Fault (options : Options) (source : Source) : Phase → Refusal → Typ
       → IsIn r (unit_deep_rows unit) → Fault options source Nesting r
   of_declarations : (set : FileSet) (r : Refusal) → SpellsSource source set → IsIn r (set_faults options set) → Fault options source Declarations r
   of_forms : (set : FileSet) (r : Refusal) → SpellsSource source set → IsIn r (files_not_translated options set.files) → Fault options source Forms r
+  of_sharing : (set : FileSet) (r : Refusal) → SpellsSource source set → IsIn r (units_global_rows (all_units set.files)) → Fault options source Sharing r
 
 -- no row of an earlier phase holds
 abbrev pub IsRead : Options → Source → Phase → Type 0

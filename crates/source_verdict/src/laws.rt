@@ -11,8 +11,8 @@ pub fn sources_have_one_verdict()
     ensures refusals { OneFirstRefusal }
 {}
 
-/// What is read of a source of one file, the fronts of its files with one byte more than a file may have, is enough: what is refused by it is
-/// refused, and what is accepted by it is the source.
+/// What is read of a source, the fronts of its files with one byte more than a file may have, is enough: what is refused by it is refused, and
+/// what is accepted by it is the source.
 pub fn sources_are_judged_by_fronts()
     ensures refused { RefusedByFronts }
     ensures accepted { AcceptedByFronts }

@@ -314,10 +314,10 @@ loop_built l write n size count c queue later a b (item.Branch e on off) plan mo
 loop_built l write n size count c queue later a b (item.Assign x y) plan more room first is =
     none_planned write n later plan _ is (head_after l write n size count c queue later a b (item.Assign x y) first (λ e on off h. cc))
 loop_built l write n size count c queue later a b (item.Jump p) plan more room first is = none_planned write n later plan _ is (head_after l write n size count c queue later a b (item.Jump p) first (λ e on off h. cc))
-loop_built l write n size count c queue later a b (item.Call name es) plan more room first is =
-    none_planned write n later plan _ is (head_after l write n size count c queue later a b (item.Call name es) first (λ e on off h. cc))
-loop_built l write n size count c queue later a b (item.SetCall x name es) plan more room first is =
-    none_planned write n later plan _ is (head_after l write n size count c queue later a b (item.SetCall x name es) first (λ e on off h. cc))
+loop_built l write n size count c queue later a b (item.Call callee es) plan more room first is =
+    none_planned write n later plan _ is (head_after l write n size count c queue later a b (item.Call callee es) first (λ e on off h. cc))
+loop_built l write n size count c queue later a b (item.SetCall x callee es) plan more room first is =
+    none_planned write n later plan _ is (head_after l write n size count c queue later a b (item.SetCall x callee es) first (λ e on off h. cc))
 loop_built l write n size count c queue later a b (item.Return value) plan more room first is =
     none_planned write n later plan _ is (head_after l write n size count c queue later a b (item.Return value) first (λ e on off h. cc))
 loop_built l write n size count c queue later a b item.Nothing plan more room first is = none_planned write n later plan _ is (head_after l write n size count c queue later a b item.Nothing first (λ e on off h. cc))

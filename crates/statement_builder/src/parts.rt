@@ -6,9 +6,9 @@ ghost use Rattle.c_structure.specs.Statements.{with_label};
 ghost use Rattle.named_items.specs.Layouts.{layout_of};
 ghost use Rattle.named_items.specs.Structured as spec;
 
-use c_tree::expression::{CCall, CExpr, Text};
+use c_tree::expression::{CCall, CExpr};
 use c_tree::statement::{CNext, CStmt};
-use named_items::{Head, Item, Layout, Part};
+use named_items::{Callee, Head, Item, Layout, Part};
 use plain_data::{Boxed, Items};
 use std::alloc::{AllocError, Global};
 
@@ -71,26 +71,26 @@ fn goto_label(alloc: Global, label: Option<&[u8]>) -> Result<Option<CStmt>, Allo
     }
 }
 
-/// A call of a function by its name.
+/// A call of a function.
 #[tactic(auto, unfolding(named_items::specs::Structured::call_of))]
-fn call_of(name: Text, arguments: Items<CExpr>) -> CStmt
-    ensures { result ≡ spec.call_of name arguments }
+fn call_of(callee: Callee, arguments: Items<CExpr>) -> CStmt
+    ensures { result ≡ spec.call_of callee arguments }
 {
     CStmt::Call(CCall {
-        through: false,
-        name,
+        through: callee.through,
+        name: callee.name,
         arguments,
     })
 }
 
-/// A call of a function by its name, whose value is stored.
+/// A call of a function, whose value is stored.
 #[tactic(auto, unfolding(named_items::specs::Structured::set_call_of))]
-fn set_call_of(target: CExpr, name: Text, arguments: Items<CExpr>) -> CStmt
-    ensures { result ≡ spec.set_call_of target name arguments }
+fn set_call_of(target: CExpr, callee: Callee, arguments: Items<CExpr>) -> CStmt
+    ensures { result ≡ spec.set_call_of target callee arguments }
 {
     let call = CCall {
-        through: false,
-        name,
+        through: callee.through,
+        name: callee.name,
         arguments,
     };
     CStmt::SetCall(target, call)
@@ -109,8 +109,10 @@ pub(crate) fn statement_of(
         Item::Assign(place, value) => Ok(Some(CStmt::Set(place, value))),
         Item::Branch(_, _, _) => Ok(None),
         Item::Jump(position) => goto_label(alloc, layout.label(position)),
-        Item::Call(name, arguments) => Ok(Some(call_of(name, arguments))),
-        Item::SetCall(target, name, arguments) => Ok(Some(set_call_of(target, name, arguments))),
+        Item::Call(callee, arguments) => Ok(Some(call_of(callee, arguments))),
+        Item::SetCall(target, callee, arguments) => Ok(Some(set_call_of(
+            target, callee, arguments,
+        ))),
         Item::Return(value) => Ok(Some(CStmt::Return(value))),
         Item::Nothing => Ok(Some(CStmt::Empty)),
     }

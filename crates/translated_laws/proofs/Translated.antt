@@ -33,15 +33,15 @@ use Rattle.translated_laws.specs.FaithfulTranslations.{translation_of, EachTrans
 
 -- ## Lists and options
 
-left : (a b : Bool) → a && b ≡ true → a ≡ true
+pub left : (a b : Bool) → a && b ≡ true → a ≡ true
 left true b h = refl
 left false b h = absurd (cc)
 
-right : (a b : Bool) → a && b ≡ true → b ≡ true
+pub right : (a b : Bool) → a && b ≡ true → b ≡ true
 right true b h = h
 right false b h = absurd (cc)
 
-each_of : {A : Type 0} (test : A → Bool) (xs : List A) → list_all test xs ≡ true → (x : A) → IsIn x xs → test x ≡ true
+pub each_of : {A : Type 0} (test : A → Bool) (xs : List A) → list_all test xs ≡ true → (x : A) → IsIn x xs → test x ≡ true
 each_of test [] all x o = elim o [ ]
 each_of test (y ∷ ys) all _ first_in = left (test y) (list_all test ys) all
 each_of test (y ∷ ys) all x (later_in o) = each_of test ys (right (test y) (list_all test ys) all) x o
@@ -54,21 +54,21 @@ found_of test [] all n x at = absurd (cc)
 found_of test (y ∷ ys) all zero x at = subst (λ z. test z ≡ true) (some_same y x at) (left (test y) (list_all test ys) all)
 found_of test (y ∷ ys) all (suc n) x at = found_of test ys (right (test y) (list_all test ys) all) n x at
 
-nothing_before : {A : Type 0} (xs ys : List A) → xs ++ ys ≡ [] → xs ≡ []
+pub nothing_before : {A : Type 0} (xs ys : List A) → xs ++ ys ≡ [] → xs ≡ []
 nothing_before [] ys h = refl
 nothing_before (x ∷ xs) ys h = absurd (cc)
 
-nothing_behind : {A : Type 0} (xs ys : List A) → xs ++ ys ≡ [] → ys ≡ []
+pub nothing_behind : {A : Type 0} (xs ys : List A) → xs ++ ys ≡ [] → ys ≡ []
 nothing_behind [] ys h = h
 nothing_behind (x ∷ xs) ys h = absurd (cc)
 
 -- what an option is mapped from
-record IsMapped {A B : Type 0} (f : A → B) (x : Option A) (b : B) : Type 0 where
-  from : A
-  was : x ≡ Some from
-  gives : f from ≡ b
+pub record IsMapped {A B : Type 0} (f : A → B) (x : Option A) (b : B) : Type 0 where
+  pub from : A
+  pub was : x ≡ Some from
+  pub gives : f from ≡ b
 
-mapped : {A B : Type 0} (f : A → B) (x : Option A) (b : B) → option_map f x ≡ Some b → IsMapped f x b
+pub mapped : {A B : Type 0} (f : A → B) (x : Option A) (b : B) → option_map f x ≡ Some b → IsMapped f x b
 mapped f None b h = absurd (cc)
 mapped f (Some a) b h = record { from = a; was = refl; gives = some_same (f a) b h }
 
@@ -153,7 +153,7 @@ of_one options (u ∷ []) file h =
 
 -- ## Texts that fit
 
-stops : (steps : List Step) → list_all stop_fits steps ≡ true → (n : ℕ) (text : Bytes) → slice_get steps n ≡ Some (Halt text) → AreBytes text × (length text < 2147483648)
+pub stops : (steps : List Step) → list_all stop_fits steps ≡ true → (n : ℕ) (text : Bytes) → slice_get steps n ≡ Some (Halt text) → AreBytes text × (length text < 2147483648)
 unfolding stop_fits
 stops steps all n text at =
     let are : Bool = list_all (λ (byte : ℕ). nat_lt byte 256) text in

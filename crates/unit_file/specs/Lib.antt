@@ -1,2 +1,3 @@
 pub mod UnitFile
 pub mod UnitNames
+pub mod UnitItems

@@ -43,7 +43,7 @@ use Rattle.unit_file.specs.UnitFile.{Inventory, Bases, WrittenUnit, units_file, 
 use Rattle.unit_file.specs.UnitNames.{string_at}
 use Rattle.unit_places.specs.UnitPlaces.{inventories, bases_of}
 use Rattle.unit_places.proofs.Declared.{unit_strings, unit_statics_count}
-use Rattle.unit_file_laws.specs.KnownUnits.{unit_writing, unit_names, scope_in, UnitIsKnown}
+use Rattle.unit_file_laws.specs.KnownUnits.{NamesDiffer, NamesAreListed, unit_writing, unit_names, scope_in, UnitIsKnown}
 use Rattle.unit_file_laws.specs.ProcedureNames.{ArePlain, KnowsCall, KnowsUnitStep}
 use Rattle.unit_file_laws.specs.BuiltUnits.{unit_items, procedure_called, procedure_passed, procedures_passed, procedures_named, AreDeclared, FunctionIsCalled, IsListed, AreListed, IsUnitBuilt, AreNumbered, HasItsItems, UnitsHaveTheirItems}
 use Rattle.unit_file_laws.proofs.Known.{unit_files_are_known}
@@ -93,8 +93,17 @@ pointed_plain : (scope : Scope) (names : Names) (parameter : ℕ) → IsPlain sc
 unfolding strings_in
 pointed_plain scope names parameter is = record { knows = is.knows; no_strings = refl }
 
-module _ (routines : Routines) (objects : List ℕ → Option ℕ) (functions : List CFunction) (numbers : Numbers) (constants : List ℤ) (ws : List WrittenUnit) (j : ℕ) (w : WrittenUnit) (u : Text) (kind : ℕ → ℕ → Option Basic) (o : Outline) (all : List Flat)
-    (numbered : AreNumbered routines numbers ws w.inventory) (is : IsUnitBuilt numbers constants ws j w u kind o all) where
+-- what is said of the steps of a text and of what its function has, whatever statements that has, if they have as many strings
+pub record AreEmitted (numbers : Numbers) (constants : List ℤ) (ws : List WrittenUnit) (j : ℕ) (w : WrittenUnit) (u : Text) (kind : ℕ → ℕ → Option Basic) (all : List Flat) : Type 0 where
+  pub differ : NamesDiffer constants w.inventory
+  pub names_listed : NamesAreListed w.inventory u.facts
+  pub listed : AreListed numbers (inventories ws) u.facts w.inventory 0 u.steps
+  pub stops : w.inventory.strings ≡ stops_from 0 u.steps
+  pub emitted : unit_items numbers (unit_writing constants ws j w u.facts kind) u.position 0 u.steps ≡ Some all
+  pub as_many : length (whole_body w.body).items.strings ≡ length w.inventory.strings
+
+module _ (routines : Routines) (objects : List ℕ → Option ℕ) (functions : List CFunction) (numbers : Numbers) (constants : List ℤ) (ws : List WrittenUnit) (j : ℕ) (w : WrittenUnit) (u : Text) (kind : ℕ → ℕ → Option Basic) (all : List Flat)
+    (numbered : AreNumbered routines numbers ws w.inventory) (is : AreEmitted numbers constants ws j w u kind all) where
   abbrev v : Inventory
   v = w.inventory
 
@@ -290,10 +299,10 @@ module _ (routines : Routines) (objects : List ℕ → Option ℕ) (functions : 
   knows_step n st listed stop = tt
 
   -- items of steps from a position on: known, and their strings numbered from one on, one for each STOP
-  record AreNumberedItems (before : List ℕ) (n : ℕ) (steps : List Step) (items : List Flat) : Type 0 where
-    knows : KnowsItems scope names items
-    in_order : AreInOrder (first_string v b + length before) (strings_of_items names items)
-    counted : length (strings_of_items names items) ≡ length (stops_from n steps)
+  pub record AreNumberedItems (before : List ℕ) (n : ℕ) (steps : List Step) (items : List Flat) : Type 0 where
+    pub knows : KnowsItems scope names items
+    pub in_order : AreInOrder (first_string v b + length before) (strings_of_items names items)
+    pub counted : length (strings_of_items names items) ≡ length (stops_from n steps)
 
   step_known : (n : ℕ) (before : List ℕ) (st : Step) (later : List Step) (item : Flat) (laters : List Flat) → v.strings ≡ before ++ stops_from n (st ∷ later) → AreBelow n before → IsListed numbers vs u.facts v n st
       → procedure_item numbers writing (λ m. m) u.position n st ≡ Some item
@@ -338,42 +347,42 @@ module _ (routines : Routines) (objects : List ℕ → Option ℕ) (functions : 
       subst (AreNumberedItems before n (st ∷ later)) m.is
       (step_known n before st later m.item m.later strings below listed.0 m.item_is (λ more again further. items_known (suc n) more later m.later again further listed.1 m.later_is))
 
-  -- ## The function
+  -- ## The whole
 
-  every : AreNumberedItems [] 0 u.steps all
+  pub every : AreNumberedItems [] 0 u.steps all
   every = items_known 0 [] u.steps all is.stops none_below is.listed is.emitted
-
-  all_known : KnowsItems scope o.names all
-  all_known = subst (λ ns. KnowsItems scope ns all) (sym is.names) every.knows
-
-  in_order : AreInOrder (first_string v b) (strings_of_items names all)
-  in_order = subst (λ k. AreInOrder k (strings_of_items names all)) {x = first_string v b + 0} {y = first_string v b} (omega arith) every.in_order
 
 -- the function in its file
 module _ (routines : Routines) (objects : List ℕ → Option ℕ) (own : ℕ) (numbers : Numbers) (constants : List ℤ) (ws : List WrittenUnit) (j : ℕ) (w : WrittenUnit) (u : Text) (kind : ℕ → ℕ → Option Basic) (o : Outline) (all : List Flat)
     (numbered : AreNumbered routines numbers ws w.inventory) (is : IsUnitBuilt numbers constants ws j w u kind o all) where
+  emitted : AreEmitted numbers constants ws j w u kind all
+  emitted = record { differ = is.differ; names_listed = is.names_listed; listed = is.listed; stops = is.stops; emitted = is.emitted; as_many = is.as_many }
+
+  all_known : (functions : List CFunction) → KnowsItems (scope_in routines objects constants functions ws j w) o.names all
+  all_known functions = subst (λ ns. KnowsItems (scope_in routines objects constants functions ws j w) ns all) (sym is.names) (every routines objects functions numbers constants ws j w u kind all numbered emitted).knows
+
   has : HasItsItems routines objects own constants ws j w o all
   has =
       let v = w.inventory in
       let b = bases_of constants ws j in
       let names = unit_names constants ws j w in
       let outer = file_scope routines objects 0 (units_file constants ws) in
-      let known = all_known routines objects (map unit_function ws) numbers constants ws j w u kind o all numbered is in
-      let ordered = in_order routines objects (map unit_function ws) numbers constants ws j w u kind o all numbered is in
-      let listed = every routines objects (map unit_function ws) numbers constants ws j w u kind o all numbered is in
+      let known = all_known (map unit_function ws) in
+      let listed = every routines objects (map unit_function ws) numbers constants ws j w u kind all numbered emitted in
+      let ordered = subst (λ k. AreInOrder k (strings_of_items names all)) {x = first_string v b + 0} {y = first_string v b} (omega arith) listed.in_order in
       let kept = unit_statics_count v in
       let passed = ap length (unit_strings v) in
       let there : first_string v b ≡ linked.first_string b.function (unit_function w) + length (strings_of (linked.statics (unit_function w))) = omega (arith, kept, passed) in
       let theirs = strings_are_theirs routines outer b.function (unit_function w) o all is.built known in
       record {
-        known = λ functions. all_known routines objects functions numbers constants ws j w u kind o all numbered is;
+        known = all_known;
         code = code_is_theirs routines own outer b.function (unit_function w) o all is.built known
             (subst (λ ns. AreInOrder (linked.first_string b.function (unit_function w) + length (strings_of (linked.statics (unit_function w)))) (strings_of_items ns all)) (sym is.names)
             (subst (λ k. AreInOrder k (strings_of_items names all)) there ordered));
         size = ap (λ body. body.size) (whole_is o all (unit_function w) is.built) ∙ (built_fit (scope_of routines outer b.function (unit_function w)) o all (unit_function w) is.built known).size;
         strings = strings_same names.string v.texts (first_string v b) (whole_body w.body).items.strings (strings_of_items names all) v.strings
             (subst (λ ns. AreBytesOf ns (whole_body w.body).items.strings (strings_of_items ns all)) is.names theirs) ordered (listed.counted ∙ ap length (sym is.stops))
-            (string_told routines objects (map unit_function ws) numbers constants ws j w u kind o all numbered is);
+            (string_told routines objects (map unit_function ws) numbers constants ws j w u kind all numbered emitted);
       }
 
 pub units_have_their_items : UnitsHaveTheirItems

@@ -1,12 +1,9 @@
 -- That the function of a unit has the items that are emitted for its lowered text, where its statements are built for them. C89, 3.6.
-use Rattle.std.specs.Prelude.{◌≡◌, ℕ, suc, ◌+◌, ℤ, List, [], ◌∷◌, ◌++◌, map, length, position, Option, Some, None, slice_get, bytes_eq, codes}
+use Rattle.std.specs.Prelude.{◌≡◌, ℕ, suc, ◌+◌, ℤ, List, [], ◌∷◌, map, length, position, Option, Some, None, slice_get, bytes_eq, codes}
 use Rattle.f_tree.specs.declared.names.Basic.{Basic}
-use Rattle.f_tree.specs.declared.names.Class.{Class}
-use Rattle.f_tree.specs.declared.names.Class.TheVariants as class
 use Rattle.f_tree.specs.Values.{Bytes}
 use Rattle.f_tree.specs.Facts.{Facts}
 use Rattle.f_tree.specs.World.{Called, Procedure}
-use Rattle.l_core.specs.Pures.{Name, Pures, NoPure, AndPure}
 use Rattle.l_core.specs.Steps.{Starts, Takes, Finishes, Step, Compute, CallFor, CallSub, Acts, Halt, Text}
 use Rattle.c_tree.specs.declared.file.CFunction.{CFunction}
 use Rattle.c_tree.specs.Flat.{Flat}
@@ -15,43 +12,15 @@ use Rattle.c_tree.specs.FlatForm.{whole_body}
 use Rattle.c_tree.specs.Linking.{Routines, file_scope, linked_function}
 use Rattle.c_structure.specs.Statements.{Outline}
 use Rattle.c_structure_laws.specs.Fitting.{KnowsItems}
-use Rattle.c_emit.specs.Numbers.{Writing}
 use Rattle.c_emit.specs.LibraryFunctions.{LibraryFunction, library_function}
 use Rattle.linking_laws.specs.Linked.{IsBuilt}
-use Rattle.main_file.specs.MainItems.{item_before, stops_from}
-use Rattle.procedure_emission.specs.ProcedureItems.{Numbers, procedure_item}
+use Rattle.main_file.specs.MainItems.{stops_from}
+use Rattle.procedure_emission.specs.ProcedureItems.{Numbers}
 use Rattle.unit_file.specs.UnitFile.{Inventory, WrittenUnit, units_file, unit_function, place_of_list}
 use Rattle.unit_file.specs.UnitNames.{called_names, routine_name}
+unfoldable pub use Rattle.unit_file.specs.UnitItems.{unit_items, procedure_called, procedure_passed, procedures_passed, procedures_named, unit_items_opened}
 use Rattle.unit_places.specs.UnitPlaces.{inventories, bases_of}
 use Rattle.unit_file_laws.specs.KnownUnits.{NamesDiffer, NamesAreListed, unit_writing, unit_names, scope_in}
-
--- ## Items
-
--- the items of steps from a position on, given the numbers of the functions
-unfoldable pub unit_items : Numbers → Writing → (ℕ → Option ℕ) → ℕ → List Step → Option (List Flat)
-unit_items numbers w label n [] = Some []
-unit_items numbers w label n (st ∷ later) = item_before (procedure_item numbers w (λ m. m) label n st) (unit_items numbers w label (suc n) later)
-
--- ## What steps call
-
--- a procedure that is called by its name, and one that is passed by its name
-unfoldable pub procedure_called : Class → Bytes → List Bytes
-procedure_called class.Procedure x = x ∷ []
-procedure_called class.Result x = x ∷ []
-procedure_called class.Unit x = x ∷ []
-procedure_called other x = []
-
-unfoldable pub procedure_passed : Class → Bytes → List Bytes
-procedure_passed class.Procedure x = x ∷ []
-procedure_passed other x = []
-
-unfoldable pub procedures_passed : Facts → Pures → List Bytes
-procedures_passed c NoPure = []
-procedures_passed c (AndPure (Name x) ps) = procedure_passed (c.program.attribute x).class x ++ procedures_passed c ps
-procedures_passed c (AndPure p ps) = procedures_passed c ps
-
-unfoldable pub procedures_named : Facts → Bytes → Pures → List Bytes
-procedures_named c x ps = procedure_called (c.program.attribute x).class x ++ procedures_passed c ps
 
 -- ## What is declared
 
@@ -114,5 +83,5 @@ UnitsHaveTheirItems = (routines : Routines) (objects : List ℕ → Option ℕ) 
     AreNumbered routines numbers ws w.inventory → IsUnitBuilt numbers constants ws j w u kind o items → HasItsItems routines objects own constants ws j w o items
 
 unfoldable pub built_units_opened : Unit {0}
-unfolding unit_items procedure_called procedure_passed procedures_passed procedures_named
+unfolding unit_items_opened
 built_units_opened = tt

@@ -3,7 +3,7 @@
 use Rattle.std.specs.List.{flat_map}
 use Rattle.std.specs.Option.{option_flatten}
 use Rattle.std.specs.Prelude.{◌≡◌, ℕ, zero, suc, ◌+◌, ◌*◌, ◌<◌, ◌≤◌, true, false, ℤ, List, [], ◌∷◌, ◌++◌, map, length, replicate, Option, Some, None, unwrap_or, slice_get}
-use Rattle.f_tree.specs.Facts.{Home, Member, ProgramUnit}
+use Rattle.f_tree.specs.Facts.{Member, ProgramUnit}
 use Rattle.f_tree.specs.Setting.{Setting}
 use Rattle.f_tree.specs.Valuing.{elements_of, extent_of}
 use Rattle.c_tree.specs.Objects.{Object}
@@ -12,18 +12,10 @@ use Rattle.c_image.specs.World.{World}
 use Rattle.c_image.specs.Held.{number_object}
 use Rattle.c_emit.specs.Numbers.{is_numeric}
 use Rattle.output_laws.specs.ListedOutputs.{list_object}
-use Rattle.plain_forms.specs.OwnStorage.{homes_from, sizes_of}
+pub use Rattle.unit_forms.specs.OwnSetting.{own_homes, own_setting}
 use Rattle.unit_file.specs.UnitFile.{Variable, Listing, Inventory, object_count, frame_count, place_of_variable}
 
--- ## The setting
-
--- the sequences of each unit stand behind those of the units before it
-abbrev pub own_homes : ℕ → List ProgramUnit → List (List Home)
-own_homes n [] = []
-own_homes n (u ∷ us) = homes_from n u.stored ∷ own_homes (n + length u.stored) us
-
-abbrev pub own_setting : List ProgramUnit → Setting
-own_setting us = record { homes = own_homes 0 us; sizes = flat_map (λ (u : ProgramUnit). sizes_of u.stored) us }
+-- ## The storage of a unit
 
 -- the bytes of a variable
 abbrev pub bytes_in : Option ℕ → ℕ

@@ -1,5 +1,5 @@
 use Rattle.std.proofs.Common.{subst, sym, ℕ}
-use Rattle.f2c_program.specs.CommandWords.{command_of}
+use Rattle.command_words.specs.CommandWords.{command_of}
 use Rattle.f2c_program.specs.TopCall.{Commanded}
 use Rattle.f2c_program.proofs.Rows.{commanded}
 use Rattle.f2c_program.proofs.top_call.f2c.Goals as goal

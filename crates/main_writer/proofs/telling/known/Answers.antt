@@ -1,12 +1,14 @@
 use Rattle.std.proofs.Common.{map, refl, ap, ◌∙◌}
-use Rattle.item_emitter.specs.Knowing.{variable_in}
+use Rattle.item_emitter.specs.Knowing.{variable_in, routine_in}
 use Rattle.main_writer.specs.Told.{step_of_list}
 use Rattle.main_writer.proofs.telling.known.Goals as goal
 
 pub returns : goal.returns
-unfolding variable_in
+unfolding variable_in routine_in
 returns c = record {
   variables = c.in_ok-variables.ensures;
+  routines = c.routines.ensures;
+  gives = refl;
   temporaries = refl;
   constants = c.in_ok-from_slice.ensures.items ∙ c.deref.ensures.value;
   lists = c.in_ok-steps_of_lists.ensures ∙ ap (map step_of_list) c.deref-2.ensures.value;

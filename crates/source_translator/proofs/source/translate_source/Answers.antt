@@ -1,7 +1,7 @@
 use Rattle.std.proofs.Common.{sym, ap, ◌∙◌, subst}
 use Rattle.declaration_rows.specs.SetRows.{files_rows}
 use Rattle.declaration_rows.specs.Verdicts.{first_of}
-use Rattle.source_translator.specs.TranslatedSource.{AreTranslated}
+use Rattle.source_translator.specs.TranslatedSource.{IsSetTranslated}
 use Rattle.source_translator.proofs.SourceAnswers.{read_refused, declared_badly, set_translated}
 use Rattle.source_translator.proofs.source.translate_source.Goals as goal
 
@@ -15,6 +15,6 @@ returns-in-Some c = λ files named.
 
 pub returns : goal.returns
 returns c = λ files named.
-    set_translated c.args.options.now files c.args.named.now.names c.args.included.now c.in-Ok.set c.translate_files.result (c.in-Ok.ensures files named)
+    set_translated c.args.options.now files c.args.named.now.names c.args.included.now c.in-Ok.set c.translate_set.result (c.in-Ok.ensures files named)
     (sym (sym c.in-None.is ∙ (c.in_ok-refusal.ensures ∙ ap (λ fs. first_of (files_rows c.args.options.now fs)) c.as_slice.ensures)))
-    (subst (λ fs. AreTranslated c.args.options.now fs c.translate_files.result) c.as_slice-in-None.ensures c.translate_files.ensures)
+    (subst (λ fs. IsSetTranslated c.args.options.now fs c.translate_set.result) c.as_slice-in-None.ensures c.translate_set.ensures)

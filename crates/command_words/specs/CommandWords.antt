@@ -1,0 +1,99 @@
+-- What the words of a command line ask for (CSTR 149, appendix B, gives the words of f2c; those that are
+-- not listed here stand in no command).
+use Rattle.std.specs.Prelude.{ℕ, suc, Bool, false, not, ◌&&◌, ◌||◌, List, [], ◌∷◌, ◌++◌, length, Option, Some, None, codes, bytes_eq, nat_eq, if◌then◌else◌}
+use Rattle.std.specs.List.{list_any}
+use Rattle.f2c_outside.specs.declared.shelves.Place.{Place}
+use Rattle.f2c_outside.specs.declared.shelves.Place.TheVariants.{Input, File}
+use Rattle.f2c_outside.specs.Shelf.{text_or_none}
+use Rattle.f2c_outside.specs.Texts.{word_at}
+use Rattle.f_tree.specs.declared.names.Options.{Options}
+use Rattle.output_names.specs.OutputNames.{is_file_word, have_one_output}
+use Rattle.command_words.specs.declared.command.Command.{Command}
+use Rattle.command_words.specs.declared.command.Command.TheVariants.{Translate, Split, Help, BadWord}
+use Rattle.command_words.specs.declared.command.Origin.{Origin}
+use Rattle.command_words.specs.declared.command.Origin.TheVariants as origin
+
+-- a word that asks for the usage
+abbrev pub is_help : List ℕ → Bool
+is_help word = bytes_eq word (codes "-h") || bytes_eq word (codes "--help")
+
+-- the options of a translation: no name has a type by its letter, loops are run at least once, text past column 72 is refused
+abbrev pub no_implied_types : List ℕ
+no_implied_types = codes "-u"
+
+abbrev pub one_turn : List ℕ
+one_turn = codes "-onetrip"
+
+abbrev pub long_cards : List ℕ
+long_cards = codes "-72"
+
+-- and those that change nothing
+abbrev pub changes_nothing : List ℕ → Bool
+changes_nothing word = bytes_eq word (codes "-A") || (bytes_eq word (codes "-w") || bytes_eq word (codes "-!bs"))
+
+abbrev pub is_option : List ℕ → Bool
+is_option word = bytes_eq word no_implied_types || (bytes_eq word one_turn || (bytes_eq word long_cards || changes_nothing word))
+
+-- whether there is a word, which is this one
+abbrev pub is_the_word : List ℕ → Option (List ℕ) → Bool
+is_the_word word None = false
+is_the_word word (Some other) = bytes_eq word other
+
+abbrev pub has_word : List ℕ → List (List ℕ) → Bool
+has_word word words = list_any (bytes_eq word) words
+
+abbrev pub options_of : List (List ℕ) → Options
+options_of words = record {
+  undeclared = has_word no_implied_types words;
+  onetrip = has_word one_turn words;
+  long_cards = has_word long_cards words;
+  checks = false;
+}
+
+-- whether there is a word, which names a file with the output name of this one
+abbrev pub gives_its_output : List ℕ → Option (List ℕ) → Bool
+gives_its_output word None = false
+gives_its_output word (Some other) = have_one_output word other
+
+-- a translation goes on with an option, and with a file that gives another output name than those before
+abbrev pub goes_on : List (List ℕ) → List ℕ → Bool
+goes_on before word = is_option word || (is_file_word word && not (list_any (have_one_output word) before))
+
+-- whether there is a word with which it goes on
+abbrev pub goes_on_with : List (List ℕ) → Option (List ℕ) → Bool
+goes_on_with before None = false
+goes_on_with before (Some word) = goes_on before word
+
+-- the number of the first word, behind those before, with which no translation goes on
+unfoldable pub first_other : ℕ → List (List ℕ) → List (List ℕ) → Option ℕ
+first_other number before [] = None
+first_other number before (word ∷ words) = if goes_on before word then first_other (suc number) (before ++ word ∷ []) words else Some number
+
+abbrev pub translation_by : List (List ℕ) → Option ℕ → Command
+translation_by words None = Translate (options_of words)
+translation_by words (Some number) = BadWord number
+
+-- `-split`: what is read is split
+abbrev pub is_split : List ℕ → Bool
+is_split word = bytes_eq word (codes "-split")
+
+-- behind `-split` stands at most one word, which names a FORTRAN file; without it Input is split
+abbrev pub split_by : Option (List ℕ) → List (List ℕ) → Command
+split_by None words = Split origin.Input
+split_by (Some word) words = if is_file_word word then (if nat_eq (length words) 2 then Split (origin.Word 2) else BadWord 3) else BadWord 2
+
+-- the place that splitting reads
+abbrev pub place_from : List (List ℕ) → Origin → Place
+place_from words origin.Input = Input
+place_from words (origin.Word number) = File (text_or_none (word_at number words))
+
+-- options and files, in any order, ask for a translation, an option as often as one likes; `-split` stands first, before a file at most; a word that
+-- asks for the usage stands alone; else the first word is named with which no command goes on
+abbrev pub command_for : Option (List ℕ) → List (List ℕ) → Command
+command_for None words = translation_by words (first_other 1 [] words)
+command_for (Some first) words =
+    if is_split first then split_by (word_at 2 words) words
+    else (if is_help first then (if nat_eq (length words) 1 then Help else BadWord 2) else translation_by words (first_other 1 [] words))
+
+abbrev pub command_of : List (List ℕ) → Command
+command_of words = command_for (word_at 1 words) words

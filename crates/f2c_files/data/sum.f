@@ -1,0 +1,5 @@
+      I = 2
+      J = I + 40
+      PRINT *, J
+      PRINT *, I + J + 100
+      END

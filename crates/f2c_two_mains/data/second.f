@@ -1,0 +1,2 @@
+      PRINT *, 7
+      END

@@ -1,0 +1,3 @@
+pub mod UnitReaches
+pub mod UnitSteps
+pub mod UnitBodiesMade

@@ -1,0 +1,25 @@
+-- The exit status of each outcome, and the outcomes where a file is not there.
+use Rattle.std.specs.Prelude.{◌≡◌, ℕ, List}
+use Rattle.outcomes.specs.declared.outcome.Outcome.{Outcome}
+use Rattle.outcomes.specs.declared.outcome.Outcome.TheVariants.{Done, Refused, BadWord, NotThere, Unread, Unwritten, NoFreeName, NoMemory}
+
+abbrev pub status_of : Outcome → ℕ
+status_of Done = 0
+status_of (Refused refusal name) = 1
+status_of (BadWord number) = 2
+status_of (NotThere name) = 3
+status_of (Unread place) = 3
+status_of (Unwritten place) = 3
+status_of NoMemory = 5
+status_of (NoFreeName number) = 13
+
+-- that a file of this name is not there, or want of memory for the name
+abbrev pub IsNotThereOrNoMemory : List ℕ → Outcome → Type 0
+IsNotThereOrNoMemory name (NotThere other) = other ≡ name
+IsNotThereOrNoMemory name NoMemory = Unit {0}
+IsNotThereOrNoMemory name Done = ⊥
+IsNotThereOrNoMemory name (Refused refusal other) = ⊥
+IsNotThereOrNoMemory name (BadWord number) = ⊥
+IsNotThereOrNoMemory name (Unread place) = ⊥
+IsNotThereOrNoMemory name (Unwritten place) = ⊥
+IsNotThereOrNoMemory name (NoFreeName number) = ⊥

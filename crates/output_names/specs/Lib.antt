@@ -1,0 +1,2 @@
+pub mod OutputNames
+pub mod WordPlaces

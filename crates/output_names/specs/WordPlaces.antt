@@ -1,0 +1,23 @@
+-- The places that the words of a translation name.
+use Rattle.std.specs.Prelude.{ℕ, List, [], ◌∷◌, map}
+use Rattle.std.specs.List.{filter}
+use Rattle.f2c_outside.specs.declared.shelves.Place.{Place}
+use Rattle.f2c_outside.specs.declared.shelves.Place.TheVariants.{Input, Output, File}
+use Rattle.output_names.specs.OutputNames.{is_file_word, output_name}
+
+-- the words that name files
+abbrev pub file_words : List (List ℕ) → List (List ℕ)
+file_words words = filter is_file_word words
+
+-- places, or one other where there are none
+abbrev pub places_or : Place → List Place → List Place
+places_or other [] = other ∷ []
+places_or other (place ∷ places) = place ∷ places
+
+-- the FORTRAN files that are named, or Input
+abbrev pub inputs_of : List (List ℕ) → List Place
+inputs_of words = places_or Input (map File (file_words words))
+
+-- the C file of each, or Output
+abbrev pub outputs_of : List (List ℕ) → List Place
+outputs_of words = places_or Output (map (λ word. File (output_name word)) (file_words words))

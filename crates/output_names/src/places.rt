@@ -1,0 +1,77 @@
+//! The places that the words of a translation name.
+
+ghost use Rattle.std.specs.Prelude.{◌≡◌, ◌++◌, ◌∷◌, [], map, IfOk};
+ghost use Rattle.f2c_outside.specs.declared.shelves.Place.TheVariants as place_of;
+ghost use Rattle.output_names.specs.OutputNames as names;
+ghost use Rattle.output_names.specs.WordPlaces as places_by;
+
+use crate::files::{input_name, is_file_word, output_name};
+use f2c_outside::shelves::Place;
+use f2c_outside::texts::{NoMemory, Words};
+use plain_data::Items;
+use std::alloc::Global;
+
+/// Places, and the file that a word names, if it names one.
+fn with_input(alloc: Global, places: Items<Place>, word: &[u8]) -> Result<Items<Place>, NoMemory>
+    ensures { IfOk result (λ more. more ≡ places ++ map place_of.File (places_by.file_words (word.now ∷ []))) }
+{
+    let mut places = places;
+    if is_file_word(word) {
+        places.push(Place::File(input_name(alloc, word)?))?;
+    }
+    Ok(places)
+}
+
+/// Places, and the C file of the translation of the file that a word names, if it names one.
+fn with_output(alloc: Global, places: Items<Place>, word: &[u8]) -> Result<Items<Place>, NoMemory>
+    ensures { IfOk result (λ more. more ≡ places ++ map (λ w. place_of.File (names.output_name w)) (places_by.file_words (word.now ∷ []))) }
+{
+    let mut places = places;
+    if is_file_word(word) {
+        places.push(Place::File(output_name(alloc, word)?))?;
+    }
+    Ok(places)
+}
+
+/// Places, or one other where there are none.
+fn places_or(other: Place, places: Items<Place>) -> Result<Items<Place>, NoMemory>
+    ensures { IfOk result (λ some. some ≡ places_by.places_or other places) }
+{
+    let mut places = places;
+    if places.is_empty() {
+        places.push(other)?;
+    }
+    Ok(places)
+}
+
+/// The FORTRAN files that words name, in their order, or Input where they name none.
+pub fn inputs_of(alloc: Global, words: &Words) -> Result<Items<Place>, NoMemory>
+    ensures { IfOk result (λ places. places ≡ places_by.inputs_of words.now) }
+{
+    let mut places = Items::new(alloc);
+    let mut passed = 0;
+    while passed < words.len() {
+        passed += 1;
+        match words.get(passed) {
+            Some(word) => places = with_input(alloc, places, word)?,
+            None => {}
+        }
+    }
+    places_or(Place::Input, places)
+}
+
+/// The C files of the translations of the FORTRAN files that words name, in their order, or Output where they name none.
+pub fn outputs_of(alloc: Global, words: &Words) -> Result<Items<Place>, NoMemory>
+    ensures { IfOk result (λ places. places ≡ places_by.outputs_of words.now) }
+{
+    let mut places = Items::new(alloc);
+    let mut passed = 0;
+    while passed < words.len() {
+        passed += 1;
+        match words.get(passed) {
+            Some(word) => places = with_output(alloc, places, word)?,
+            None => {}
+        }
+    }
+    places_or(Place::Output, places)
+}

@@ -1,0 +1,2 @@
+pub mod ToldHeadings
+pub mod ToldProcedures

@@ -1,0 +1,6 @@
+pub mod ToldApart
+pub mod Words
+pub mod Callees
+pub mod Spelled
+pub mod Composed
+pub mod Whole

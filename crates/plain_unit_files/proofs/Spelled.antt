@@ -1,0 +1,268 @@
+-- What C asks besides of the functions of plain units, and of their file: names and labels are names of C, what is called is declared once, an array has an
+-- element, and units of outputs have 32 bits. ANSI X3.9-1978, sections 2.2 and 5.1; C89, 3.1.2 and 3.5.
+use Rattle.std.specs.List.{list_all}
+use Rattle.std.specs.Prelude.{◌≡◌, ℕ, suc, ◌+◌, ◌≤◌, ◌^◌, nat_le, ℤ, Bool, true, false, ◌&&◌, List, [], ◌∷◌, ◌++◌, map, length, Option, Some, None, unwrap_or, slice_get}
+use Rattle.std.proofs.Common.{refl, sym, ap, ◌∙◌, subst, arith}
+use Rattle.f_tree.specs.CNames.{variable_name, made_name, FunctionResult, ConstantOf}
+use Rattle.f_tree.specs.CNames as c_names
+use Rattle.f_tree.specs.Facts.{Formal, UnitKind, MainProgram, SubroutineUnit, FunctionUnit, BlockDataUnit, EntryPoint}
+use Rattle.f_tree.specs.Setting.{IsIn, first_in, later_in}
+use Rattle.f_tree.specs.Values.{in_range}
+use Rattle.l_core.specs.Steps.{Starts, Step, Acts, Text}
+use Rattle.c_tree.specs.declared.types.NumberType.{NumberType}
+use Rattle.c_tree.specs.CWords.{is_name}
+use Rattle.c_tree.specs.Flat.{Flat}
+use Rattle.c_tree.specs.Tokens.{begins_with, is_letter}
+use Rattle.c_laws.proofs.TokenSpellings.{and-first, and-second}
+use Rattle.c_emit.specs.Calls.{unit_of}
+use Rattle.c_emit.specs.Flats.{flat_of}
+use Rattle.c_emit.specs.Numbers.{Writing}
+use Rattle.c_structure.specs.Statements.{Outline}
+use Rattle.faithful.specs.Signatures.{named_formals}
+use Rattle.faithful.specs.StorageImage.{name_of_entries, function_name}
+use Rattle.linking_laws.specs.Linked.{AreDistinct}
+use Rattle.main_file.specs.MainFile.{Listing, Called, temporary_names, list_names}
+use Rattle.main_translation.specs.Contents.{count_by, variable_of, listings_from, calls_of}
+use Rattle.main_translation_laws.proofs.Lists.{InEither, in_one, in_other, in_either, in_map, in_part, in_at, at_in, distinct_by, none_by}
+use Rattle.main_translation_laws.proofs.Contents.{each_of, small_magnitude, listings_count}
+use Rattle.main_translation_laws.proofs.Storage.{name_is, count_is}
+use Rattle.main_file_texts.proofs.Words.{constant_word, variable_word}
+use Rattle.main_file_texts.proofs.Files.{label_word, started_fits, split, listing_fits, all_words, all_names, all_words_there, names_part, temporaries_words, lists_words}
+use Rattle.plain_forms.specs.SpellableNames.{has_element, is_spellable_name}
+use Rattle.plain_files.proofs.Composed.{named}
+use Rattle.procedure_emission.specs.ProcedureItems.{Numbers, procedure_item}
+use Rattle.unit_file.specs.UnitFile.{Variable, Parameter, Inventory, WrittenUnit, result_names, lasting_names}
+use Rattle.unit_file.specs.UnitItems.{unit_items}
+use Rattle.unit_file.specs.UnitNames.{constant_names, called_names, own_names}
+use Rattle.unit_places.specs.UnitPlaces.{inventories}
+use Rattle.unit_file_laws.specs.KnownUnits.{unit_writing}
+use Rattle.unit_forms.specs.SpellableUnits.{is_called_well, is_spellable_unit}
+use Rattle.unit_programs.specs.TranslatedUnits.{Rendering, written_of, numbers_of}
+use Rattle.unit_translation.specs.UnitContents.{LoweredUnit, constants_passed, parameter_for, formals_in, parameters_in, procedures_in, inventory_of}
+use Rattle.unit_translation_laws.specs.PlainUnits.{IsPlainUnit, ArePlainUnits}
+use Rattle.unit_file_texts.specs.WellFormedUnits.{parameter_words, local_words, has_elements, is_short, IsSpellable, AreSpellable}
+use Rattle.plain_unit_files.specs.RenderedUnits.{AreRendered}
+use Rattle.plain_unit_files.proofs.ToldApart.{called_well, formals_spelled, stored_spelled, kind_named}
+use Rattle.plain_unit_files.proofs.Words.{closes, external_closes, constant_closes, external_word, main_word, main_closes}
+use Rattle.plain_unit_files.proofs.Callees.{HaveOneEntry, names_in, all_callees, callees_of, called_are, called_apart}
+
+each_told : {A : Type 0} (test : A → Bool) (xs : List A) → ((x : A) → IsIn x xs → test x ≡ true) → list_all test xs ≡ true
+each_told test [] each = refl
+each_told test (x ∷ xs) each = (λ i. each x first_in i && each_told test xs (λ y o. each y (later_in o)) i)
+
+-- what has the function of a name
+record IsRenderedAs (rs : List Rendering) (name : List ℕ) : Type 0 where
+  from : Rendering
+  among : IsIn from rs
+  is : from.written.inventory.name ≡ name
+
+rendered_in : (rs : List Rendering) (name : List ℕ) → IsIn name (own_names (inventories (written_of rs))) → IsRenderedAs rs name
+rendered_in [] name o = elim o [ ]
+rendered_in (r ∷ rs) _ first_in = record { from = r; among = first_in; is = refl }
+rendered_in (r ∷ rs) name (later_in o) = let found = rendered_in rs name o in record { from = found.from; among = later_in found.among; is = found.is }
+
+-- ## Units of outputs
+
+unit_listings_fit : (numbers : Numbers) (w : Writing) (label : ℕ → Option ℕ) (n : ℕ) (steps : List Step) (items : List Flat) → unit_items numbers w label n steps ≡ Some items → (l : Listing) → IsIn l (listings_from n steps) → in_range l.unit ≡ true
+unfolding listings_from unit_items procedure_item
+unit_listings_fit numbers w label n [] items h l o = elim o [ ]
+unit_listings_fit numbers w label n (Acts (Starts way layout controls) ps m ∷ later) items h l o =
+    let s = split (flat_of w (λ k. k) label n (Acts (Starts way layout controls) ps m)) (unit_items numbers w label (suc n) later) items h in
+    listing_fits n (unit_of ps) (listings_from (suc n) later) (started_fits w label n way layout controls ps m s.item s.item_is) (unit_listings_fit numbers w label (suc n) later s.later s.later_is) l o
+unit_listings_fit numbers w label n (st ∷ later) items h l o =
+    let s = split (procedure_item numbers w (λ k. k) label n st) (unit_items numbers w label (suc n) later) items h in unit_listings_fit numbers w label (suc n) later s.later s.later_is l o
+
+-- ## Arrays
+
+element_told : (count : Option ℕ) → has_element count ≡ true → nat_le 1 (unwrap_or count 1) ≡ true
+unfolding has_element
+element_told None is = refl
+element_told (Some n) is = is
+
+module _ (us : List LoweredUnit) (plain : ArePlainUnits us) (spelled : (j : ℕ) (u : LoweredUnit) → slice_get us j ≡ Some u → is_spellable_unit u.unit ≡ true) where
+  single : HaveOneEntry us
+  single k u at = let p = plain.units k u at in (record { name = p.name; formals = p.formals; start = 0 }, p.entry)
+
+  -- ## The function of a unit
+
+  module _ (j : ℕ) (u : LoweredUnit) (at : slice_get us j ≡ Some u) where
+    abbrev its : IsPlainUnit us j u
+    its = plain.units j u at
+
+    abbrev its_entry : EntryPoint
+    its_entry = record { name = its.name; formals = its.formals; start = 0 }
+
+    well : is_called_well u.unit.kind its.name ≡ true
+    well = called_well u.unit its_entry its.entry (spelled j u at)
+
+    external : function_name u.unit ≡ name_of_entries u.unit.entries → function_name u.unit ≡ c_names.external_name its.name
+    external is = is ∙ ap name_of_entries its.entry
+
+    function_word : is_name (function_name u.unit) ≡ true
+    unfolding is_called_well
+    function_word = by u.unit.kind refl well
+      where
+        called : function_name u.unit ≡ name_of_entries u.unit.entries → (begins_with is_letter its.name && c_names.is_name its.name) ≡ true → is_name (function_name u.unit) ≡ true
+        called is both =
+            ap is_name (external is) ∙ external_word its.name (and-first (begins_with is_letter its.name) (c_names.is_name its.name) both) (and-second (begins_with is_letter its.name) (c_names.is_name its.name) both)
+
+        by : (k : UnitKind) → u.unit.kind ≡ k → is_called_well k its.name ≡ true → is_name (function_name u.unit) ≡ true
+        by MainProgram is both = ap is_name (kind_named u.unit MainProgram is) ∙ main_word
+        by SubroutineUnit is both = called (kind_named u.unit SubroutineUnit is) both
+        by FunctionUnit is both = called (kind_named u.unit FunctionUnit is) both
+        by BlockDataUnit is both = absurd (its.runs is)
+
+    function_closes : closes (function_name u.unit) ≡ true
+    function_closes = by u.unit.kind refl
+      where
+        by : (k : UnitKind) → u.unit.kind ≡ k → closes (function_name u.unit) ≡ true
+        by MainProgram is = ap closes (kind_named u.unit MainProgram is) ∙ main_closes
+        by SubroutineUnit is = ap closes (external (kind_named u.unit SubroutineUnit is)) ∙ external_closes its.name
+        by FunctionUnit is = ap closes (external (kind_named u.unit FunctionUnit is)) ∙ external_closes its.name
+        by BlockDataUnit is = absurd (its.runs is)
+
+  -- ## What it declares
+
+  module _ (j : ℕ) (u : LoweredUnit) (at : slice_get us j ≡ Some u) where
+    abbrev one : IsPlainUnit us j u
+    one = plain.units j u at
+
+    abbrev v : Inventory
+    v = inventory_of us u
+
+    abbrev parameters_by : List Formal → List Parameter
+    parameters_by formals = map (λ x. record { name = x; type = parameter_for (u.use_of x) }) (named_formals formals)
+
+    parameters_are : parameters_in u ≡ parameters_by one.formals
+    unfolding parameters_in formals_in
+    parameters_are = ap (λ (entries : List EntryPoint). parameters_by (formals_in entries)) one.entry
+
+    parameter_named : (name : List ℕ) → IsIn name (parameter_words v) → is_name name ≡ true
+    parameter_named name o =
+        let found = in_map (λ (p : Parameter). variable_name p.name) (parameters_by one.formals) name (subst (λ ps. IsIn name (map (λ (p : Parameter). variable_name p.name) ps)) parameters_are o) in
+        let from = in_map (λ x. record { name = x; type = parameter_for (u.use_of x) }) (named_formals one.formals) found.from found.among in
+        let letters = formals_spelled u.unit (record { name = one.name; formals = one.formals; start = 0 }) one.entry (spelled j u at) in
+        subst (λ x. is_name x ≡ true) (ap (λ (p : Parameter). variable_name p.name) from.is ∙ found.is)
+        (variable_word from.from (each_of (begins_with is_letter) (named_formals one.formals) from.from letters from.among) (one.dummies.named from.from from.among))
+
+    result_named : (returned : Option NumberType) (name : List ℕ) → IsIn name (result_names returned) → is_name name ≡ true
+    unfolding made_name
+    result_named None name o = elim o [ ]
+    result_named (Some type) _ first_in = refl
+    result_named (Some type) name (later_in o) = elim o [ ]
+
+    called_named : (name : List ℕ) → IsIn name (called_names v) → is_name name ≡ true
+    called_named name o = by (in_either name (map (λ (call : Called). call.name) (calls_of u.text.steps)) (names_in (all_callees us single (procedures_in u.text))) (subst (IsIn name) (called_are us single u) o))
+      where
+        by : InEither name (map (λ (call : Called). call.name) (calls_of u.text.steps)) (names_in (all_callees us single (procedures_in u.text))) → is_name name ≡ true
+        by (in_one p) = all_words all_names all_words_there name (in_part name (map (λ (call : Called). call.name) (calls_of u.text.steps)) all_names (names_part u.text.steps) p)
+        by (in_other p) =
+            let found = callees_of us single (procedures_in u.text) name p in
+            let own = found.2 in ap is_name own.own ∙ function_word own.place own.unit own.at
+
+    variable_named : (name : List ℕ) → IsIn name (map (λ (one : Variable). variable_name one.name) v.variables) → is_name name ≡ true
+    unfolding is_spellable_name
+    variable_named name o =
+        let found = in_map (λ (one : Variable). variable_name one.name) v.variables name o in
+        let from = in_map (variable_of u.unit) u.unit.stored found.from found.among in
+        let called = ap (λ (x : Variable). x.name) (sym from.is) ∙ name_is u.unit from.from in
+        let both = named u.unit (stored_spelled u.unit (spelled j u at)) from.from from.among in
+        subst (λ x. is_name x ≡ true) (ap variable_name (sym called) ∙ found.is)
+        (variable_word from.from.name (and-first (begins_with is_letter from.from.name) (has_element (count_by (u.unit.attribute from.from.name).bounds)) both) (one.storage.named from.from from.among))
+
+    lists_few : 1 + length (listings_from 0 u.text.steps) ≤ 2 ^ 64
+    lists_few = let few = listings_count 0 u.text.steps in let fits = one.text.steps in omega (arith, few, fits)
+
+    lasting_named : (name : List ℕ) → IsIn name (lasting_names v) → is_name name ≡ true
+    lasting_named name o = by (in_either name (map (λ (one : Variable). variable_name one.name) v.variables) (list_names 1 v.lists) o)
+      where
+        by : InEither name (map (λ (one : Variable). variable_name one.name) v.variables) (list_names 1 v.lists) → is_name name ≡ true
+        by (in_one p) = variable_named name p
+        by (in_other p) = lists_words 1 v.lists lists_few name p
+
+    local_named : (name : List ℕ) → IsIn name (local_words v) → is_name name ≡ true
+    local_named name o = first (in_either name (result_names v.returned) (temporary_names 1 v.temporaries ++ (called_names v ++ lasting_names v)) o)
+      where
+        third : InEither name (called_names v) (lasting_names v) → is_name name ≡ true
+        third (in_one p) = called_named name p
+        third (in_other p) = lasting_named name p
+
+        second : InEither name (temporary_names 1 v.temporaries) (called_names v ++ lasting_names v) → is_name name ≡ true
+        second (in_one p) = temporaries_words 1 v.temporaries one.text.temporaries name p
+        second (in_other p) = third (in_either name (called_names v) (lasting_names v) p)
+
+        first : InEither name (result_names v.returned) (temporary_names 1 v.temporaries ++ (called_names v ++ lasting_names v)) → is_name name ≡ true
+        first (in_one p) = result_named v.returned name p
+        first (in_other p) = second (in_either name (temporary_names 1 v.temporaries) (called_names v ++ lasting_names v) p)
+
+    words_named : list_all is_name (parameter_words v ++ local_words v) ≡ true
+    words_named = each_told is_name (parameter_words v ++ local_words v) (λ name o. by name (in_either name (parameter_words v) (local_words v) o))
+      where
+        by : (name : List ℕ) → InEither name (parameter_words v) (local_words v) → is_name name ≡ true
+        by name (in_one p) = parameter_named name p
+        by name (in_other p) = local_named name p
+
+    calls_distinct : AreDistinct (called_names v)
+    calls_distinct = distinct_by (called_names v) (called_apart us single u)
+
+    elements_there : list_all has_elements v.variables ≡ true
+    unfolding is_spellable_name
+    elements_there = each_told has_elements v.variables (λ one o.
+        let from = in_map (variable_of u.unit) u.unit.stored one o in
+        let both = named u.unit (stored_spelled u.unit (spelled j u at)) from.from from.among in
+        let count = ap (λ (x : Variable). x.count) (sym from.is) ∙ count_is u.unit from.from in
+        subst (λ count. nat_le 1 (unwrap_or count 1) ≡ true) (sym count)
+        (element_told (count_by (u.unit.attribute from.from.name).bounds) (and-second (begins_with is_letter from.from.name) (has_element (count_by (u.unit.attribute from.from.name).bounds)) both)))
+
+  -- ## The file
+
+  module _ (ws : List WrittenUnit) (r : AreRendered us ws) where
+    abbrev zs : List ℤ
+    zs = constants_passed us
+
+    function_spelled : (j : ℕ) (x : Rendering) → slice_get r.renderings j ≡ Some x → IsSpellable x
+    function_spelled j x at =
+        let own = r.each j x at in
+        let u = own.unit in
+        let text = (plain.units j u own.at).text in
+        let emitted = subst (λ (t : Text). unit_items (numbers_of r.renderings) (unit_writing zs (written_of r.renderings) j x.written x.text.facts x.kind) t.position 0 t.steps ≡ Some x.items) own.text (r.translated.units j x at).built.emitted in
+        let short = each_told is_short (listings_from 0 u.text.steps)
+        (unit_listings_fit (numbers_of r.renderings) (unit_writing zs (written_of r.renderings) j x.written x.text.facts x.kind) u.text.position 0 u.text.steps x.items emitted) in
+        record {
+          names = subst (λ (v : Inventory). list_all is_name (parameter_words v ++ local_words v) ≡ true) (sym own.inventory) (words_named j u own.at);
+          labels = λ n name h. label_word u.text text.labels text.marks n name (ap (λ (o : Outline). o.label n) (sym own.outline) ∙ h);
+          calls = subst (λ (v : Inventory). AreDistinct (called_names v)) (sym own.inventory) (calls_distinct j u own.at);
+          elements = subst (λ (v : Inventory). list_all has_elements v.variables ≡ true) (sym own.inventory) (elements_there j u own.at);
+          outputs = subst (λ (v : Inventory). list_all is_short v.lists ≡ true) (sym own.inventory) short;
+        }
+
+    -- the functions of the file are those of the units
+    own_by : (test : List ℕ → Bool) → ((j : ℕ) (u : LoweredUnit) → slice_get us j ≡ Some u → test (function_name u.unit) ≡ true) → (name : List ℕ) → IsIn name (own_names (inventories (written_of r.renderings))) → test name ≡ true
+    own_by test each name o = let found = rendered_in r.renderings name o in ap test (sym found.is) ∙ by found.from found.among
+      where
+        by : (x : Rendering) → IsIn x r.renderings → test x.written.inventory.name ≡ true
+        by x p = let place = at_in x r.renderings p in let own = r.each place.index x place.at in ap (λ (v : Inventory). test v.name) own.inventory ∙ each place.index own.unit own.at
+
+    constant_small : (z : ℤ) → IsIn z zs → c_names.IsNumbered (ConstantOf z)
+    constant_small z o = let place = at_in z zs o in small_magnitude z (r.translated.numbers place.index z place.at)
+
+    constant_named : (name : List ℕ) → IsIn name (constant_names zs) → is_name name ≡ true
+    constant_named name o = let found = in_map (λ z. made_name (ConstantOf z)) zs name o in subst (λ x. is_name x ≡ true) found.is (constant_word found.from (constant_small found.from found.among))
+
+    constant_open : (name : List ℕ) → IsIn name (constant_names zs) → closes name ≡ false
+    constant_open name o = let found = in_map (λ z. made_name (ConstantOf z)) zs name o in subst (λ x. closes x ≡ false) found.is (constant_closes found.from (constant_small found.from found.among))
+
+    file_named : (name : List ℕ) → InEither name (constant_names zs) (own_names (inventories (written_of r.renderings))) → is_name name ≡ true
+    file_named name (in_one p) = constant_named name p
+    file_named name (in_other p) = own_by is_name function_word name p
+
+    pub units_are_spellable : AreSpellable zs r.renderings
+    units_are_spellable = record {
+      functions = function_spelled;
+      names =
+          each_told is_name (constant_names zs ++ own_names (inventories (written_of r.renderings)))
+          (λ name o. file_named name (in_either name (constant_names zs) (own_names (inventories (written_of r.renderings))) o));
+      apart = λ i name at.
+          none_by name (own_names (inventories (written_of r.renderings)))
+          (λ other o same. let no : true ≡ false = sym (own_by closes function_closes other o) ∙ ap closes (sym same) ∙ constant_open name (in_at (constant_names zs) i name at) in absurd (cc));
+    }

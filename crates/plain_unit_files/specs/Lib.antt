@@ -1,0 +1,2 @@
+pub mod PlainUnitFiles
+pub mod RenderedUnits

@@ -1,0 +1,4 @@
+pub mod Fixed
+pub mod Dummies
+pub mod PlainParts
+pub mod ExampleRows

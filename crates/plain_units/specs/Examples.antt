@@ -1,0 +1,91 @@
+-- A function and a subroutine that are plain, and the function with one thing more or another, by which it is not. ANSI X3.9-1978, sections 4.1, 5.5, 8.6, 15.5.1,
+-- 15.6, 15.7 and 15.9.2.
+use Rattle.std.specs.Prelude.{◌≡◌, false, true, List, [], ◌∷◌, ◌++◌, codes, Some, None}
+use Rattle.f_tree.specs.declared.expressions.Expr as expr
+use Rattle.f_tree.specs.declared.expressions.BinaryOp.TheVariants as op
+use Rattle.f_tree.specs.declared.names.Basic.TheVariants.{Integer, Character}
+use Rattle.f_tree.specs.declared.names.Options.{Options}
+use Rattle.f_tree.specs.declared.statements.Body as body
+use Rattle.f_tree.specs.declared.statements.DummyArgument.{DummyArgument}
+use Rattle.f_tree.specs.declared.statements.DummyArgument.TheVariants as dummy
+use Rattle.f_tree.specs.declared.statements.Stmt.{Stmt}
+use Rattle.f_tree.specs.declared.statements.UnitKind.TheVariants as kind
+use Rattle.f_tree.specs.declared.statements.UpperBound.TheVariants as upper
+use Rattle.f_tree.specs.declared.units.Unit.{Unit as WrittenUnit}
+use Rattle.plain_mains.specs.Examples.{on_card, number, element, array_up_to}
+use Rattle.unit_forms.specs.PlainProcedures.{is_plain_unit}
+
+-- `INTEGER FUNCTION LAST` with a list of dummies and some statements
+abbrev pub function_of : List DummyArgument → List Stmt → WrittenUnit
+function_of dummies statements =
+    record { file = 0; card = 1; kind = kind.Function (record { basic = Integer; length = None }); name = Some (codes "last"); dummies = dummies; statements = statements }
+
+-- `INTEGER A(3)`, `EXTERNAL K`
+abbrev pub declared : List Stmt
+declared = array_up_to (number 3) ∷ on_card 2 (body.External (codes "k" ∷ [])) ∷ []
+
+-- `LAST=A(N)+K(N)`, `END`
+abbrev pub valued : List Stmt
+valued =
+    on_card 5 (body.Assign (expr.Name (codes "last")) (expr.Binary op.Plus (element (expr.Name (codes "n"))) (expr.Apply (codes "k") (expr.Name (codes "n") ∷ [])))) ∷
+    on_card 6 body.End ∷ []
+
+-- `(A,K,N)`
+abbrev pub its_dummies : List DummyArgument
+its_dummies = dummy.Named (codes "a") ∷ dummy.Named (codes "k") ∷ dummy.Named (codes "n") ∷ []
+
+-- a function of an array, a function and a variable
+unfoldable pub element_and_function : WrittenUnit
+element_and_function = function_of its_dummies (declared ++ valued)
+
+-- `SUBROUTINE STEP(N)`, `N=N+1`, `END`
+unfoldable pub variable_stepped : WrittenUnit
+variable_stepped = record {
+  file = 0;
+  card = 1;
+  kind = kind.Subroutine;
+  name = Some (codes "step");
+  dummies = dummy.Named (codes "n") ∷ [];
+  statements = on_card 2 (body.Assign (expr.Name (codes "n")) (expr.Binary op.Plus (expr.Name (codes "n")) (number 1))) ∷ on_card 3 body.End ∷ [];
+}
+
+-- the function with `CHARACTER N`
+unfoldable pub dummy_of_text : WrittenUnit
+dummy_of_text =
+    function_of its_dummies (declared ++ on_card 3 (body.Declare (record { basic = Character; length = None }) (record { name = codes "n"; dimensions = []; length = None } ∷ [])) ∷ valued)
+
+-- with `DIMENSION LAST(2)`
+unfoldable pub result_of_many : WrittenUnit
+result_of_many =
+    function_of its_dummies (declared ++ on_card 3 (body.Dimension (record { name = codes "last"; dimensions = record { lower = None; upper = upper.Value (number 2) } ∷ [] } ∷ [])) ∷ valued)
+
+-- with `(A,K,N,N)`
+unfoldable pub dummy_twice : WrittenUnit
+dummy_twice = function_of (its_dummies ++ dummy.Named (codes "n") ∷ []) (declared ++ valued)
+
+-- with `ENTRY M(N)`
+unfoldable pub entered_twice : WrittenUnit
+entered_twice = function_of its_dummies (declared ++ on_card 3 (body.Entry (codes "m") (dummy.Named (codes "n") ∷ [])) ∷ valued)
+
+-- with `PARAMETER (N=1)`
+unfoldable pub constant_as_dummy : WrittenUnit
+constant_as_dummy = function_of its_dummies (declared ++ on_card 3 (body.Parameter (record { name = codes "n"; value = number 1 } ∷ [])) ∷ valued)
+
+-- with `(A,K,N,LAST)`
+unfoldable pub result_as_dummy : WrittenUnit
+result_as_dummy = function_of (its_dummies ++ dummy.Named (codes "last") ∷ []) (declared ++ valued)
+
+-- the first two are plain, and the others are not
+pub record ExamplesAreTold : Type 0 where
+  pub function : (options : Options) → is_plain_unit options element_and_function ≡ true
+  pub subroutine : (options : Options) → is_plain_unit options variable_stepped ≡ true
+  pub text : (options : Options) → is_plain_unit options dummy_of_text ≡ false
+  pub many : (options : Options) → is_plain_unit options result_of_many ≡ false
+  pub twice : (options : Options) → is_plain_unit options dummy_twice ≡ false
+  pub entered : (options : Options) → is_plain_unit options entered_twice ≡ false
+  pub constant : (options : Options) → is_plain_unit options constant_as_dummy ≡ false
+  pub result : (options : Options) → is_plain_unit options result_as_dummy ≡ false
+
+unfoldable pub examples_opened : Unit {0}
+unfolding element_and_function variable_stepped dummy_of_text result_of_many dummy_twice entered_twice constant_as_dummy result_as_dummy
+examples_opened = tt

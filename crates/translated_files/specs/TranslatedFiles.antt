@@ -1,0 +1,166 @@
+-- The C file of a FORTRAN file of which each form is translated, and where a file has another form: F99 at the first statement of a unit that has one, else
+-- where the unit begins. A file is translated whose units are main programs, subroutines and functions of integers and logicals, with storage of their own,
+-- which call procedures of the file, and of the statements that lowering and emission know. ANSI X3.9-1978, sections 2.4, 4.1, 8 to 12, 14 and 15.
+use Rattle.std.specs.List.{list_all, list_any}
+use Rattle.std.specs.Prelude.{ℕ, suc, ◌+◌, ◌^◌, nat_lt, nat_le, Bool, true, false, ◌&&◌, List, [], ◌∷◌, ◌++◌, map, length, Option, Some, None, option_and_then, bytes_eq, if◌then◌else◌}
+use Rattle.f_tree.specs.declared.expressions.Expr.{Expr}
+use Rattle.f_tree.specs.declared.expressions.Expr.TheOpen as expr
+use Rattle.f_tree.specs.declared.names.Class.{Class}
+use Rattle.f_tree.specs.declared.names.Class.TheVariants as class
+use Rattle.f_tree.specs.declared.names.Options.{Options}
+use Rattle.f_tree.specs.declared.refusals.Kind.TheVariants.{NotBuiltYet}
+use Rattle.f_tree.specs.declared.refusals.Refusal.{Refusal}
+use Rattle.f_tree.specs.declared.statements.Body.{Body}
+use Rattle.f_tree.specs.declared.statements.Body.TheOpen as body
+use Rattle.f_tree.specs.declared.statements.Stmt.{Stmt}
+use Rattle.f_tree.specs.declared.units.File.{File}
+use Rattle.f_tree.specs.declared.units.Unit.{Unit as GivenUnit}
+use Rattle.f_tree.specs.Values.{Bytes}
+use Rattle.f_tree.specs.Facts.{UnitKind, MainProgram, SubroutineUnit, FunctionUnit, BlockDataUnit}
+use Rattle.f_tree.specs.Folds.{fold_body, fold_expr}
+use Rattle.f_tree.specs.Uses.{uses_of_statements}
+use Rattle.f_tree.specs.Reading.{name_or_none}
+use Rattle.f_tree.specs.Attributes.{arrays_of, Described, all_described}
+use Rattle.f_tree.specs.Lines.{unit_kind, unit_read}
+use Rattle.declaration_rows.specs.NameRows.{given_names}
+use Rattle.l_core.specs.Steps.{Text}
+use Rattle.lowering.specs.Units.{lowered_unit}
+use Rattle.c_tree.specs.declared.file.CFile.{CFile}
+use Rattle.faithful.specs.Signatures.{dummy_of}
+use Rattle.main_translation.specs.Outlined.{labels_in}
+use Rattle.unit_forms.specs.OwnSetting.{own_facts}
+use Rattle.unit_forms.specs.PlainProcedures.{is_plain_unit}
+use Rattle.unit_forms.specs.SpellableUnits.{is_spellable_unit}
+use Rattle.unit_translation.specs.UnitContents.{LoweredUnit, temporaries_kept}
+use Rattle.named_units.specs.NamedUnits.{named_body_of, named_file}
+use Rattle.translated_forms.specs.LoweredForms.{statements_lower}
+use Rattle.translated_forms.specs.TranslatedForms.{stop_fits, layer_form}
+
+-- ## Units with their lowered texts
+
+-- a lowered text that fits into memory
+unfoldable pub text_fits : Text → Bool
+text_fits u =
+    nat_le (1 + length u.steps) (2 ^ 64) && (nat_le (1 + temporaries_kept u.steps) (2 ^ 64) && (nat_le (1 + length u.marks) (2 ^ 64)
+    && (list_all (λ label. nat_lt label (2 ^ 64)) (labels_in u.steps) && list_all stop_fits u.steps)))
+
+-- the names of the procedures of a file
+unfoldable pub is_procedure : UnitKind → Bool
+is_procedure MainProgram = false
+is_procedure SubroutineUnit = true
+is_procedure FunctionUnit = true
+is_procedure BlockDataUnit = false
+
+unfoldable pub procedure_names : List GivenUnit → List Bytes
+procedure_names [] = []
+procedure_names (u ∷ us) = if is_procedure (unit_kind u) then name_or_none u.name ∷ procedure_names us else procedure_names us
+
+-- a name that stands for a procedure is that of one of the file
+unfoldable pub is_defined : List Bytes → Class → Bytes → Bool
+is_defined procedures class.Procedure x = list_any (bytes_eq x) procedures
+is_defined procedures other x = true
+
+unfoldable pub procedures_are_defined : List Bytes → GivenUnit → Bool
+procedures_are_defined procedures u = list_all (λ (d : Described). is_defined procedures d.attribute.class d.name) (all_described u)
+
+-- the unit is plain, its names are spelled in C, the procedures that it calls or passes are units of the file, and its statements are lowered
+unfoldable pub passes_tests : Options → List Bytes → GivenUnit → Bool
+passes_tests options procedures u =
+    is_plain_unit options u && (is_spellable_unit (unit_read options u) && (procedures_are_defined procedures u && statements_lower (given_names u) u.statements))
+
+unfoldable pub lowered_by : Options → GivenUnit → Option Text → Option LoweredUnit
+lowered_by options u None = None
+lowered_by options u (Some text) =
+    if text_fits text then
+    Some (record { unit = unit_read options u; text = text; use_of = λ x. (dummy_of (uses_of_statements (arrays_of u) u.statements) (unit_read options u).attribute x).use_of })
+    else None
+
+-- a unit among those of the file, by its number
+unfoldable pub lowered_at : Options → List GivenUnit → ℕ → GivenUnit → Option LoweredUnit
+lowered_at options units j u =
+    if passes_tests options (procedure_names units) u then lowered_by options u (lowered_unit (own_facts (map (unit_read options) units) j (unit_read options u))) else None
+
+unfoldable pub lowered_before : Option LoweredUnit → Option (List LoweredUnit) → Option (List LoweredUnit)
+lowered_before (Some u) (Some later) = Some (u ∷ later)
+lowered_before u later = None
+
+unfoldable pub lowered_from : Options → List GivenUnit → ℕ → List GivenUnit → Option (List LoweredUnit)
+lowered_from options units j [] = Some []
+lowered_from options units j (u ∷ later) = lowered_before (lowered_at options units j u) (lowered_from options units (suc j) later)
+
+-- ## The C file
+
+-- a file has a unit
+unfoldable pub file_by : Options → List GivenUnit → Option CFile
+file_by options [] = None
+file_by options (u ∷ later) = option_and_then named_file (lowered_from options (u ∷ later) 0 (u ∷ later))
+
+unfoldable pub file_of : Options → File → Option CFile
+file_of options tree = file_by options tree.units
+
+-- ## Statements by their form
+
+-- no label of an alternate return
+unfoldable pub layer_value : expr.Expr-F Bool → Bool
+layer_value (expr.AltReturn label) = false
+layer_value e = true
+
+-- one layer of a statement, given whether the statement of a logical IF is of such a form: calls and returns besides those of main programs
+unfoldable pub layer_unit_form : body.Body-F Bool → Bool
+layer_unit_form (body.Call x es) = list_all (fold_expr layer_value) es
+layer_unit_form (body.Return e) = true
+layer_unit_form b = layer_form b
+
+unfoldable pub is_translated_form : Body → Bool
+is_translated_form b = fold_body layer_unit_form b
+
+-- ## Rows
+
+-- F99 at the first statement of another form, else where the unit begins
+unfoldable pub form_row : GivenUnit → List Stmt → Refusal
+form_row u [] = record { file = u.file; card = u.card; kind = NotBuiltYet }
+form_row u (s ∷ ss) = if is_translated_form s.body then form_row u ss else record { file = s.file; card = s.card; kind = NotBuiltYet }
+
+unfoldable pub row_unless : {A : Type 0} → Option A → Refusal → List Refusal
+row_unless None r = r ∷ []
+row_unless (Some a) r = []
+
+-- the units that are not lowered
+unfoldable pub rows_of_lowering : Options → List GivenUnit → ℕ → List GivenUnit → List Refusal
+rows_of_lowering options units j [] = []
+rows_of_lowering options units j (u ∷ later) = row_unless (lowered_at options units j u) (form_row u u.statements) ++ rows_of_lowering options units (suc j) later
+
+-- and where all are, those whose functions are not made
+unfoldable pub rows_of_bodies : List LoweredUnit → List LoweredUnit → List GivenUnit → List Refusal
+rows_of_bodies us (lowered ∷ ls) (u ∷ later) = row_unless (named_body_of us lowered) (form_row u u.statements) ++ rows_of_bodies us ls later
+rows_of_bodies us ls later = []
+
+unfoldable pub rows_behind : Option (List LoweredUnit) → List Refusal → List GivenUnit → List Refusal
+rows_behind None rows units = rows
+rows_behind (Some us) rows units = rows_of_bodies us us units
+
+-- a file without units: F99 at card 1
+unfoldable pub units_not_translated : Options → List GivenUnit → List Refusal
+units_not_translated options [] = record { file = 0; card = 1; kind = NotBuiltYet } ∷ []
+units_not_translated options (u ∷ later) = rows_behind (lowered_from options (u ∷ later) 0 (u ∷ later)) (rows_of_lowering options (u ∷ later) 0 (u ∷ later)) (u ∷ later)
+
+-- the rows of a file
+abbrev pub not_translated : Options → File → List Refusal
+not_translated options tree = units_not_translated options tree.units
+
+-- a further file of a set is not translated yet: F99 where its first unit begins
+unfoldable pub further_units : List GivenUnit → List Refusal
+further_units [] = record { file = 0; card = 1; kind = NotBuiltYet } ∷ []
+further_units (u ∷ later) = record { file = u.file; card = u.card; kind = NotBuiltYet } ∷ []
+
+unfoldable pub further_files : List File → List Refusal
+further_files [] = []
+further_files (f ∷ fs) = further_units f.units ++ further_files fs
+
+unfoldable pub files_not_translated : Options → List File → List Refusal
+files_not_translated options [] = []
+files_not_translated options (f ∷ fs) = not_translated options f ++ further_files fs
+
+unfoldable pub translated_files_opened : Unit {0}
+unfolding text_fits is_procedure procedure_names is_defined procedures_are_defined passes_tests lowered_by lowered_at lowered_before lowered_from file_by file_of layer_value layer_unit_form is_translated_form form_row row_unless rows_of_lowering rows_of_bodies rows_behind units_not_translated further_units further_files files_not_translated
+translated_files_opened = tt

@@ -1,0 +1,13 @@
+pub mod Lists
+pub mod StepForms
+pub mod WalkLaws
+pub mod TargetLaws
+pub mod ItemLaws
+pub mod OutputLaws
+pub mod KindLaws
+pub mod ConstantLaws
+pub mod FirstLaws
+pub mod LayoutLaws
+pub mod FunctionLaws
+pub mod ProcedureLaws
+pub mod WholeLaws

@@ -1,0 +1,3 @@
+pub mod ContentsOf
+pub mod Parts
+pub mod Tables

@@ -1,0 +1,5 @@
+pub mod Settings
+pub mod Written
+pub mod Signed
+pub mod Links
+pub mod Faithfulness

@@ -1,0 +1,45 @@
+-- The flat items of the lowered text of a unit that calls others, one for each of its steps, and the procedures that its steps call or pass.
+-- ANSI X3.9-1978, sections 8.7, 15.5 and 15.6; C89, 3.3.2.2 and 3.6.
+use Rattle.std.specs.Prelude.{ℕ, suc, List, [], ◌∷◌, ◌++◌, Option, Some}
+use Rattle.f_tree.specs.declared.names.Class.{Class}
+use Rattle.f_tree.specs.declared.names.Class.TheVariants as class
+use Rattle.f_tree.specs.Values.{Bytes}
+use Rattle.f_tree.specs.Facts.{Facts}
+use Rattle.l_core.specs.Pures.{Name, Pures, NoPure, AndPure}
+use Rattle.l_core.specs.Steps.{Step}
+use Rattle.c_tree.specs.Flat.{Flat}
+use Rattle.c_emit.specs.Numbers.{Writing}
+use Rattle.main_file.specs.MainItems.{item_before}
+use Rattle.procedure_emission.specs.ProcedureItems.{Numbers, procedure_item}
+
+-- ## Items
+
+-- the items of steps from a position on, given the numbers of the functions
+unfoldable pub unit_items : Numbers → Writing → (ℕ → Option ℕ) → ℕ → List Step → Option (List Flat)
+unit_items numbers w label n [] = Some []
+unit_items numbers w label n (st ∷ later) = item_before (procedure_item numbers w (λ m. m) label n st) (unit_items numbers w label (suc n) later)
+
+-- ## What steps call
+
+-- a procedure that is called by its name, and one that is passed by its name
+unfoldable pub procedure_called : Class → Bytes → List Bytes
+procedure_called class.Procedure x = x ∷ []
+procedure_called class.Result x = x ∷ []
+procedure_called class.Unit x = x ∷ []
+procedure_called other x = []
+
+unfoldable pub procedure_passed : Class → Bytes → List Bytes
+procedure_passed class.Procedure x = x ∷ []
+procedure_passed other x = []
+
+unfoldable pub procedures_passed : Facts → Pures → List Bytes
+procedures_passed c NoPure = []
+procedures_passed c (AndPure (Name x) ps) = procedure_passed (c.program.attribute x).class x ++ procedures_passed c ps
+procedures_passed c (AndPure p ps) = procedures_passed c ps
+
+unfoldable pub procedures_named : Facts → Bytes → Pures → List Bytes
+procedures_named c x ps = procedure_called (c.program.attribute x).class x ++ procedures_passed c ps
+
+unfoldable pub unit_items_opened : Unit {0}
+unfolding unit_items procedure_called procedure_passed procedures_passed procedures_named
+unit_items_opened = tt

@@ -1,0 +1,3 @@
+pub mod WellFormedUnits
+pub mod SpelledUnits
+pub mod ExampleText

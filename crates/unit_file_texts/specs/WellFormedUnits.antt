@@ -1,0 +1,47 @@
+-- That the C file of units that call each other is well formed: some tokens spell it. C89, 3.1.2, 3.5, 3.6 and 3.7.
+use Rattle.std.specs.List.{list_all}
+use Rattle.std.specs.Prelude.{◌≡◌, ℕ, nat_le, ℤ, Bool, true, List, ◌++◌, map, Some, unwrap_or, slice_get}
+use Rattle.f_tree.specs.Values.{in_range}
+use Rattle.f_tree.specs.CNames.{variable_name}
+use Rattle.c_tree.specs.CWords.{is_name}
+use Rattle.c_tree.specs.CText.{WellFormed}
+use Rattle.linking_laws.specs.Linked.{AreDistinct, IsNone}
+use Rattle.main_file.specs.MainFile.{temporary_names}
+use Rattle.unit_file.specs.UnitFile.{Variable, Listing, Parameter, Inventory, units_file, result_names, lasting_names}
+use Rattle.unit_file.specs.UnitNames.{constant_names, called_names, own_names}
+use Rattle.unit_places.specs.UnitPlaces.{inventories}
+use Rattle.unit_programs.specs.TranslatedUnits.{Rendering, written_of, IsTranslatedFile}
+
+-- the names that a function declares, in their order: its parameters, then the variable for its result, temporaries, functions, variables and control lists
+abbrev pub parameter_words : Inventory → List (List ℕ)
+parameter_words v = map (λ (p : Parameter). variable_name p.name) v.parameters
+
+abbrev pub local_words : Inventory → List (List ℕ)
+local_words v = result_names v.returned ++ (temporary_names 1 v.temporaries ++ (called_names v ++ lasting_names v))
+
+-- an array has an element
+abbrev pub has_elements : Variable → Bool
+has_elements one = nat_le 1 (unwrap_or one.count 1)
+
+-- the unit of an output has 32 bits
+abbrev pub is_short : Listing → Bool
+is_short l = in_range l.unit
+
+-- what C asks besides of a function: each name that it declares and each label is one of C, what it calls is declared once, and an array has an element
+pub record IsSpellable (r : Rendering) : Type 0 where
+  pub names : list_all is_name (parameter_words r.written.inventory ++ local_words r.written.inventory) ≡ true
+  pub labels : (n : ℕ) (name : List ℕ) → r.outline.label n ≡ Some name → is_name name ≡ true
+  pub calls : AreDistinct (called_names r.written.inventory)
+  pub elements : list_all has_elements r.written.inventory.variables ≡ true
+  pub outputs : list_all is_short r.written.inventory.lists ≡ true
+
+-- and of the file: the name of each constant and each function is one of C, and no function is called as a constant
+pub record AreSpellable (constants : List ℤ) (rs : List Rendering) : Type 0 where
+  pub functions : (j : ℕ) (r : Rendering) → slice_get rs j ≡ Some r → IsSpellable r
+  pub names : list_all is_name (constant_names constants ++ own_names (inventories (written_of rs))) ≡ true
+  pub apart : (i : ℕ) (name : List ℕ) → slice_get (constant_names constants) i ≡ Some name → IsNone name (own_names (inventories (written_of rs)))
+
+-- LAW
+-- the file of translated units is well formed
+abbrev pub UnitFilesAreWellFormed : Type 0
+UnitFilesAreWellFormed = (constants : List ℤ) (rs : List Rendering) → IsTranslatedFile constants rs → AreSpellable constants rs → WellFormed (units_file constants (written_of rs))

@@ -1,0 +1,3 @@
+pub mod OwnSetting
+pub mod PlainProcedures
+pub mod SpellableUnits

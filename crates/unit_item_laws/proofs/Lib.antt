@@ -1,0 +1,2 @@
+pub mod UnitObjects
+pub mod UnitStepsAgree

@@ -1,0 +1,91 @@
+-- The items of a unit's steps by names are those of the flat items that it has for them, with its names for its objects and for the functions that it calls:
+-- what a file of several units has and what is said of a unit, as what is known. ANSI X3.9-1978, sections 15.5, 15.6, 15.8 and 15.9; C89, 3.1.2, 3.3.2.2 and
+-- 3.6.
+use Rattle.std.specs.Prelude.{◌≡◌, ℕ, ℤ, Bool, true, false, not, ◌&&◌, List, [], ◌∷◌, map, Option, Some, None, is_some, option_map, option_and_then}
+use Rattle.f_tree.specs.declared.names.Basic.{Basic}
+use Rattle.f_tree.specs.declared.names.Class.{Class}
+use Rattle.f_tree.specs.declared.names.Class.TheVariants as class
+use Rattle.f_tree.specs.Values.{Bytes}
+use Rattle.f_tree.specs.Facts.{Facts, UnitKind, MainProgram, SubroutineUnit, FunctionUnit, BlockDataUnit, EntryPoint}
+use Rattle.f_tree.specs.World.{Procedure}
+use Rattle.f_tree.specs.CNames.{variable_name}
+use Rattle.l_core.specs.Steps.{Step, Starts, Acts, Halt}
+use Rattle.c_emit.specs.Numbers.{is_numeric, is_variable, has_bounds}
+use Rattle.procedure_emission.specs.ProcedureItems.{Numbers, procedure_item}
+use Rattle.unit_file.specs.UnitFile.{Inventory, bases_at, place_of_constant, place_of_list, place_of_string, writing_of}
+use Rattle.unit_file.specs.UnitNames.{routine_name, names_of}
+use Rattle.unit_file_laws.specs.KnownUnits.{NamesAreListed}
+use Rattle.named_items.specs.declared.item.Callee.{Callee}
+use Rattle.named_items.specs.Items.{by_name, through, item_for}
+use Rattle.item_emission.specs.declared.known.Standing.{Standing}
+use Rattle.item_emission.specs.declared.known.Standing.TheVariants.{Own, Parameter, Result}
+use Rattle.item_emission.specs.declared.known.Giving.{Giving}
+use Rattle.item_emission.specs.declared.known.Giving.TheVariants as giving
+use Rattle.item_emission.specs.NamedEmission.{Knowledge, item_step}
+use Rattle.item_emission.specs.Agreeing.{dimension_of}
+
+-- a dummy argument stands by its parameter, the result by its variable, and all else by an object of its own
+unfoldable pub standing_in : Class → Standing
+standing_in class.Dummy = Parameter
+standing_in class.Result = Result
+standing_in other = Own
+
+-- an external procedure or a dummy procedure may be passed
+unfoldable pub is_procedure_in : Class → Bool
+is_procedure_in class.Procedure = true
+is_procedure_in class.DummyProcedure = true
+is_procedure_in other = false
+
+-- the function that a name calls: by its name in C, and that of a dummy procedure through its parameter
+unfoldable pub routine_in : Numbers → List Inventory → Bytes → Class → Option Callee
+routine_in numbers vs x class.Procedure = option_map (λ k. by_name (routine_name vs k)) (numbers (Procedure x))
+routine_in numbers vs x class.Result = option_map (λ k. by_name (routine_name vs k)) (numbers (Procedure x))
+routine_in numbers vs x class.Unit = option_map (λ k. by_name (routine_name vs k)) (numbers (Procedure x))
+routine_in numbers vs x class.DummyProcedure = Some (through (variable_name x))
+routine_in numbers vs x other = None
+
+-- what END and RETURN give; a function has one name
+unfoldable pub result_in : List EntryPoint → Giving
+result_in (entry ∷ []) = giving.Value entry.name
+result_in entries = giving.Nothing
+
+unfoldable pub giving_of_unit : UnitKind → List EntryPoint → Giving
+giving_of_unit MainProgram entries = giving.Zero
+giving_of_unit SubroutineUnit entries = giving.Alternate
+giving_of_unit FunctionUnit entries = result_in entries
+giving_of_unit BlockDataUnit entries = giving.Nothing
+
+-- given the constants of the file, the inventories of all units, that of one and what is said of it, the numbers of functions, and the step of each label
+abbrev pub known_of_unit : List ℤ → List Inventory → Inventory → Facts → Numbers → (ℕ → Option ℕ) → Knowledge
+known_of_unit constants vs v facts numbers label = record {
+  is_scalar = λ x. is_variable (facts.program.attribute x).class && is_numeric (facts.program.attribute x).basic && not (has_bounds (facts.program.attribute x).bounds);
+  is_array = λ x. is_variable (facts.program.attribute x).class && is_numeric (facts.program.attribute x).basic && has_bounds (facts.program.attribute x).bounds;
+  basic = λ x. (facts.program.attribute x).basic;
+  dimensions = λ x. map dimension_of (facts.program.attribute x).bounds;
+  standing = λ x. standing_in (facts.program.attribute x).class;
+  is_procedure = λ x. is_procedure_in (facts.program.attribute x).class;
+  routine = λ x. routine_in numbers vs x (facts.program.attribute x).class;
+  temporaries = v.temporaries;
+  has = λ z. is_some (place_of_constant constants z);
+  list = place_of_list v;
+  label = label;
+  gives = giving_of_unit facts.program.kind facts.program.entries;
+}
+
+-- the control list of an output, and the string of STOP
+abbrev pub IsListed : Inventory → ℕ → Step → Type 0
+IsListed v n (Acts (Starts way layout controls) ps m) = (i : ℕ) × (place_of_list v n ≡ Some i)
+IsListed v n (Halt text) = (i : ℕ) × (place_of_string v n ≡ Some i) × (v.texts n ≡ text)
+IsListed v n st = Unit {0}
+
+-- LAW
+-- for the unit with a number in the file
+abbrev pub UnitEmissionsAgree : Type 0
+UnitEmissionsAgree = (constants : List ℤ) (vs : List Inventory) (j : ℕ) (v : Inventory) (facts : Facts) (numbers : Numbers) (kind : ℕ → ℕ → Option Basic) (label : ℕ → Option ℕ) (n : ℕ) (st : Step) →
+    NamesAreListed v facts → IsListed v n st →
+    option_and_then (item_for (names_of constants vs v (bases_at constants vs j))) (procedure_item numbers (writing_of constants v (bases_at constants vs j) facts kind) (λ m. m) label n st)
+    ≡ item_step (known_of_unit constants vs v facts numbers label) (kind n) n st
+
+unfoldable pub agreeing_units_opened : Unit {0}
+unfolding standing_in is_procedure_in routine_in result_in giving_of_unit
+agreeing_units_opened = tt

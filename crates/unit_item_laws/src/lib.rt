@@ -1,0 +1,5 @@
+//! That the items of a unit's lowered steps by names are those of its flat items, for units that call each other. The functions here do nothing; their
+//! contracts are the laws.
+#![tactic(auto)]
+
+pub mod units;

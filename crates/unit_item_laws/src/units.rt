@@ -1,0 +1,9 @@
+//! The items of units that call each other, by names and linked, as contracts of calls that do nothing.
+
+ghost use Rattle.unit_item_laws.specs.AgreeingUnits.{UnitEmissionsAgree};
+
+/// The item of a step by names is that of the flat item which the unit has for it, where each of its names is listed as what it is. C89, 3.1.2, 3.3.2.2 and
+/// 3.6.
+pub fn unit_emissions_agree()
+    ensures { UnitEmissionsAgree }
+{}

@@ -1,0 +1,3 @@
+pub mod UnitFlow
+pub mod UnitContents
+pub mod UnitBodies

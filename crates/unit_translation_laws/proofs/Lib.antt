@@ -1,0 +1,11 @@
+pub mod FlowFits
+pub mod Renderings
+pub mod Names
+pub mod Constants
+pub mod Calls
+pub mod Listed
+pub mod Functions
+pub mod OutputParts
+pub mod OutputFlow
+pub mod Translated
+pub mod ExampleHolds

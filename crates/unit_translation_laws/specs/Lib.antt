@@ -1,0 +1,2 @@
+pub mod PlainUnits
+pub mod Example

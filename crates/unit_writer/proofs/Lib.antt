@@ -1,0 +1,11 @@
+pub mod BoundLaws
+pub mod FunctionLaws
+pub mod ItemLaws
+pub mod KnownItems
+pub mod KnownLaws
+pub mod LocalLaws
+pub mod OptionForms
+pub mod ReturnForms
+pub mod RoutineLaws
+pub mod TableLemmas
+pub mod Walks

@@ -1,0 +1,43 @@
+//! What is said of a program unit by its head, and of the procedures of its file.
+
+use c_tree::types::{ParameterType, ResultType};
+
+/// What a program unit is. ANSI X3.9-1978, section 2.4.
+#[derive(Clone, Copy, Debug, PartialEq, Eq)]
+pub enum UnitRole {
+    /// A main program.
+    Main,
+    /// A subroutine.
+    Subroutine,
+    /// An external function.
+    Function,
+}
+
+/// A dummy argument that is no alternate return. ANSI X3.9-1978, section 15.9.
+#[derive(Drop)]
+pub struct Dummy<'a> {
+    /// Its name.
+    pub name: &'a [u8],
+    /// The type of its parameter in C.
+    pub parameter: ParameterType,
+}
+
+/// The head of a program unit.
+#[derive(Drop)]
+pub struct Heading<'a> {
+    /// What the unit is.
+    pub role: UnitRole,
+    /// Its name.
+    pub name: &'a [u8],
+    /// Its dummy arguments, in their order.
+    pub dummies: Vec<Dummy<'a>>,
+}
+
+/// What the C function of a procedure gives and takes. C89, 3.5.4.3.
+#[derive(Drop)]
+pub struct Procedure {
+    /// What it gives its caller.
+    pub result: ResultType,
+    /// The types of its parameters, from the left.
+    pub parameters: Vec<ParameterType>,
+}
