@@ -1,5 +1,5 @@
 -- The phases that the verdict of a translation and the whole table have in common, and that a first refusal of one is a first refusal of the other.
-use Rattle.std.specs.Prelude.{◌≡◌, ◌≢◌, ◌<◌, Bool, true, false, List, [], ◌∷◌, ◌++◌, Option, Some, None, if◌then◌else◌}
+use Rattle.std.specs.Prelude.{◌≡◌, ◌≢◌, ℕ, suc, ◌<◌, Bool, true, false, List, [], ◌∷◌, ◌++◌, Option, Some, None, if◌then◌else◌}
 use Rattle.std.proofs.Common.{refl, sym, subst, arith}
 use Rattle.f_tree.specs.declared.names.Options.{Options}
 use Rattle.f_tree.specs.declared.refusals.Kind.TheVariants.{NotBuiltYet}
@@ -10,7 +10,6 @@ use Rattle.f_tree.specs.declared.units.FileSet.{FileSet}
 use Rattle.f_tree.specs.declared.units.Unit.{Unit as WrittenUnit}
 use Rattle.f_tree.specs.RefusalRows.{IsNotAfter}
 use Rattle.f_tree.specs.Setting.{IsIn, first_in, later_in}
-use Rattle.c_tree.specs.declared.file.CFile.{CFile}
 use Rattle.declaration_rows.specs.GlobalRows.{all_units, units_global_rows}
 use Rattle.declaration_rows.specs.SetRows.{set_faults}
 use Rattle.declaration_rows.specs.SharedStorageRows.{units_storage_rows}
@@ -18,7 +17,9 @@ use Rattle.declaration_rows.specs.Verdicts.{storage_faults, shared_faults}
 use Rattle.source_acceptance.specs.SourceFiles.{Source, SpellsSource}
 use Rattle.source_acceptance.specs.Acceptance as table
 use Rattle.source_acceptance.specs.Acceptance.{tree_faults}
-use Rattle.translated_forms.specs.TranslatedForms.{is_translated_form, form_row, row_unless, unit_file, unit_not_translated, others_not_translated, units_not_translated, files_not_translated}
+use Rattle.unit_translation.specs.UnitContents.{LoweredUnit}
+use Rattle.named_units.specs.NamedUnits.{named_body_of}
+use Rattle.translated_files.specs.TranslatedFiles.{lowered_at, lowered_from, is_translated_form, form_row, row_unless, rows_of_lowering, rows_of_bodies, rows_behind, units_not_translated, further_units, further_files, files_not_translated}
 use Rattle.source_verdict.specs.SourceRows.{Phase, Cards, Syntax, Nesting, Declarations, Forms, Sharing, place_of, Fault, of_declarations, of_forms, of_sharing, IsFirstRefusal}
 use Rattle.source_verdict.proofs.EarlyPhases.{cards_down, syntax_down, nests_down, cards_up, syntax_up, nests_up, is_empty}
 
@@ -57,30 +58,54 @@ unfolding form_row
 form_row_is u [] = refl
 form_row_is u (s ∷ ss) = either_is (is_translated_form s.body) (form_row u ss) _ (form_row_is u ss) refl
 
-row_unless_is : (file : Option CFile) (r q : Refusal) → IsForm r → IsIn q (row_unless file r) → IsForm q
+row_unless_is : {A : Type 0} (found : Option A) (r q : Refusal) → IsForm r → IsIn q (row_unless found r) → IsForm q
 unfolding row_unless
 row_unless_is None r _ is first_in = is
 row_unless_is None r q is (later_in among) = elim among [ ]
-row_unless_is (Some file) r q is among = elim among [ ]
+row_unless_is (Some found) r q is among = elim among [ ]
 
-others_are : (us : List WrittenUnit) (q : Refusal) → IsIn q (others_not_translated us) → IsForm q
-unfolding others_not_translated
-others_are [] q among = elim among [ ]
-others_are (u ∷ us) _ first_in = refl
-others_are (u ∷ us) q (later_in among) = others_are us q among
+lowering_is : (options : Options) (units : List WrittenUnit) (j : ℕ) (us : List WrittenUnit) (q : Refusal) → IsIn q (rows_of_lowering options units j us) → IsForm q
+unfolding rows_of_lowering
+lowering_is options units j [] q among = elim among [ ]
+lowering_is options units j (u ∷ us) q among =
+    in_either q (row_unless (lowered_at options units j u) (form_row u u.statements)) (rows_of_lowering options units (suc j) us)
+    (row_unless_is (lowered_at options units j u) (form_row u u.statements) q (form_row_is u u.statements)) (lowering_is options units (suc j) us q) among
+
+bodies_are : (all ls : List LoweredUnit) (us : List WrittenUnit) (q : Refusal) → IsIn q (rows_of_bodies all ls us) → IsForm q
+unfolding rows_of_bodies
+bodies_are all [] us q among = elim among [ ]
+bodies_are all (l ∷ ls) [] q among = elim among [ ]
+bodies_are all (l ∷ ls) (u ∷ us) q among =
+    in_either q (row_unless (named_body_of all l) (form_row u u.statements)) (rows_of_bodies all ls us)
+    (row_unless_is (named_body_of all l) (form_row u u.statements) q (form_row_is u u.statements)) (bodies_are all ls us q) among
+
+either_row_is : (options : Options) (us : List WrittenUnit) (found : Option (List LoweredUnit)) (q : Refusal) → IsIn q (rows_behind found (rows_of_lowering options us 0 us) us) → IsForm q
+unfolding rows_behind
+either_row_is options us None q among = lowering_is options us 0 us q among
+either_row_is options us (Some all) q among = bodies_are all all us q among
 
 units_are : (options : Options) (us : List WrittenUnit) (q : Refusal) → IsIn q (units_not_translated options us) → IsForm q
-unfolding units_not_translated unit_not_translated
+unfolding units_not_translated
 units_are options [] _ first_in = refl
 units_are options [] q (later_in among) = elim among [ ]
-units_are options (u ∷ us) q among =
-    in_either q (row_unless (unit_file options u) (form_row u u.statements)) (others_not_translated us)
-    (row_unless_is (unit_file options u) (form_row u u.statements) q (form_row_is u u.statements)) (others_are us q) among
+units_are options (u ∷ us) q among = either_row_is options (u ∷ us) (lowered_from options (u ∷ us) 0 (u ∷ us)) q among
+
+further_is : (us : List WrittenUnit) (q : Refusal) → IsIn q (further_units us) → IsForm q
+unfolding further_units
+further_is [] _ first_in = refl
+further_is [] q (later_in among) = elim among [ ]
+further_is (u ∷ us) _ first_in = refl
+further_is (u ∷ us) q (later_in among) = elim among [ ]
+
+further_are : (fs : List File) (q : Refusal) → IsIn q (further_files fs) → IsForm q
+unfolding further_files
+further_are [] q among = elim among [ ]
+further_are (f ∷ fs) q among = in_either q (further_units f.units) (further_files fs) (further_is f.units q) (further_are fs q) among
 
 files_are : (options : Options) (fs : List File) (q : Refusal) → IsIn q (files_not_translated options fs) → IsForm q
 unfolding files_not_translated
 files_are options [] q among = elim among [ ]
-files_are options (f ∷ fs) q among = in_either q (units_not_translated options f.units) (files_not_translated options fs) (units_are options f.units q) (files_are options fs q) among
+files_are options (f ∷ fs) q among = in_either q (units_not_translated options f.units) (further_files fs) (units_are options f.units q) (further_are fs q) among
 
 forms_are : (options : Options) (source : Source) (r : Refusal) → Fault options source Forms r → IsForm r
 forms_are options source r (of_forms set _ spells among) = files_are options set.files r among

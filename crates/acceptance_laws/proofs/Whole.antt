@@ -1,18 +1,19 @@
 -- A source that is accepted for translation is accepted by the whole table, and a refusal that is no F99 is the first by it.
-use Rattle.std.specs.Prelude.{◌≡◌, suc, ◌<◌, length, Bool, true, false, ◌&&◌, List, [], ◌∷◌, ◌++◌, Option}
-use Rattle.std.specs.List.{list_all}
+use Rattle.std.specs.Prelude.{◌≡◌, ℕ, suc, ◌<◌, Bool, true, false, ◌&&◌, List, [], ◌∷◌, ◌++◌, Option, Some, None, if◌then◌else◌}
 use Rattle.std.proofs.Common.{refl, sym, ap, ◌∙◌, subst}
 use Rattle.std.proofs.lemmas.Bool.{and_parts}
+use Rattle.std.proofs.lemmas.List.{append-nil}
+use Rattle.f_tree.specs.declared.names.Class.{Class}
+use Rattle.f_tree.specs.declared.names.Class.TheVariants as class
 use Rattle.f_tree.specs.declared.names.Options.{Options}
 use Rattle.f_tree.specs.declared.refusals.Refusal.{Refusal}
 use Rattle.f_tree.specs.declared.units.File.{File}
 use Rattle.f_tree.specs.declared.units.FileSet.{FileSet}
 use Rattle.f_tree.specs.declared.units.Unit.{Unit as WrittenUnit}
-use Rattle.f_tree.specs.Facts.{Member}
+use Rattle.f_tree.specs.Facts.{UnitKind, Member}
 use Rattle.f_tree.specs.Setting.{IsIn}
-use Rattle.f_tree.specs.Attributes.{from_all, all_described}
-use Rattle.f_tree.specs.Lines.{size_of, entries_from, common_in, equivalence_in, data_in, program_of, with_ties, unit_read}
-use Rattle.c_tree.specs.declared.file.CFile.{CFile}
+use Rattle.f_tree.specs.Attributes.{from_all, bare, Described}
+use Rattle.f_tree.specs.Lines.{size_of, is_stored, common_in, equivalence_in, data_in, unit_kind, program_of, with_ties, unit_read}
 use Rattle.declaration_rows.specs.GlobalRows.{all_units}
 use Rattle.declaration_rows.specs.SharedStorageRows.{Before, behind_unit, storage_rows_from, units_storage_rows}
 use Rattle.declaration_rows.specs.PlacingRows.{placing_of}
@@ -20,9 +21,12 @@ use Rattle.declaration_rows.specs.Verdicts.{storage_faults_of, storage_faults, s
 use Rattle.source_acceptance.specs.SourceFiles.{Source, SpellsSource}
 use Rattle.source_acceptance.specs.Acceptance as table
 use Rattle.source_acceptance.specs.Acceptance.{tree_faults}
-use Rattle.plain_forms.specs.PlainUnits.{has_none, is_main, has_one_entry, has_own_storage, has_plain_lines, is_plain_name, names_are_plain, is_plain_main}
-use Rattle.plain_mains.proofs.StoredNames.{plain_member}
-use Rattle.translated_forms.specs.TranslatedForms.{file_if, unit_file, row_unless, form_row, unit_not_translated, others_not_translated, units_not_translated, files_not_translated}
+use Rattle.plain_forms.specs.PlainUnits.{has_none, has_own_storage, has_plain_lines, has_plain_bounds, is_plain_variable}
+use Rattle.plain_mains.proofs.PlainUnits.{none_is}
+use Rattle.plain_mains.proofs.StoredNames.{TellsStored, told_member}
+use Rattle.unit_forms.specs.PlainProcedures.{may_run, heading_fits, has_no_entries, is_plain_as, is_plain_name, each_name_is_plain, has_plain_heading, is_plain_unit}
+use Rattle.unit_translation.specs.UnitContents.{LoweredUnit}
+use Rattle.translated_files.specs.TranslatedFiles.{passes_tests, lowered_at, lowered_before, lowered_from, form_row, row_unless, rows_of_lowering, rows_behind, units_not_translated, further_units, further_files, files_not_translated}
 use Rattle.source_verdict.specs.SourceRows.{Cards, Syntax, Nesting, Declarations, IsAccepted}
 use Rattle.source_verdict.proofs.EarlyPhases.{cards_down, syntax_down, nests_down, accepted_forms, accepted_sharing}
 use Rattle.source_verdict.proofs.OneSet.{one_set}
@@ -30,89 +34,126 @@ use Rattle.acceptance_laws.specs.WholeTable.{EachTranslatedSourceIsAccepted, Eac
 use Rattle.acceptance_laws.proofs.OwnStorage.{both_none, no_row_of_storage, no_row_of_shared_storage}
 use Rattle.acceptance_laws.proofs.Phases.{declarations_down, by_phase}
 
--- ## A plain main program
-
-none_of : {A : Type 0} (xs : List A) → has_none xs ≡ true → xs ≡ []
-unfolding has_none
-none_of [] is = refl
-none_of (x ∷ xs) is = absurd (cc)
+-- ## A plain unit
 
 record SharesNothing (u : WrittenUnit) : Type 0 where
   common : from_all common_in u.statements ≡ []
   tied : from_all equivalence_in u.statements ≡ []
   given : from_all data_in u.statements ≡ []
-  plain : list_all is_plain_name (all_described u) ≡ true
+  plain : each_name_is_plain u ≡ true
 
-shares_nothing : (options : Options) (u : WrittenUnit) → is_plain_main options u ≡ true → SharesNothing u
-unfolding is_plain_main has_one_entry has_own_storage names_are_plain
+shares_nothing : (options : Options) (u : WrittenUnit) → is_plain_unit options u ≡ true → SharesNothing u
+unfolding is_plain_unit has_own_storage
 shares_nothing options u is =
-    let behind = (and_parts (is_main _) _ is).1 in
-    let entry = and_parts (has_none u.dummies && has_none (entries_from 0 u.statements)) _ behind in
-    let storage = and_parts (has_none (from_all common_in u.statements) && (has_none (from_all equivalence_in u.statements) && has_none (from_all data_in u.statements))) _ entry.1 in
-    let lines = and_parts (has_plain_lines (unit_read options u)) _ storage.1 in
+    let behind = (and_parts (may_run (unit_kind u)) _ is).1 in
+    let heading = (and_parts (heading_fits (unit_kind u) u.dummies) _ behind).1 in
+    let entries = (and_parts (has_no_entries u) _ heading).1 in
+    let storage = and_parts (has_none (from_all common_in u.statements) && (has_none (from_all equivalence_in u.statements) && has_none (from_all data_in u.statements))) _ entries in
+    let names = (and_parts (has_plain_heading u) _ storage.1).1 in
     let common = and_parts (has_none (from_all common_in u.statements)) _ storage.0 in
     let tied = and_parts (has_none (from_all equivalence_in u.statements)) (has_none (from_all data_in u.statements)) common.1 in
     record {
-      common = none_of (from_all common_in u.statements) common.0;
-      tied = none_of (from_all equivalence_in u.statements) tied.0;
-      given = none_of (from_all data_in u.statements) tied.1;
-      plain = lines.1;
+      common = none_is (from_all common_in u.statements) common.0;
+      tied = none_is (from_all equivalence_in u.statements) tied.0;
+      given = none_is (from_all data_in u.statements) tied.1;
+      plain = (and_parts (has_plain_lines (unit_read options u)) (each_name_is_plain u) names).1;
     }
 
-small_names : (options : Options) (u : WrittenUnit) → list_all is_plain_name (all_described u) ≡ true → (m : Member) → IsIn m (unit_read options u).stored → size_of ((unit_read options u).attribute m.name) < 67108865
-unfolding unit_read with_ties program_of
-small_names options u plain m among = (plain_member u plain m among).bounded
+variable_as : (kind : UnitKind) (k : Class) (d : Described) → is_stored (bare k None) ≡ true → is_plain_as kind k d ≡ true → is_plain_variable d ≡ true
+unfolding is_stored bare is_plain_as
+variable_as kind class.Stored d stored plain = (and_parts (has_plain_bounds d.attribute) (is_plain_variable d) plain).1
+variable_as kind class.Dummy d stored plain = absurd (cc)
+variable_as kind class.Result d stored plain = absurd (cc)
+variable_as kind class.Constant d stored plain = absurd (cc)
+variable_as kind class.Procedure d stored plain = absurd (cc)
+variable_as kind class.DummyProcedure d stored plain = absurd (cc)
+variable_as kind class.StatementFunction d stored plain = absurd (cc)
+variable_as kind class.Intrinsic d stored plain = absurd (cc)
+variable_as kind class.Unit d stored plain = absurd (cc)
 
--- ## Its one unit
+tells_stored : (kind : UnitKind) → TellsStored (is_plain_name kind)
+unfolding is_plain_name is_stored bare
+tells_stored kind d plain stored = variable_as kind d.attribute.class d stored plain
 
-plain_by : (t : Bool) (file : Option CFile) (r : Refusal) → row_unless (file_if t file) r ≡ [] → t ≡ true
-unfolding row_unless file_if
-plain_by true file r none = refl
-plain_by false file r none = absurd (cc)
+small_names : (options : Options) (u : WrittenUnit) → each_name_is_plain u ≡ true → (m : Member) → IsIn m (unit_read options u).stored → size_of ((unit_read options u).attribute m.name) < 67108865
+unfolding unit_read with_ties program_of each_name_is_plain
+small_names options u plain m among = (told_member (is_plain_name (unit_kind u)) (tells_stored (unit_kind u)) u plain m among).bounded
 
-no_others : (us : List WrittenUnit) → others_not_translated us ≡ [] → us ≡ []
-unfolding others_not_translated
-no_others [] none = refl
-no_others (u ∷ us) none = absurd (cc)
-
-record HasOnePlainUnit (options : Options) (us : List WrittenUnit) : Type 0 where
-  unit : WrittenUnit
-  is : us ≡ unit ∷ []
-  plain : is_plain_main options unit ≡ true
-
-one_plain_unit : (options : Options) (us : List WrittenUnit) → units_not_translated options us ≡ [] → HasOnePlainUnit options us
-unfolding units_not_translated unit_not_translated unit_file
-one_plain_unit options [] none = absurd (cc)
-one_plain_unit options (u ∷ us) none =
-    let parts = both_none (unit_not_translated options u) (others_not_translated us) none in
-    record {
-      unit = u;
-      is = ap (λ vs. u ∷ vs) (no_others us parts.other);
-      plain = (and_parts (is_plain_main options u) _ (plain_by _ _ (form_row u u.statements) parts.one)).0;
-    }
-
--- ## The units of files whose forms are all translated
+-- ## The units of a file whose forms are all translated
 
 pub data ArePlain (options : Options) : List WrittenUnit → Type 0 where
   no_units : ArePlain options []
-  one_unit : (u : WrittenUnit) (us : List WrittenUnit) → is_plain_main options u ≡ true → ArePlain options us → ArePlain options (u ∷ us)
+  one_unit : (u : WrittenUnit) (us : List WrittenUnit) → is_plain_unit options u ≡ true → ArePlain options us → ArePlain options (u ∷ us)
+
+passed_by : {A : Type 0} (t : Bool) (x : Option A) (y : A) → (if t then x else None) ≡ Some y → t ≡ true
+passed_by true x y is = refl
+passed_by false x y is = absurd (cc)
+
+-- a unit that is lowered is plain
+plain_at : (options : Options) (units : List WrittenUnit) (j : ℕ) (u : WrittenUnit) (lowered : LoweredUnit) → lowered_at options units j u ≡ Some lowered → is_plain_unit options u ≡ true
+unfolding lowered_at passes_tests
+plain_at options units j u lowered is = (and_parts (is_plain_unit options u) _ (passed_by _ _ lowered is)).0
+
+plain_unless : (options : Options) (units : List WrittenUnit) (j : ℕ) (u : WrittenUnit) (found : Option LoweredUnit) → lowered_at options units j u ≡ found →
+    row_unless found (form_row u u.statements) ≡ [] → is_plain_unit options u ≡ true
+unfolding row_unless
+plain_unless options units j u None is none = absurd (cc)
+plain_unless options units j u (Some lowered) is none = plain_at options units j u lowered is
+
+-- units of which none has a row are plain
+none_refused : (options : Options) (units : List WrittenUnit) (j : ℕ) (us : List WrittenUnit) → rows_of_lowering options units j us ≡ [] → ArePlain options us
+unfolding rows_of_lowering
+none_refused options units j [] none = no_units
+none_refused options units j (u ∷ us) none =
+    let parts = both_none (row_unless (lowered_at options units j u) (form_row u u.statements)) (rows_of_lowering options units (suc j) us) none in
+    one_unit u us (plain_unless options units j u (lowered_at options units j u) refl parts.one) (none_refused options units (suc j) us parts.other)
+
+-- and so are units that are all lowered
+both_lowered : (options : Options) (units : List WrittenUnit) (j : ℕ) (u : WrittenUnit) (us : List WrittenUnit) (found : Option LoweredUnit) (behind : Option (List LoweredUnit))
+    (all : List LoweredUnit) → lowered_at options units j u ≡ found → ((later : List LoweredUnit) → behind ≡ Some later → ArePlain options us) →
+    lowered_before found behind ≡ Some all → ArePlain options (u ∷ us)
+unfolding lowered_before
+both_lowered options units j u us None behind all is others whole = absurd (cc)
+both_lowered options units j u us (Some lowered) None all is others whole = absurd (cc)
+both_lowered options units j u us (Some lowered) (Some later) all is others whole = one_unit u us (plain_at options units j u lowered is) (others later refl)
+
+all_lowered : (options : Options) (units : List WrittenUnit) (j : ℕ) (us : List WrittenUnit) (all : List LoweredUnit) → lowered_from options units j us ≡ Some all → ArePlain options us
+unfolding lowered_from
+all_lowered options units j [] all whole = no_units
+all_lowered options units j (u ∷ us) all whole =
+    both_lowered options units j u us (lowered_at options units j u) (lowered_from options units (suc j) us) all refl
+    (λ later is. all_lowered options units (suc j) us later is) whole
+
+either_lowered : (options : Options) (us : List WrittenUnit) (found : Option (List LoweredUnit)) → lowered_from options us 0 us ≡ found →
+    rows_behind found (rows_of_lowering options us 0 us) us ≡ [] → ArePlain options us
+unfolding rows_behind
+either_lowered options us None is none = none_refused options us 0 us none
+either_lowered options us (Some all) is none = all_lowered options us 0 us all is
+
+plain_units_of : (options : Options) (us : List WrittenUnit) → units_not_translated options us ≡ [] → ArePlain options us
+unfolding units_not_translated
+plain_units_of options [] none = absurd (cc)
+plain_units_of options (u ∷ us) none = either_lowered options (u ∷ us) (lowered_from options (u ∷ us) 0 (u ∷ us)) refl none
+
+-- ## The one file of a set
+
+more_rows : (us : List WrittenUnit) (rs : List Refusal) → further_units us ++ rs ≡ [] → ⊥
+unfolding further_units
+more_rows [] rs none = cc
+more_rows (u ∷ us) rs none = cc
+
+pub no_further_file : (fs : List File) → further_files fs ≡ [] → fs ≡ []
+unfolding further_files
+no_further_file [] none = refl
+no_further_file (f ∷ fs) none = absurd (more_rows f.units (further_files fs) none)
 
 pub plain_units : (options : Options) (fs : List File) → files_not_translated options fs ≡ [] → ArePlain options (all_units fs)
 unfolding files_not_translated all_units
 plain_units options [] none = no_units
 plain_units options (f ∷ fs) none =
-    let parts = both_none (units_not_translated options f.units) (files_not_translated options fs) none in
-    let its = one_plain_unit options f.units parts.one in
-    subst (λ us. ArePlain options (us ++ all_units fs)) (sym its.is) (one_unit its.unit (all_units fs) its.plain (plain_units options fs parts.other))
-
--- one for each file
-pub units_counted : (options : Options) (fs : List File) → files_not_translated options fs ≡ [] → length (all_units fs) ≡ length fs
-unfolding files_not_translated all_units
-units_counted options [] none = refl
-units_counted options (f ∷ fs) none =
-    let parts = both_none (units_not_translated options f.units) (files_not_translated options fs) none in
-    let its = one_plain_unit options f.units parts.one in
-    ap (λ us. length (us ++ all_units fs)) its.is ∙ ap suc (units_counted options fs parts.other)
+    let parts = both_none (units_not_translated options f.units) (further_files fs) none in
+    let alone : f.units ≡ f.units ++ all_units fs = sym (append-nil f.units) ∙ ap (λ gs. f.units ++ all_units gs) (sym (no_further_file fs parts.other)) in
+    subst (ArePlain options) alone (plain_units_of options f.units parts.one)
 
 no_storage_rows : (options : Options) (us : List WrittenUnit) → ArePlain options us → storage_faults_of options us ≡ []
 unfolding storage_faults_of

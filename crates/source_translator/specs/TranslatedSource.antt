@@ -1,5 +1,5 @@
 -- What the translator of a source answers: the C files of the trees with which it is accepted, or its first refusal.
-use Rattle.std.specs.Prelude.{◌≡◌, ℕ, List, [], ◌∷◌, Option, Some, None, Result, Ok, Err}
+use Rattle.std.specs.Prelude.{◌≡◌, ℕ, List, [], ◌∷◌, Some, None, Result, Ok, Err}
 use Rattle.f_tree.specs.declared.names.Options.{Options}
 use Rattle.f_tree.specs.declared.refusals.Fail.{Fail}
 use Rattle.f_tree.specs.declared.refusals.Fail.TheVariants as fail
@@ -9,7 +9,7 @@ use Rattle.f_tree.specs.declared.units.FileSet.{FileSet}
 use Rattle.c_tree.specs.declared.file.CFile.{CFile}
 use Rattle.declaration_rows.specs.GlobalRows.{all_units, units_global_rows}
 use Rattle.declaration_rows.specs.Verdicts.{first_of}
-use Rattle.translated_forms.specs.TranslatedForms.{file_of, files_not_translated}
+use Rattle.translated_files.specs.TranslatedFiles.{file_of, files_not_translated}
 use Rattle.source_acceptance.specs.SourceFiles.{Source}
 use Rattle.source_verdict.specs.SourceRows.{IsAccepted}
 use Rattle.source_verdict.specs.Fronts.{IsFirstOfAll}
@@ -56,8 +56,3 @@ abbrev pub AreTranslated : Options → List File → Result (List CFile) Fail �
 AreTranslated options trees (Ok made) = (first_of (files_not_translated options trees) ≡ None) × AreFilesOf options trees made
 AreTranslated options trees (Err (fail.Refused r)) = first_of (files_not_translated options trees) ≡ Some r
 AreTranslated options trees (Err fail.NoMemory) = Unit {0}
-
--- what was found of the trees that were looked at: the first of their rows F99, and their C files where they have none
-pub record IsFoundOf (options : Options) (trees : List File) (found : Option Refusal) (made : List CFile) : Type 0 where
-  pub first : found ≡ first_of (files_not_translated options trees)
-  pub files : found ≡ None → AreFilesOf options trees made

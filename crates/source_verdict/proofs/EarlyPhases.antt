@@ -17,7 +17,7 @@ use Rattle.refusal_order.proofs.RefusalOrder.{IsChosen, none_there, first_there,
 use Rattle.source_acceptance.specs.SourceFiles.{Included, Source, names_of, mentioned_from, first_mentions, IsWhole, SpellsSource}
 use Rattle.source_acceptance.specs.Acceptance as table
 use Rattle.source_acceptance.specs.Acceptance.{CardFault, SyntaxFault, deep_rows_of, tree_faults}
-use Rattle.translated_forms.specs.TranslatedForms.{files_not_translated}
+use Rattle.translated_files.specs.TranslatedFiles.{files_not_translated}
 use Rattle.source_verdict.specs.SourceRows.{Phase, Cards, Syntax, Nesting, Declarations, Forms, Sharing, place_of, Fault, of_cards, of_syntax, of_nests, of_declarations, of_forms, of_sharing, IsRead, IsFirstRefusal, IsAccepted}
 use Rattle.source_verdict.specs.Fronts.{IsSourceOf}
 use Rattle.source_verdict.proofs.OneSet.{one_set}

@@ -14,7 +14,7 @@ use Rattle.declaration_rows.specs.GlobalRows.{all_units, units_global_rows}
 use Rattle.declaration_rows.specs.SetRows.{set_faults}
 use Rattle.source_acceptance.specs.SourceFiles.{Source, IsWhole, SpellsSource}
 use Rattle.source_acceptance.specs.TextRows.{CardFault, SyntaxFault}
-use Rattle.translated_forms.specs.TranslatedForms.{files_not_translated}
+use Rattle.translated_files.specs.TranslatedFiles.{files_not_translated}
 
 -- the phases, in their order
 pub data Phase : Type 0 where

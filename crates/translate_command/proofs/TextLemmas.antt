@@ -8,9 +8,8 @@ use Rattle.f_tree.specs.declared.units.FileSet.{FileSet}
 use Rattle.f_tree.specs.declared.units.Part.{Part}
 use Rattle.c_tree.specs.declared.file.CFile.{CFile}
 use Rattle.c_text.specs.Printed.{printed}
-use Rattle.translated_forms.specs.TranslatedForms.{file_of}
-use Rattle.translated_laws.specs.FaithfulTranslations.{translation_of}
-use Rattle.translated_sets.specs.FaithfulSets.{AreTranslations, no_texts, one_text, EachAcceptedSetIsFaithful}
+use Rattle.translated_files.specs.TranslatedFiles.{file_of}
+use Rattle.translated_sets.specs.FaithfulSets.{translation_of, AreTranslations, no_texts, one_text, EachAcceptedSetIsFaithful}
 use Rattle.source_acceptance.specs.SourceFiles as sources
 use Rattle.source_acceptance.specs.SourceFiles.{Source, SpellFiles, files_with_parts, SpellsSource}
 use Rattle.source_verdict.specs.SourceRows.{IsAccepted}

@@ -5,7 +5,7 @@ use Rattle.f_tree.specs.declared.units.File.{File}
 use Rattle.c_tree.specs.declared.file.CFile.{CFile}
 use Rattle.c_text.specs.Printed.{printed}
 use Rattle.faithful.specs.Faithful.{Faithful}
-use Rattle.plain_unit_files.specs.PlainUnitFiles.{IsFaultless}
+pub use Rattle.plain_unit_files.specs.PlainUnitFiles.{IsFaultless}
 use Rattle.translated_files.specs.TranslatedFiles.{file_of, not_translated}
 
 -- the text of the C file of a FORTRAN file

@@ -6,7 +6,7 @@ use Rattle.f_tree.specs.declared.units.FileSet.{FileSet}
 use Rattle.source_acceptance.specs.SourceFiles.{Source}
 use Rattle.source_verdict.specs.SourceRows.{IsAccepted}
 use Rattle.faithful.specs.Faithful.{Faithful}
-use Rattle.translated_laws.specs.FaithfulTranslations.{translation_of}
+unfoldable pub use Rattle.translated_file_laws.specs.FaithfulFiles.{translation_of}
 
 -- the texts of the C files of some files, one for each, in their order
 pub data AreTranslations (options : Options) : List File → List (List ℕ) → Type 0 where

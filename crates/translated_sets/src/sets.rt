@@ -2,9 +2,9 @@
 
 ghost use Rattle.translated_sets.specs.FaithfulSets.{EachAcceptedSetIsSingle, EachAcceptedSetIsFaithful};
 
-use translated_laws::translations::translations_are_faithful;
+use translated_file_laws::translations::translations_are_faithful;
 
-/// A set that is accepted for translation has one file at most: each file that is translated is a main program, and no set has two (2.4).
+/// A set that is accepted for translation has one file at most: a further file is not translated yet.
 pub fn accepted_sets_are_single()
     ensures { EachAcceptedSetIsSingle }
 {}

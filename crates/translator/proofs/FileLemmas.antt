@@ -1,273 +1,153 @@
--- The C file of a unit, and of a file.
-use Rattle.std.specs.Prelude.{◌≡◌, suc, ◌-◌, ◌<◌, ◌≤◌, Bool, true, false, ◌&&◌, List, [], ◌∷◌, ◌++◌, length, take, drop, Option, Some, None, option_map, Result, Ok, Err, IfOk}
-use Rattle.std.proofs.Common.{refl, sym, ap, subst, ◌∙◌, arith, slice_index_or}
-use Rattle.std.proofs.lemmas.Bool.{and_parts}
-use Rattle.std.proofs.Math.Seq.{take-length}
+-- The units of a file, one after the other.
+use Rattle.std.specs.Global.{Vec}
+use Rattle.std.specs.Prelude.{◌≡◌, ℕ, suc, ◌+◌, ◌<◌, ◌≤◌, List, [], ◌∷◌, ◌++◌, length, drop, Option, Some, None, Result, Ok, Err}
+use Rattle.std.proofs.Common.{refl, sym, ap, subst, ◌∙◌, arith, get_or}
+use Rattle.std.proofs.lemmas.List.{drop_all, append-nil, append_assoc, map-append}
 use Rattle.f_tree.specs.declared.names.Options.{Options}
 use Rattle.f_tree.specs.declared.refusals.Fail.{Fail}
 use Rattle.f_tree.specs.declared.refusals.Fail.TheVariants as fail
-use Rattle.f_tree.specs.declared.refusals.Kind.TheVariants.{NotBuiltYet}
 use Rattle.f_tree.specs.declared.refusals.Refusal.{Refusal}
-use Rattle.f_tree.specs.declared.units.File.{File}
-use Rattle.f_tree.specs.declared.units.Unit.{Unit as WrittenUnit}
+use Rattle.f_tree.specs.declared.units.Unit.{Unit as GivenUnit}
 use Rattle.f_tree.specs.Values.{Bytes}
-use Rattle.f_tree.specs.Facts.{ProgramUnit, Facts}
-use Rattle.f_tree.specs.Lines.{unit_kind, unit_read}
-use Rattle.declaration_rows.specs.NameRows.{given_names, all_names}
 use Rattle.declaration_rows.specs.Verdicts.{earlier, first_of}
-use Rattle.l_core.specs.Steps.{Step, Text}
-use Rattle.lowering.specs.Units.{lines_code, text_with, lowered_unit}
-use Rattle.lowering_laws.specs.Layout.{are_direct, has_end}
-use Rattle.c_tree.specs.declared.file.CFile.{CFile}
-use Rattle.lowered_text.specs.declared.text.LoweredText.{LoweredText}
-use Rattle.main_file.specs.MainFile.{main_file}
-use Rattle.plain_forms.specs.OwnStorage.{plain_facts}
-use Rattle.main_translation.specs.Contents.{inventory_of}
-use Rattle.main_writer.specs.WrittenMains.{IsTold, IsWritten}
-use Rattle.name_facts.specs.declared.table.NameFacts.{NameFacts}
-use Rattle.name_facts.specs.GivenFacts.{AreNameFacts}
-use Rattle.named_mains.specs.NamedMains.{named_body_of}
-use Rattle.plain_forms.specs.SpellableNames.{is_spellable}
-use Rattle.plain_forms.specs.PlainUnits.{is_main, has_one_entry, has_own_storage, loops_fit, has_plain_lines, names_are_plain, is_plain_main}
-use Rattle.statement_places.specs.StatementPlaces as placed
-use Rattle.translated_forms.specs.LoweredForms.{statements_lower}
-use Rattle.translated_forms.specs.TranslatedForms.{file_if, file_by, unit_file, units_file, form_row, row_unless, unit_not_translated, others_not_translated, units_not_translated}
-use Rattle.unit_lowering.specs.LoweredUnits.{IsTextOf, IsLoweredUnit}
-use Rattle.expression_lowering.specs.TableNames.{AreFactsOf}
-use Rattle.translator.specs.FittingSteps.{FitsIf}
-use Rattle.translator.specs.TranslatedFiles.{IsTranslation}
-use Rattle.translator.specs.UnitFiles.{IsPlainIf, IsLoweredIf, IsFileOf}
-use Rattle.translator.proofs.Agreement.{same_statements}
-use Rattle.translator.proofs.ToldUnits.{facts_given, lines_read, unit_told}
+use Rattle.refusal_order.specs.Earliest.{earliest}
+use Rattle.refusal_order.proofs.FirstOfBoth.{earliest_along}
+use Rattle.unit_translation.specs.UnitContents.{LoweredUnit}
+use Rattle.translated_files.specs.TranslatedFiles.{procedure_names, lowered_at, lowered_before, lowered_from, form_row, row_unless, rows_of_lowering}
+use Rattle.translator.specs.declared.unit.PlainUnit.{PlainUnit}
+use Rattle.translator.specs.UnitFiles.{IsToldAs, IsUnitAt, IsUnitIf}
+use Rattle.translator.specs.LoweredFiles.{AreTold, none_told, more_told, units_given, WereLowered, AddsUnit, AreUnitsOf}
+use Rattle.translator.proofs.NameLemmas.{rest_is}
 
--- what follows of what a call gives
-pub if_ok : {A E : Type 0} (P Q : A → Type 0) (r : Result A E) → ((a : A) → P a → Q a) → IfOk r P → IfOk r Q
-if_ok P Q (Ok a) step h = step a h
-if_ok P Q (Err e) step h = h
+-- ## Refusals
 
--- ## Plain units
+pub none_along : (refusal : Option Refusal) → earliest refusal None ≡ refusal
+unfolding earliest earlier
+none_along None = refl
+none_along (Some r) = refl
 
--- the four tests of the code
-abbrev all_four : Bool → Bool → Bool → Bool → Bool
-all_four names spelled direct loops = names && (spelled && (direct && loops))
+pub some_along : (refusal : Option Refusal) (r : Refusal) → earliest refusal (Some r) ≡ None → ⊥
+unfolding earliest earlier
+some_along None r is = cc
+some_along (Some q) r is = cc
 
-in_order : (m e s d n l p t : Bool) → ((m && (e && (s && ((d && (n && l)) && p)))) && t) ≡ all_four (m && (e && (s && p))) t (d && n) l
-in_order false e s d n l p t = refl
-in_order true false s d n l p t = refl
-in_order true true false d n l p t = refl
-in_order true true true d n l false t = and_left_of (d && (n && l)) t
-  where
-    and_left_of : (a b : Bool) → ((a && false) && b) ≡ false
-    and_left_of true b = refl
-    and_left_of false b = refl
-in_order true true true false n l true false = refl
-in_order true true true false n l true true = refl
-in_order true true true true false l true false = refl
-in_order true true true true false l true true = refl
-in_order true true true true true l true false = ends_false l
-  where
-    ends_false : (a : Bool) → ((a && true) && false) ≡ false
-    ends_false true = refl
-    ends_false false = refl
-in_order true true true true true false true true = refl
-in_order true true true true true true true true = refl
+-- ## What is told of units
 
-module _ (u : WrittenUnit) where
-  abbrev names_test : Bool
-  names_test = is_main (unit_kind u) && (has_one_entry u && (has_own_storage u && names_are_plain u))
+told_behind : (us : List LoweredUnit) (plains : List PlainUnit) (u : LoweredUnit) (plain : PlainUnit) → AreTold us plains → IsToldAs u plain → AreTold (us ++ u ∷ []) (plains ++ plain ∷ [])
+told_behind _ _ u plain none_told told = more_told u plain [] [] told none_told
+told_behind _ _ u plain (more_told v first us plains one later) told = more_told v first (us ++ u ∷ []) (plains ++ plain ∷ []) one (told_behind us plains u plain later told)
 
-  abbrev spelled_test : Options → Bool
-  spelled_test options = is_spellable (unit_read options u)
+-- ## Units that are lowered
 
-  abbrev lines_test : Options → Bool
-  lines_test options = are_direct (unit_read options u).lines && has_end (unit_read options u).lines
+record AreSoFar (options : Options) (units : List GivenUnit) (i : ℕ) (plains : List PlainUnit) : Type 0 where
+  before : List LoweredUnit
+  told : AreTold before plains
+  given : units_given plains ++ drop i units ≡ units
+  whole : (later : List LoweredUnit) → lowered_from options units i (drop i units) ≡ Some later → lowered_from options units 0 units ≡ Some (before ++ later)
 
-  abbrev loops_test : Options → Bool
-  loops_test options = loops_fit (unit_read options u)
+-- up to a place: the first of the rows, and where there is none the units with what is told of them
+pub record IsSoFar (options : Options) (units : List GivenUnit) (i : ℕ) (plains : List PlainUnit) (refusal : Option Refusal) : Type 0 where
+  rows : first_of (rows_of_lowering options units 0 units) ≡ earliest refusal (first_of (rows_of_lowering options units i (drop i units)))
+  lowered : refusal ≡ None → AreSoFar options units i plains
 
-  plain_tests : (options : Options) → (is_plain_main options u && is_spellable (unit_read options u)) ≡ all_four names_test (spelled_test options) (lines_test options) (loops_test options)
-  unfolding is_plain_main has_plain_lines
-  plain_tests options =
-      in_order (is_main (unit_kind u)) (has_one_entry u) (has_own_storage u) (are_direct (unit_read options u).lines) (has_end (unit_read options u).lines)
-      (loops_fit (unit_read options u)) (names_are_plain u) (is_spellable (unit_read options u))
+module _ (options : Options) (units : List GivenUnit) (i : ℕ) (u d : GivenUnit) (h : i < length units) (is : u ≡ get_or units i d) where
+  abbrev rest : List GivenUnit
+  rest = drop (i + 1) units
 
-  pub names_fail : (a : Bool) → a ≡ names_test → a ≡ false → IsPlainIf u false
-  names_fail a names is = record {
-    is = λ options. sym (plain_tests options ∙ ap (λ b. all_four b (spelled_test options) (lines_test options) (loops_test options)) (sym names ∙ is));
+  next : suc i ≡ i + 1
+  next = omega arith
+
+  rows_here : (o : Option LoweredUnit) → lowered_at options units i u ≡ o
+      → first_of (rows_of_lowering options units i (drop i units)) ≡ first_of (row_unless o (form_row u u.statements) ++ rows_of_lowering options units (i + 1) rest)
+  unfolding rows_of_lowering
+  rows_here o found =
+      ap (λ us. first_of (rows_of_lowering options units i us)) (rest_is units i u d h is)
+      ∙ ap (λ p. first_of (row_unless p (form_row u u.statements) ++ rows_of_lowering options units (suc i) rest)) found
+      ∙ ap (λ n. first_of (row_unless o (form_row u u.statements) ++ rows_of_lowering options units n rest)) next
+
+  lowered_here : (one : LoweredUnit) (later : List LoweredUnit) → lowered_at options units i u ≡ Some one → lowered_from options units (i + 1) rest ≡ Some later
+      → lowered_from options units i (drop i units) ≡ Some (one ∷ later)
+  unfolding lowered_from lowered_before
+  lowered_here one later found behind =
+      ap (lowered_from options units i) (rest_is units i u d h is)
+      ∙ ap (λ p. lowered_before p (lowered_from options units (suc i) rest)) found
+      ∙ ap (λ n. lowered_before (Some one) (lowered_from options units n rest)) next
+      ∙ ap (lowered_before (Some one)) behind
+
+  one_more : (plains : List PlainUnit) (plain : PlainUnit) → AreSoFar options units i plains → IsUnitAt u plain (lowered_at options units i u) → AreSoFar options units (i + 1) (plains ++ plain ∷ [])
+  one_more plains plain so_far at = record {
+    before = so_far.before ++ at.lowered ∷ [];
+    told = told_behind so_far.before plains at.lowered plain so_far.told at.told;
+    given =
+        ap (λ vs. vs ++ rest) (map-append (λ (one : PlainUnit). one.unit.now) plains (plain ∷ []))
+        ∙ append_assoc (units_given plains) (plain.unit.now ∷ []) rest
+        ∙ ap (λ v. units_given plains ++ v ∷ rest) at.given ∙ ap (λ vs. units_given plains ++ vs) (sym (rest_is units i u d h is)) ∙ so_far.given;
+    whole = λ later behind.
+        so_far.whole (at.lowered ∷ later) (lowered_here at.lowered later at.found behind) ∙ ap Some (sym (append_assoc so_far.before (at.lowered ∷ []) later));
   }
 
-  pub spelling_fails : (a b : Bool) → a ≡ names_test → a ≡ true → ((options : Options) → b ≡ spelled_test options) → b ≡ false → IsPlainIf u false
-  spelling_fails a b names one spelled is = record {
-    is = λ options.
-        sym (plain_tests options ∙ ap (λ c. all_four c (spelled_test options) (lines_test options) (loops_test options)) (sym names ∙ one)
-        ∙ ap (λ c. all_four true c (lines_test options) (loops_test options)) (sym (spelled options) ∙ is));
+  pub unit_added : (procedures : List Bytes) (plains new : List PlainUnit) (row refusal now : Option Refusal) → procedure_names units ≡ procedures → AddsUnit options procedures u plains new row
+      → now ≡ earliest refusal row → IsSoFar options units i plains refusal → IsSoFar options units (i + 1) new now
+  unfolding AddsUnit IsUnitIf row_unless first_of earliest
+  unit_added procedures plains new None refusal now names adds made so_far =
+      let at : IsUnitAt u adds.plain (lowered_at options units i u) = adds.is units i names in
+      let same : now ≡ refusal = made ∙ none_along refusal in
+      record {
+        rows =
+            so_far.rows ∙ ap (earliest refusal) (rows_here (Some at.lowered) at.found)
+            ∙ ap (λ q. earliest q (first_of (rows_of_lowering options units (i + 1) rest))) (sym same);
+        lowered = λ none. subst (AreSoFar options units (i + 1)) (sym adds.put) (one_more plains adds.plain (so_far.lowered (sym same ∙ none)) at);
+      }
+  unit_added procedures plains new (Some r) refusal now names adds made so_far = record {
+    rows = row_put (adds.is units i names) adds.row;
+    lowered = λ none. absurd (some_along refusal r (sym made ∙ none));
   }
+    where
+      row_put : lowered_at options units i u ≡ None → r ≡ form_row u u.statements
+          → first_of (rows_of_lowering options units 0 units) ≡ earliest now (first_of (rows_of_lowering options units (i + 1) rest))
+      row_put none row =
+          so_far.rows ∙ ap (earliest refusal) (rows_here None none)
+          ∙ ap (λ q. earliest refusal (earliest (Some q) (first_of (rows_of_lowering options units (i + 1) rest)))) (sym row)
+          ∙ sym (earliest_along refusal (Some r) (first_of (rows_of_lowering options units (i + 1) rest)))
+          ∙ ap (λ q. earliest q (first_of (rows_of_lowering options units (i + 1) rest))) (sym made)
 
-  pub lines_fail : (a b c : Bool) → a ≡ names_test → a ≡ true → ((options : Options) → b ≡ spelled_test options) → b ≡ true → ((options : Options) → c ≡ lines_test options) → c ≡ false → IsPlainIf u false
-  lines_fail a b c names one spelled two direct is = record {
-    is = λ options.
-        sym (plain_tests options ∙ ap (λ d. all_four d (spelled_test options) (lines_test options) (loops_test options)) (sym names ∙ one)
-        ∙ ap (λ d. all_four true d (lines_test options) (loops_test options)) (sym (spelled options) ∙ two)
-        ∙ ap (λ d. all_four true true d (loops_test options)) (sym (direct options) ∙ is));
-  }
-
-  pub loops_decide : (a b c : Bool) → a ≡ names_test → a ≡ true → ((options : Options) → b ≡ spelled_test options) → b ≡ true → ((options : Options) → c ≡ lines_test options) → c ≡ true
-      → (d : Bool) → ((options : Options) → d ≡ loops_test options) → IsPlainIf u d
-  loops_decide a b c names one spelled two direct three d loops = record {
-    is = λ options.
-        loops options
-        ∙ sym (plain_tests options ∙ ap (λ e. all_four e (spelled_test options) (lines_test options) (loops_test options)) (sym names ∙ one)
-        ∙ ap (λ e. all_four true e (lines_test options) (loops_test options)) (sym (spelled options) ∙ two)
-        ∙ ap (λ e. all_four true true e (loops_test options)) (sym (direct options) ∙ three));
-  }
-
--- ## A lowered text
-
-pub unfit_file : (table : NameFacts) (names : List Bytes) (t : LoweredText) (b : Bool) → b ≡ false → FitsIf t b → IsFileOf table names t None
-unfolding file_by file_if
-unfit_file table names t b is fitting = record {
-  meant = λ u told text. sym (ap (λ c. file_if c (option_map (main_file (inventory_of u.facts.program u)) (named_body_of u.facts.program u))) (sym (fitting.is u text) ∙ is));
+none_yet : (options : Options) (units : List GivenUnit) → IsSoFar options units 0 [] None
+unfolding earliest
+none_yet options units = record {
+  rows = refl;
+  lowered = λ none. record { before = []; told = none_told; given = refl; whole = λ later is. is };
 }
 
-pub fit_file : (table : NameFacts) (names : List Bytes) (t : LoweredText) (b : Bool) (file : Option CFile) → b ≡ true → FitsIf t b → IsWritten table names t file → IsFileOf table names t file
-unfolding file_by file_if
-fit_file table names t b file is fitting written = record {
-  meant = λ u told text.
-      written.meant u told text
-      ∙ sym (ap (λ c. file_if c (option_map (main_file (inventory_of u.facts.program u)) (named_body_of u.facts.program u))) (sym (fitting.is u text) ∙ is));
-}
+pub no_unit_yet : (options : Options) (units : List GivenUnit) (plains : List PlainUnit) → plains ≡ [] → IsSoFar options units 0 plains None
+no_unit_yet options units plains none = subst (λ ps. IsSoFar options units 0 ps None) (sym none) (none_yet options units)
 
-abbrev facts_or : Facts → Option Text → Facts
-facts_or c None = c
-facts_or c (Some t) = t.facts
+module _ (options : Options) (procedures : List Bytes) (units : List GivenUnit) (i : ℕ) (h : length units ≤ i) where
+  refused_so : (plains : List PlainUnit) (refusal : Option Refusal) → IsSoFar options units i plains refusal → first_of (rows_of_lowering options units 0 units) ≡ refusal
+  unfolding rows_of_lowering first_of
+  refused_so plains refusal so_far = so_far.rows ∙ ap (λ us. earliest refusal (first_of (rows_of_lowering options units i us))) (drop_all i units h) ∙ none_along refusal
 
-facts_kept : (c : Facts) (o : Option (List Step)) → facts_or c (text_with c o) ≡ c
-unfolding text_with
-facts_kept c None = refl
-facts_kept c (Some steps) = refl
+  lowered_so : (plains : List PlainUnit) → AreSoFar options units i plains → WereLowered options units plains
+  unfolding lowered_from
+  lowered_so plains so_far = record {
+    lowered = so_far.before;
+    were = so_far.whole [] (ap (lowered_from options units i) (drop_all i units h)) ∙ ap Some (append-nil so_far.before);
+    told = so_far.told;
+    given = sym (append-nil (units_given plains)) ∙ ap (λ us. units_given plains ++ us) (sym (drop_all i units h)) ∙ so_far.given;
+  }
 
--- a lowered text is that of its unit
-same_facts : (c : Facts) (t : Text) → lowered_unit c ≡ Some t → t.facts ≡ c
-unfolding lowered_unit
-same_facts c t is = ap (facts_or c) (sym is) ∙ facts_kept c (lines_code c.program 0 c.program.lines)
+  pub units_end : (found : Vec PlainUnit) (refusal : Option Refusal) (result : Result (Vec PlainUnit) Fail) → (procedure_names units ≡ procedures → IsSoFar options units i found.items refusal)
+      → (refusal ≡ None → result ≡ Ok found) → ((row : Refusal) → refusal ≡ Some row → result ≡ Err (fail.Refused row)) → AreUnitsOf options procedures units result
+  unfolding AreUnitsOf
+  units_end found None result so_far kept refused = subst (AreUnitsOf options procedures units) (sym (kept refl)) (λ names. lowered_so found.items ((so_far names).lowered refl))
+  units_end found (Some r) result so_far kept refused = subst (AreUnitsOf options procedures units) (sym (refused r refl)) (λ names. refused_so found.items (Some r) (so_far names))
 
--- ## The file of a unit
+-- ## One unit
 
-no_file : (a b c : Bool) (file : Option CFile) → (a && b) ≡ false → None ≡ file_if (a && (b && c)) file
-unfolding file_if
-no_file true true c file is = absurd (cc)
-no_file true false c file is = refl
-no_file false b c file is = refl
+module _ (options : Options) (procedures : List Bytes) (u : GivenUnit) (before after : List PlainUnit) (o : Option PlainUnit) (made : IsUnitIf options procedures u o) where
+  pub unit_put : (plain : PlainUnit) → o ≡ Some plain → after ≡ before ++ plain ∷ [] → AddsUnit options procedures u before after None
+  unfolding AddsUnit
+  unit_put plain some put = record { plain = plain; put = put; is = subst (IsUnitIf options procedures u) some made }
 
-some_file : (a b c : Bool) (file : Option CFile) → (a && b) ≡ true → c ≡ true → file ≡ file_if (a && (b && c)) file
-unfolding file_if
-some_file true true true file one two = refl
-some_file true true false file one two = absurd (cc)
-some_file true false c file one two = absurd (cc)
-some_file false b c file one two = absurd (cc)
-
-unlowered_file : (a b c : Bool) (file : Option CFile) → c ≡ false → None ≡ file_if (a && (b && c)) file
-unfolding file_if
-unlowered_file true true true file is = absurd (cc)
-unlowered_file true true false file is = refl
-unlowered_file true false c file is = refl
-unlowered_file false b c file is = refl
-
-module _ (options : Options) (u : WrittenUnit) where
-  pub file_of_other : (b : Bool) → b ≡ false → IsPlainIf u b → None ≡ unit_file options u
-  unfolding unit_file
-  file_of_other b is plain = no_file (is_plain_main options u) (is_spellable (unit_read options u)) (statements_lower (given_names u) u.statements) _ (sym (plain.is options) ∙ is)
-
-  unlowered : (table : NameFacts) → AreNameFacts u table → placed.statements_lower table u.statements ≡ false → None ≡ unit_file options u
-  unfolding unit_file
-  unlowered table are none =
-      unlowered_file (is_plain_main options u) (is_spellable (unit_read options u)) (statements_lower (given_names u) u.statements) _
-      (sym (same_statements table (given_names u) (facts_given u table are) u.statements) ∙ none)
-
-  pub file_of_unlowered : (table : NameFacts) (text : Option LoweredText) → AreNameFacts u table → text ≡ None → IsLoweredIf table options.onetrip u.statements text → None ≡ unit_file options u
-  unfolding IsLoweredIf
-  file_of_unlowered table None are is lowered = unlowered table are lowered
-  file_of_unlowered table (Some t) are is lowered = absurd (cc)
-
-  is_main_program : IsPlainIf u true → is_main (unit_kind u) ≡ true
-  unfolding is_plain_main
-  is_main_program plain =
-      (and_parts (is_main (unit_kind u)) (has_one_entry u && (has_own_storage u && (has_plain_lines (unit_read options u) && names_are_plain u)))
-      (and_parts (is_plain_main options u) (is_spellable (unit_read options u)) (sym (plain.is options))).0).0
-
-  written_by : (table : NameFacts) (t : LoweredText) (file : Option CFile) → AreNameFacts u table → IsPlainIf u true → IsLoweredUnit table options.onetrip u.statements t
-      → IsFileOf table (all_names u) t file → file ≡ unit_file options u
-  unfolding unit_file
-  written_by table t file are plain lowered made =
-      let unit : ProgramUnit = unit_read options u in
-      let facts : AreFactsOf (given_names u) table = facts_given u table are in
-      let text : IsTextOf (plain_facts unit) t = lowered.meant (plain_facts unit) (given_names u) (lines_read options u) facts in
-      let program : text.text.facts.program ≡ unit = ap (λ (c : Facts). c.program) (same_facts (plain_facts unit) text.text text.lowered) in
-      made.meant text.text (subst (λ (p : ProgramUnit). IsTold table (all_names u) p) (sym program) (unit_told options u table are (is_main_program plain))) text.is
-      ∙ ap (λ (p : ProgramUnit). file_by p (Some text.text)) program
-      ∙ ap (file_by unit) (sym text.lowered)
-      ∙ some_file (is_plain_main options u) (is_spellable unit) (statements_lower (given_names u) u.statements) (file_by unit (lowered_unit (plain_facts unit)))
-      (sym (plain.is options)) (sym (same_statements table (given_names u) facts u.statements) ∙ lowered.lowers)
-
-  pub file_of_written : (table : NameFacts) (names : List Bytes) (b : Bool) (text : Option LoweredText) (t : LoweredText) (file : Option CFile) → AreNameFacts u table → names ≡ all_names u
-      → b ≡ true → IsPlainIf u b → text ≡ Some t → IsLoweredIf table options.onetrip u.statements text → IsFileOf table names t file → file ≡ unit_file options u
-  unfolding IsLoweredIf
-  file_of_written table names b text t file are all is plain some lowered made =
-      written_by table t file are (subst (IsPlainIf u) is plain) (subst (IsLoweredIf table options.onetrip u.statements) some lowered)
-      (subst (λ xs. IsFileOf table xs t file) all made)
-
--- ## A file
-
--- as a slice is cut before its first
-cut_first : (us : List WrittenUnit) (u d : WrittenUnit) → 1 ≤ length us → u ≡ slice_index_or us 0 d → us ≡ u ∷ take (length us - 1) (drop 1 us)
-cut_first [] u d some first = absurd (omega (arith, some))
-cut_first (v ∷ us) u d some first =
-    let one : length us ≡ suc (length us) - 1 = omega arith in
-    ap (λ w. w ∷ us) (sym first) ∙ ap (λ vs. u ∷ vs) (sym (take-length us) ∙ ap (λ k. take k us) one)
-
-no_units_by : (options : Options) (us : List WrittenUnit) (r : Refusal) → length us < 1 → r ≡ record { file = 0; card = 1; kind = NotBuiltYet } → first_of (units_not_translated options us) ≡ Some r
-unfolding units_not_translated first_of earlier
-no_units_by options [] r none is = ap Some (sym is)
-no_units_by options (u ∷ us) r none is = absurd (omega (arith, none))
-
-pub no_units : (options : Options) (tree : File) (us : List WrittenUnit) (r : Refusal) → us ≡ tree.units → length us < 1 → r ≡ record { file = 0; card = 1; kind = NotBuiltYet }
-    → IsTranslation options tree (Err (fail.Refused r))
-no_units options tree us r units none is = ap (λ vs. first_of (units_not_translated options vs)) (sym units) ∙ no_units_by options us r none is
-
--- the first unit, and those behind it
-module _ (options : Options) (tree : File) (us : List WrittenUnit) (u d : WrittenUnit) (same : us ≡ tree.units) (some : 1 ≤ length us) (first : u ≡ slice_index_or us 0 d) where
-  abbrev others : List WrittenUnit
-  others = take (length us - 1) (drop 1 us)
-
-  units : tree.units ≡ u ∷ others
-  units = sym same ∙ cut_first us u d some first
-
-  one_unit : (us : List WrittenUnit) → None ≡ first_of (others_not_translated us) → units_file options (u ∷ us) ≡ unit_file options u
-  unfolding units_file others_not_translated first_of
-  one_unit [] none = refl
-  one_unit (v ∷ us) none = absurd (cc)
-
-  rows_by : (file : Option CFile) → file ≡ unit_file options u → units_not_translated options tree.units ≡ row_unless file (form_row u u.statements) ++ others_not_translated others
-  unfolding units_not_translated unit_not_translated
-  rows_by file is = ap (units_not_translated options) units ∙ ap (λ o. row_unless o (form_row u u.statements) ++ others_not_translated others) (sym is)
-
-  pub refused_form : (file : Option CFile) (row r : Refusal) → file ≡ None → file ≡ unit_file options u → row ≡ form_row u u.statements → Some r ≡ first_of (row ∷ others_not_translated others) → IsTranslation options tree (Err (fail.Refused r))
-  unfolding row_unless
-  refused_form file row r none is made found =
-      ap first_of (rows_by None (sym none ∙ is)) ∙ ap (λ q. first_of (q ∷ others_not_translated others)) (sym made) ∙ sym found
-
-  translated : (file : CFile) → Some file ≡ unit_file options u → None ≡ first_of (others_not_translated others) → IsTranslation options tree (Ok file)
-  translated file is none = ap (units_file options) units ∙ one_unit others none ∙ sym is
-
-  refused_unit : (file : CFile) (r : Refusal) → Some file ≡ unit_file options u → Some r ≡ first_of (others_not_translated others) → IsTranslation options tree (Err (fail.Refused r))
-  unfolding row_unless
-  refused_unit file r is found = ap first_of (rows_by (Some file) is) ∙ sym found
-
-  unless_behind : (file : CFile) (found : Option Refusal) (result : Result CFile Fail) → Some file ≡ unit_file options u → found ≡ first_of (others_not_translated others)
-      → (found ≡ None → result ≡ Ok file) → ((r : Refusal) → found ≡ Some r → result ≡ Err (fail.Refused r)) → IsTranslation options tree result
-  unless_behind file None result is found kept refused = subst (IsTranslation options tree) (sym (kept refl)) (translated file is found)
-  unless_behind file (Some r) result is found kept refused = subst (IsTranslation options tree) (sym (refused r refl)) (refused_unit file r is found)
-
-  pub answered : (file : Option CFile) (written : CFile) (found : Option Refusal) (result : Result CFile Fail) → file ≡ Some written → file ≡ unit_file options u → found ≡ first_of (others_not_translated others)
-      → (found ≡ None → result ≡ Ok written) → ((r : Refusal) → found ≡ Some r → result ≡ Err (fail.Refused r)) → IsTranslation options tree result
-  answered file written found result some_file is others_found kept refused = unless_behind written found result (sym some_file ∙ is) others_found kept refused
+  pub unit_refused : (r : Refusal) → o ≡ None → r ≡ form_row u u.statements → AddsUnit options procedures u before after (Some r)
+  unfolding AddsUnit
+  unit_refused r none row = record { row = row; is = subst (IsUnitIf options procedures u) none made }

@@ -7,18 +7,20 @@ use Rattle.std.proofs.Math.Bool.{and-true}
 use Rattle.std.proofs.lemmas.List.{length-map}
 use Rattle.std.proofs.lemmas.List.Folds.{list_all-map}
 use Rattle.f_tree.specs.Values.{Bytes}
-use Rattle.l_core.specs.Steps.{Step, Keep, Compute, Jump}
+use Rattle.l_core.specs.Steps.{Step, Keep, Compute, CallFor, Jump}
 use Rattle.lowered_tree.specs.declared.pures.Function.{Function}
 use Rattle.lowered_tree.specs.declared.pures.Pure.{Pure as LoweredPure}
+use Rattle.lowered_tree.specs.declared.steps.Callee.{Callee}
 use Rattle.lowered_tree.specs.declared.steps.Step.{Step as LoweredStep}
 use Rattle.lowered_tree.specs.declared.steps.Step.TheVariants as lowered
 use Rattle.lowered_tree.specs.Shapes.{step_of}
 use Rattle.lowered_text.specs.declared.text.LoweredText.{LoweredText}
 use Rattle.lowered_text.specs.declared.text.Marked.{Marked}
 use Rattle.lowered_text.specs.Texts.{marked_of}
-use Rattle.main_translation.specs.Contents.{temporaries_in}
+use Rattle.unit_translation.specs.UnitContents.{temporaries_kept}
 use Rattle.main_translation.specs.Outlined.{labels_in}
-use Rattle.translated_forms.specs.TranslatedForms.{stop_fits, fits}
+use Rattle.translated_forms.specs.TranslatedForms.{stop_fits}
+use Rattle.translated_files.specs.TranslatedFiles.{text_fits}
 use Rattle.translator.specs.FittingSteps.{keep_fits, jump_fits, step_fits, FitsIf}
 
 -- ## Truth values
@@ -46,11 +48,12 @@ most_by n m limit false b one other = let above : limit ≤ n = ltb-false n limi
 most_fits : (n m limit : ℕ) → nat_le (1 + max n m) limit ≡ (nat_lt n limit && nat_le (1 + m) limit)
 most_fits n m limit = most_by n m limit (nat_lt n limit) (nat_le (1 + m) limit) refl refl
 
-keeps_fit : (steps : List Step) → nat_le (1 + temporaries_in steps) (2 ^ 64) ≡ list_all keep_fits steps
-unfolding temporaries_in keep_fits
+keeps_fit : (steps : List Step) → nat_le (1 + temporaries_kept steps) (2 ^ 64) ≡ list_all keep_fits steps
+unfolding temporaries_kept keep_fits
 keeps_fit [] = refl
-keeps_fit (Keep k p ∷ later) = most_fits (suc k) (temporaries_in later) (2 ^ 64) ∙ ap (λ b. nat_lt (suc k) (2 ^ 64) && b) (keeps_fit later)
-keeps_fit (Compute k f ps ∷ later) = most_fits (suc k) (temporaries_in later) (2 ^ 64) ∙ ap (λ b. nat_lt (suc k) (2 ^ 64) && b) (keeps_fit later)
+keeps_fit (Keep k p ∷ later) = most_fits (suc k) (temporaries_kept later) (2 ^ 64) ∙ ap (λ b. nat_lt (suc k) (2 ^ 64) && b) (keeps_fit later)
+keeps_fit (Compute k f ps ∷ later) = most_fits (suc k) (temporaries_kept later) (2 ^ 64) ∙ ap (λ b. nat_lt (suc k) (2 ^ 64) && b) (keeps_fit later)
+keeps_fit (CallFor k callee ps ∷ later) = most_fits (suc k) (temporaries_kept later) (2 ^ 64) ∙ ap (λ b. nat_lt (suc k) (2 ^ 64) && b) (keeps_fit later)
 keeps_fit (_ ∷ later) = keeps_fit later
 
 -- ## Labels
@@ -63,12 +66,12 @@ jumps_fit (_ ∷ later) = jumps_fit later
 
 -- ## The whole
 
-all_fit : (steps : List Step) → list_all step_fits steps ≡ (nat_le (1 + temporaries_in steps) (2 ^ 64) && (list_all (λ label. nat_lt label (2 ^ 64)) (labels_in steps) && list_all stop_fits steps))
+all_fit : (steps : List Step) → list_all step_fits steps ≡ (nat_le (1 + temporaries_kept steps) (2 ^ 64) && (list_all (λ label. nat_lt label (2 ^ 64)) (labels_in steps) && list_all stop_fits steps))
 unfolding step_fits
 all_fit steps =
     three_tests keep_fits jump_fits stop_fits steps
     ∙ ap (λ b. b && (list_all jump_fits steps && list_all stop_fits steps)) (sym (keeps_fit steps))
-    ∙ ap (λ b. nat_le (1 + temporaries_in steps) (2 ^ 64) && (b && list_all stop_fits steps)) (sym (jumps_fit steps))
+    ∙ ap (λ b. nat_le (1 + temporaries_kept steps) (2 ^ 64) && (b && list_all stop_fits steps)) (sym (jumps_fit steps))
 
 counts_first : (a c t x : Bool) → (a && (c && (t && x))) ≡ (a && (t && (c && x)))
 counts_first false c t x = refl
@@ -78,7 +81,7 @@ counts_first true false false x = refl
 
 pub text_fitting : (t : LoweredText) (ss : List LoweredStep) (ms : List Marked) (b : Bool) → ss ≡ t.steps.items → ms ≡ t.marks.items
     → b ≡ (nat_le (1 + length ss) (2 ^ 64) && (nat_le (1 + length ms) (2 ^ 64) && list_all (λ st. step_fits (step_of st)) ss)) → FitsIf t b
-unfolding fits
+unfolding text_fits
 text_fitting t ss ms b same_steps same_marks is = record {
   is = λ u text.
       let steps : map step_of ss ≡ u.steps = ap (map step_of) same_steps ∙ text.steps in
@@ -87,7 +90,7 @@ text_fitting t ss ms b same_steps same_marks is = record {
       is ∙ ap (λ n. nat_le (1 + n) (2 ^ 64) && (nat_le (1 + length ms) (2 ^ 64) && list_all (λ st. step_fits (step_of st)) ss)) step_count
       ∙ ap (λ n. nat_le (1 + length u.steps) (2 ^ 64) && (nat_le (1 + n) (2 ^ 64) && list_all (λ st. step_fits (step_of st)) ss)) mark_count
       ∙ ap (λ e. nat_le (1 + length u.steps) (2 ^ 64) && (nat_le (1 + length u.marks) (2 ^ 64) && e)) (sym (list_all-map step_fits step_of ss) ∙ ap (list_all step_fits) steps ∙ all_fit u.steps)
-      ∙ counts_first (nat_le (1 + length u.steps) (2 ^ 64)) (nat_le (1 + length u.marks) (2 ^ 64)) (nat_le (1 + temporaries_in u.steps) (2 ^ 64))
+      ∙ counts_first (nat_le (1 + length u.steps) (2 ^ 64)) (nat_le (1 + length u.marks) (2 ^ 64)) (nat_le (1 + temporaries_kept u.steps) (2 ^ 64))
       (list_all (λ label. nat_lt label (2 ^ 64)) (labels_in u.steps) && list_all stop_fits u.steps);
 }
 
@@ -110,6 +113,10 @@ pub fits-Compute : (k : ℕ) (f : Function) (ps : List LoweredPure) → nat_lt k
 unfolding step_fits keep_fits jump_fits stop_fits
 fits-Compute k f ps = below_last k (nat_lt k 18446744073709551615) refl ∙ sym (and-true (nat_lt (suc k) (2 ^ 64)))
 
+pub fits-CallFor : (k : ℕ) (callee : Callee) (ps : List LoweredPure) → nat_lt k 18446744073709551615 ≡ step_fits (step_of (lowered.CallFor k callee ps))
+unfolding step_fits keep_fits jump_fits stop_fits
+fits-CallFor k callee ps = below_last k (nat_lt k 18446744073709551615) refl ∙ sym (and-true (nat_lt (suc k) (2 ^ 64)))
+
 pub fits-Jump : (label : ℕ) → nat_lt label (2 ^ 64) ≡ step_fits (step_of (lowered.Jump label))
 unfolding step_fits keep_fits jump_fits stop_fits
 fits-Jump label = sym (and-true (nat_lt label (2 ^ 64)))
@@ -118,11 +125,12 @@ pub fits-Halt : (text : Bytes) → (list_all (λ byte. nat_lt byte 256) text && 
 unfolding step_fits keep_fits jump_fits stop_fits
 fits-Halt text = refl
 
-pub fits-other : (st : LoweredStep) → ((k : ℕ) (p : LoweredPure) → st ≡ lowered.Keep k p → ⊥) → ((k : ℕ) (f : Function) (ps : List LoweredPure) → st ≡ lowered.Compute k f ps → ⊥) → ((label : ℕ) → st ≡ lowered.Jump label → ⊥) → ((text : Bytes) → st ≡ lowered.Halt text → ⊥)
+pub fits-other : (st : LoweredStep) → ((k : ℕ) (p : LoweredPure) → st ≡ lowered.Keep k p → ⊥) → ((k : ℕ) (f : Function) (ps : List LoweredPure) → st ≡ lowered.Compute k f ps → ⊥) → ((k : ℕ) (callee : Callee) (ps : List LoweredPure) → st ≡ lowered.CallFor k callee ps → ⊥) → ((label : ℕ) → st ≡ lowered.Jump label → ⊥) → ((text : Bytes) → st ≡ lowered.Halt text → ⊥)
     → true ≡ step_fits (step_of st)
 unfolding step_fits keep_fits jump_fits stop_fits
-fits-other (lowered.Keep k p) h0 h1 h2 h3 = absurd (h0 k p refl)
-fits-other (lowered.Compute k f ps) h0 h1 h2 h3 = absurd (h1 k f ps refl)
-fits-other (lowered.Jump label) h0 h1 h2 h3 = absurd (h2 label refl)
-fits-other (lowered.Halt text) h0 h1 h2 h3 = absurd (h3 text refl)
-fits-other _ h0 h1 h2 h3 = refl
+fits-other (lowered.Keep k p) h0 h1 h2 h3 h4 = absurd (h0 k p refl)
+fits-other (lowered.Compute k f ps) h0 h1 h2 h3 h4 = absurd (h1 k f ps refl)
+fits-other (lowered.CallFor k callee ps) h0 h1 h2 h3 h4 = absurd (h2 k callee ps refl)
+fits-other (lowered.Jump label) h0 h1 h2 h3 h4 = absurd (h3 label refl)
+fits-other (lowered.Halt text) h0 h1 h2 h3 h4 = absurd (h4 text refl)
+fits-other _ h0 h1 h2 h3 h4 = refl

@@ -1,8 +1,10 @@
 -- Which forms of items and statements are translated.
-use Rattle.std.specs.Prelude.{is_none}
-use Rattle.std.proofs.Common.{◌≡◌, ℕ, true, false, List, Option, refl}
+use Rattle.std.specs.List.{list_all}
+use Rattle.std.proofs.Common.{◌≡◌, ℕ, true, false, List, refl}
 use Rattle.f_tree.specs.Values.{Bytes}
-use Rattle.f_tree.specs.declared.expressions.Expr.{Expr}
+use Rattle.f_tree.specs.declared.expressions.Expr as given
+use Rattle.f_tree.specs.declared.expressions.Expr.{Expr, Part', Minus', Plus', Not', Paren', Binary', Bind', more_of-Expr}
+use Rattle.f_tree.specs.declared.expressions.Expr.TheVariants as expr
 use Rattle.f_tree.specs.declared.statements.AuxiliaryKind.{AuxiliaryKind}
 use Rattle.f_tree.specs.declared.statements.Body as whole
 use Rattle.f_tree.specs.declared.statements.Body.{Body, IfOne', more_of-Body, end_of-Body}
@@ -18,8 +20,9 @@ use Rattle.f_tree.specs.declared.statements.ListItem.{ListItem}
 use Rattle.f_tree.specs.declared.statements.ListItem.TheVariants as listed
 use Rattle.f_tree.specs.declared.statements.LoopControl.{LoopControl}
 use Rattle.f_tree.specs.declared.statements.TypeSpec.{TypeSpec}
-use Rattle.f_tree.specs.Folds.{fold_item, folds_opened}
-use Rattle.translated_forms.specs.TranslatedForms.{is_number, layer_single, is_listed, layer_form, is_translated_form}
+use Rattle.f_tree.specs.Folds.{fold_expr, fold_item, folds_opened}
+use Rattle.translated_forms.specs.TranslatedForms.{is_number, layer_single, is_listed, layer_form}
+use Rattle.translated_files.specs.TranslatedFiles.{layer_value, layer_unit_form, is_translated_form}
 
 pub single-Item : (e : Expr) → fold_item layer_single (listed.Item e) ≡ true
 unfolding folds_opened layer_single
@@ -31,63 +34,78 @@ single-Loop items control = refl
 
 pub ruleset item_forms = (single-Item, single-Loop)
 
+pub value-AltReturn : (label : ℕ) → fold_expr layer_value (expr.AltReturn label) ≡ false
+unfolding folds_opened layer_value
+value-AltReturn label = refl
+
+pub ruleset value_forms = (value-AltReturn)
+
+-- each other argument is a value
+pub value-other : (e : Expr) → ((label : ℕ) → e ≡ expr.AltReturn label → ⊥) → true ≡ fold_expr layer_value e
+unfolding folds_opened layer_value
+value-other (given.AltReturn label) h = absurd (h label refl)
+value-other (Part' s (more_of-Expr e r) from to) h = refl
+value-other (Minus' s (more_of-Expr e r)) h = refl
+value-other (Plus' s (more_of-Expr e r)) h = refl
+value-other (Not' s (more_of-Expr e r)) h = refl
+value-other (Paren' s (more_of-Expr e r)) h = refl
+value-other (Binary' op s (more_of-Expr a r) t (more_of-Expr b q)) h = refl
+value-other (Bind' s row t (more_of-Expr e q)) h = refl
+value-other _ h = refl
+
 pub form-Declare : (spec : TypeSpec) (items : List Declarator) → is_translated_form (body.Declare spec items) ≡ is_number spec.basic
-unfolding folds_opened is_translated_form layer_form
+unfolding folds_opened is_translated_form layer_unit_form layer_form
 form-Declare spec items = refl
 
 pub form-Common : (groups : List CommonGroup) → is_translated_form (body.Common groups) ≡ false
-unfolding folds_opened is_translated_form layer_form
+unfolding folds_opened is_translated_form layer_unit_form layer_form
 form-Common groups = refl
 
 pub form-Equivalence : (groups : List EquivalenceGroup) → is_translated_form (body.Equivalence groups) ≡ false
-unfolding folds_opened is_translated_form layer_form
+unfolding folds_opened is_translated_form layer_unit_form layer_form
 form-Equivalence groups = refl
 
 pub form-Init : (groups : List DataGroup) → is_translated_form (body.Init groups) ≡ false
-unfolding folds_opened is_translated_form layer_form
+unfolding folds_opened is_translated_form layer_unit_form layer_form
 form-Init groups = refl
 
 pub form-Entry : (x : Bytes) (dummies : List DummyArgument) → is_translated_form (body.Entry x dummies) ≡ false
-unfolding folds_opened is_translated_form layer_form
+unfolding folds_opened is_translated_form layer_unit_form layer_form
 form-Entry x dummies = refl
 
 pub form-AssignLabel : (label : ℕ) (x : Bytes) → is_translated_form (body.AssignLabel label x) ≡ false
-unfolding folds_opened is_translated_form layer_form
+unfolding folds_opened is_translated_form layer_unit_form layer_form
 form-AssignLabel label x = refl
 
 pub form-GotoList : (labels : List ℕ) (e : Expr) → is_translated_form (body.GotoList labels e) ≡ false
-unfolding folds_opened is_translated_form layer_form
+unfolding folds_opened is_translated_form layer_unit_form layer_form
 form-GotoList labels e = refl
 
 pub form-GotoName : (x : Bytes) (labels : List ℕ) → is_translated_form (body.GotoName x labels) ≡ false
-unfolding folds_opened is_translated_form layer_form
+unfolding folds_opened is_translated_form layer_unit_form layer_form
 form-GotoName x labels = refl
 
 pub form-IfOne : (e : Expr) (b : Body) → is_translated_form (body.IfOne e b) ≡ is_translated_form b
-unfolding folds_opened is_translated_form layer_form
+unfolding folds_opened is_translated_form layer_unit_form layer_form
 form-IfOne e b = refl
 
-pub form-Call : (x : Bytes) (es : List Expr) → is_translated_form (body.Call x es) ≡ false
-unfolding folds_opened is_translated_form layer_form
+pub form-Call : (x : Bytes) (es : List Expr) → is_translated_form (body.Call x es) ≡ list_all (fold_expr layer_value) es
+unfolding folds_opened is_translated_form layer_unit_form layer_form
 form-Call x es = refl
 
-pub form-Return : (e : Option Expr) → is_translated_form (body.Return e) ≡ is_none e
-unfolding folds_opened is_translated_form layer_form
-form-Return e = refl
-
 pub form-Transfer : (way : Direction) (controls : List Control) (items : List ListItem) → is_translated_form (body.Transfer way controls items) ≡ is_listed way controls items
-unfolding folds_opened is_translated_form layer_form
+unfolding folds_opened is_translated_form layer_unit_form layer_form
 form-Transfer way controls items = refl
 
 pub form-Auxiliary : (which : AuxiliaryKind) (controls : List Control) → is_translated_form (body.Auxiliary which controls) ≡ false
-unfolding folds_opened is_translated_form layer_form
+unfolding folds_opened is_translated_form layer_unit_form layer_form
 form-Auxiliary which controls = refl
 
 pub form-Include : (name : Bytes) → is_translated_form (body.Include name) ≡ false
-unfolding folds_opened is_translated_form layer_form
+unfolding folds_opened is_translated_form layer_unit_form layer_form
 form-Include name = refl
 
-pub ruleset body_forms = (form-Declare, form-Common, form-Equivalence, form-Init, form-Entry, form-AssignLabel, form-GotoList, form-GotoName, form-IfOne, form-Call, form-Return, form-Transfer, form-Auxiliary, form-Include)
+pub ruleset body_forms = (form-Declare, form-Common, form-Equivalence, form-Init, form-Entry, form-AssignLabel, form-GotoList, form-GotoName, form-IfOne, form-Call, form-Transfer, form-Auxiliary, form-Include)
 
 -- each other form is translated
 pub form-other : (b : Body)
@@ -103,22 +121,20 @@ pub form-other : (b : Body)
     → ((which : AuxiliaryKind) (controls : List Control) → b ≡ body.Auxiliary which controls → ⊥)
     → ((name : Bytes) → b ≡ body.Include name → ⊥)
     → ((e : Expr) (inner : Body) → b ≡ body.IfOne e inner → ⊥)
-    → ((e : Option Expr) → b ≡ body.Return e → ⊥)
     → ((way : Direction) (controls : List Control) (items : List ListItem) → b ≡ body.Transfer way controls items → ⊥)
     → true ≡ is_translated_form b
-unfolding is_translated_form layer_form folds_opened
-form-other (whole.Declare spec items) h0 h1 h2 h3 h4 h5 h6 h7 h8 h9 h10 h11 h12 h13 = absurd (h0 spec items refl)
-form-other (whole.Common groups) h0 h1 h2 h3 h4 h5 h6 h7 h8 h9 h10 h11 h12 h13 = absurd (h1 groups refl)
-form-other (whole.Equivalence groups) h0 h1 h2 h3 h4 h5 h6 h7 h8 h9 h10 h11 h12 h13 = absurd (h2 groups refl)
-form-other (whole.Init groups) h0 h1 h2 h3 h4 h5 h6 h7 h8 h9 h10 h11 h12 h13 = absurd (h3 groups refl)
-form-other (whole.Entry x dummies) h0 h1 h2 h3 h4 h5 h6 h7 h8 h9 h10 h11 h12 h13 = absurd (h4 x dummies refl)
-form-other (whole.AssignLabel label x) h0 h1 h2 h3 h4 h5 h6 h7 h8 h9 h10 h11 h12 h13 = absurd (h5 label x refl)
-form-other (whole.GotoList labels e) h0 h1 h2 h3 h4 h5 h6 h7 h8 h9 h10 h11 h12 h13 = absurd (h6 labels e refl)
-form-other (whole.GotoName x labels) h0 h1 h2 h3 h4 h5 h6 h7 h8 h9 h10 h11 h12 h13 = absurd (h7 x labels refl)
-form-other (whole.Call x es) h0 h1 h2 h3 h4 h5 h6 h7 h8 h9 h10 h11 h12 h13 = absurd (h8 x es refl)
-form-other (whole.Auxiliary which controls) h0 h1 h2 h3 h4 h5 h6 h7 h8 h9 h10 h11 h12 h13 = absurd (h9 which controls refl)
-form-other (whole.Include name) h0 h1 h2 h3 h4 h5 h6 h7 h8 h9 h10 h11 h12 h13 = absurd (h10 name refl)
-form-other (IfOne' e s (more_of-Body b end_of-Body)) h0 h1 h2 h3 h4 h5 h6 h7 h8 h9 h10 h11 h12 h13 = absurd (h11 e b refl)
-form-other (whole.Return e) h0 h1 h2 h3 h4 h5 h6 h7 h8 h9 h10 h11 h12 h13 = absurd (h12 e refl)
-form-other (whole.Transfer way controls items) h0 h1 h2 h3 h4 h5 h6 h7 h8 h9 h10 h11 h12 h13 = absurd (h13 way controls items refl)
-form-other _ h0 h1 h2 h3 h4 h5 h6 h7 h8 h9 h10 h11 h12 h13 = refl
+unfolding is_translated_form layer_unit_form layer_form folds_opened
+form-other (whole.Declare spec items) h0 h1 h2 h3 h4 h5 h6 h7 h8 h9 h10 h11 h12 = absurd (h0 spec items refl)
+form-other (whole.Common groups) h0 h1 h2 h3 h4 h5 h6 h7 h8 h9 h10 h11 h12 = absurd (h1 groups refl)
+form-other (whole.Equivalence groups) h0 h1 h2 h3 h4 h5 h6 h7 h8 h9 h10 h11 h12 = absurd (h2 groups refl)
+form-other (whole.Init groups) h0 h1 h2 h3 h4 h5 h6 h7 h8 h9 h10 h11 h12 = absurd (h3 groups refl)
+form-other (whole.Entry x dummies) h0 h1 h2 h3 h4 h5 h6 h7 h8 h9 h10 h11 h12 = absurd (h4 x dummies refl)
+form-other (whole.AssignLabel label x) h0 h1 h2 h3 h4 h5 h6 h7 h8 h9 h10 h11 h12 = absurd (h5 label x refl)
+form-other (whole.GotoList labels e) h0 h1 h2 h3 h4 h5 h6 h7 h8 h9 h10 h11 h12 = absurd (h6 labels e refl)
+form-other (whole.GotoName x labels) h0 h1 h2 h3 h4 h5 h6 h7 h8 h9 h10 h11 h12 = absurd (h7 x labels refl)
+form-other (whole.Call x es) h0 h1 h2 h3 h4 h5 h6 h7 h8 h9 h10 h11 h12 = absurd (h8 x es refl)
+form-other (whole.Auxiliary which controls) h0 h1 h2 h3 h4 h5 h6 h7 h8 h9 h10 h11 h12 = absurd (h9 which controls refl)
+form-other (whole.Include name) h0 h1 h2 h3 h4 h5 h6 h7 h8 h9 h10 h11 h12 = absurd (h10 name refl)
+form-other (IfOne' e s (more_of-Body b end_of-Body)) h0 h1 h2 h3 h4 h5 h6 h7 h8 h9 h10 h11 h12 = absurd (h11 e b refl)
+form-other (whole.Transfer way controls items) h0 h1 h2 h3 h4 h5 h6 h7 h8 h9 h10 h11 h12 = absurd (h12 way controls items refl)
+form-other _ h0 h1 h2 h3 h4 h5 h6 h7 h8 h9 h10 h11 h12 = refl

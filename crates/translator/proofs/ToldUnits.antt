@@ -1,42 +1,46 @@
 -- What the table of a unit's names tells of the unit as the meaning takes it.
 use Rattle.std.specs.List.{list_any}
-use Rattle.std.specs.Prelude.{◌≡◌, Bool, true, false, ◌||◌, List, [], ◌∷◌, map, bytes_eq, None, if◌then◌else◌}
+use Rattle.std.specs.Prelude.{◌≡◌, Bool, true, false, ◌&&◌, List, [], ◌∷◌, map, bytes_eq, None, if◌then◌else◌}
 use Rattle.std.proofs.Common.{refl, sym, ap, ◌∙◌}
-use Rattle.std.proofs.lemmas.Bool.{or_left, or_right}
+use Rattle.std.proofs.lemmas.Bool.{and_parts, or_left, or_right}
 use Rattle.std.proofs.lemmas.Slice.Eq.{bytes_eq-Decides}
 use Rattle.f_tree.specs.declared.names.Class.{Class}
 use Rattle.f_tree.specs.declared.names.Class.TheVariants as class
 use Rattle.f_tree.specs.declared.names.Options.{Options}
-use Rattle.f_tree.specs.declared.units.Unit.{Unit as WrittenUnit}
+use Rattle.f_tree.specs.declared.units.Unit.{Unit as GivenUnit}
 use Rattle.f_tree.specs.Values.{Bytes}
-use Rattle.f_tree.specs.Facts.{Attribute, Member, MainProgram, UnitKind, SubroutineUnit, FunctionUnit, BlockDataUnit}
+use Rattle.f_tree.specs.Facts.{Attribute, Member, EntryPoint}
 use Rattle.f_tree.specs.Uses.{Use, is_among}
 use Rattle.f_tree.specs.Attributes.{Constant, Expansion, bare, attribute_in, attribute_of, described, all_described}
-use Rattle.f_tree.specs.Lines.{is_stored, stored_among, program_of, with_ties, unit_kind, unit_read}
+use Rattle.f_tree.specs.Reading.{name_or_none}
+use Rattle.f_tree.specs.Lines.{is_stored, stored_among, formals_of, entries_from, program_of, with_ties, unit_kind, unit_read}
 use Rattle.declaration_rows.specs.NameRows.{given_names, all_names}
 use Rattle.name_facts.specs.declared.table.NameFacts.{NameFacts}
 use Rattle.name_facts.specs.GivenFacts.{AreNameFacts, IsNameFact, fact_in}
 use Rattle.expression_lowering.specs.TableNames.{AreFactsOf}
 use Rattle.open_loops.specs.ReadLines.{IsReadAs}
 use Rattle.decl_table.proofs.FactLemmas.{attribute-among}
-use Rattle.main_writer.specs.WrittenMains.{is_stored_class, stored_names, IsNoName, IsTold}
-use Rattle.plain_forms.specs.PlainUnits.{is_main}
+use Rattle.faithful.specs.Signatures.{named_formals}
+use Rattle.l_core.specs.Steps.{Text}
+use Rattle.plain_forms.specs.PlainUnits.{has_none, has_own_storage, has_plain_lines}
+use Rattle.unit_forms.specs.PlainProcedures.{may_run, heading_fits, has_no_entries, has_plain_heading, each_name_is_plain, is_plain_unit}
+use Rattle.unit_translation.specs.UnitContents.{formals_in, parameters_in}
+use Rattle.unit_writer.specs.declared.heading.Heading.{Heading}
+use Rattle.unit_writer.specs.ToldUnits.{is_stored_class, stored_names, IsNoName, IsToldUnit}
+use Rattle.translator.specs.UnitFiles.{use_in, dummy_in, IsHeading}
+use Rattle.translator.proofs.NameLemmas.{among_any, formals_named}
+use Rattle.translator.proofs.TestLemmas.{no_entries}
 
 -- the table tells what the names of the unit are
-pub facts_given : (u : WrittenUnit) (table : NameFacts) → AreNameFacts u table → AreFactsOf (given_names u) table
+pub facts_given : (u : GivenUnit) (table : NameFacts) → AreNameFacts u table → AreFactsOf (given_names u) table
 facts_given u table are = record { facts = are.facts }
 
 -- the unit's lines are what is read of its statements
-pub lines_read : (options : Options) (u : WrittenUnit) → IsReadAs (unit_read options u) options.onetrip (given_names u) u.statements
+pub lines_read : (options : Options) (u : GivenUnit) → IsReadAs (unit_read options u) options.onetrip (given_names u) u.statements
 unfolding unit_read with_ties program_of given_names
 lines_read options u = record { onetrip = refl; lines = refl }
 
 -- ## Names that the unit does not have
-
-among_any : (x : Bytes) (xs : List Bytes) → is_among x xs ≡ list_any (bytes_eq x) xs
-unfolding is_among
-among_any x [] = refl
-among_any x (y ∷ ys) = ap (λ b. bytes_eq x y || b) (among_any x ys)
 
 bare_is_none : (a : Attribute) → a ≡ bare class.Unit None → IsNoName a
 unfolding bare
@@ -63,7 +67,7 @@ kept_by false c m ms xs is same = same ∙ ap (λ (d : Bool). if d then m.name �
 same_bytes : (x : Bytes) → bytes_eq x x ≡ true
 same_bytes x = (bytes_eq-Decides x x).1 refl
 
-module _ (table : NameFacts) (u : WrittenUnit) (uses : List Use) (cs : List Constant) (es : List Expansion) where
+module _ (table : NameFacts) (u : GivenUnit) (uses : List Use) (cs : List Constant) (es : List Expansion) where
   abbrev HaveClasses : List Bytes → Type 0
   HaveClasses xs = (x : Bytes) → is_among x xs ≡ true → (fact_in table x).class ≡ (attribute_of u uses cs es x).class
 
@@ -86,19 +90,36 @@ module _ (table : NameFacts) (u : WrittenUnit) (uses : List Use) (cs : List Cons
 
 -- ## The whole
 
-main_kind : (k : UnitKind) → is_main k ≡ true → k ≡ MainProgram
-unfolding is_main
-main_kind MainProgram is = refl
-main_kind SubroutineUnit is = absurd (cc)
-main_kind FunctionUnit is = absurd (cc)
-main_kind BlockDataUnit is = absurd (cc)
+module _ (options : Options) (u : GivenUnit) (plain : is_plain_unit options u ≡ true) where
+  abbrev after_entries : Bool
+  after_entries = has_own_storage u && (has_plain_heading u && (has_plain_lines (unit_read options u) && each_name_is_plain u))
 
--- the table tells of the unit what its C file is written from
-pub unit_told : (options : Options) (u : WrittenUnit) (table : NameFacts) → AreNameFacts u table → is_main (unit_kind u) ≡ true → IsTold table (all_names u) (unit_read options u)
-unfolding unit_read with_ties program_of given_names all_names all_described
-unit_told options u table are main = record {
-  kind = main_kind (unit_kind u) main;
-  facts = are.facts;
-  others = λ x other. none_among table u _ _ _ (all_names u) x other;
-  stored = stored_described table u _ _ _ (all_names u) (class_among table u _ _ _ (all_names u) are.facts);
-}
+  may : may_run (unit_kind u) ≡ true
+  unfolding is_plain_unit
+  may = (and_parts (may_run (unit_kind u)) (heading_fits (unit_kind u) u.dummies && (has_no_entries u && after_entries)) plain).0
+
+  one_entry : entries_from 0 u.statements ≡ []
+  unfolding is_plain_unit has_no_entries
+  one_entry =
+      no_entries (entries_from 0 u.statements)
+      (and_parts (has_none (entries_from 0 u.statements)) after_entries
+      (and_parts (heading_fits (unit_kind u) u.dummies) (has_no_entries u && after_entries)
+      (and_parts (may_run (unit_kind u)) (heading_fits (unit_kind u) u.dummies && (has_no_entries u && after_entries)) plain).1).1).0
+
+  abbrev own_entry : EntryPoint
+  own_entry = record { name = name_or_none u.name; formals = formals_of u.dummies; start = 0 }
+
+  -- the table and the heading tell of the unit what its function is written from
+  pub unit_told : (table : NameFacts) (heading : Heading) (text : Text) → AreNameFacts u table → IsHeading u heading
+      → IsToldUnit table (all_names u) heading (record { unit = unit_read options u; text = text; use_of = use_in u })
+  unfolding unit_read with_ties program_of given_names all_names all_described parameters_in formals_in
+  unit_told table heading text are is = record {
+    kind = is.role may;
+    entries = ap (λ es. map (λ (entry : EntryPoint). entry.name) (own_entry ∷ es)) one_entry ∙ ap (λ x. x ∷ []) (sym is.name);
+    dummies =
+        is.dummies ∙ ap (map (dummy_in u)) (sym (formals_named u.dummies))
+        ∙ ap (λ es. map (dummy_in u) (named_formals (formals_in (own_entry ∷ es)))) (sym one_entry);
+    facts = are.facts;
+    others = λ x other. none_among table u _ _ _ (all_names u) x other;
+    stored = stored_described table u _ _ _ (all_names u) (class_among table u _ _ _ (all_names u) are.facts);
+  }

@@ -1,14 +1,16 @@
--- Which steps fit into memory, each by itself. ANSI X3.9-1978, sections 3.4, 10.3 and 11.12.
+-- Which steps fit into memory, each by itself. ANSI X3.9-1978, sections 3.4, 10.3, 11.12 and 15.5.
 use Rattle.std.specs.Prelude.{◌≡◌, suc, ◌^◌, nat_lt, Bool, true, ◌&&◌}
-use Rattle.l_core.specs.Steps.{Step, Keep, Compute, Jump, Text}
+use Rattle.l_core.specs.Steps.{Step, Keep, Compute, CallFor, Jump, Text}
 use Rattle.lowered_text.specs.declared.text.LoweredText.{LoweredText}
 use Rattle.lowered_text.specs.Texts.{IsText}
-use Rattle.translated_forms.specs.TranslatedForms.{fits, stop_fits}
+use Rattle.translated_forms.specs.TranslatedForms.{stop_fits}
+use Rattle.translated_files.specs.TranslatedFiles.{text_fits}
 
 -- the temporaries up to the one that gets a value can be counted
 unfoldable pub keep_fits : Step → Bool
 keep_fits (Keep k p) = nat_lt (suc k) (2 ^ 64)
 keep_fits (Compute k f ps) = nat_lt (suc k) (2 ^ 64)
+keep_fits (CallFor k callee ps) = nat_lt (suc k) (2 ^ 64)
 keep_fits st = true
 
 -- the label to which it goes is a number
@@ -21,7 +23,7 @@ step_fits st = keep_fits st && (jump_fits st && stop_fits st)
 
 -- whether a lowered text fits, whatever the unit is of which it is the text
 pub record FitsIf (t : LoweredText) (b : Bool) : Type 0 where
-  pub is : (u : Text) → IsText t u → b ≡ fits u
+  pub is : (u : Text) → IsText t u → b ≡ text_fits u
 
 unfoldable pub fitting_steps_opened : Unit {0}
 unfolding keep_fits jump_fits step_fits

@@ -1,3 +1,4 @@
 pub mod TranslatedFiles
 pub mod FittingSteps
 pub mod UnitFiles
+pub mod LoweredFiles

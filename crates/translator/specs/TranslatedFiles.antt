@@ -6,7 +6,7 @@ use Rattle.f_tree.specs.declared.refusals.Fail.TheVariants as fail
 use Rattle.f_tree.specs.declared.units.File.{File}
 use Rattle.c_tree.specs.declared.file.CFile.{CFile}
 use Rattle.declaration_rows.specs.Verdicts.{first_of}
-use Rattle.translated_forms.specs.TranslatedForms.{file_of, not_translated}
+use Rattle.translated_files.specs.TranslatedFiles.{file_of, not_translated}
 
 -- want of memory says nothing
 abbrev pub IsTranslation : Options → File → Result CFile Fail → Type 0

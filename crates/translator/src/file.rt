@@ -1,39 +1,43 @@
 //! A file.
 
-ghost use Rattle.std.specs.Prelude.{◌≡◌};
-ghost use Rattle.f_tree.specs.declared.refusals.Refusal.{Refusal as Row};
+ghost use Rattle.translator.specs.LoweredFiles.{EachIsKnown, IsWrittenFile};
 ghost use Rattle.translator.specs.TranslatedFiles.{IsTranslation};
 
-use crate::rows::{first_of_others, first_row, form_row, row_at};
-use crate::unit::unit_file;
+use crate::functions::{constants_of, functions_of, procedures_of};
+use crate::procedures::procedure_names;
+use crate::rows::row_at;
+use crate::unit::{PlainUnit, plain_units};
 use c_tree::file::CFile;
-use f_tree::{Fail, File, Options, Refusal};
+use f_tree::{Fail, File, Options};
 use std::alloc::Global;
+use unit_writer::write_file;
 
-/// A value, unless there is a refusal.
-fn unless_refused<T: Drop>(value: T, refusal: Option<Refusal>) -> Result<T, Fail>
-    ensures kept { refusal ≡ None → result ≡ Ok value }
-    ensures refused { (row : Row) → refusal ≡ Some row → result ≡ Err (Fail.Refused row) }
+/// The C file of units that are lowered.
+#[tactic(auto, unfolding(crate::specs::LoweredFiles::IsWrittenFile))]
+fn written(alloc: Global, units: &[PlainUnit]) -> Result<CFile, Fail>
+    requires { EachIsKnown units.now }
+    ensures { IsWrittenFile units.now result }
 {
-    match refusal {
-        Some(refusal) => Err(Fail::Refused(refusal)),
-        None => Ok(value),
-    }
+    let constants = constants_of(alloc, units)?;
+    let procedures = procedures_of(alloc, units)?;
+    let passed = constants.as_slice();
+    let functions = functions_of(alloc, units, &procedures, passed)?;
+    Ok(write_file(alloc, passed, functions)?)
 }
 
 /// The C file of a FORTRAN file.
 ///
 /// # Errors
 ///
-/// The row F99, at the first statement of a form that is not translated, or where the unit begins; or want of memory.
+/// The first of the rows F99, of a unit at its first statement of a form that is not translated, or where the unit begins; or want of memory.
 pub fn translate_file(alloc: Global, options: Options, file: &File) -> Result<CFile, Fail>
     ensures { IsTranslation options file.now result }
 {
-    match file.units.as_slice() {
-        [] => Err(Fail::Refused(row_at(0, 1))),
-        [unit, others @ ..] => match unit_file(alloc, options, unit)? {
-            Some(written) => unless_refused(written, first_of_others(others)),
-            None => Err(Fail::Refused(first_row(form_row(unit), others))),
-        },
+    let units = file.units.as_slice();
+    if units.is_empty() {
+        return Err(Fail::Refused(row_at(0, 1)));
     }
+    let procedures = procedure_names(alloc, units)?;
+    let plain = plain_units(alloc, options, &procedures, units)?;
+    written(alloc, plain.as_slice())
 }

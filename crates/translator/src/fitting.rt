@@ -12,7 +12,7 @@ use lowered_tree::Step;
 const TEXT_LIMIT: usize = 2_147_483_648;
 
 /// Whether a text of STOP can be passed with its length.
-fn text_fits(text: &[u8]) -> bool
+fn stop_fits(text: &[u8]) -> bool
     ensures { result ≡ (list_all (λ byte. nat_lt byte 256) text.now && nat_lt (length text.now) 2147483648) }
 {
     text.len() < TEXT_LIMIT
@@ -32,8 +32,9 @@ fn step_fits(step: &Step) -> bool
     match step {
         Step::Keep(temporary, _) => *temporary < usize::MAX,
         Step::Compute(temporary, _, _) => *temporary < usize::MAX,
+        Step::CallFor(temporary, _, _) => *temporary < usize::MAX,
         Step::Jump(label) => label_fits(*label),
-        Step::Halt(text) => text_fits(text.as_slice()),
+        Step::Halt(text) => stop_fits(text.as_slice()),
         _ => true,
     }
 }
@@ -61,7 +62,7 @@ fn parts_fit(steps: &[Step], marks: &[Marked]) -> bool
 }
 
 /// Whether a lowered text fits into memory.
-pub(crate) fn fits(text: &LoweredText) -> bool
+pub(crate) fn text_fits(text: &LoweredText) -> bool
     ensures { spec.FitsIf text.now result }
 {
     parts_fit(text.steps.as_slice(), text.marks.as_slice())

@@ -5,7 +5,14 @@
 mod file;
 mod fitting;
 mod forms;
+mod functions;
+mod heading;
+mod procedures;
 mod rows;
+mod spelling;
+mod tests;
+mod texts;
 mod unit;
 
 pub use file::translate_file;
+pub use rows::further_row;

@@ -1,13 +1,10 @@
 //! Where a file has a form that is not translated: the rows F99.
 
-ghost use Rattle.std.specs.Prelude.{◌≡◌, ◌∷◌, Some};
-ghost use Rattle.declaration_rows.specs.Verdicts.{first_of};
-ghost use Rattle.refusal_order.specs.Earliest.{earliest};
-ghost use Rattle.translated_forms.specs.TranslatedForms as spec;
+ghost use Rattle.std.specs.Prelude.{◌≡◌, ◌∷◌, []};
+ghost use Rattle.translated_files.specs.TranslatedFiles as spec;
 
 use crate::forms::is_translated_form;
-use f_tree::{Kind, Refusal, Unit};
-use refusal_order::is_before;
+use f_tree::{File, Kind, Refusal, Unit};
 
 /// The row at a card of a file.
 pub(crate) fn row_at(file: usize, card: u32) -> Refusal
@@ -33,36 +30,13 @@ pub(crate) fn form_row(unit: &Unit) -> Refusal
     row_at(unit.file, unit.card)
 }
 
-/// The earlier of two refusals; of two at one place the first.
-#[tactic(auto, unfolding(refusal_order::specs::Earliest::earliest, declaration_rows::specs::Verdicts::earlier))]
-fn earlier(refusal: Refusal, other: Refusal) -> Refusal
-    ensures { Some result ≡ earliest (Some refusal) (Some other) }
+/// The row of a file that stands behind the first of a set: where its first unit begins, and at card 1 of a file without units.
+#[tactic(auto, unfolding(translated_files::specs::TranslatedFiles::further_units))]
+pub fn further_row(file: &File) -> Refusal
+    ensures { spec.further_units file.now.units ≡ result ∷ [] }
 {
-    if is_before(other, refusal) {
-        other
-    } else {
-        refusal
-    }
-}
-
-/// The first of a row and those of units that stand behind the first of their file.
-pub(crate) fn first_row(row: Refusal, units: &[Unit]) -> Refusal
-    ensures { Some result ≡ first_of (row ∷ spec.others_not_translated units.now) }
-{
-    let mut first = row;
-    for unit in units {
-        first = earlier(first, row_at(unit.file, unit.card));
-    }
-    first
-}
-
-/// The first of the rows of units that stand behind the first of their file.
-#[tactic(auto, unfolding(translated_forms::specs::TranslatedForms::others_not_translated, declaration_rows::specs::Verdicts::first_of))]
-pub(crate) fn first_of_others(units: &[Unit]) -> Option<Refusal>
-    ensures { result ≡ first_of (spec.others_not_translated units.now) }
-{
-    match units {
-        [] => None,
-        [unit, behind @ ..] => Some(first_row(row_at(unit.file, unit.card), behind)),
+    match file.units.as_slice() {
+        [] => row_at(0, 1),
+        [unit, ..] => row_at(unit.file, unit.card),
     }
 }

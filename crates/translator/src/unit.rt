@@ -1,118 +1,150 @@
-//! The C file of a program unit.
+//! The units of a file, lowered.
 
-ghost use Rattle.std.specs.Prelude.{◌≡◌, IfOk, map};
-ghost use Rattle.declaration_rows.specs.NameRows.{all_names};
+ghost use Rattle.std.specs.Prelude.{◌≡◌, IfOk};
+ghost use Rattle.f_tree.specs.declared.refusals.Refusal.{Refusal as Row};
+ghost use Rattle.name_table.specs.Named.{IsNameSet, names_in};
+ghost use Rattle.name_classes.specs.KnownSigns.{AreSigns};
 ghost use Rattle.name_facts.specs.GivenFacts.{AreNameFacts};
-ghost use Rattle.translated_forms.specs.TranslatedForms.{unit_file};
-ghost use Rattle.translator.specs.UnitFiles.{IsFileOf, IsLoweredIf, IsPlainIf};
+ghost use Rattle.translator.specs.UnitFiles.{IsNamed, IsUnitIf};
+ghost use Rattle.translator.specs.LoweredFiles.{AddsUnit, AreUnitsOf};
 
-use crate::fitting::fits;
-use c_tree::file::CFile;
+use crate::heading::heading;
+use crate::rows::form_row;
+use crate::texts::text_of;
 use decl_table::name_facts;
-use direct_lines::are_lines_direct;
-use expression_lowering::LowerError;
-use f_tree::{Options, Unit};
-use loop_entries::do_loops_fit;
+use f_tree::{Fail, Options, Refusal, Unit};
 use lowered_text::LoweredText;
-use main_writer::write_main;
+use name_classes::{Signs, unit_signs};
 use name_facts::NameFacts;
 use name_places::all_names;
-use name_uses::array_set;
-use plain_names::{has_plain_names, is_spellable};
+use name_table::NameSet;
+use refusal_order::earlier_of;
 use std::alloc::{AllocError, Global};
-use unit_lowering::lower_unit;
+use unit_contents::{Contents, contents_of};
+use unit_writer::Heading;
 
-/// Whether a unit is a plain main program whose names can be spelled.
-fn is_plain(
+/// A unit that is translated, with what its function is written from.
+#[derive(Drop)]
+pub(crate) struct PlainUnit<'a> {
+    pub unit: &'a Unit,
+    /// What its names are.
+    pub table: NameFacts<'a>,
+    /// The names in their order.
+    pub names: Vec<&'a [u8]>,
+    pub heading: Heading<'a>,
+    pub text: LoweredText,
+    pub contents: Contents,
+}
+
+/// The names of a unit in their order, and its heading.
+#[derive(Drop)]
+pub(crate) struct NamedUnit<'a> {
+    pub names: Vec<&'a [u8]>,
+    pub heading: Heading<'a>,
+}
+
+/// The names and the heading of a unit, from what its statements tell of its names.
+fn named_by<'a>(
     alloc: Global,
-    unit: &Unit,
+    unit: &'a Unit,
+    signs: &Signs<'a>,
     table: &NameFacts,
-    names: &[&[u8]],
-) -> Result<bool, AllocError>
+) -> Result<NamedUnit<'a>, AllocError>
+    requires signs { AreSigns unit.now signs.now }
     requires table { AreNameFacts unit.now table.now }
-    requires names { map (λ name. name.now) names.now ≡ all_names unit.now }
-    ensures { IfOk result (IsPlainIf unit.now) }
+    ensures { IfOk result (λ named. IsNamed unit.now named) }
 {
-    if !has_plain_names(unit, table, names) {
-        return Ok(false);
-    }
-    if !is_spellable(unit, table, names) {
-        return Ok(false);
-    }
-    if !are_lines_direct(unit, table) {
-        return Ok(false);
-    }
-    do_loops_fit(alloc, unit, table)
+    let names = all_names(alloc, &signs.arrays, unit)?;
+    let heading = heading(alloc, unit, signs, table)?;
+    Ok(NamedUnit { names, heading })
 }
 
-/// The lowered text of a unit; none where a statement is not lowered.
-#[tactic(auto, unfolding(crate::specs::UnitFiles::IsLoweredIf))]
-fn lowered(
-    alloc: Global,
-    once: bool,
-    table: &NameFacts,
-    unit: &Unit,
-) -> Result<Option<LoweredText>, AllocError>
-    ensures { IfOk result (IsLoweredIf table.now once unit.now.statements) }
+/// The names and the heading of a unit.
+fn named<'a>(alloc: Global, unit: &'a Unit, table: &NameFacts) -> Result<NamedUnit<'a>, AllocError>
+    requires { AreNameFacts unit.now table.now }
+    ensures { IfOk result (λ named. IsNamed unit.now named) }
 {
-    match lower_unit(alloc, once, table, unit) {
-        Ok(text) => Ok(Some(text)),
-        Err(LowerError::NotLowered) => Ok(None),
-        Err(LowerError::NoMemory) => Err(AllocError),
-    }
+    let signs = unit_signs(alloc, unit)?;
+    named_by(alloc, unit, &signs, table)
 }
 
-/// The C file of a lowered main program; none where its text does not fit into memory, or has a form that is not written.
-fn written(
-    alloc: Global,
-    table: &NameFacts,
-    names: &[&[u8]],
-    text: &LoweredText,
-) -> Result<Option<CFile>, AllocError>
-    ensures { IfOk result (IsFileOf table.now (map (λ name. name.now) names.now) text.now) }
-{
-    if fits(text) {
-        write_main(alloc, table, names, text)
-    } else {
-        Ok(None)
-    }
-}
-
-/// The C file of a unit, given what its names are, and the names in their order.
-fn file_by(
+/// A unit lowered, given the names of the procedures of its file; none where it has a form that is not translated.
+fn plain_unit<'a>(
     alloc: Global,
     options: Options,
-    unit: &Unit,
-    table: &NameFacts,
-    names: &[&[u8]],
-) -> Result<Option<CFile>, AllocError>
-    requires table { AreNameFacts unit.now table.now }
-    requires names { map (λ name. name.now) names.now ≡ all_names unit.now }
-    ensures { IfOk result (λ file. file ≡ unit_file options unit.now) }
+    procedures: &NameSet,
+    unit: &'a Unit,
+) -> Result<Option<PlainUnit<'a>>, AllocError>
+    requires { IsNameSet procedures.now }
+    ensures { IfOk result (IsUnitIf options (names_in procedures.now) unit.now) }
 {
-    if !is_plain(alloc, unit, table, names)? {
+    let table = name_facts(alloc, unit)?;
+    let NamedUnit { names, heading } = named(alloc, unit, &table)?;
+    let Some(text) = text_of(alloc, options, procedures, unit, &table, names.as_slice())? else {
         return Ok(None);
-    }
-    match lowered(alloc, options.onetrip, table, unit)? {
-        Some(text) => written(alloc, table, names, &text),
-        None => Ok(None),
+    };
+    let contents = contents_of(alloc, &table, &text)?;
+    Ok(Some(PlainUnit {
+        unit,
+        table,
+        names,
+        heading,
+        text,
+        contents,
+    }))
+}
+
+/// A value, unless there is a refusal.
+pub(crate) fn unless_refused<T: Drop>(value: T, refusal: Option<Refusal>) -> Result<T, Fail>
+    ensures kept { refusal ≡ None → result ≡ Ok value }
+    ensures refused { (row : Row) → refusal ≡ Some row → result ≡ Err (Fail.Refused row) }
+{
+    match refusal {
+        Some(refusal) => Err(Fail::Refused(refusal)),
+        None => Ok(value),
     }
 }
 
-/// The C file of a unit; none where it has a form that is not translated.
+/// Lowers a unit; its row where it has a form that is not translated.
+fn add_unit<'a>(
+    alloc: Global,
+    options: Options,
+    procedures: &NameSet,
+    unit: &'a Unit,
+    found: &mut Vec<PlainUnit<'a>>,
+) -> Result<Option<Refusal>, AllocError>
+    requires { IsNameSet procedures.now }
+    ensures { IfOk result (AddsUnit options (names_in procedures.now) unit.now found.old.items found.new.items) }
+{
+    match plain_unit(alloc, options, procedures, unit)? {
+        Some(plain) => {
+            found.push(plain)?;
+            Ok(None)
+        }
+        None => Ok(Some(form_row(unit))),
+    }
+}
+
+/// The units of a file, lowered, given the names of its procedures.
 ///
 /// # Errors
 ///
-/// Want of memory.
-pub(crate) fn unit_file(
+/// The first of the rows of the units that have a form that is not translated; or want of memory.
+#[tactic(auto, unfolding(crate::specs::LoweredFiles::AreUnitsOf))]
+pub(crate) fn plain_units<'a>(
     alloc: Global,
     options: Options,
-    unit: &Unit,
-) -> Result<Option<CFile>, AllocError>
-    ensures { IfOk result (λ file. file ≡ unit_file options unit.now) }
+    procedures: &NameSet,
+    units: &'a [Unit],
+) -> Result<Vec<PlainUnit<'a>>, Fail>
+    requires { IsNameSet procedures.now }
+    ensures { AreUnitsOf options (names_in procedures.now) units.now result }
 {
-    let table = name_facts(alloc, unit)?;
-    let arrays = array_set(alloc, unit)?;
-    let names = all_names(alloc, &arrays, unit)?;
-    file_by(alloc, options, unit, &table, names.as_slice())
+    let mut found = Vec::new(alloc);
+    let mut refusal = None;
+    for unit in units {
+        let row = add_unit(alloc, options, procedures, unit, &mut found)?;
+        refusal = earlier_of(refusal, row);
+    }
+    unless_refused(found, refusal)
 }

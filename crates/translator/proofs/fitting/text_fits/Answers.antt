@@ -1,6 +1,6 @@
-use Rattle.std.proofs.Common.{◌&&◌, nat_lt, length, sym, ap, arith}
-use Rattle.translator.proofs.FitLemmas.{bytes_small}
+use Rattle.translator.proofs.FitLemmas.{text_fitting}
 use Rattle.translator.proofs.fitting.text_fits.Goals as goal
 
 pub returns : goal.returns
-returns c = ap (λ b. b && nat_lt (length c.args.text.now) 2147483648) (sym (bytes_small c.args.text.now (λ i. omega (arith, c.type_inv.text i))))
+returns c =
+    text_fitting c.args.text.now c.as_slice.result.now c.as_slice-2.result.now c.parts_fit.result c.as_slice.ensures.value c.as_slice-2.ensures.value c.parts_fit.ensures

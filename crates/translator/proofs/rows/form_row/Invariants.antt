@@ -1,5 +1,5 @@
 use Rattle.std.proofs.Common.{◌≡◌, drop}
-use Rattle.translated_forms.specs.TranslatedForms.{form_row}
+use Rattle.translated_files.specs.TranslatedFiles.{form_row}
 use Rattle.translator.proofs.rows.form_row.Given as goal
 
 abbrev pub invariant-loop-statement : goal.invariant-loop-statement

@@ -1,0 +1,6 @@
+mod BoundedSteps
+mod HeadSteps
+mod NewNames
+mod NumberSteps
+mod ScopeSteps
+mod WordSteps

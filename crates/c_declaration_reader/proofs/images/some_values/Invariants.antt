@@ -1,0 +1,11 @@
+-- The list from its start on is the list from here on, with what was found.
+use Rattle.std.proofs.Common.{◌≡◌, [], codes}
+use Rattle.c_readers.specs.ValueReader.{bounded, value}
+use Rattle.c_expression_reader.specs.Readings.{shown}
+use Rattle.c_declaration_reader.proofs.images.some_values.Given as goal
+
+abbrev pub invariant-loop-left : goal.invariant-loop-left
+invariant-loop-left l = bounded value (codes "}") l.most [] (shown l.tokens) ≡ bounded value (codes "}") l.left l.found (shown l.rest)
+
+abbrev pub decreases-loop-left : goal.decreases-loop-left
+decreases-loop-left l = l.left

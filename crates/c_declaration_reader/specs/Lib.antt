@@ -1,0 +1,4 @@
+pub mod Endings
+pub mod HeadParts
+pub mod Items
+pub mod SeenDeclarations

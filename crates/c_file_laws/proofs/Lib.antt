@@ -1,0 +1,15 @@
+pub mod BodyStarts
+pub mod FileEnds
+pub mod FileExact
+pub mod FileLaws
+pub mod FileLines
+pub mod FileRowLaws
+pub mod FunctionGood
+pub mod FunctionReads
+pub mod IntegerLed
+pub mod ObjectGood
+pub mod ObjectReads
+pub mod PartsBehind
+pub mod PartsGood
+pub mod PartsReads
+pub mod PartsTo

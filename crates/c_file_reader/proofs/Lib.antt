@@ -1,0 +1,3 @@
+mod BodySteps
+mod PartSteps
+mod TextSteps

@@ -1,0 +1,2 @@
+pub mod PartsSeen
+pub mod ReadTexts

@@ -1,0 +1,3 @@
+pub mod FileReader
+pub mod ObjectReader
+pub mod Opened

@@ -1,0 +1,10 @@
+pub mod CaseLemmas
+pub mod CaseSteps
+pub mod FirstSigns
+pub mod LabelSums
+pub mod LabelTimes
+pub mod PieceSteps
+pub mod PlainForms
+pub mod StatementSteps
+pub mod WordSteps
+pub mod WithinSteps

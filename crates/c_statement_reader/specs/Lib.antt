@@ -1,0 +1,10 @@
+pub mod CaseLists
+pub mod CaseNumbers
+pub mod Endings
+pub mod LabelCounts
+pub mod LabelLists
+pub mod Leads
+pub mod Parts
+pub mod Pieces
+pub mod Seconds
+pub mod Signs

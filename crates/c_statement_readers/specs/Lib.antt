@@ -1,0 +1,5 @@
+pub mod CaseReader
+pub mod LabelTests
+pub mod Opened
+pub mod PartReader
+pub mod StatementReader

@@ -1,5 +1,0 @@
-use Rattle.main_contents.proofs.FirstLaws.{AreCountedTo}
-use Rattle.main_contents.proofs.firsts.first_whiles.Given as goal
-
-abbrev pub invariant-loop-number : goal.invariant-loop-number
-invariant-loop-number l = AreCountedTo l.text l.number l.firsts.items

@@ -1,5 +1,0 @@
-use Rattle.main_contents.proofs.KindLaws.{AreKindsTo}
-use Rattle.main_contents.proofs.kinds.kinds.Given as goal
-
-abbrev pub invariant-loop-position : goal.invariant-loop-position
-invariant-loop-position l = AreKindsTo l.table l.text l.position l.kinds.items

@@ -1,6 +1,0 @@
-use Rattle.std.proofs.Common.{arith}
-use Rattle.main_contents.proofs.LayoutLaws.{names_end}
-use Rattle.main_contents.proofs.layout.label_names.Goals as goal
-
-pub returns : goal.returns
-returns c = names_end c.args.text.now c.loop-position.position c.loop-position.names.items (omega arith) c.loop-position.invariant

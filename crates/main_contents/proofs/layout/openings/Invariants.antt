@@ -1,5 +1,0 @@
-use Rattle.main_contents.proofs.LayoutLaws.{AreOpenedTo}
-use Rattle.main_contents.proofs.layout.openings.Given as goal
-
-abbrev pub invariant-loop-marked : goal.invariant-loop-marked
-invariant-loop-marked l = AreOpenedTo l.text l.marked-index l.openings.items

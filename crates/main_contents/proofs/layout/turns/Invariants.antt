@@ -1,5 +1,0 @@
-use Rattle.main_contents.proofs.LayoutLaws.{AreTurnsTo}
-use Rattle.main_contents.proofs.layout.turns.Given as goal
-
-abbrev pub invariant-loop-position : goal.invariant-loop-position
-invariant-loop-position l = AreTurnsTo l.steps l.openings l.position l.turns.items

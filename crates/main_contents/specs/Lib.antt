@@ -1,3 +1,0 @@
-pub mod MainContents
-pub mod Parts
-pub mod Tables

@@ -1,9 +1,0 @@
-pub mod BoundLaws
-pub mod FileLaws
-pub mod ItemLaws
-pub mod KnownLaws
-pub mod LocalLaws
-pub mod OptionForms
-pub mod ReturnForms
-pub mod TableLemmas
-pub mod Walks

@@ -1,3 +1,0 @@
-pub mod Files
-pub mod Told
-pub mod WrittenMains
