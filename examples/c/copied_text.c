@@ -1,7 +1,6 @@
 #include "f2c.h"
 
 static integer c__1 = 1;
-static integer c__3 = 3;
 static integer c__9 = 9;
 
 int MAIN__(void)

@@ -21,10 +21,11 @@ typedef integer (*I_fp)();
 typedef logical (*L_fp)();
 typedef int (*U_fp)();
 
-/* The greater and the less of two, and the magnitude: each operand is valued once, however deep they stand in each other. */
-static integer f2c__max(integer a, integer b) { return a >= b ? a : b; }
-static integer f2c__min(integer a, integer b) { return a <= b ? a : b; }
-static integer f2c__abs(integer a) { return a >= 0 ? a : -a; }
+/* The greater and the less of two, and the magnitude: each operand is valued once, however deep they stand in each other.
+   They are functions of the library. */
+extern integer f2c__max(integer a, integer b);
+extern integer f2c__min(integer a, integer b);
+extern integer f2c__abs(integer a);
 #define max(a, b) f2c__max(a, b)
 #define min(a, b) f2c__min(a, b)
 #define abs(a) f2c__abs(a)

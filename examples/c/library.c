@@ -5,6 +5,10 @@
 #include <string.h>
 #include "f2c.h"
 
+integer f2c__max(integer a, integer b) { return a >= b ? a : b; }
+integer f2c__min(integer a, integer b) { return a <= b ? a : b; }
+integer f2c__abs(integer a) { return a >= 0 ? a : -a; }
+
 int MAIN__(void);
 static char line[200];
 static int used;

@@ -347,8 +347,7 @@ abbrev pub copied_text : CFile
 copied_text =
     record {
       objects = [];
-      constants = (constant (codes "c__1") (pos 1) ∷ constant (codes "c__3") (pos
-          3) ∷ constant (codes "c__9") (pos 9) ∷ []);
+      constants = (constant (codes "c__1") (pos 1) ∷ constant (codes "c__9") (pos 9) ∷ []);
       functions =
           (function_named (codes "MAIN__")
           (output_functions
@@ -408,8 +407,7 @@ abbrev pub joined_texts : CFile
 joined_texts =
     record {
       objects = [];
-      constants = (constant (codes "c__1") (pos 1) ∷ constant (codes "c__3") (pos
-          3) ∷ constant (codes "c__2") (pos 2) ∷ constant (codes "c__9") (pos 9) ∷ []);
+      constants = (constant (codes "c__1") (pos 1) ∷ constant (codes "c__2") (pos 2) ∷ constant (codes "c__9") (pos 9) ∷ []);
       functions =
           (function_named (codes "MAIN__")
           (output_functions

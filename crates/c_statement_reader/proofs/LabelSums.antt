@@ -2,56 +2,25 @@
 use Rattle.std.proofs.Common.{◌≡◌, refl, sym, ap, ◌∙◌, ℕ, List, [], ◌∷◌, ◌++◌, append_assoc, append-nil, map, Option, Some, None}
 use Rattle.c_tree.specs.declared.expression.CExpr.{CExpr}
 use Rattle.c_tree.specs.declared.statement.CCase.{CCase}
-use Rattle.c_tree.specs.declared.statement.CNext.{CNext}
 use Rattle.c_tree.specs.declared.statement.CStmt.{CStmt}
 use Rattle.c_tree.specs.declared.statement.CStmt.TheVariants as form
 use Rattle.c_tree.specs.CLabels.{LabelsOf, no_label, both, standing, labels_of, labels_of_all}
 use Rattle.c_tree.specs.Opened.{trees_opened}
+use Rattle.c_statement_laws.proofs.LabelLaws.{labels-block, labels-label, labels-for, labels-do, labels-goto, labels-switch, labels-set, labels-set-call, labels-call, labels-empty, labels-return, labels-return-call, both-none, both-assoc}
 use Rattle.c_statement_readers.specs.LabelTests.{with_label}
 use Rattle.c_statement_readers.specs.CaseReader.{case_of}
 use Rattle.c_statement_reader.specs.LabelCounts.{naming, case_labels}
 use Rattle.c_statement_reader.specs.Seconds.{labels_of_second}
 use Rattle.c_statement_reader.proofs.CaseLemmas.{labels-more}
 
--- ## The labels of each form
-
-pub labels-block : (ss : List CStmt) → labels_of (form.Block ss) ≡ labels_of_all ss
-unfolding trees_opened
-labels-block [] = refl
-labels-block (first ∷ later) = ap (both (labels_of first)) (labels-block later)
-
-pub labels-label : (name : List ℕ) (s : CStmt) → labels_of (form.Label name s) ≡ standing name (labels_of s)
-unfolding trees_opened
-labels-label name s = refl
+-- ## The labels of a condition
 
 pub labels-if : (test : CExpr) (first : List CStmt) (second : Option (List CStmt)) → labels_of (form.If test first second) ≡ both (labels_of_all first) (labels_of_second second)
 unfolding trees_opened
 labels-if test first None = ap (λ l. both l no_label) (labels-block first)
 labels-if test first (Some second) = λ i. both (labels-block first i) (labels-block second i)
 
-pub labels-for : (target first test : CExpr) (next : CNext) (inner : List CStmt) → labels_of (form.For target first test next inner) ≡ labels_of_all inner
-unfolding trees_opened
-labels-for target first test next inner = labels-block inner
-
-pub labels-do : (inner : List CStmt) (test : CExpr) → labels_of (form.DoWhile inner test) ≡ labels_of_all inner
-unfolding trees_opened
-labels-do inner test = labels-block inner
-
-pub labels-goto : (label : List ℕ) → labels_of (form.Goto label) ≡ naming (label ∷ [])
-unfolding trees_opened
-labels-goto label = refl
-
-pub labels-switch : (test : CExpr) (cases : List CCase) → labels_of (form.Switch test cases) ≡ naming (case_labels cases)
-unfolding trees_opened
-labels-switch test cases = refl
-
 -- ## Labels together
-
-pub both-none : (a : LabelsOf) → both a no_label ≡ a
-both-none a = λ i. record { stand = append-nil a.stand i; named = append-nil a.named i }
-
-pub both-assoc : (a b c : LabelsOf) → both (both a b) c ≡ both a (both b c)
-both-assoc a b c = λ i. record { stand = append_assoc a.stand b.stand c.stand i; named = append_assoc a.named b.named c.named i }
 
 pub all-more : (ss : List CStmt) (s : CStmt) → labels_of_all (ss ++ s ∷ []) ≡ both (labels_of_all ss) (labels_of s)
 all-more [] s = both-none (labels_of s)
@@ -74,6 +43,8 @@ pub plain-labels : (before of : LabelsOf) → of ≡ no_label → before ≡ bot
 plain-labels before of none = sym (both-none before) ∙ ap (both before) (sym none)
 
 pub ruleset tree_labels = (labels-block, labels-label, labels-if, labels-for, labels-do, labels-goto, labels-switch)
+
+pub ruleset plain_forms = (labels-set, labels-set-call, labels-call, labels-empty, labels-return, labels-return-call)
 
 pub ruleset label_sums = (one-stands, one-named)
 

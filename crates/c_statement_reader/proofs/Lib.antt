@@ -4,7 +4,6 @@ pub mod FirstSigns
 pub mod LabelSums
 pub mod LabelTimes
 pub mod PieceSteps
-pub mod PlainForms
 pub mod StatementSteps
 pub mod WordSteps
 pub mod WithinSteps

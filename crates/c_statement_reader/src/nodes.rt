@@ -84,7 +84,7 @@ pub(crate) fn repeat_of(inner: Items<CStmt>, test: CExpr) -> CStmt
 }
 
 /// The empty statement (C89, 3.6.3).
-#[tactic(auto, using(crate::proofs::PlainForms::plain_forms))]
+#[tactic(auto, using(crate::proofs::LabelSums::plain_forms))]
 pub(crate) fn nothing() -> CStmt
     ensures made { result ≡ stmt.Empty }
     ensures labels { labels_of result ≡ no_label }

@@ -45,7 +45,7 @@ pub(crate) fn right_side<'a>(
 }
 
 /// The assignment of what stands on the right.
-#[tactic(auto, using(crate::proofs::PlainForms::plain_forms), unfolding(crate::specs::Parts::seen_right))]
+#[tactic(auto, using(crate::proofs::LabelSums::plain_forms), unfolding(crate::specs::Parts::seen_right))]
 pub(crate) fn set_to(target: CExpr, right: Right) -> CStmt
     ensures made { result ≡ reader.set_to target (seen_right right) }
     ensures plain { labels_of result ≡ no_label }
@@ -57,7 +57,7 @@ pub(crate) fn set_to(target: CExpr, right: Right) -> CStmt
 }
 
 /// The return of what stands on the right.
-#[tactic(auto, using(crate::proofs::PlainForms::plain_forms), unfolding(crate::specs::Parts::seen_right))]
+#[tactic(auto, using(crate::proofs::LabelSums::plain_forms), unfolding(crate::specs::Parts::seen_right))]
 pub(crate) fn return_of(right: Right) -> CStmt
     ensures made { result ≡ reader.return_of (seen_right right) }
     ensures plain { labels_of result ≡ no_label }

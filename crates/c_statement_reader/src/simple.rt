@@ -50,7 +50,7 @@ fn assignment<'a>(
 }
 
 /// A call that is a statement, and the tokens behind it.
-#[tactic(auto, using(crate::proofs::PlainForms::plain_forms), unfolding(c_statement_readers::specs::PartReader::call_statement, c_lexer::specs::SeenTokens::sign_codes))]
+#[tactic(auto, using(crate::proofs::LabelSums::plain_forms), unfolding(c_statement_readers::specs::PartReader::call_statement, c_lexer::specs::SeenTokens::sign_codes))]
 fn call_statement<'a>(
     alloc: Global,
     scope: &CScope,
@@ -100,7 +100,7 @@ fn returned_value<'a>(
 }
 
 /// Behind `return`: what is returned, if something is, and the semicolon.
-#[tactic(auto, using(crate::proofs::PlainForms::plain_forms), unfolding(c_expression_reader::specs::Readings::shown, c_lexer::specs::SeenTokens::seen, c_statement_readers::specs::PartReader::returned, c_statement_readers::specs::PartReader::returned_by))]
+#[tactic(auto, using(crate::proofs::LabelSums::plain_forms), unfolding(c_expression_reader::specs::Readings::shown, c_lexer::specs::SeenTokens::seen, c_statement_readers::specs::PartReader::returned, c_statement_readers::specs::PartReader::returned_by))]
 pub(crate) fn returned<'a>(
     alloc: Global,
     scope: &CScope,

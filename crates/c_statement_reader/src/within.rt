@@ -13,8 +13,8 @@ use c_tree::expression::{CCall, CExpr};
 use std::alloc::Global;
 
 /// How many constructs of an expression may be open at once at most, operators one behind another among them, so that the machine's stack holds their
-/// readers beside those of statements.
-const MOST_OPEN: usize = 512;
+/// readers beside those of statements, and at least as many as the C text of a FORTRAN statement, which has 1,320 characters at most, can have.
+const MOST_OPEN: usize = 1024;
 
 /// How many constructs of an expression may be open at once, where so many may be in the text.
 fn most_open(count: usize) -> usize

@@ -280,3 +280,58 @@ entry_called = record {
   } ∷ [];
   units = standard_units [];
 }
+
+-- `CHARACTER*3 C`, `C='abc'`, `CALL S(C)`, `END`; `SUBROUTINE S(E)`, `CHARACTER*2 E`, `E='x'`, `END`
+abbrev pub shorter_dummy : Pair
+shorter_dummy = record {
+  files = one_file (
+      main_unit (
+      on_card 1 (body.Declare (characters 3) (alone (codes "c") ∷ [])) ∷
+      on_card 2 (body.Assign (expr.Name (codes "c")) (expr.Text (codes "abc"))) ∷
+      on_card 3 (body.Call (codes "s") (expr.Name (codes "c") ∷ [])) ∷
+      on_card 4 body.End ∷ []) ∷
+      subroutine (codes "s") (codes "e" ∷ []) (
+      on_card 6 (body.Declare (characters 2) (alone (codes "e") ∷ [])) ∷
+      on_card 7 (body.Assign (expr.Name (codes "e")) (expr.Text (codes "x"))) ∷
+      on_card 8 body.End ∷ []) ∷ []);
+  setting = record { homes = (record { sequence = 0; first = 0 } ∷ []) ∷ [] ∷ []; sizes = 3 ∷ [] };
+  texts = record {
+    objects = [];
+    constants = [];
+    functions =
+        c_function result.Int (codes "MAIN__") [] (copies ∷ extern result.Int (codes "s_") (parameter.Chars ∷ parameter.Length ∷ []) ∷ local.StaticChars (codes "c__") (Some 3) None ∷ []) (
+        does_call (codes "s_copy") (c_name (codes "c__") ∷ c.Str (codes "abc") ∷ length_of 3 ∷ length_of 3 ∷ []) ∷
+        does_call (codes "s_") (c_name (codes "c__") ∷ length_of 3 ∷ []) ∷ returns_zero ∷ []) ∷
+        c_function result.Int (codes "s_") (param parameter.Chars (codes "e") ∷ param parameter.Length (codes "e_len") ∷ []) (copies ∷ [])
+        (does_call (codes "s_copy") (c_name (codes "e") ∷ c.Str (codes "x") ∷ length_of 2 ∷ length_of 1 ∷ []) ∷ returns_zero ∷ []) ∷ [];
+  } ∷ [];
+  units = standard_units [];
+}
+
+-- `I=5`, `WRITE (6,'(I2)') I,I`, `END`
+abbrev pub columns_written : Pair
+columns_written = record {
+  files = one_file (
+      main_unit (
+      on_card 1 (body.Assign (expr.Name (codes "i")) (num 5)) ∷
+      on_card 2 (body.Transfer way.Write (record { word = word.Unit; value = value.Value (num 6) } ∷ record { word = word.Format; value = value.Value (expr.Text (codes "(I2)")) } ∷ [])
+      (item.Item (expr.Name (codes "i")) ∷ item.Item (expr.Name (codes "i")) ∷ [])) ∷
+      on_card 3 body.End ∷ []) ∷ []);
+  setting = record { homes = (record { sequence = 0; first = 0 } ∷ []) ∷ []; sizes = 4 ∷ [] };
+  texts = record {
+    objects = [];
+    constants = constant (codes "c__1") 1 ∷ [];
+    functions =
+        c_function result.Int (codes "MAIN__") [] (
+        local.Extern result.Integer (codes "s_wsfe") (argument.List list.Transfer ∷ []) ∷
+        extern result.Integer (codes "do_fio") (parameter.Integers ∷ parameter.Chars ∷ parameter.Length ∷ []) ∷
+        end_function (codes "e_wsfe") ∷ static_integer (codes "i__") ∷
+        local.StaticList list.Transfer (codes "io___1") (given.Number (pos 0) ∷ given.Number (pos 6) ∷ given.Number (pos 0) ∷ given.Str (codes "(I2)") ∷ given.Number (pos 0) ∷ []) ∷ []) (
+        stmt.Set (c_name (codes "i__")) (c_num 5) ∷
+        does_call (codes "s_wsfe") (address_of (c_name (codes "io___1")) ∷ []) ∷
+        does_call (codes "do_fio") (address_of (c_name (codes "c__1")) ∷ item_address (codes "i__") ∷ length_of 4 ∷ []) ∷
+        does_call (codes "do_fio") (address_of (c_name (codes "c__1")) ∷ item_address (codes "i__") ∷ length_of 4 ∷ []) ∷
+        does_call (codes "e_wsfe") [] ∷ returns_zero ∷ []) ∷ [];
+  } ∷ [];
+  units = standard_units [];
+}

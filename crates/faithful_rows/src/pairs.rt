@@ -3,7 +3,7 @@
 ghost use Rattle.std.specs.Prelude.{[], ◌∷◌, codes};
 ghost use Rattle.f_tree.specs.Runs.{standard_units};
 ghost use Rattle.faithful.specs.UnitsAtStart.{IsUnits};
-ghost use Rattle.faithful_rows.specs.Pairs.{element_passed, entry_called, results_given, storage_shared, numbers_read, columns_read, written_inside};
+ghost use Rattle.faithful_rows.specs.Pairs.{element_passed, entry_called, results_given, storage_shared, numbers_read, columns_read, written_inside, shorter_dummy, columns_written};
 ghost use Rattle.faithful_rows.specs.PairRuns.{AreAlike, AreNamed};
 
 /// The standard units, with a record to read, are such as a run may begin with.
@@ -74,4 +74,24 @@ pub fn text_is_written_inside()
     ensures one_item { AreAlike written_inside 2 3 }
     ensures finished { AreAlike written_inside 3 4 }
     ensures ended { AreAlike written_inside 4 5 }
+{}
+
+/// A dummy text that is shorter than what is passed for it, with both procedures active: the length that is passed is that of the whole.
+pub fn dummy_is_shorter()
+    ensures named { AreNamed shorter_dummy }
+    ensures assigned { AreAlike shorter_dummy 1 1 }
+    ensures called { AreAlike shorter_dummy 2 2 }
+    ensures changed { AreAlike shorter_dummy 3 3 }
+    ensures answered { AreAlike shorter_dummy 4 4 }
+    ensures ended { AreAlike shorter_dummy 5 5 }
+{}
+
+/// A formatted output on a unit, whose second item begins a second record: before its first item and behind each.
+pub fn columns_are_written()
+    ensures named { AreNamed columns_written }
+    ensures started { AreAlike columns_written 2 2 }
+    ensures one_item { AreAlike columns_written 3 3 }
+    ensures two_items { AreAlike columns_written 4 4 }
+    ensures finished { AreAlike columns_written 5 5 }
+    ensures ended { AreAlike columns_written 6 6 }
 {}

@@ -1,6 +1,9 @@
-//! Tests alone, of the top call over shelves in memory: texts, messages, limits, sources that include files, and each call of the shelf that fails.
+//! Tests alone, of the top call over shelves in memory: texts, messages, limits, sources that include files, each call of the shelf that fails, and the units
+//! that are handed in.
 #![tactic(auto)]
 
+#[cfg(test)]
+mod handed_units;
 #[cfg(test)]
 mod included_files;
 #[cfg(test)]

@@ -1,0 +1,14 @@
+pub mod CodeSound
+pub mod FileSound
+pub mod FlatSound
+pub mod LibraryMeant
+pub mod LibrarySound
+pub mod ListLaws
+pub mod NamesSound
+pub mod ProgramSound
+pub mod RunSound
+pub mod ScopeSound
+pub mod SoundLaws
+pub mod StepSound
+pub mod TransferSound
+pub mod ValueSound

@@ -1,0 +1,18 @@
+use Rattle.std.proofs.Common.{to_z, of_z, refl, ◌∙◌}
+use Rattle.std.proofs.lemmas.Int.{to_z-of_z}
+use Rattle.std.specs.Int.{w32}
+use Rattle.c_tree.specs.LibraryTexts as texts
+use Rattle.c_tree.specs.Library.{library}
+use Rattle.library_calls.proofs.ArgumentLemmas.{texts-given, texts-faulty}
+use Rattle.library_calls.proofs.comparisons.l_lt.Goals as goal
+
+pub returns-in-Ok : goal.returns-in-Ok
+unfolding library
+returns-in-Ok c =
+    texts-given texts.below c.args.run.now c.args.first c.args.second c.args.first_length c.args.second_length c.in-Ok.left.now c.in-Ok.right.now (to_z w32 (of_z w32 c.lexically_below.result))
+    c.in-Ok.ensures.texts (to_z-of_z w32 c.lexically_below.result (record { sfits = c.lexically_below.type_inv }) ∙ c.lexically_below.ensures)
+
+pub returns-in-Err : goal.returns-in-Err
+unfolding library
+returns-in-Err c =
+    (texts-faulty texts.below c.args.run.now c.args.first c.args.second c.args.first_length c.args.second_length c.in-Err.fault c.in-Err.ensures.texts, refl)

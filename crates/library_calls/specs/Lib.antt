@@ -1,0 +1,6 @@
+pub mod Answers
+pub mod Arguments
+pub mod Names
+pub mod Pieces
+pub mod Reports
+pub mod Room

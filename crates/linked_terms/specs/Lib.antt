@@ -1,0 +1,2 @@
+pub mod LinkedTerms
+pub mod LinkedItems

@@ -1,0 +1,10 @@
+//! Expressions and flat items once they are linked, as data: what a runner of C texts holds of a program (C89, 3.3 and 3.6). Names and
+//! strings are the numbers of their objects and functions. What the data mean is said of the terms and items of `c_tree`, which `specs/`
+//! reads off them.
+#![tactic(auto)]
+
+pub mod items;
+pub mod terms;
+
+pub use items::{LinkedCallee, LinkedCase, LinkedItem, LinkedUse};
+pub use terms::{LinkedPlace, LinkedTerm};

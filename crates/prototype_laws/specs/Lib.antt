@@ -1,0 +1,2 @@
+pub mod PrototypeLaws
+pub mod Reading

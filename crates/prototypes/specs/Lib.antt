@@ -1,0 +1,3 @@
+pub mod FilePrototypes
+pub mod PrototypeText
+pub mod TreePrototypes
