@@ -1,5 +1,5 @@
 -- The phases that the verdict of a translation and the whole table have in common, and that a first refusal of one is a first refusal of the other.
-use Rattle.std.specs.Prelude.{◌≡◌, ◌≢◌, ℕ, suc, ◌<◌, Bool, true, false, List, [], ◌∷◌, ◌++◌, Option, Some, None, if◌then◌else◌}
+use Rattle.std.specs.Prelude.{◌≡◌, ◌≢◌, ℕ, suc, ◌<◌, ℤ, Bool, true, false, List, [], ◌∷◌, ◌++◌, Option, Some, None, if◌then◌else◌}
 use Rattle.std.proofs.Common.{refl, sym, subst, arith}
 use Rattle.f_tree.specs.declared.names.Options.{Options}
 use Rattle.f_tree.specs.declared.refusals.Kind.TheVariants.{NotBuiltYet}
@@ -17,9 +17,10 @@ use Rattle.declaration_rows.specs.Verdicts.{storage_faults, shared_faults}
 use Rattle.source_acceptance.specs.SourceFiles.{Source, SpellsSource}
 use Rattle.source_acceptance.specs.Acceptance as table
 use Rattle.source_acceptance.specs.Acceptance.{tree_faults}
-use Rattle.unit_translation.specs.UnitContents.{LoweredUnit}
+use Rattle.unit_translation.specs.UnitContents.{LoweredUnit, constants_passed}
+use Rattle.unit_translation.specs.UnitBodies.{all_lowered}
 use Rattle.named_units.specs.NamedUnits.{named_body_of}
-use Rattle.translated_files.specs.TranslatedFiles.{lowered_at, lowered_from, is_translated_form, form_row, row_unless, rows_of_lowering, rows_of_bodies, rows_behind, units_not_translated, further_units, further_files, files_not_translated}
+use Rattle.translated_files.specs.TranslatedFiles.{lowered_at, lowered_files, is_translated_form, form_row, row_unless, rows_of_lowering, rows_of_bodies, rows_of_files, rows_behind, units_not_translated, row_of_none, files_without_units, files_not_translated}
 use Rattle.source_verdict.specs.SourceRows.{Phase, Cards, Syntax, Nesting, Declarations, Forms, Sharing, place_of, Fault, of_declarations, of_forms, of_sharing, IsFirstRefusal}
 use Rattle.source_verdict.proofs.EarlyPhases.{cards_down, syntax_down, nests_down, cards_up, syntax_up, nests_up, is_empty}
 
@@ -71,41 +72,44 @@ lowering_is options units j (u ∷ us) q among =
     in_either q (row_unless (lowered_at options units j u) (form_row u u.statements)) (rows_of_lowering options units (suc j) us)
     (row_unless_is (lowered_at options units j u) (form_row u u.statements) q (form_row_is u u.statements)) (lowering_is options units (suc j) us q) among
 
-bodies_are : (all ls : List LoweredUnit) (us : List WrittenUnit) (q : Refusal) → IsIn q (rows_of_bodies all ls us) → IsForm q
+bodies_are : (constants : List ℤ) (all ls : List LoweredUnit) (us : List WrittenUnit) (q : Refusal) → IsIn q (rows_of_bodies constants all ls us) → IsForm q
 unfolding rows_of_bodies
-bodies_are all [] us q among = elim among [ ]
-bodies_are all (l ∷ ls) [] q among = elim among [ ]
-bodies_are all (l ∷ ls) (u ∷ us) q among =
-    in_either q (row_unless (named_body_of all l) (form_row u u.statements)) (rows_of_bodies all ls us)
-    (row_unless_is (named_body_of all l) (form_row u u.statements) q (form_row_is u u.statements)) (bodies_are all ls us q) among
+bodies_are constants all [] us q among = elim among [ ]
+bodies_are constants all (l ∷ ls) [] q among = elim among [ ]
+bodies_are constants all (l ∷ ls) (u ∷ us) q among =
+    in_either q (row_unless (named_body_of constants all l) (form_row u u.statements)) (rows_of_bodies constants all ls us)
+    (row_unless_is (named_body_of constants all l) (form_row u u.statements) q (form_row_is u u.statements)) (bodies_are constants all ls us q) among
 
-either_row_is : (options : Options) (us : List WrittenUnit) (found : Option (List LoweredUnit)) (q : Refusal) → IsIn q (rows_behind found (rows_of_lowering options us 0 us) us) → IsForm q
+functions_are : (all : List LoweredUnit) (lfs : List (List LoweredUnit)) (fs : List File) (q : Refusal) → IsIn q (rows_of_files all lfs fs) → IsForm q
+unfolding rows_of_files
+functions_are all [] fs q among = elim among [ ]
+functions_are all (us ∷ lfs) [] q among = elim among [ ]
+functions_are all (us ∷ lfs) (f ∷ fs) q among =
+    in_either q (rows_of_bodies (constants_passed us) all us f.units) (rows_of_files all lfs fs) (bodies_are (constants_passed us) all us f.units q) (functions_are all lfs fs q) among
+
+either_row_is : (options : Options) (us : List WrittenUnit) (fs : List File) (found : Option (List (List LoweredUnit))) (q : Refusal) → IsIn q (rows_behind found (rows_of_lowering options us 0 us) fs) → IsForm q
 unfolding rows_behind
-either_row_is options us None q among = lowering_is options us 0 us q among
-either_row_is options us (Some all) q among = bodies_are all all us q among
+either_row_is options us fs None q among = lowering_is options us 0 us q among
+either_row_is options us fs (Some lfs) q among = functions_are (all_lowered lfs) lfs fs q among
 
-units_are : (options : Options) (us : List WrittenUnit) (q : Refusal) → IsIn q (units_not_translated options us) → IsForm q
+units_are : (options : Options) (fs : List File) (q : Refusal) → IsIn q (units_not_translated options fs) → IsForm q
 unfolding units_not_translated
-units_are options [] _ first_in = refl
-units_are options [] q (later_in among) = elim among [ ]
-units_are options (u ∷ us) q among = either_row_is options (u ∷ us) (lowered_from options (u ∷ us) 0 (u ∷ us)) q among
+units_are options fs q among = either_row_is options (all_units fs) fs (lowered_files options (all_units fs) 0 fs) q among
 
-further_is : (us : List WrittenUnit) (q : Refusal) → IsIn q (further_units us) → IsForm q
-unfolding further_units
-further_is [] _ first_in = refl
-further_is [] q (later_in among) = elim among [ ]
-further_is (u ∷ us) _ first_in = refl
-further_is (u ∷ us) q (later_in among) = elim among [ ]
+without_is : (k : ℕ) (us : List WrittenUnit) (q : Refusal) → IsIn q (row_of_none k us) → IsForm q
+unfolding row_of_none
+without_is k [] _ first_in = refl
+without_is k [] q (later_in among) = elim among [ ]
+without_is k (u ∷ us) q among = elim among [ ]
 
-further_are : (fs : List File) (q : Refusal) → IsIn q (further_files fs) → IsForm q
-unfolding further_files
-further_are [] q among = elim among [ ]
-further_are (f ∷ fs) q among = in_either q (further_units f.units) (further_files fs) (further_is f.units q) (further_are fs q) among
+without_are : (k : ℕ) (fs : List File) (q : Refusal) → IsIn q (files_without_units k fs) → IsForm q
+unfolding files_without_units
+without_are k [] q among = elim among [ ]
+without_are k (f ∷ fs) q among = in_either q (row_of_none k f.units) (files_without_units (suc k) fs) (without_is k f.units q) (without_are (suc k) fs q) among
 
 files_are : (options : Options) (fs : List File) (q : Refusal) → IsIn q (files_not_translated options fs) → IsForm q
 unfolding files_not_translated
-files_are options [] q among = elim among [ ]
-files_are options (f ∷ fs) q among = in_either q (units_not_translated options f.units) (further_files fs) (units_are options f.units q) (further_are fs q) among
+files_are options fs q among = in_either q (files_without_units 0 fs) (units_not_translated options fs) (without_are 0 fs q) (units_are options fs q) among
 
 forms_are : (options : Options) (source : Source) (r : Refusal) → Fault options source Forms r → IsForm r
 forms_are options source r (of_forms set _ spells among) = files_are options set.files r among

@@ -1,8 +1,7 @@
 -- A source that is accepted for translation is accepted by the whole table, and a refusal that is no F99 is the first by it.
-use Rattle.std.specs.Prelude.{◌≡◌, ℕ, suc, ◌<◌, Bool, true, false, ◌&&◌, List, [], ◌∷◌, ◌++◌, Option, Some, None, if◌then◌else◌}
+use Rattle.std.specs.Prelude.{◌≡◌, ℕ, suc, ◌+◌, ◌<◌, Bool, true, false, ◌&&◌, List, [], ◌∷◌, ◌++◌, length, Option, Some, None, if◌then◌else◌}
 use Rattle.std.proofs.Common.{refl, sym, ap, ◌∙◌, subst}
 use Rattle.std.proofs.lemmas.Bool.{and_parts}
-use Rattle.std.proofs.lemmas.List.{append-nil}
 use Rattle.f_tree.specs.declared.names.Class.{Class}
 use Rattle.f_tree.specs.declared.names.Class.TheVariants as class
 use Rattle.f_tree.specs.declared.names.Options.{Options}
@@ -26,7 +25,7 @@ use Rattle.plain_mains.proofs.PlainUnits.{none_is}
 use Rattle.plain_mains.proofs.StoredNames.{TellsStored, told_member}
 use Rattle.unit_forms.specs.PlainProcedures.{may_run, heading_fits, has_no_entries, is_plain_as, is_plain_name, each_name_is_plain, has_plain_heading, is_plain_unit}
 use Rattle.unit_translation.specs.UnitContents.{LoweredUnit}
-use Rattle.translated_files.specs.TranslatedFiles.{passes_tests, lowered_at, lowered_before, lowered_from, form_row, row_unless, rows_of_lowering, rows_behind, units_not_translated, further_units, further_files, files_not_translated}
+use Rattle.translated_files.specs.TranslatedFiles.{passes_tests, lowered_at, lowered_before, lowered_from, files_before, lowered_files, form_row, row_unless, rows_of_lowering, rows_behind, units_not_translated, files_without_units, files_not_translated}
 use Rattle.source_verdict.specs.SourceRows.{Cards, Syntax, Nesting, Declarations, IsAccepted}
 use Rattle.source_verdict.proofs.EarlyPhases.{cards_down, syntax_down, nests_down, accepted_forms, accepted_sharing}
 use Rattle.source_verdict.proofs.OneSet.{one_set}
@@ -79,7 +78,7 @@ small_names : (options : Options) (u : WrittenUnit) → each_name_is_plain u ≡
 unfolding unit_read with_ties program_of each_name_is_plain
 small_names options u plain m among = (told_member (is_plain_name (unit_kind u)) (tells_stored (unit_kind u)) u plain m among).bounded
 
--- ## The units of a file whose forms are all translated
+-- ## The units of files whose forms are all translated
 
 pub data ArePlain (options : Options) : List WrittenUnit → Type 0 where
   no_units : ArePlain options []
@@ -124,36 +123,38 @@ all_lowered options units j (u ∷ us) all whole =
     both_lowered options units j u us (lowered_at options units j u) (lowered_from options units (suc j) us) all refl
     (λ later is. all_lowered options units (suc j) us later is) whole
 
-either_lowered : (options : Options) (us : List WrittenUnit) (found : Option (List LoweredUnit)) → lowered_from options us 0 us ≡ found →
-    rows_behind found (rows_of_lowering options us 0 us) us ≡ [] → ArePlain options us
+plain_both : (options : Options) (us vs : List WrittenUnit) → ArePlain options us → ArePlain options vs → ArePlain options (us ++ vs)
+plain_both options _ vs no_units others = others
+plain_both options _ vs (one_unit u us plain later) others = one_unit u (us ++ vs) plain (plain_both options us vs later others)
+
+-- the units of files that are all lowered
+both_files : (options : Options) (units : List WrittenUnit) (j : ℕ) (us vs : List WrittenUnit) (found : Option (List LoweredUnit)) (behind : Option (List (List LoweredUnit))) (lfs : List (List LoweredUnit)) →
+    lowered_from options units j us ≡ found → ((later : List (List LoweredUnit)) → behind ≡ Some later → ArePlain options vs) → files_before found behind ≡ Some lfs → ArePlain options (us ++ vs)
+unfolding files_before
+both_files options units j us vs None behind lfs is others whole = absurd (cc)
+both_files options units j us vs (Some all) None lfs is others whole = absurd (cc)
+both_files options units j us vs (Some all) (Some later) lfs is others whole = plain_both options us vs (all_lowered options units j us all is) (others later refl)
+
+files_lowered : (options : Options) (units : List WrittenUnit) (j : ℕ) (fs : List File) (lfs : List (List LoweredUnit)) → lowered_files options units j fs ≡ Some lfs → ArePlain options (all_units fs)
+unfolding lowered_files all_units
+files_lowered options units j [] lfs whole = no_units
+files_lowered options units j (f ∷ fs) lfs whole =
+    both_files options units j f.units (all_units fs) (lowered_from options units j f.units) (lowered_files options units (j + length f.units) fs) lfs refl
+    (λ later is. files_lowered options units (j + length f.units) fs later is) whole
+
+either_lowered : (options : Options) (fs : List File) (found : Option (List (List LoweredUnit))) → lowered_files options (all_units fs) 0 fs ≡ found →
+    rows_behind found (rows_of_lowering options (all_units fs) 0 (all_units fs)) fs ≡ [] → ArePlain options (all_units fs)
 unfolding rows_behind
-either_lowered options us None is none = none_refused options us 0 us none
-either_lowered options us (Some all) is none = all_lowered options us 0 us all is
+either_lowered options fs None is none = none_refused options (all_units fs) 0 (all_units fs) none
+either_lowered options fs (Some lfs) is none = files_lowered options (all_units fs) 0 fs lfs is
 
-plain_units_of : (options : Options) (us : List WrittenUnit) → units_not_translated options us ≡ [] → ArePlain options us
+plain_units_of : (options : Options) (fs : List File) → units_not_translated options fs ≡ [] → ArePlain options (all_units fs)
 unfolding units_not_translated
-plain_units_of options [] none = absurd (cc)
-plain_units_of options (u ∷ us) none = either_lowered options (u ∷ us) (lowered_from options (u ∷ us) 0 (u ∷ us)) refl none
-
--- ## The one file of a set
-
-more_rows : (us : List WrittenUnit) (rs : List Refusal) → further_units us ++ rs ≡ [] → ⊥
-unfolding further_units
-more_rows [] rs none = cc
-more_rows (u ∷ us) rs none = cc
-
-pub no_further_file : (fs : List File) → further_files fs ≡ [] → fs ≡ []
-unfolding further_files
-no_further_file [] none = refl
-no_further_file (f ∷ fs) none = absurd (more_rows f.units (further_files fs) none)
+plain_units_of options fs none = either_lowered options fs (lowered_files options (all_units fs) 0 fs) refl none
 
 pub plain_units : (options : Options) (fs : List File) → files_not_translated options fs ≡ [] → ArePlain options (all_units fs)
-unfolding files_not_translated all_units
-plain_units options [] none = no_units
-plain_units options (f ∷ fs) none =
-    let parts = both_none (units_not_translated options f.units) (further_files fs) none in
-    let alone : f.units ≡ f.units ++ all_units fs = sym (append-nil f.units) ∙ ap (λ gs. f.units ++ all_units gs) (sym (no_further_file fs parts.other)) in
-    subst (ArePlain options) alone (plain_units_of options f.units parts.one)
+unfolding files_not_translated
+plain_units options fs none = plain_units_of options fs (both_none (files_without_units 0 fs) (units_not_translated options fs) none).other
 
 no_storage_rows : (options : Options) (us : List WrittenUnit) → ArePlain options us → storage_faults_of options us ≡ []
 unfolding storage_faults_of

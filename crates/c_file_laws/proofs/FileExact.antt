@@ -4,9 +4,9 @@ use Rattle.c_tree.specs.declared.file.CFile.{CFile}
 use Rattle.c_tree.specs.Tokens.{Including}
 use Rattle.c_tree.specs.CText.{Begins, no_names}
 use Rattle.c_readers.specs.Readers.{Tokens, found}
-use Rattle.c_grammar_laws.specs.Exactness.{Filled, Judged, Good, Eventually, NoneFrom, Exact}
-use Rattle.c_grammar_laws.proofs.Judging.{refuses, refuses-end, judged-fewer, behind-token}
-use Rattle.c_grammar_laws.proofs.GoodExact.{good-exact}
+use Rattle.grammar.specs.Exactness.{Filled, Judged, Good, Eventually, NoneFrom, Exact}
+use Rattle.grammar.proofs.Judging.{refuses, refuses-end, judged-fewer, behind-token}
+use Rattle.grammar.proofs.GoodExact.{good-exact}
 use Rattle.c_statement_laws.specs.StatementLaws.{ScopesInOrder, GoodBodies}
 use Rattle.c_file_readers.specs.FileReader.{Objects, no_parts, parts, a_file}
 use Rattle.c_file_laws.specs.FileLaws.{NoFileFrom, FileRefused, ExactFiles}

@@ -18,9 +18,9 @@ use Rattle.c_readers.specs.Readers.{Tokens}
 use Rattle.c_readers.specs.TypeReader.{result_words}
 use Rattle.c_readers.specs.DeclarationReader.{is_new}
 use Rattle.c_readers.specs.HeadReader.{Parameters}
-use Rattle.c_grammar_laws.specs.Exactness.{Good}
+use Rattle.grammar.specs.Exactness.{Good}
 use Rattle.c_grammar_laws.specs.DeclarationLaws.{ReadsParameters, ReadsDeclarations}
-use Rattle.c_grammar_laws.proofs.Judging.{in_turn, in_turn_of, good-as, good-fewer, good-found}
+use Rattle.grammar.proofs.Judging.{in_turn, in_turn_of, good-as, good-fewer, good-found}
 use Rattle.c_grammar_laws.proofs.TokenGood.{OneSign, good-sign, OneName, good-name}
 use Rattle.c_grammar_laws.proofs.ValueGood.{RowWord, good-word-of}
 use Rattle.c_grammar_laws.proofs.DeclarationGood.{row-word}

@@ -11,9 +11,9 @@ use Rattle.c_tree.specs.CText.{ReadsFunction}
 use Rattle.c_readers.specs.Readers.{Tokens, found, lookup}
 use Rattle.c_readers.specs.TypeReader.{result_words}
 use Rattle.c_readers.specs.DeclarationReader.{is_new}
-use Rattle.c_grammar_laws.specs.Exactness.{Eventually}
+use Rattle.grammar.specs.Exactness.{Eventually}
 use Rattle.c_grammar_laws.specs.ExpressionLaws.{Anything}
-use Rattle.c_grammar_laws.proofs.GoodExact.{good-exact}
+use Rattle.grammar.proofs.GoodExact.{good-exact}
 use Rattle.c_grammar_laws.proofs.FreshNames.{passes-new}
 use Rattle.c_grammar_laws.proofs.TokenReads.{sign-read, name-read, row-word-read}
 use Rattle.c_grammar_laws.proofs.HeadReads.{parameter-list-read, locals-read}

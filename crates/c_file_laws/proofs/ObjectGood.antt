@@ -9,8 +9,8 @@ use Rattle.c_tree.specs.CDeclarationText.{ReadsValue, ReadsNumbers, ReadsText, I
 use Rattle.c_tree.specs.CText as file
 use Rattle.c_readers.specs.Readers.{Tokens}
 use Rattle.c_readers.specs.DeclarationReader.{is_new}
-use Rattle.c_grammar_laws.specs.Exactness.{Good}
-use Rattle.c_grammar_laws.proofs.Judging.{in_turn, in_turn_of, good-as, good-found}
+use Rattle.grammar.specs.Exactness.{Good}
+use Rattle.grammar.proofs.Judging.{in_turn, in_turn_of, good-as, good-found}
 use Rattle.c_grammar_laws.proofs.TokenGood.{OneSign, good-sign, OneWord, good-word, OneName, good-name}
 use Rattle.c_grammar_laws.proofs.ValueGood.{RowWord, good-word-of, good-value}
 use Rattle.c_grammar_laws.proofs.DeclarationGood.{row-word, Bracketed, good-bracketed, array-of, good-numbers, good-text}

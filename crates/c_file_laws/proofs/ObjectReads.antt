@@ -11,7 +11,7 @@ use Rattle.c_readers.specs.Readers.{Tokens, found}
 use Rattle.c_readers.specs.ValueReader.{is_length}
 use Rattle.c_readers.specs.DeclarationReader.{is_new, bracketed}
 use Rattle.c_grammar_laws.specs.ExpressionLaws.{Anything}
-use Rattle.c_grammar_laws.proofs.GoodExact.{good-exact}
+use Rattle.grammar.proofs.GoodExact.{good-exact}
 use Rattle.c_grammar_laws.proofs.ExpressionComplete.{always}
 use Rattle.c_grammar_laws.proofs.FreshNames.{passes-new}
 use Rattle.c_grammar_laws.proofs.ValueGood.{number-read}

@@ -9,8 +9,8 @@ use Rattle.c_tree.specs.CExpressionText.{Scope}
 use Rattle.c_tree.specs.CDeclarationText.{IsNew, with_object, with_array, with_function}
 use Rattle.c_readers.specs.Readers.{Tokens, Outcome, Reader, ◌>>=◌}
 use Rattle.c_readers.specs.DeclarationReader.{is_new}
-use Rattle.c_grammar_laws.specs.Exactness.{head, Judged, Good}
-use Rattle.c_grammar_laws.proofs.Judging.{Onto, filled-then, judged-then-some, in_turn_of, good-as, judged-also, judged-fewer, behind-token, stays-end, at-the-token, at-the-end}
+use Rattle.grammar.specs.Exactness.{head, Judged, Good}
+use Rattle.grammar.proofs.Judging.{Onto, filled-then, judged-then-some, in_turn_of, good-as, judged-also, judged-fewer, behind-token, stays-end, at-the-token, at-the-end}
 use Rattle.c_grammar_laws.proofs.TokenGood.{equal-texts, OneName, good-name}
 use Rattle.c_grammar_laws.proofs.FreshNames.{fresh_name, fresh-new, new-name}
 use Rattle.c_statement_readers.specs.PartReader.{starts_with}

@@ -9,7 +9,7 @@ use Rattle.c_tree.specs.CDeclarationText.{ReadsObject, IsNew}
 use Rattle.c_tree.specs.CText.{ReadsFunction, ReadsConstant, ReadsFile, kinds, CText, Begins, IsRefusedAt, RefusedLine}
 use Rattle.c_readers.specs.Readers.{Tokens, Outcome}
 use Rattle.c_readers.specs.DeclarationReader.{is_new}
-use Rattle.c_grammar_laws.specs.Exactness.{Good, Exact, Eventually}
+use Rattle.grammar.specs.Exactness.{Good, Exact, Eventually}
 use Rattle.c_grammar_laws.specs.ExpressionLaws.{Anything}
 use Rattle.c_statement_laws.specs.StatementLaws.{InOrder}
 use Rattle.c_file_readers.specs.ObjectReader.{Named, an_object, a_constant}

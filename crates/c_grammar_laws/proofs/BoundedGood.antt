@@ -5,8 +5,8 @@ use Rattle.c_tree.specs.CWords.{Separated, last_item, one_item}
 use Rattle.c_readers.specs.Readers.{Tokens, Reader}
 use Rattle.c_readers.specs.ListReader.{Separator, Closes, Goes, Neither, by_separator}
 use Rattle.c_readers.specs.ValueReader.{bounded_separator, behind_bounded, bounded}
-use Rattle.c_grammar_laws.specs.Exactness.{Filled, Judged, Good}
-use Rattle.c_grammar_laws.proofs.Judging.{Onto, in_turn, refuses, refuses-end, takes-one, behind-token, judged-fewer}
+use Rattle.grammar.specs.Exactness.{Filled, Judged, Good}
+use Rattle.grammar.proofs.Judging.{Onto, in_turn, refuses, refuses-end, takes-one, behind-token, judged-fewer}
 use Rattle.c_grammar_laws.proofs.TokenGood.{equal-texts}
 use Rattle.c_grammar_laws.proofs.ListGood.{IsSeparator, separator-is}
 

@@ -12,7 +12,7 @@ use Rattle.c_readers.specs.ListReader.{Closes, Goes, Neither, by_separator, behi
 use Rattle.c_readers.specs.ExpressionReader.{expression}
 use Rattle.c_readers.specs.CallReader as reader
 use Rattle.c_readers.specs.CallReader.{has_some}
-use Rattle.c_grammar_laws.specs.Exactness.{Eventually}
+use Rattle.grammar.specs.Exactness.{Eventually}
 use Rattle.c_grammar_laws.specs.ExpressionLaws.{OfNames}
 use Rattle.c_grammar_laws.proofs.TokenGood.{equal-self}
 use Rattle.c_grammar_laws.proofs.ExpressionComplete.{reads-whole}

@@ -11,9 +11,9 @@ use Rattle.c_readers.specs.ListReader.{separated}
 use Rattle.c_readers.specs.ExpressionReader.{expression}
 use Rattle.c_readers.specs.CallReader as reader
 use Rattle.c_readers.specs.CallReader.{has_some}
-use Rattle.c_grammar_laws.specs.Exactness.{head, Filled, Judged, Good}
+use Rattle.grammar.specs.Exactness.{head, Filled, Judged, Good}
 use Rattle.c_grammar_laws.specs.ExpressionLaws.{GoodArguments, GoodCalls}
-use Rattle.c_grammar_laws.proofs.Judging.{in_turn, good-as, judged-as, judged-also, judged-fewer, refuses, refuses-end, takes-one, good-found, behind-token, at-the-token, at-the-end}
+use Rattle.grammar.proofs.Judging.{in_turn, good-as, judged-as, judged-also, judged-fewer, refuses, refuses-end, takes-one, good-found, behind-token, at-the-token, at-the-end}
 use Rattle.c_grammar_laws.proofs.TokenGood.{equal-texts, equal-self, OneSign, good-sign, OneName, good-name}
 use Rattle.c_grammar_laws.proofs.ListGood.{ItemsBehind, good-separated}
 use Rattle.c_grammar_laws.proofs.ExpressionGood.{good-expression}

@@ -6,11 +6,11 @@ use Rattle.c_readers.specs.ValueReader.{value}
 use Rattle.c_readers.specs.TypeReader.{argument_types}
 use Rattle.c_readers.specs.DeclarationReader.{is_new, a_local}
 use Rattle.c_readers.specs.HeadReader.{parameter_list, locals}
-use Rattle.c_grammar_laws.specs.Exactness.{Good, Eventually}
+use Rattle.grammar.specs.Exactness.{Good, Eventually}
 use Rattle.c_grammar_laws.specs.ExpressionLaws.{Anything}
 use Rattle.c_grammar_laws.specs.DeclarationLaws.{DeclaresNew, ReadsParameters, ReadsDeclarations, EndsDeclarations, GoodDeclarations, ExactValues, ExactTypes, ExactDeclarations, ExactParameters, ExactHeads}
-use Rattle.c_grammar_laws.proofs.Judging.{good-as}
-use Rattle.c_grammar_laws.proofs.GoodExact.{good-exact}
+use Rattle.grammar.proofs.Judging.{good-as}
+use Rattle.grammar.proofs.GoodExact.{good-exact}
 use Rattle.c_grammar_laws.proofs.ExpressionComplete.{always}
 use Rattle.c_grammar_laws.proofs.FreshNames.{fresh_name, fresh-new, new-name, passes-new}
 use Rattle.c_grammar_laws.proofs.ValueGood.{good-value}

@@ -22,8 +22,8 @@ use Rattle.c_readers.specs.ValueReader.{is_within, is_length, value, bounded}
 use Rattle.c_readers.specs.TypeReader.{result_words, argument_types}
 use Rattle.c_readers.specs.DeclarationReader as reader
 use Rattle.c_readers.specs.DeclarationReader.{ArrayEnd, Ends, Starts, array_ends, NumberEnd, Bare, Valued, Many, number_ends, Declared, StaticLead, OfNumbers, OfChars, OfList, static_words, PlainEnd, Alone, Several, plain_ends, LocalLead, External, Lasting, Numbers, Chars, Addresses, local_words}
-use Rattle.c_grammar_laws.specs.Exactness.{head, Filled, Judged, Good}
-use Rattle.c_grammar_laws.proofs.Judging.{in_turn, refuses, refuses-end, takes-one, good-found, good-as, behind-token, judged-fewer, judged-also, at-the-token}
+use Rattle.grammar.specs.Exactness.{head, Filled, Judged, Good}
+use Rattle.grammar.proofs.Judging.{in_turn, refuses, refuses-end, takes-one, good-found, good-as, behind-token, judged-fewer, judged-also, at-the-token}
 use Rattle.c_grammar_laws.proofs.TokenGood.{equal-texts, OneSign, good-sign, OneName, good-name}
 use Rattle.c_grammar_laws.proofs.ValueGood.{OneNumber, good-number, OneQuoted, good-quoted, RowWord, RowSign, good-word-of, good-sign-of, good-value, is-within}
 use Rattle.c_grammar_laws.proofs.BoundedGood.{BoundedBehind, good-bounded}

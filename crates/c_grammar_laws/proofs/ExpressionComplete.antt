@@ -9,7 +9,7 @@ use Rattle.c_tree.specs.CExpressionText.{Scope, ReadsExpr}
 use Rattle.c_readers.specs.Readers.{Tokens, Outcome, found, lookup, ◌>>=◌}
 use Rattle.c_readers.specs.ExpressionReader as reader
 use Rattle.c_readers.specs.ExpressionReader.{Operand, operand_of, Operator, Infix, Subscript, Member, Choice, operators, binding, follow, expression, expression_behind}
-use Rattle.c_grammar_laws.specs.Exactness.{Eventually}
+use Rattle.grammar.specs.Exactness.{Eventually}
 use Rattle.c_grammar_laws.specs.ExpressionLaws.{OfNames, EndsAt}
 use Rattle.c_grammar_laws.proofs.ExpressionTables.{level-most}
 use Rattle.c_grammar_laws.proofs.ExpressionSteps.{stays, infix-read, index-read, field-read, choice-read, number-read, string-read, name-read, paren-read, prefix-read, cast-read, size-read, extreme-read, absolute-read, expression-opens, known-free, follow-infix}

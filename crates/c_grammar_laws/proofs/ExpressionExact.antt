@@ -4,7 +4,7 @@ use Rattle.c_tree.specs.CExpressionText.{ReadsExpr, ReadsArguments, ReadsCall}
 use Rattle.c_readers.specs.ExpressionReader.{expression}
 use Rattle.c_readers.specs.CallReader.{arguments, call}
 use Rattle.c_grammar_laws.specs.ExpressionLaws.{EndsAt, Anything, ExactExpressions, ExactArguments, ExactCalls}
-use Rattle.c_grammar_laws.proofs.GoodExact.{good-exact}
+use Rattle.grammar.proofs.GoodExact.{good-exact}
 use Rattle.c_grammar_laws.proofs.ExpressionGood.{good-expression}
 use Rattle.c_grammar_laws.proofs.ExpressionComplete.{reads-whole}
 use Rattle.c_grammar_laws.proofs.CallGood.{good-arguments, good-call}

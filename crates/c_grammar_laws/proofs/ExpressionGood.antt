@@ -13,9 +13,9 @@ use Rattle.c_tree.specs.CExpressionText.{Scope, ReadsExpr}
 use Rattle.c_readers.specs.Readers.{Tokens, found, refused, ◌>>=◌, a_name}
 use Rattle.c_readers.specs.ExpressionReader as reader
 use Rattle.c_readers.specs.ExpressionReader.{Places, Going, Operand, operand_of, Operator, Infix, Subscript, Member, Choice, operator_of, cast_of, SignLead, Opening, Before, sign_lead, WordLead, Sized, Extremal, Absolute, Named, word_lead, expression, expression_behind}
-use Rattle.c_grammar_laws.specs.Exactness.{Filled, Judged, Good}
+use Rattle.grammar.specs.Exactness.{Filled, Judged, Good}
 use Rattle.c_grammar_laws.specs.ExpressionLaws.{GoodExpressions}
-use Rattle.c_grammar_laws.proofs.Judging.{in_turn, judged-then-by, good-as, refuses, refuses-end, stays, stays-end, takes-one, good-found, behind-token, judged-fewer, judged-also, at-the-token, at-the-end}
+use Rattle.grammar.proofs.Judging.{in_turn, judged-then-by, good-as, refuses, refuses-end, stays, stays-end, takes-one, good-found, behind-token, judged-fewer, judged-also, at-the-token, at-the-end}
 use Rattle.c_grammar_laws.proofs.TokenGood.{OneSign, good-sign, OneName, good-name, AllStand, good-stand}
 use Rattle.c_grammar_laws.proofs.ExpressionTables.{Within, operator-taken, BeginsCast, cast-taken, sign-taken, IsWord, word-taken, expression-shorter, level-most}
 

@@ -13,7 +13,7 @@ use Rattle.c_tree.specs.CExpressionText as text
 use Rattle.c_tree.specs.CExpressionText.{Scope, IsKnown, ReadsExpr}
 use Rattle.c_readers.specs.Readers.{Tokens, lookup}
 use Rattle.c_readers.specs.ExpressionReader.{Operator, Infix, Subscript, Member, Choice, operators, takes, taken, operator_of, casts, cast_of, SignLead, Opening, Before, leading_signs, leads, sign_lead, WordLead, Sized, Extremal, Absolute, Named, leading_words, is_known, or_name, word_lead}
-use Rattle.c_grammar_laws.proofs.Judging.{length-front}
+use Rattle.grammar.proofs.Judging.{length-front}
 use Rattle.c_grammar_laws.proofs.TokenGood.{equal-texts, plain}
 
 -- ## Tables

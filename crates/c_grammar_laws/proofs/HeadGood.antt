@@ -14,9 +14,9 @@ use Rattle.c_readers.specs.ListReader.{Separator, Closes, Goes, Neither, separat
 use Rattle.c_readers.specs.DeclarationReader.{is_new, Declared, LocalLead, local_words, local_by}
 use Rattle.c_readers.specs.HeadReader as reader
 use Rattle.c_readers.specs.HeadReader.{Parameters, a_parameter, parameters_by, behind_parameter, parameters, parameter_list, Locals, locals_by, locals}
-use Rattle.c_grammar_laws.specs.Exactness.{head, Filled, Judged, Good}
+use Rattle.grammar.specs.Exactness.{head, Filled, Judged, Good}
 use Rattle.c_grammar_laws.specs.DeclarationLaws.{ReadsParameters, GoodParameters, ReadsDeclarations, GoodHeads}
-use Rattle.c_grammar_laws.proofs.Judging.{in_turn, in_turn_of, good-as, good-fewer, judged-as, judged-also, judged-fewer, behind-token, refuses, refuses-end, stays, stays-end, takes-one, good-found, at-the-token, at-the-end}
+use Rattle.grammar.proofs.Judging.{in_turn, in_turn_of, good-as, good-fewer, judged-as, judged-also, judged-fewer, behind-token, refuses, refuses-end, stays, stays-end, takes-one, good-found, at-the-token, at-the-end}
 use Rattle.c_grammar_laws.proofs.TokenGood.{equal-texts, OneSign, good-sign, OneName, good-name}
 use Rattle.c_grammar_laws.proofs.ListGood.{IsSeparator, separator-is}
 use Rattle.c_grammar_laws.proofs.TypeGood.{ParameterStands, good-parameter-type}

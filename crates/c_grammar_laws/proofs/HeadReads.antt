@@ -12,7 +12,7 @@ use Rattle.c_readers.specs.Readers.{Tokens, Reader, Outcome, found, refused, loo
 use Rattle.c_readers.specs.ValueReader.{a_word_of, by_row}
 use Rattle.c_readers.specs.DeclarationReader.{is_new, Declared, LocalLead, local_words, local_by, a_local}
 use Rattle.c_readers.specs.HeadReader.{Parameters, a_parameter, behind_parameter, parameters, parameters_or_none, parameter_list, Locals, locals_by, locals}
-use Rattle.c_grammar_laws.specs.Exactness.{Eventually}
+use Rattle.grammar.specs.Exactness.{Eventually}
 use Rattle.c_grammar_laws.specs.DeclarationLaws.{begins_local}
 use Rattle.c_grammar_laws.proofs.CallComplete.{Soon}
 use Rattle.c_grammar_laws.proofs.TokenReads.{sign-read, name-read, parameter-type-read, begins_void, parameter-no-void}

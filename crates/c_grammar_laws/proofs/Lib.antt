@@ -11,10 +11,8 @@ pub mod ExpressionRowLaws
 pub mod ExpressionSteps
 pub mod ExpressionTables
 pub mod FreshNames
-pub mod GoodExact
 pub mod HeadGood
 pub mod HeadReads
-pub mod Judging
 pub mod ListGood
 pub mod LocalGood
 pub mod LocalReads

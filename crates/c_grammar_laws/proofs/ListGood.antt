@@ -4,8 +4,8 @@ use Rattle.c_tree.specs.Tokens.{Sign}
 use Rattle.c_tree.specs.CWords.{Separated, last_item, one_item}
 use Rattle.c_readers.specs.Readers.{Tokens, Reader}
 use Rattle.c_readers.specs.ListReader.{Separator, Closes, Goes, Neither, separator, by_separator, behind_item, separated}
-use Rattle.c_grammar_laws.specs.Exactness.{Filled, Judged, Good}
-use Rattle.c_grammar_laws.proofs.Judging.{Onto, in_turn, good-fewer, refuses, refuses-end, takes-one, behind-token, judged-fewer}
+use Rattle.grammar.specs.Exactness.{Filled, Judged, Good}
+use Rattle.grammar.proofs.Judging.{Onto, in_turn, good-fewer, refuses, refuses-end, takes-one, behind-token, judged-fewer}
 use Rattle.c_grammar_laws.proofs.TokenGood.{equal-texts}
 
 -- what a sign behind an item is

@@ -19,8 +19,8 @@ use Rattle.c_readers.specs.ValueReader.{is_length}
 use Rattle.c_readers.specs.TypeReader.{result_words, argument_types}
 use Rattle.c_readers.specs.DeclarationReader as reader
 use Rattle.c_readers.specs.DeclarationReader.{NumberEnd, Bare, Valued, Many, number_ends, Declared, StaticLead, OfNumbers, OfChars, OfList, static_words, PlainEnd, Alone, Several, plain_ends, LocalLead, External, Lasting, Numbers, Chars, Addresses, local_words}
-use Rattle.c_grammar_laws.specs.Exactness.{Filled, Judged, Good}
-use Rattle.c_grammar_laws.proofs.Judging.{in_turn, in_turn_of, refuses, refuses-end, good-found, good-as, behind-token, judged-fewer}
+use Rattle.grammar.specs.Exactness.{Filled, Judged, Good}
+use Rattle.grammar.proofs.Judging.{in_turn, in_turn_of, refuses, refuses-end, good-found, good-as, behind-token, judged-fewer}
 use Rattle.c_grammar_laws.proofs.TokenGood.{equal-texts, OneSign, good-sign, OneName, good-name}
 use Rattle.c_grammar_laws.proofs.ValueGood.{OneNumber, good-number, OneQuoted, good-quoted, RowWord, RowSign, good-word-of, good-sign-of, good-value}
 use Rattle.c_grammar_laws.proofs.BoundedGood.{BoundedBehind, good-bounded}

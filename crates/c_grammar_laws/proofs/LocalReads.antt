@@ -21,7 +21,7 @@ use Rattle.c_readers.specs.ValueReader.{a_number, is_length, value}
 use Rattle.c_readers.specs.TypeReader.{result_words}
 use Rattle.c_readers.specs.DeclarationReader as reader
 use Rattle.c_readers.specs.DeclarationReader.{Ends, Starts, array_ends, Bare, Valued, Many, number_ends, OfNumbers, OfChars, OfList, static_words, Alone, Several, plain_ends, External, Lasting, Numbers, Chars, Addresses, local_words}
-use Rattle.c_grammar_laws.specs.Exactness.{Eventually}
+use Rattle.grammar.specs.Exactness.{Eventually}
 use Rattle.c_grammar_laws.proofs.ValueGood.{number-read, quoted-read}
 use Rattle.c_grammar_laws.proofs.ExpressionComplete.{always}
 use Rattle.c_grammar_laws.proofs.TokenReads.{sign-read, name-read, row-word-read, row-sign-read, passes-length, value-read, bounded-read, argument-types-read}

@@ -15,7 +15,7 @@ use Rattle.c_readers.specs.ListReader.{Closes, Goes, Neither, by_separator, sepa
 use Rattle.c_readers.specs.ValueReader as reader
 use Rattle.c_readers.specs.ValueReader.{by_row, a_number, a_word_of, a_sign_of, is_within, is_length, negative, value, bounded_separator, behind_bounded, bounded}
 use Rattle.c_readers.specs.TypeReader.{parameter_words, parameter_type, argument_words, argument_type, argument_types, by_void}
-use Rattle.c_grammar_laws.specs.Exactness.{Eventually}
+use Rattle.grammar.specs.Exactness.{Eventually}
 use Rattle.c_grammar_laws.proofs.TokenGood.{equal-self, plain}
 use Rattle.c_grammar_laws.proofs.ValueGood.{number-read}
 use Rattle.c_grammar_laws.proofs.CallComplete.{Soon, end, items-read}

@@ -12,8 +12,8 @@ use Rattle.c_readers.specs.Readers.{Tokens, all_stand}
 use Rattle.c_readers.specs.ListReader.{separated}
 use Rattle.c_readers.specs.TypeReader as reader
 use Rattle.c_readers.specs.TypeReader.{parameter_words, parameter_type, argument_words, argument_type, argument_types}
-use Rattle.c_grammar_laws.specs.Exactness.{head, Filled, Judged, Good}
-use Rattle.c_grammar_laws.proofs.Judging.{in_turn, good-as, judged-as, judged-also, judged-fewer, behind-token, good-found, at-the-token, at-the-end}
+use Rattle.grammar.specs.Exactness.{head, Filled, Judged, Good}
+use Rattle.grammar.proofs.Judging.{in_turn, good-as, judged-as, judged-also, judged-fewer, behind-token, good-found, at-the-token, at-the-end}
 use Rattle.c_grammar_laws.proofs.TokenGood.{equal-texts, OneSign, good-sign, AllStand, plain, good-stand}
 use Rattle.c_grammar_laws.proofs.ListGood.{ItemsBehind, good-separated}
 use Rattle.c_grammar_laws.proofs.ValueGood.{RowWord, good-word-of}

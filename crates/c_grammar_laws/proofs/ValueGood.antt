@@ -8,8 +8,8 @@ use Rattle.c_tree.specs.CDeclarationText.{ReadsValue}
 use Rattle.c_readers.specs.Readers.{Tokens, found, refused, lookup}
 use Rattle.c_readers.specs.ValueReader as reader
 use Rattle.c_readers.specs.ValueReader.{a_number, a_quoted, by_row, a_word_of, a_sign_of, is_within, negative, ValueLead, Negation, Least, value_leads, value}
-use Rattle.c_grammar_laws.specs.Exactness.{Filled, Judged, Good}
-use Rattle.c_grammar_laws.proofs.Judging.{in_turn, refuses, refuses-end, takes-one, good-found, good-as, behind-token, judged-fewer}
+use Rattle.grammar.specs.Exactness.{Filled, Judged, Good}
+use Rattle.grammar.proofs.Judging.{in_turn, refuses, refuses-end, takes-one, good-found, good-as, behind-token, judged-fewer}
 use Rattle.c_grammar_laws.proofs.TokenGood.{OneSign, good-sign}
 use Rattle.c_grammar_laws.proofs.ExpressionTables.{AllRows, row-found}
 

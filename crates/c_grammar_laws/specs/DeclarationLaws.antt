@@ -9,7 +9,7 @@ use Rattle.c_readers.specs.ValueReader.{value}
 use Rattle.c_readers.specs.TypeReader.{argument_types}
 use Rattle.c_readers.specs.DeclarationReader.{is_new, Declared, local_words, a_local}
 use Rattle.c_readers.specs.HeadReader.{Parameters, parameter_list, Locals, locals}
-use Rattle.c_grammar_laws.specs.Exactness.{Good, Exact}
+use Rattle.grammar.specs.Exactness.{Good, Exact}
 use Rattle.c_grammar_laws.specs.ExpressionLaws.{Anything}
 
 -- A declaration of a name that is new.

@@ -6,7 +6,7 @@ use Rattle.c_tree.specs.CExpressionText.{Scope, ReadsExpr, ReadsArguments, Reads
 use Rattle.c_readers.specs.Readers.{Tokens}
 use Rattle.c_readers.specs.ExpressionReader.{expression, follow}
 use Rattle.c_readers.specs.CallReader.{arguments, call}
-use Rattle.c_grammar_laws.specs.Exactness.{Filled, Good, Exact}
+use Rattle.grammar.specs.Exactness.{Filled, Good, Exact}
 
 -- The names in scope are names.
 pub record OfNames (scope : Scope) : Type 0 where

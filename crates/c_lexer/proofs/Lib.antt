@@ -1,4 +1,5 @@
 pub mod HeadLemmas
+pub mod LineFeeds
 pub mod NumberLemmas
 pub mod PartLemmas
 pub mod ReaderLemmas

@@ -6,6 +6,7 @@ ghost use Rattle.c_tree.specs.Tokens.{begins_with, is_word_byte, is_blank, ends_
 ghost use Rattle.c_lexer.specs.Parts.{cut_at};
 
 use crate::classes::{is_blank, is_word_byte};
+use memchr::memchr_iter;
 
 /// The line that is built in.
 const INCLUDE_LINE: &[u8] = b"#include \"f2c.h\"";
@@ -113,15 +114,7 @@ pub(crate) fn line_feeds(text: &[u8]) -> usize
     ensures value { result ≡ line_feeds text.now }
     ensures within { result ≤ length text.now }
 {
-    let mut counted = 0;
-    let mut rest = text;
-    while let [first, behind @ ..] = rest {
-        if *first == b'\n' {
-            counted += 1;
-        }
-        rest = behind;
-    }
-    counted
+    memchr_iter(b'\n', text).count()
 }
 
 /// The last line of a text, from 1: a line feed at the end of the text begins no other line.

@@ -1,6 +1,8 @@
 -- Readers of the tokens of a C text (C89, 3): what stands first in tokens, with the tokens behind it, or the tokens from the first one on with
 -- which nothing goes on.
 use Rattle.std.specs.Prelude.{ℕ, Bool, List, [], ◌∷◌, bytes_eq, Option, Some, None, Result, Ok, Err, if◌then◌else◌}
+use Rattle.grammar.specs.Readers as grammar
+pub use Rattle.grammar.specs.Readers.{found, refused, ◌>>=◌}
 use Rattle.c_tree.specs.Tokens.{Token, Word, Sign}
 
 abbrev pub Tokens : Type 0
@@ -8,24 +10,11 @@ Tokens = List Token
 
 -- What was found, with the tokens behind it, or the tokens from the offending one on.
 abbrev pub Outcome : Type 0 → Type 0
-Outcome A = Result (A × Tokens) Tokens
+Outcome A = grammar.Outcome Token A
 
 -- A reader gives nothing where more nests are open than it may open.
 abbrev pub Reader : Type 0 → Type 0
-Reader A = Tokens → Option (Outcome A)
-
-abbrev pub found : {A : Type 0} → A → Reader A
-found x tokens = Some (Ok (x, tokens))
-
-abbrev pub refused : {A : Type 0} → Reader A
-refused tokens = Some (Err tokens)
-
-infixl 1 ◌>>=◌
--- What is read behind what was read.
-abbrev pub ◌>>=◌ : {A B : Type 0} → Option (Outcome A) → (A → Reader B) → Option (Outcome B)
-None >>= next = None
-Some (Err rest) >>= next = Some (Err rest)
-Some (Ok p) >>= next = next p.0 p.1
+Reader A = grammar.Reader Token A
 
 -- What stands beside a text in a table.
 abbrev pub lookup : {A : Type 0} → List ℕ → List (List ℕ × A) → Option A

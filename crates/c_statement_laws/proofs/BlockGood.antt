@@ -11,8 +11,8 @@ use Rattle.c_tree.specs.CExpressionText.{Scope, ReadsCall, by_name, through_a_pa
 use Rattle.c_tree.specs.CStatementText as text
 use Rattle.c_tree.specs.CStatementText.{ReadsStmt, ReadsStmts, ReadsTested, ReadsFor}
 use Rattle.c_readers.specs.Readers.{Tokens, Reader}
-use Rattle.c_grammar_laws.specs.Exactness.{head, Filled, Judged, Good}
-use Rattle.c_grammar_laws.proofs.Judging.{Onto, judged-then-some, in_turn, good-as, good-fewer, judged-also, refuses, takes-one, at-the-token, at-the-end}
+use Rattle.grammar.specs.Exactness.{head, Filled, Judged, Good}
+use Rattle.grammar.proofs.Judging.{Onto, judged-then-some, in_turn, good-as, good-fewer, judged-also, refuses, takes-one, at-the-token, at-the-end}
 use Rattle.c_grammar_laws.proofs.TokenGood.{equal-texts, OneSign, good-sign}
 use Rattle.c_grammar_laws.proofs.ExpressionTables.{expression-shorter}
 use Rattle.c_statement_readers.specs.LabelTests.{can_meet}

@@ -11,8 +11,8 @@ use Rattle.c_tree.specs.CLabels.{LabelsOf, both, no_label, standing, labels_of, 
 use Rattle.c_tree.specs.CExpressionText.{Scope}
 use Rattle.c_tree.specs.CStatementText as text
 use Rattle.c_tree.specs.CStatementText.{ReadsStmts}
-use Rattle.c_grammar_laws.specs.Exactness.{Filled}
-use Rattle.c_grammar_laws.proofs.Judging.{good-as}
+use Rattle.grammar.specs.Exactness.{Filled}
+use Rattle.grammar.proofs.Judging.{good-as}
 use Rattle.c_grammar_laws.proofs.TokenGood.{equal-texts, equal-self}
 use Rattle.c_statement_readers.specs.LabelTests.{may_be_named, can_meet, meet, with_label}
 use Rattle.c_statement_readers.specs.StatementReader.{statement, body}

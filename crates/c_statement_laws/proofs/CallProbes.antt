@@ -14,7 +14,7 @@ use Rattle.c_readers.specs.ExpressionReader as reader
 use Rattle.c_readers.specs.ExpressionReader.{WordLead, Sized, Extremal, Absolute, Named, leading_words, or_name, is_known, word_lead, expression, expression_behind}
 use Rattle.c_readers.specs.CallReader as calls
 use Rattle.c_readers.specs.CallReader.{has_some, call}
-use Rattle.c_grammar_laws.specs.Exactness.{Filled}
+use Rattle.grammar.specs.Exactness.{Filled}
 use Rattle.c_grammar_laws.proofs.TokenGood.{equal-texts}
 use Rattle.c_grammar_laws.proofs.ExpressionSteps.{name-free, among-names, name-lead}
 use Rattle.c_statement_readers.specs.PartReader.{starts_with, points_and_opens, starred_and_opens, begins_call}

@@ -11,8 +11,8 @@ use Rattle.c_tree.specs.CStatementText as text
 use Rattle.c_tree.specs.CStatementText.{ReadsCases, has_twice, case_numbers}
 use Rattle.c_readers.specs.Readers.{Tokens, Reader, ◌>>=◌}
 use Rattle.c_readers.specs.ValueReader.{is_within}
-use Rattle.c_grammar_laws.specs.Exactness.{Filled, Judged, Good}
-use Rattle.c_grammar_laws.proofs.Judging.{in_turn, in_turn_of, good-as, good-found, judged-fewer, behind-token, refuses, refuses-end, takes-one}
+use Rattle.grammar.specs.Exactness.{Filled, Judged, Good}
+use Rattle.grammar.proofs.Judging.{in_turn, in_turn_of, good-as, good-found, judged-fewer, behind-token, refuses, refuses-end, takes-one}
 use Rattle.c_grammar_laws.proofs.TokenGood.{equal-texts, OneSign, good-sign, OneWord, good-word, OneName, good-name}
 use Rattle.c_grammar_laws.proofs.ValueGood.{OneNumber, good-number, is-within}
 use Rattle.c_grammar_laws.proofs.FreshNames.{fresh_name, fresh-named, fresh-absent}

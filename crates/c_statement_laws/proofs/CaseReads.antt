@@ -10,7 +10,7 @@ use Rattle.c_tree.specs.CStatementText as form
 use Rattle.c_tree.specs.CStatementText.{ReadsCases, has_twice, case_numbers}
 use Rattle.c_readers.specs.Readers.{Tokens, found, ◌>>=◌}
 use Rattle.c_readers.specs.ValueReader.{is_within}
-use Rattle.c_grammar_laws.specs.Exactness.{Eventually}
+use Rattle.grammar.specs.Exactness.{Eventually}
 use Rattle.c_grammar_laws.proofs.TokenReads.{sign-read, word-read, name-read}
 use Rattle.c_grammar_laws.proofs.ValueGood.{number-read}
 use Rattle.c_grammar_laws.proofs.ExpressionComplete.{later}

@@ -2,7 +2,7 @@
 use Rattle.std.proofs.Common.{◌≡◌, refl, sym, ap, ◌∙◌, subst, ◌⊎◌, inl, inr, ℕ, Bool, true, false, [], ◌∷◌, ◌++◌, append_assoc, Option, Some, None, Ok, Err}
 use Rattle.c_tree.specs.Tokens.{Token}
 use Rattle.c_readers.specs.Readers.{Tokens, Outcome, Reader, ◌>>=◌}
-use Rattle.c_grammar_laws.specs.Exactness.{head, Judged}
+use Rattle.grammar.specs.Exactness.{head, Judged}
 
 -- All tokens were taken, whatever was found.
 abbrev pub Ends : {A : Type 0} → Option (Outcome A) → Type 0

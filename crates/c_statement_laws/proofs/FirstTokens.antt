@@ -20,7 +20,7 @@ use Rattle.c_readers.specs.Readers.{Tokens, Outcome, found, ◌>>=◌}
 use Rattle.c_readers.specs.Opened.{readers_opened}
 use Rattle.c_readers.specs.ExpressionReader as reader
 use Rattle.c_readers.specs.ExpressionReader.{WordLead, Sized, Extremal, Absolute, Named, word_lead, expression, expression_behind}
-use Rattle.c_grammar_laws.specs.Exactness.{Eventually}
+use Rattle.grammar.specs.Exactness.{Eventually}
 use Rattle.c_grammar_laws.specs.ExpressionLaws.{OfNames, EndsAt}
 use Rattle.c_grammar_laws.proofs.TokenGood.{equal-texts}
 use Rattle.c_grammar_laws.proofs.ExpressionSteps.{among-names, name-free, name-lead}

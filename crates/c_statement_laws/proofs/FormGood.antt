@@ -13,8 +13,8 @@ use Rattle.c_tree.specs.CExpressionText.{Scope}
 use Rattle.c_tree.specs.CStatementText as text
 use Rattle.c_tree.specs.CStatementText.{ReadsStmts, ReadsCases, ReadsTested, has_twice, case_numbers}
 use Rattle.c_readers.specs.Readers.{Tokens, lookup}
-use Rattle.c_grammar_laws.specs.Exactness.{Filled, Judged, Good}
-use Rattle.c_grammar_laws.proofs.Judging.{in_turn, in_turn_of, good-as, good-found, judged-fewer, behind-token, stays, stays-end}
+use Rattle.grammar.specs.Exactness.{Filled, Judged, Good}
+use Rattle.grammar.proofs.Judging.{in_turn, in_turn_of, good-as, good-found, judged-fewer, behind-token, stays, stays-end}
 use Rattle.c_grammar_laws.proofs.TokenGood.{equal-texts, OneSign, good-sign, OneWord, good-word, OneName, good-name}
 use Rattle.c_grammar_laws.proofs.ExpressionTables.{row-found}
 use Rattle.c_grammar_laws.proofs.FreshNames.{fresh_name}

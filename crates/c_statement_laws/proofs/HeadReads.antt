@@ -12,7 +12,7 @@ use Rattle.c_tree.specs.CStatementText as form
 use Rattle.c_tree.specs.CStatementText.{ReadsNext, ReadsFor}
 use Rattle.c_readers.specs.Readers.{Tokens, found, lookup, ◌>>=◌, a_sign}
 use Rattle.c_readers.specs.ExpressionReader.{expression}
-use Rattle.c_grammar_laws.specs.Exactness.{Eventually}
+use Rattle.grammar.specs.Exactness.{Eventually}
 use Rattle.c_grammar_laws.proofs.ExpressionComplete.{and_too}
 use Rattle.c_statement_readers.specs.PartReader.{Step, steps, turn_by, turn, added, ForHead, for_rest, for_head}
 use Rattle.c_statement_laws.specs.StatementLaws.{InOrder}

@@ -9,8 +9,8 @@ use Rattle.c_tree.specs.CStatementText as text
 use Rattle.c_tree.specs.CStatementText.{ReadsNext, ReadsFor, ReadsTested}
 use Rattle.c_readers.specs.Readers.{Tokens, lookup}
 use Rattle.c_readers.specs.ExpressionReader.{expression}
-use Rattle.c_grammar_laws.specs.Exactness.{head, Judged, Good}
-use Rattle.c_grammar_laws.proofs.Judging.{in_turn, good-found, judged-also, judged-fewer, behind-token, at-the-token, at-the-end}
+use Rattle.grammar.specs.Exactness.{head, Judged, Good}
+use Rattle.grammar.proofs.Judging.{in_turn, good-found, judged-also, judged-fewer, behind-token, at-the-token, at-the-end}
 use Rattle.c_grammar_laws.proofs.TokenGood.{OneSign, good-sign}
 use Rattle.c_grammar_laws.proofs.ExpressionTables.{row-found}
 use Rattle.c_statement_readers.specs.PartReader.{Step, Upward, Downward, steps, turn_by, turn, added, ForHead, for_rest, for_head, tested}

@@ -11,7 +11,7 @@ use Rattle.c_tree.specs.CStatementText.{ReadsTested, ReadsNext, ReadsFor}
 use Rattle.c_readers.specs.Readers.{Tokens, found, ◌>>=◌, a_sign}
 use Rattle.c_readers.specs.ExpressionReader.{expression}
 use Rattle.c_readers.specs.CallReader.{call}
-use Rattle.c_grammar_laws.specs.Exactness.{Eventually}
+use Rattle.grammar.specs.Exactness.{Eventually}
 use Rattle.c_grammar_laws.specs.ExpressionLaws.{EndsAt}
 use Rattle.c_grammar_laws.proofs.ExpressionComplete.{reads-whole, and_too}
 use Rattle.c_grammar_laws.proofs.CallComplete.{reads-call}

@@ -13,8 +13,8 @@ use Rattle.c_tree.specs.CStatementText.{ReadsStmt}
 use Rattle.c_readers.specs.Readers.{Tokens, Reader, found, a_sign, ◌>>=◌}
 use Rattle.c_readers.specs.ExpressionReader.{expression}
 use Rattle.c_readers.specs.CallReader.{call}
-use Rattle.c_grammar_laws.specs.Exactness.{head, Judged, Good}
-use Rattle.c_grammar_laws.proofs.Judging.{in_turn, good-fewer, good-found, judged-also, takes-one, at-the-token, at-the-end}
+use Rattle.grammar.specs.Exactness.{head, Judged, Good}
+use Rattle.grammar.proofs.Judging.{in_turn, good-fewer, good-found, judged-also, takes-one, at-the-token, at-the-end}
 use Rattle.c_grammar_laws.proofs.TokenGood.{equal-texts, OneSign, good-sign}
 use Rattle.c_grammar_laws.proofs.ExpressionGood.{good_expressions}
 use Rattle.c_grammar_laws.proofs.CallGood.{all_good_calls}

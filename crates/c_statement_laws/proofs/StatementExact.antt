@@ -12,7 +12,7 @@ use Rattle.c_tree.specs.CStatementText as form
 use Rattle.c_tree.specs.CStatementText.{ReadsStmt, ReadsStmts}
 use Rattle.c_readers.specs.Readers.{Tokens}
 use Rattle.c_grammar_laws.specs.ExpressionLaws.{Anything}
-use Rattle.c_grammar_laws.proofs.GoodExact.{good-exact}
+use Rattle.grammar.proofs.GoodExact.{good-exact}
 use Rattle.c_statement_readers.specs.LabelTests.{may_be_named, can_meet, meet}
 use Rattle.c_statement_readers.specs.StatementReader.{statement, body}
 use Rattle.c_statement_laws.specs.StatementLaws.{StatementIs, BodyIs, EndsStatement, ExactStatements, ExactBodies}

@@ -10,8 +10,8 @@ use Rattle.c_tree.specs.CExpressionText.{Scope}
 use Rattle.c_tree.specs.CStatementText as text
 use Rattle.c_readers.specs.Readers.{Tokens, Reader, found, lookup, ◌>>=◌, a_sign}
 use Rattle.c_readers.specs.ExpressionReader.{WordLead, word_lead, expression}
-use Rattle.c_grammar_laws.specs.Exactness.{head, Judged, Good}
-use Rattle.c_grammar_laws.proofs.Judging.{in_turn, good-found, judged-also, behind-token, takes-one, at-the-token, at-the-end}
+use Rattle.grammar.specs.Exactness.{head, Judged, Good}
+use Rattle.grammar.proofs.Judging.{in_turn, good-found, judged-also, behind-token, takes-one, at-the-token, at-the-end}
 use Rattle.c_grammar_laws.proofs.TokenGood.{OneSign, good-sign}
 use Rattle.c_grammar_laws.proofs.ExpressionTables.{row-found}
 use Rattle.c_statement_readers.specs.LabelTests.{can_meet, may_stand, with_label}

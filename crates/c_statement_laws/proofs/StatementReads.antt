@@ -11,7 +11,7 @@ use Rattle.c_tree.specs.CExpressionText.{Scope, ReadsExpr}
 use Rattle.c_tree.specs.CStatementText as form
 use Rattle.c_tree.specs.CStatementText.{ReadsStmt, ReadsStmts, ReadsTested, ReadsFor}
 use Rattle.c_readers.specs.Readers.{Tokens, found}
-use Rattle.c_grammar_laws.specs.Exactness.{Eventually}
+use Rattle.grammar.specs.Exactness.{Eventually}
 use Rattle.c_grammar_laws.proofs.CallComplete.{Soon}
 use Rattle.c_statement_readers.specs.LabelTests.{may_be_named, can_meet, with_label}
 use Rattle.c_statement_readers.specs.PartReader.{Right, Value, Called, set_to, simple, return_of, tested}

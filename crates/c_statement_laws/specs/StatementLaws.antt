@@ -9,7 +9,7 @@ use Rattle.c_tree.specs.CStatementText.{ReadsStmt, ReadsStmts}
 use Rattle.c_tree.specs.CDeclarationText.{with_object, with_array, with_function, with_pointer}
 use Rattle.c_tree.specs.CText.{no_names}
 use Rattle.c_readers.specs.Readers.{Tokens}
-use Rattle.c_grammar_laws.specs.Exactness.{Good, Exact}
+use Rattle.grammar.specs.Exactness.{Good, Exact}
 use Rattle.c_grammar_laws.specs.ExpressionLaws.{OfNames, Anything}
 use Rattle.c_statement_readers.specs.LabelTests.{can_meet}
 use Rattle.c_statement_readers.specs.StatementReader.{closes_anywhere, block, statement, body}

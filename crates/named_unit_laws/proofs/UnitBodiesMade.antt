@@ -1,8 +1,10 @@
 -- The functions that are made from items by names are those that are made from flat items.
-use Rattle.std.specs.Prelude.{◌≡◌, ℕ, suc, ◌+◌, ℤ, true, List, [], ◌∷◌, length, Option, Some, None, option_and_then, slice_get, if◌then◌else◌}
+use Rattle.std.specs.Prelude.{◌≡◌, ℕ, ◌+◌, ◌≤◌, ℤ, true, List, [], ◌∷◌, map, length, Option, Some, None, option_map, option_and_then, slice_get, if◌then◌else◌}
 use Rattle.std.proofs.Common.{refl, sym, ap, ◌∙◌, subst, arith}
+use Rattle.std.proofs.lemmas.List.{length-map}
 use Rattle.f_tree.specs.Values.{Bytes}
 use Rattle.f_tree.specs.Facts.{Facts, ProgramUnit}
+use Rattle.f_tree.specs.Setting.{IsIn, first_in, later_in}
 use Rattle.f_tree.specs.Meaning.{facts_at}
 use Rattle.l_core.specs.Steps.{Step, Halt}
 use Rattle.lowering.specs.Units.{lines_code, lowered_unit}
@@ -15,15 +17,19 @@ use Rattle.c_emit.specs.Numbers.{Writing, is_numeric}
 use Rattle.procedure_emission.specs.ProcedureItems.{procedure_item}
 use Rattle.main_translation.specs.Contents.{text_at}
 use Rattle.main_translation.specs.Outlined.{if_returned}
-use Rattle.unit_file.specs.UnitFile.{Inventory, WrittenUnit, bases_at, writing_of}
+use Rattle.main_translation_laws.proofs.Lists.{at_in}
+use Rattle.main_translation_laws.proofs.FlowLaws.{in_front, in_back}
+use Rattle.unit_file.specs.UnitFile.{Inventory, WrittenUnit, object_count, writing_of}
 use Rattle.unit_file.specs.UnitNames.{names_of}
 use Rattle.unit_file.specs.UnitItems.{unit_items}
+use Rattle.unit_sites.specs.UnitSites.{UnitsOfFile, Site, behind as number_behind}
 use Rattle.unit_file_laws.specs.KnownUnits.{NamesAreListed}
 use Rattle.unit_translation.specs.UnitFlow.{kind_before, are_in_place}
 use Rattle.unit_translation.specs.UnitContents.{LoweredUnit, program_units, unit_numbers, constants_passed, inventory_of, inventories_of}
-use Rattle.unit_translation.specs.UnitBodies.{unit_outline, items_of, body_of, written_before, written_from, written_units}
+use Rattle.unit_translation.specs.UnitBodies.{all_lowered, unit_outline, items_of, body_of, written_before, written_from, file_before, files_from, written_files}
 use Rattle.unit_translation_laws.specs.PlainUnits.{IsPlainUnit, ArePlainUnits}
 use Rattle.unit_translation_laws.proofs.Listed.{names_listed}
+use Rattle.unit_translation_laws.proofs.Renderings.{split}
 use Rattle.named_items.specs.declared.item.Item.{Item}
 use Rattle.named_items.specs.Agreement.{TellsPlaces}
 use Rattle.named_items.specs.Structured.{structured}
@@ -31,7 +37,7 @@ use Rattle.named_items.proofs.Agreeing.{items_are_structured}
 use Rattle.named_items.proofs.NamedItems.{some_same, items_length}
 use Rattle.item_emission.specs.NamedEmission.{item_step}
 use Rattle.named_mains.specs.NamedMains.{items_from, statements_of}
-use Rattle.named_units.specs.NamedUnits.{known_for, layout_for, named_body_of, named_from, named_units}
+use Rattle.named_units.specs.NamedUnits.{known_for, layout_for, named_body_of, named_from, named_file_of, named_files_from, named_files}
 use Rattle.unit_item_laws.specs.AgreeingUnits.{IsListed}
 use Rattle.unit_item_laws.proofs.UnitStepsAgree.{unit_emissions_agree}
 use Rattle.named_main_laws.proofs.NamedPlaces.{tells_places}
@@ -45,18 +51,18 @@ use Rattle.named_unit_laws.proofs.UnitSteps.{unit_items_each, unit_step_sets, st
 
 -- ## What a body by names was made by
 
-record HasItems (us : List LoweredUnit) (u : LoweredUnit) (body : List CStmt) : Type 0 where
+record HasItems (constants : List ℤ) (us : List LoweredUnit) (u : LoweredUnit) (body : List CStmt) : Type 0 where
   in_place : are_in_place u.text 0 u.text.steps ≡ true
   items : List Item
-  given : items_from (known_for us u) (kind_before u.text) 0 u.text.steps ≡ Some items
+  given : items_from (known_for constants us u) (kind_before u.text) 0 u.text.steps ≡ Some items
   statements : List CStmt
   structure : structured (layout_for u.text) (length items) 0 items ≡ Some statements
   returned : if_returned statements ≡ Some body
 
-has_items : (us : List LoweredUnit) (u : LoweredUnit) (body : List CStmt) → named_body_of us u ≡ Some body → HasItems us u body
+has_items : (constants : List ℤ) (us : List LoweredUnit) (u : LoweredUnit) (body : List CStmt) → named_body_of constants us u ≡ Some body → HasItems constants us u body
 unfolding named_body_of statements_of
-has_items us u body h =
-    let items = items_from (known_for us u) (kind_before u.text) 0 u.text.steps in
+has_items constants us u body h =
+    let items = items_from (known_for constants us u) (kind_before u.text) 0 u.text.steps in
     let made = if_some (are_in_place u.text 0 u.text.steps) (option_and_then (statements_of (layout_for u.text)) items) body h in
     let found = behind (statements_of (layout_for u.text)) items body made.1 in
     let last = behind if_returned (structured (layout_for u.text) (length found.one) 0 found.one) body found.gives in
@@ -68,10 +74,9 @@ program_of us j unit = refl
 
 -- ## A unit
 
-module _ (us : List LoweredUnit) (j : ℕ) (u : LoweredUnit) (plain : IsPlainUnit us j u) (body : List CStmt) (made : HasItems us u body) where
-  abbrev zs : List ℤ
-  zs = constants_passed us
-
+-- at its site, in a program with a function for each unit, where the constants of its file stand before the objects of its function
+module _ (us : List LoweredUnit) (j : ℕ) (s : Site) (owned : s.bases.own ≡ length us) (constants_before : s.bases.file + length s.constants ≤ s.bases.function) (u : LoweredUnit) (plain : IsPlainUnit us j u) (body : List CStmt)
+    (made : HasItems s.constants us u body) where
   abbrev vs : List Inventory
   vs = inventories_of us
 
@@ -79,10 +84,10 @@ module _ (us : List LoweredUnit) (j : ℕ) (u : LoweredUnit) (plain : IsPlainUni
   v = inventory_of us u
 
   abbrev w : Writing
-  w = writing_of zs v (bases_at zs vs j) u.text.facts (kind_before u.text)
+  w = writing_of s.constants v s.bases u.text.facts (kind_before u.text)
 
   abbrev names : Names
-  names = names_of zs vs v (bases_at zs vs j)
+  names = names_of s.constants vs v s.bases
 
   abbrev emit : ℕ → Step → Option Flat
   emit = procedure_item (unit_numbers us) w (λ m. m) u.text.position
@@ -100,7 +105,7 @@ module _ (us : List LoweredUnit) (j : ℕ) (u : LoweredUnit) (plain : IsPlainUni
   listed : NamesAreListed v u.text.facts
   listed = subst (NamesAreListed v) (sym facts_are) (names_listed us j u plain.name plain.formals plain.entry plain.dummies plain.storage plain.bounds plain.result)
 
-  have_names : HaveNames zs vs j v u.text.facts
+  have_names : HaveNames vs s v u.text.facts
   have_names = record {
     stored = λ x own numeric.
         stored_named x u.unit.stored (plain.storage.stored x (sym (ap (λ (p : ProgramUnit). (p.attribute x).class) program_is) ∙ own) (sym (ap (λ (p : ProgramUnit). is_numeric (p.attribute x).basic) program_is) ∙ numeric))
@@ -113,64 +118,79 @@ module _ (us : List LoweredUnit) (j : ℕ) (u : LoweredUnit) (plain : IsPlainUni
   unfolding text_at
   text_there n text at = ap text_at at
 
-  step_is_listed : (i k : ℕ) (st : Step) (item : Item) → k ≡ 0 + i → slice_get u.text.steps i ≡ Some st → item_step (known_for us u) (kind_before u.text k) k st ≡ Some item → IsListed v k st
+  step_is_listed : (i k : ℕ) (st : Step) (item : Item) → k ≡ 0 + i → slice_get u.text.steps i ≡ Some st → item_step (known_for s.constants us u) (kind_before u.text k) k st ≡ Some item → IsListed v k st
   step_is_listed i k st item at got is =
       let same : k ≡ i = omega (arith, at) in
-      step_listed zs vs v u.text.facts (unit_numbers us) (kind_before u.text) u.text.position k u.text.steps st item refl (text_there k) (ap (slice_get u.text.steps) same ∙ got) is
+      step_listed s.constants vs v u.text.facts (unit_numbers us) (kind_before u.text) u.text.position k u.text.steps st item refl (text_there k) (ap (slice_get u.text.steps) same ∙ got) is
 
   each : EmitsEach emit emits
   each = unit_items_each (unit_numbers us) w u.text.position
 
   flat : AreFlat emits names 0 u.text.steps made.items
   flat =
-      are_flat emit emits each names (known_for us u) (kind_before u.text) 0 u.text.steps made.items
-      (λ i k st item at got is. unit_emissions_agree zs vs j v u.text.facts (unit_numbers us) (kind_before u.text) u.text.position k st listed (step_is_listed i k st item at got is)) made.given
+      are_flat emit emits each names (known_for s.constants us u) (kind_before u.text) 0 u.text.steps made.items
+      (λ i k st item at got is. unit_emissions_agree vs s v u.text.facts (unit_numbers us) (kind_before u.text) u.text.position k st (owned ∙ sym (length-map us (inventory_of us))) constants_before listed (step_is_listed i k st item at got is)) made.given
 
   tells : TellsPlaces names flat.flats
   tells =
-      tells_places (IsUnitObject zs vs j v u.text.facts) names (reaches_told zs vs j v u.text.facts plain.text.temporaries) flat.flats
-      (all_set (IsUnitObject zs vs j v u.text.facts) emit emits each
-      (unit_step_sets (IsUnitObject zs vs j v u.text.facts) (unit_numbers us) w (writes_objects zs vs j v u.text.facts listed have_names (kind_before u.text)) u.text.position) 0 u.text.steps flat.flats flat.emitted)
+      tells_places (IsUnitObject vs s v u.text.facts) names (reaches_told vs s v u.text.facts plain.text.temporaries) flat.flats
+      (all_set (IsUnitObject vs s v u.text.facts) emit emits each
+      (unit_step_sets (IsUnitObject vs s v u.text.facts) (unit_numbers us) w (writes_objects vs s v u.text.facts listed have_names (kind_before u.text)) u.text.position) 0 u.text.steps flat.flats flat.emitted)
 
-  statements_are : statements_for (unit_outline us j u) (length flat.flats) 0 flat.flats ≡ Some made.statements
+  statements_are : statements_for (unit_outline us s u) (length flat.flats) 0 flat.flats ≡ Some made.statements
   statements_are =
-      ap (λ turns. statements_for (unit_outline us j u) turns 0 flat.flats) (items_length names flat.flats made.items flat.named)
-      ∙ items_are_structured (unit_outline us j u) (length made.items) 0 flat.flats made.items made.statements flat.named tells made.structure
+      ap (λ turns. statements_for (unit_outline us s u) turns 0 flat.flats) (items_length names flat.flats made.items flat.named)
+      ∙ items_are_structured (unit_outline us s u) (length made.items) 0 flat.flats made.items made.statements flat.named tells made.structure
 
-  body_made : body_of us j u ≡ Some body
+  body_made : body_of us s u ≡ Some body
   unfolding body_of
   body_made =
-      ap (λ t. if t then option_and_then if_returned (option_and_then (λ items. statements_for (unit_outline us j u) (length items) 0 items) (items_of us j u)) else None) made.in_place
-      ∙ ap (λ found. option_and_then if_returned (option_and_then (λ items. statements_for (unit_outline us j u) (length items) 0 items) found)) flat.emitted
+      ap (λ t. if t then option_and_then if_returned (option_and_then (λ items. statements_for (unit_outline us s u) (length items) 0 items) (items_of us s u)) else None) made.in_place
+      ∙ ap (λ found. option_and_then if_returned (option_and_then (λ items. statements_for (unit_outline us s u) (length items) 0 items) found)) flat.emitted
       ∙ ap (option_and_then if_returned) statements_are
       ∙ made.returned
 
--- ## All units
+-- ## The units of a file
 
-record AreBefore (v : Inventory) (o : Option (List CStmt)) (os : Option (List WrittenUnit)) (ws : List WrittenUnit) : Type 0 where
-  body : List CStmt
-  later : List WrittenUnit
-  body_is : o ≡ Some body
-  later_is : os ≡ Some later
-  is : record { inventory = v; body = body } ∷ later ≡ ws
+module _ (us : List LoweredUnit) (plain : ArePlainUnits us) (file : ℕ) (constants : List ℤ) where
+  functions_made : (function : ℕ) (rest : List LoweredUnit) (ws : List WrittenUnit) → file + length constants ≤ function → ((u : LoweredUnit) → IsIn u rest → IsIn u us) → named_from constants us rest ≡ Some ws
+      → written_from us (length us) file constants function rest ≡ Some ws
+  unfolding named_from written_from written_before
+  functions_made function [] ws before among h = h
+  functions_made function (u ∷ later) ws before among h =
+      let parts = split (inventory_of us u) (named_body_of constants us u) (named_from constants us later) ws h in
+      let place = at_in u us (among u first_in) in
+      let site : Site = record { constants = constants; bases = record { own = length us; file = file; function = function } } in
+      let one = body_made us place.index site refl before u (plain.units place.index u place.at) parts.statements (has_items constants us u parts.statements parts.body_is) in
+      let rest = functions_made (function + object_count (inventory_of us u)) later parts.rest (omega (arith, before)) (λ v o. among v (later_in o)) parts.later_is in
+      (λ i. written_before (inventory_of us u) (one i) (rest i)) ∙ ap Some parts.is
 
-before : (v : Inventory) (o : Option (List CStmt)) (os : Option (List WrittenUnit)) (ws : List WrittenUnit) → written_before v o os ≡ Some ws → AreBefore v o os ws
-unfolding written_before
-before v (Some body) (Some later) ws h = record { body = body; later = later; body_is = refl; later_is = refl; is = some_same (record { inventory = v; body = body } ∷ later) ws h }
-before v (Some body) None ws h = absurd (cc)
-before v None os ws h = absurd (cc)
+-- ## All files
+
+record AreNamedFiles (constants : List ℤ) (units : Option (List WrittenUnit)) (later : Option (List UnitsOfFile)) (fs : List UnitsOfFile) : Type 0 where
+  functions : List WrittenUnit
+  rest : List UnitsOfFile
+  units_are : units ≡ Some functions
+  later_is : later ≡ Some rest
+  is : record { constants = constants; units = functions } ∷ rest ≡ fs
+
+named_parts : (constants : List ℤ) (units : Option (List WrittenUnit)) (later : Option (List UnitsOfFile)) (fs : List UnitsOfFile)
+    → option_and_then (λ (f : UnitsOfFile). option_map (λ rest. f ∷ rest) later) (option_map (λ ws. record { constants = constants; units = ws }) units) ≡ Some fs → AreNamedFiles constants units later fs
+named_parts constants (Some ws) (Some later) fs h = record { functions = ws; rest = later; units_are = refl; later_is = refl; is = some_same (record { constants = constants; units = ws } ∷ later) fs h }
+named_parts constants (Some ws) None fs h = absurd (cc)
+named_parts constants None later fs h = absurd (cc)
 
 module _ (us : List LoweredUnit) (plain : ArePlainUnits us) where
-  made_from : (j : ℕ) (rest : List LoweredUnit) (ws : List WrittenUnit) → ((i k : ℕ) (u : LoweredUnit) → k ≡ j + i → slice_get rest i ≡ Some u → slice_get us k ≡ Some u) → named_from us rest ≡ Some ws → written_from us j rest ≡ Some ws
-  unfolding named_from written_from written_before
-  made_from j [] ws there h = h
-  made_from j (u ∷ later) ws there h =
-      let s = before (inventory_of us u) (named_body_of us u) (named_from us later) ws h in
-      let at : slice_get us j ≡ Some u = there 0 j u (omega arith) refl in
-      let one = body_made us j u (plain.units j u at) s.body (has_items us u s.body s.body_is) in
-      let rest = made_from (suc j) later s.later (λ i k other at got. there (suc i) k other (omega (arith, at)) got) s.later_is in
-      (λ i. written_before (inventory_of us u) (one i) (rest i)) ∙ ap Some s.is
+  files_made : (first : ℕ) (lfs : List (List LoweredUnit)) (fs : List UnitsOfFile) → ((u : LoweredUnit) → IsIn u (all_lowered lfs) → IsIn u us) → named_files_from us lfs ≡ Some fs → files_from us (length us) first lfs ≡ Some fs
+  unfolding named_file_of named_files_from files_from file_before
+  files_made first [] fs among h = h
+  files_made first (vs ∷ lfs) fs among h =
+      let constants = constants_passed vs in
+      let parts = named_parts constants (named_from constants us vs) (named_files_from us lfs) fs h in
+      let one = functions_made us plain first constants (first + length constants) vs parts.functions (omega arith) (λ u o. among u (in_front u vs (all_lowered lfs) o)) parts.units_are in
+      let rest = files_made (number_behind (first + length constants) (map (inventory_of us) vs)) lfs parts.rest (λ u o. among u (in_back u vs (all_lowered lfs) o)) parts.later_is in
+      (λ i. file_before constants (one i) (rest i)) ∙ ap Some parts.is
 
 pub units_are_made : EachNamedUnitIsAUnit
-unfolding named_units written_units
-units_are_made us ws plain h = made_from us plain 0 us ws (λ i k u at got. ap (slice_get us) {x = k} {y = i} (omega (arith, at)) ∙ got) h
+unfolding named_files written_files
+units_are_made lfs fs plain h = files_made (all_lowered lfs) plain 0 lfs fs (λ u o. o) h

@@ -1,6 +1,6 @@
 -- The names of a unit stand for one place each: its variables, its result, its temporaries, and where its parameters point. ANSI X3.9-1978, sections 2.2 and
 -- 15.9; C89, 3.1.2.
-use Rattle.std.specs.Prelude.{◌≡◌, ℕ, suc, ◌+◌, ◌<◌, ◌≤◌, ◌^◌, nat_lt, ℤ, true, false, not, List, ◌∷◌, Option, Some, codes, decimal}
+use Rattle.std.specs.Prelude.{◌≡◌, ℕ, suc, ◌+◌, ◌<◌, ◌≤◌, ◌^◌, nat_lt, true, false, not, List, ◌∷◌, Option, Some, codes, decimal}
 use Rattle.std.proofs.Common.{refl, sym, ap, ◌∙◌, arith}
 use Rattle.std.proofs.lemmas.Bool.{ltb-true}
 use Rattle.f_tree.specs.declared.names.Basic.{Basic}
@@ -15,8 +15,9 @@ use Rattle.c_tree.specs.Terms.{Term}
 use Rattle.c_image.specs.Addresses.{number_term, element_term}
 use Rattle.c_emit.specs.Numbers.{Writing, is_numeric, is_variable, has_bounds, has_number, is_scalar, is_array}
 use Rattle.main_translation_laws.proofs.Names.{same_first}
-use Rattle.unit_file.specs.UnitFile.{Inventory, Bases, bases_at, result_object, first_temporary, place_or_none, place_of_variable, place_of_parameter, parameter_object, address_in, writing_of}
+use Rattle.unit_file.specs.UnitFile.{Inventory, Bases, result_object, first_temporary, place_or_none, place_of_variable, place_of_parameter, parameter_object, address_in, writing_of}
 use Rattle.unit_file.specs.UnitNames.{object_name, names_of}
+use Rattle.unit_sites.specs.UnitSites.{Site}
 use Rattle.unit_file_laws.specs.KnownUnits.{NamesAreListed}
 use Rattle.unit_item_laws.proofs.UnitObjects.{variable_is, parameter_is, result_is, temporary_is}
 use Rattle.named_items.proofs.WrittenAlike.{left_true, right_true}
@@ -45,9 +46,9 @@ variable_no_made x m named small same = absurd (variable_name-not_made x named m
 other_class : {A : Type 0} (c : Class) → c ≡ class.Stored → c ≡ class.Dummy → A
 other_class c own dummy = absurd (let no : class.Stored ≡ class.Dummy = sym own ∙ dummy in cc)
 
-module _ (constants : List ℤ) (vs : List Inventory) (place : ℕ) (v : Inventory) (facts : Facts) where
+module _ (vs : List Inventory) (s : Site) (v : Inventory) (facts : Facts) where
   abbrev b : Bases
-  b = bases_at constants vs place
+  b = s.bases
 
   -- what the places of a unit are: objects of its own, and where its dummies of numbers point
   pub data IsUnitObject : Reach → ℕ → Type 0 where
@@ -58,17 +59,17 @@ module _ (constants : List ℤ) (vs : List Inventory) (place : ℕ) (v : Invento
 
   -- ## What they are called
 
-  variable_called : (k : ℕ) (x : Bytes) (i : ℕ) → place_of_variable v x ≡ Some i → k ≡ b.function + place_or_none (place_of_variable v x) → object_name constants v b k ≡ variable_name x
-  variable_called k x i is at = ap (object_name constants v b) at ∙ variable_is constants vs place v x i is
+  variable_called : (k : ℕ) (x : Bytes) (i : ℕ) → place_of_variable v x ≡ Some i → k ≡ b.function + place_or_none (place_of_variable v x) → object_name s.constants v b k ≡ variable_name x
+  variable_called k x i is at = ap (object_name s.constants v b) at ∙ variable_is s v x i is
 
-  result_called : (k : ℕ) (type : NumberType) → v.returned ≡ Some type → k ≡ result_object v b → object_name constants v b k ≡ made_name FunctionResult
-  result_called k type is at = ap (object_name constants v b) at ∙ result_is constants vs place v type is
+  result_called : (k : ℕ) (type : NumberType) → v.returned ≡ Some type → k ≡ result_object v b → object_name s.constants v b k ≡ made_name FunctionResult
+  result_called k type is at = ap (object_name s.constants v b) at ∙ result_is s v type is
 
-  temporary_called : (k i : ℕ) → nat_lt i v.temporaries ≡ true → k ≡ first_temporary v b + i → object_name constants v b k ≡ made_name (NumberTemporary (suc i))
-  temporary_called k i below at = ap (object_name constants v b) at ∙ temporary_is constants vs place v i below
+  temporary_called : (k i : ℕ) → nat_lt i v.temporaries ≡ true → k ≡ first_temporary v b + i → object_name s.constants v b k ≡ made_name (NumberTemporary (suc i))
+  temporary_called k i below at = ap (object_name s.constants v b) at ∙ temporary_is s v i below
 
-  parameter_called : (k : ℕ) (x : Bytes) (i : ℕ) → place_of_parameter v x ≡ Some i → k ≡ parameter_object v b x → object_name constants v b k ≡ variable_name x
-  parameter_called k x i is at = ap (object_name constants v b) at ∙ parameter_is constants vs place v x i is
+  parameter_called : (k : ℕ) (x : Bytes) (i : ℕ) → place_of_parameter v x ≡ Some i → k ≡ parameter_object v b x → object_name s.constants v b k ≡ variable_name x
+  parameter_called k x i is at = ap (object_name s.constants v b) at ∙ parameter_is s v x i is
 
   -- ## They are told apart
 
@@ -76,7 +77,7 @@ module _ (constants : List ℤ) (vs : List Inventory) (place : ℕ) (v : Invento
     number_fits : (i : ℕ) → nat_lt i v.temporaries ≡ true → suc i < 2 ^ 64
     number_fits i h = let below = ltb-true i v.temporaries h in omega (arith, few, below)
 
-    pub reaches_told : AreTold IsUnitObject (names_of constants vs v b)
+    pub reaches_told : AreTold IsUnitObject (names_of s.constants vs v b)
     reaches_told _ _ _ _ (of_variable j x i _ _ is at) (of_variable k y m _ _ also beside) same =
         let one : x ≡ y = variable_name-injective x y (sym (variable_called j x i is at) ∙ same ∙ variable_called k y m also beside) in
         (refl, at ∙ ap (λ z. b.function + place_or_none (place_of_variable v z)) one ∙ sym beside)
@@ -121,7 +122,7 @@ module _ (constants : List ℤ) (vs : List Inventory) (place : ℕ) (v : Invento
 
   module _ (listed : NamesAreListed v facts) (named : HaveNames) (kind : ℕ → ℕ → Option Basic) where
     abbrev w : Writing
-    w = writing_of constants v b facts kind
+    w = writing_of s.constants v b facts kind
 
     scalar_by : (x : Bytes) (k : Class) → (facts.program.attribute x).class ≡ k → is_variable k ≡ true → is_numeric (facts.program.attribute x).basic ≡ true → NamesObjects IsUnitObject (number_term (address_in v b x k))
     unfolding is_variable address_in

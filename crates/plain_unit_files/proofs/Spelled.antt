@@ -1,4 +1,4 @@
--- What C asks besides of the functions of plain units, and of their file: names and labels are names of C, what is called is declared once, an array has an
+-- What C asks besides of the functions of plain units, and of their files: names and labels are names of C, what is called is declared once, an array has an
 -- element, and units of outputs have 32 bits. ANSI X3.9-1978, sections 2.2 and 5.1; C89, 3.1.2 and 3.5.
 use Rattle.std.specs.List.{list_all}
 use Rattle.std.specs.Prelude.{◌≡◌, ℕ, suc, ◌+◌, ◌≤◌, ◌^◌, nat_le, ℤ, Bool, true, false, ◌&&◌, List, [], ◌∷◌, ◌++◌, map, length, Option, Some, None, unwrap_or, slice_get}
@@ -31,17 +31,20 @@ use Rattle.main_file_texts.proofs.Files.{label_word, started_fits, split, listin
 use Rattle.plain_forms.specs.SpellableNames.{has_element, is_spellable_name}
 use Rattle.plain_files.proofs.Composed.{named}
 use Rattle.procedure_emission.specs.ProcedureItems.{Numbers, procedure_item}
-use Rattle.unit_file.specs.UnitFile.{Variable, Parameter, Inventory, WrittenUnit, result_names, lasting_names}
+use Rattle.unit_file.specs.UnitFile.{Variable, Parameter, Inventory, result_names, lasting_names}
 use Rattle.unit_file.specs.UnitItems.{unit_items}
 use Rattle.unit_file.specs.UnitNames.{constant_names, called_names, own_names}
-use Rattle.unit_places.specs.UnitPlaces.{inventories}
+use Rattle.linking_laws.proofs.Places.{some_at}
+use Rattle.unit_sites.specs.UnitSites.{UnitsOfFile, inventories}
 use Rattle.unit_file_laws.specs.KnownUnits.{unit_writing}
 use Rattle.unit_forms.specs.SpellableUnits.{is_called_well, is_spellable_unit}
 use Rattle.unit_programs.specs.TranslatedUnits.{Rendering, written_of, numbers_of}
-use Rattle.unit_translation.specs.UnitContents.{LoweredUnit, constants_passed, parameter_for, formals_in, parameters_in, procedures_in, inventory_of}
+use Rattle.unit_translation.specs.UnitContents.{LoweredUnit, parameter_for, formals_in, parameters_in, procedures_in, inventory_of}
+use Rattle.unit_translation.specs.UnitBodies.{all_lowered}
 use Rattle.unit_translation_laws.specs.PlainUnits.{IsPlainUnit, ArePlainUnits}
-use Rattle.unit_file_texts.specs.WellFormedUnits.{parameter_words, local_words, has_elements, is_short, IsSpellable, AreSpellable}
-use Rattle.plain_unit_files.specs.RenderedUnits.{AreRendered}
+use Rattle.unit_translation_laws.specs.RenderedUnits.{AreRendered}
+use Rattle.unit_file_texts.specs.WellFormedUnits.{parameter_words, local_words, has_elements, is_short, IsSpellable, AreSpellable, AreOfOneFile}
+use Rattle.unit_file_texts.proofs.UnitTexts.{stands_in}
 use Rattle.plain_unit_files.proofs.ToldApart.{called_well, formals_spelled, stored_spelled, kind_named}
 use Rattle.plain_unit_files.proofs.Words.{closes, external_closes, constant_closes, external_word, main_word, main_closes}
 use Rattle.plain_unit_files.proofs.Callees.{HaveOneEntry, names_in, all_callees, callees_of, called_are, called_apart}
@@ -79,7 +82,10 @@ unfolding has_element
 element_told None is = refl
 element_told (Some n) is = is
 
-module _ (us : List LoweredUnit) (plain : ArePlainUnits us) (spelled : (j : ℕ) (u : LoweredUnit) → slice_get us j ≡ Some u → is_spellable_unit u.unit ≡ true) where
+module _ (lfs : List (List LoweredUnit)) (plain : ArePlainUnits (all_lowered lfs)) (spelled : (j : ℕ) (u : LoweredUnit) → slice_get (all_lowered lfs) j ≡ Some u → is_spellable_unit u.unit ≡ true) where
+  abbrev us : List LoweredUnit
+  us = all_lowered lfs
+
   single : HaveOneEntry us
   single k u at = let p = plain.units k u at in (record { name = p.name; formals = p.formals; start = 0 }, p.entry)
 
@@ -214,20 +220,27 @@ module _ (us : List LoweredUnit) (plain : ArePlainUnits us) (spelled : (j : ℕ)
         subst (λ count. nat_le 1 (unwrap_or count 1) ≡ true) (sym count)
         (element_told (count_by (u.unit.attribute from.from.name).bounds) (and-second (begins_with is_letter from.from.name) (has_element (count_by (u.unit.attribute from.from.name).bounds)) both)))
 
-  -- ## The file
+  -- ## A file
 
-  module _ (ws : List WrittenUnit) (r : AreRendered us ws) where
+  module _ (fs : List UnitsOfFile) (r : AreRendered lfs fs) (f : UnitsOfFile) (part : List Rendering) (of : AreOfOneFile r.renderings f part) where
     abbrev zs : List ℤ
-    zs = constants_passed us
+    zs = f.constants
 
-    function_spelled : (j : ℕ) (x : Rendering) → slice_get r.renderings j ≡ Some x → IsSpellable x
-    function_spelled j x at =
-        let own = r.each j x at in
+    abbrev place_of : ℕ → ℕ
+    place_of i = length of.before + i
+
+    there : (i : ℕ) (x : Rendering) → slice_get part i ≡ Some x → slice_get r.renderings (place_of i) ≡ Some x
+    there i x at = stands_in r.renderings f part of i x at
+
+    function_spelled : (i : ℕ) (x : Rendering) → slice_get part i ≡ Some x → IsSpellable x
+    function_spelled i x at =
+        let j = place_of i in
+        let own = r.each j x (there i x at) in
         let u = own.unit in
         let text = (plain.units j u own.at).text in
-        let emitted = subst (λ (t : Text). unit_items (numbers_of r.renderings) (unit_writing zs (written_of r.renderings) j x.written x.text.facts x.kind) t.position 0 t.steps ≡ Some x.items) own.text (r.translated.units j x at).built.emitted in
+        let emitted = subst (λ (t : Text). unit_items (numbers_of r.renderings) (unit_writing x.site x.written x.text.facts x.kind) t.position 0 t.steps ≡ Some x.items) own.text (r.translated.units j x (there i x at)).built.emitted in
         let short = each_told is_short (listings_from 0 u.text.steps)
-        (unit_listings_fit (numbers_of r.renderings) (unit_writing zs (written_of r.renderings) j x.written x.text.facts x.kind) u.text.position 0 u.text.steps x.items emitted) in
+        (unit_listings_fit (numbers_of r.renderings) (unit_writing x.site x.written x.text.facts x.kind) u.text.position 0 u.text.steps x.items emitted) in
         record {
           names = subst (λ (v : Inventory). list_all is_name (parameter_words v ++ local_words v) ≡ true) (sym own.inventory) (words_named j u own.at);
           labels = λ n name h. label_word u.text text.labels text.marks n name (ap (λ (o : Outline). o.label n) (sym own.outline) ∙ h);
@@ -236,15 +249,21 @@ module _ (us : List LoweredUnit) (plain : ArePlainUnits us) (spelled : (j : ℕ)
           outputs = subst (λ (v : Inventory). list_all is_short v.lists ≡ true) (sym own.inventory) short;
         }
 
-    -- the functions of the file are those of the units
-    own_by : (test : List ℕ → Bool) → ((j : ℕ) (u : LoweredUnit) → slice_get us j ≡ Some u → test (function_name u.unit) ≡ true) → (name : List ℕ) → IsIn name (own_names (inventories (written_of r.renderings))) → test name ≡ true
-    own_by test each name o = let found = rendered_in r.renderings name o in ap test (sym found.is) ∙ by found.from found.among
+    -- the functions of the file are those of its units
+    own_by : (test : List ℕ → Bool) → ((j : ℕ) (u : LoweredUnit) → slice_get us j ≡ Some u → test (function_name u.unit) ≡ true) → (name : List ℕ) → IsIn name (own_names (inventories (written_of part))) → test name ≡ true
+    own_by test each name o = let found = rendered_in part name o in ap test (sym found.is) ∙ by found.from found.among
       where
-        by : (x : Rendering) → IsIn x r.renderings → test x.written.inventory.name ≡ true
-        by x p = let place = at_in x r.renderings p in let own = r.each place.index x place.at in ap (λ (v : Inventory). test v.name) own.inventory ∙ each place.index own.unit own.at
+        by : (x : Rendering) → IsIn x part → test x.written.inventory.name ≡ true
+        by x p =
+            let place = at_in x part p in
+            let j = place_of place.index in
+            let own = r.each j x (there place.index x place.at) in ap (λ (v : Inventory). test v.name) own.inventory ∙ each j own.unit own.at
 
     constant_small : (z : ℤ) → IsIn z zs → c_names.IsNumbered (ConstantOf z)
-    constant_small z o = let place = at_in z zs o in small_magnitude z (r.translated.numbers place.index z place.at)
+    constant_small z o =
+        let place = at_in z zs o in
+        let x = some_at part 0 of.some in
+        small_magnitude z (r.translated.numbers (place_of 0) x.0 (there 0 x.0 x.1) place.index z (ap (λ constants. slice_get constants place.index) (of.constants 0 x.0 x.1) ∙ place.at))
 
     constant_named : (name : List ℕ) → IsIn name (constant_names zs) → is_name name ≡ true
     constant_named name o = let found = in_map (λ z. made_name (ConstantOf z)) zs name o in subst (λ x. is_name x ≡ true) found.is (constant_word found.from (constant_small found.from found.among))
@@ -252,17 +271,17 @@ module _ (us : List LoweredUnit) (plain : ArePlainUnits us) (spelled : (j : ℕ)
     constant_open : (name : List ℕ) → IsIn name (constant_names zs) → closes name ≡ false
     constant_open name o = let found = in_map (λ z. made_name (ConstantOf z)) zs name o in subst (λ x. closes x ≡ false) found.is (constant_closes found.from (constant_small found.from found.among))
 
-    file_named : (name : List ℕ) → InEither name (constant_names zs) (own_names (inventories (written_of r.renderings))) → is_name name ≡ true
+    file_named : (name : List ℕ) → InEither name (constant_names zs) (own_names (inventories (written_of part))) → is_name name ≡ true
     file_named name (in_one p) = constant_named name p
     file_named name (in_other p) = own_by is_name function_word name p
 
-    pub units_are_spellable : AreSpellable zs r.renderings
-    units_are_spellable = record {
+    pub file_is_spellable : AreSpellable zs part
+    file_is_spellable = record {
       functions = function_spelled;
       names =
-          each_told is_name (constant_names zs ++ own_names (inventories (written_of r.renderings)))
-          (λ name o. file_named name (in_either name (constant_names zs) (own_names (inventories (written_of r.renderings))) o));
+          each_told is_name (constant_names zs ++ own_names (inventories (written_of part)))
+          (λ name o. file_named name (in_either name (constant_names zs) (own_names (inventories (written_of part))) o));
       apart = λ i name at.
-          none_by name (own_names (inventories (written_of r.renderings)))
+          none_by name (own_names (inventories (written_of part)))
           (λ other o same. let no : true ≡ false = sym (own_by closes function_closes other o) ∙ ap closes (sym same) ∙ constant_open name (in_at (constant_names zs) i name at) in absurd (cc));
     }

@@ -1,4 +1,4 @@
--- The functions of the units of a file are told apart, where no name of it stands for two things: the names of its units, and that of its main program.
+-- The functions of the units of files are told apart, where no name of them stands for two things: the names of its units, and that of its main program.
 use Rattle.std.specs.List.{list_any, list_all}
 use Rattle.std.specs.Prelude.{◌≡◌, ◌≢◌, ℕ, Bool, true, false, not, ◌&&◌, ◌||◌, List, [], ◌∷◌, ◌++◌, map, codes, Option, Some, None, bytes_eq, if◌then◌else◌}
 use Rattle.std.proofs.Common.{refl, sym, ap, ◌∙◌, subst}
@@ -8,13 +8,11 @@ use Rattle.f_tree.specs.declared.refusals.Kind.TheVariants.{GlobalNameTwice, Two
 use Rattle.f_tree.specs.declared.refusals.Refusal.{Refusal}
 use Rattle.f_tree.specs.declared.statements.UnitKind.{UnitKind as GivenKind}
 use Rattle.f_tree.specs.declared.statements.UnitKind.TheVariants as kind
-use Rattle.f_tree.specs.declared.units.File.{File}
 use Rattle.f_tree.specs.declared.units.Unit.{Unit as GivenUnit}
 use Rattle.f_tree.specs.Attributes.{option_list}
 use Rattle.f_tree.specs.CNames.{is_name, has_underscore, external_name, main_name}
 use Rattle.f_tree.specs.Facts.{UnitKind, MainProgram, SubroutineUnit, FunctionUnit, BlockDataUnit, EntryPoint, ProgramUnit}
 use Rattle.f_tree.specs.Lines.{unit_kind, program_of, with_ties, unit_read}
-use Rattle.f_tree.specs.Meaning.{units_in}
 use Rattle.f_tree.specs.Reading.{name_or_none}
 use Rattle.f_tree.specs.Setting.{IsIn, first_in, later_in}
 use Rattle.f_tree.specs.Values.{Bytes}
@@ -236,16 +234,16 @@ units_told f before found (u ∷ us) named globals mains =
 
 -- ## The whole
 
-read_map : (options : Options) (given : List GivenUnit) → map function_name (map (unit_read options) given ++ []) ≡ map (λ (u : GivenUnit). function_name (unit_read options u)) given
+read_map : (options : Options) (given : List GivenUnit) → map function_name (map (unit_read options) given) ≡ map (λ (u : GivenUnit). function_name (unit_read options u)) given
 read_map options [] = refl
 read_map options (u ∷ us) = ap (λ later. function_name (unit_read options u) ∷ later) (read_map options us)
 
-pub functions_differ : (options : Options) (tree : File) → ((r : Refusal) → IsIn r (units_global_rows tree.units) → ⊥) → ((u : GivenUnit) → IsIn u tree.units → IsNamed u (function_name (unit_read options u))) →
-    names.AreDistinct (map function_name (units_in options (tree ∷ [])))
-unfolding units_global_rows units_in
-functions_differ options tree none named =
-    let rows = nothing_in (units_global_rows tree.units) none in
+pub functions_differ : (options : Options) (given : List GivenUnit) → ((r : Refusal) → IsIn r (units_global_rows given) → ⊥) → ((u : GivenUnit) → IsIn u given → IsNamed u (function_name (unit_read options u))) →
+    names.AreDistinct (map function_name (map (unit_read options) given))
+unfolding units_global_rows
+functions_differ options given none named =
+    let rows = nothing_in (units_global_rows given) none in
     let told =
-    units_told (λ u. function_name (unit_read options u)) [] false tree.units named (none_front (global_rows [] (globals_of tree.units)) (main_rows false tree.units) rows)
-    (none_back (global_rows [] (globals_of tree.units)) (main_rows false tree.units) rows) in
-    subst names.AreDistinct (sym (read_map options tree.units)) (distinct_by (map (λ (u : GivenUnit). function_name (unit_read options u)) tree.units) told.apart)
+    units_told (λ u. function_name (unit_read options u)) [] false given named (none_front (global_rows [] (globals_of given)) (main_rows false given) rows)
+    (none_back (global_rows [] (globals_of given)) (main_rows false given) rows) in
+    subst names.AreDistinct (sym (read_map options given)) (distinct_by (map (λ (u : GivenUnit). function_name (unit_read options u)) given) told.apart)

@@ -1,2 +1,1 @@
 pub mod PlainUnitFiles
-pub mod RenderedUnits

@@ -1,4 +1,4 @@
-//! That the printed C file of plain units that call each other is faithful to their FORTRAN file. The function here does nothing; its contract is the theorem.
+//! That the printed C files of plain units that call each other are faithful to their FORTRAN files. The function here does nothing; its contract is the theorem.
 #![tactic(auto)]
 
 pub mod faithful_files;

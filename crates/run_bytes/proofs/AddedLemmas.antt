@@ -1,10 +1,10 @@
 -- An object behind the others.
-use Rattle.std.proofs.Common.{◌≡◌, ℕ, zero, suc, ◌+◌, ◌-◌, ◌<◌, ◌≤◌, get_or, Bool, true, false, List, [], ◌∷◌, ◌++◌, length, map, take, drop, replicate, Option, Some, None, refl, ap, sym, ◌∙◌, subst, arith, length-append}
-use Rattle.std.proofs.lemmas.List.{take_more, take_all, take-append-le, drop_at, length-replicate}
+use Rattle.std.proofs.Common.{◌≡◌, ℕ, ◌+◌, ◌-◌, ◌≤◌, Bool, true, false, List, [], ◌∷◌, ◌++◌, length, map, take, replicate, Option, Some, None, refl, ap, sym, ◌∙◌, subst, arith, length-append}
+use Rattle.std.proofs.lemmas.List.{take_all, take-append-le, drop_at, length-replicate}
 use Rattle.std.specs.Prelude.{Result, Ok, Err, OnOk}
 use Rattle.std.specs.declared.alloc.AllocError.{AllocError}
 use Rattle.c_tree.specs.declared.outcome.CValue.{CValue}
-use Rattle.c_tree.specs.Objects.{Object, Bytes, Values}
+use Rattle.c_tree.specs.Objects.{Bytes, Values}
 use Rattle.run_bytes.specs.declared.access.AccessType.{AccessType}
 use Rattle.run_bytes.specs.declared.access.ObjectKind.{ObjectKind}
 use Rattle.run_bytes.specs.declared.access.ObjectKind.TheVariants as kind
@@ -16,7 +16,6 @@ use Rattle.run_bytes.specs.Layout.{part, object_in, objects_in, Stand, IsLaidOut
 use Rattle.run_bytes.proofs.CellLemmas.{marked-append, marked-set, marked-unset, length-marked}
 use Rattle.run_bytes.proofs.PartLemmas.{part-before}
 use Rattle.run_bytes.proofs.LayoutLemmas.{within}
-use Rattle.run_bytes.proofs.RunLemmas.{Opens}
 
 one-more : (places : List StoredObject) (cells : List (Option ℕ)) (values : List (Option CValue)) (place : StoredObject) →
     objects_in (places ++ place ∷ []) cells values ≡ objects_in places cells values ++ object_in cells values place ∷ []

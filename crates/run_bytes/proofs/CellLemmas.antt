@@ -1,13 +1,13 @@
 -- Bytes with their marks, as the code reads and stores them.
-use Rattle.std.proofs.Common.{◌≡◌, ℕ, zero, suc, ◌+◌, ◌-◌, ◌<◌, ◌≤◌, min, Bool, true, false, ◌&&◌, if◌then◌else◌, List, [], ◌∷◌, ◌++◌, length, take, drop, map, replicate, Option, Some, None, refl, ap, sym, ◌∙◌, arith, append_assoc, length-take, length-drop, true≢false}
+use Rattle.std.proofs.Common.{◌≡◌, ℕ, zero, suc, ◌+◌, ◌-◌, ◌≤◌, min, Bool, true, false, if◌then◌else◌, List, [], ◌∷◌, ◌++◌, length, take, drop, map, replicate, Some, None, refl, ap, sym, ◌∙◌, arith, append_assoc, length-take, length-drop, true≢false}
 use Rattle.std.specs.Prelude.{nat_le, Ok}
 use Rattle.std.specs.List.{list_all}
 use Rattle.std.proofs.lemmas.Bool.Decides.{nat_tests}
 use Rattle.std.proofs.lemmas.List.{length-replicate, drop-drop}
 use borrow.Rule.Slice.PartMut.{put_mid}
 use Rattle.c_tree.specs.declared.outcome.CFault.TheVariants.{Unset, Outside}
-use Rattle.c_tree.specs.Faults.{Or, after, failing}
-use Rattle.c_tree.specs.Objects.{Object, Bytes, all_set, bytes_at, with_bytes, overlaid}
+use Rattle.c_tree.specs.Faults.{after, failing}
+use Rattle.c_tree.specs.Objects.{Bytes, all_set, bytes_at, with_bytes, overlaid}
 use Rattle.run_bytes.specs.Cells.{cell, marked}
 
 pub marked-take : (n : ℕ) (bytes : List ℕ) (marks : List Bool) → length marks ≡ length bytes → marked (take n bytes) (take n marks) ≡ take n (marked bytes marks)

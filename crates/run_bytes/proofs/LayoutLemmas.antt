@@ -1,11 +1,11 @@
 -- Objects one behind the other: where each stands, and that a change of one leaves the others.
-use Rattle.std.proofs.Common.{◌≡◌, ℕ, zero, suc, ◌+◌, ◌-◌, ◌<◌, ◌≤◌, Bool, true, false, List, [], ◌∷◌, ◌++◌, length, map, take, drop, Option, Some, None, refl, ap, sym, ◌∙◌, subst, arith}
+use Rattle.std.proofs.Common.{◌≡◌, ℕ, zero, suc, ◌+◌, ◌≤◌, Bool, List, [], ◌∷◌, length, take, drop, Option, Some, None, refl, ap, sym, ◌∙◌, subst, arith}
 use Rattle.std.specs.Prelude.{slice_set, slice_get, option_map, Result, Ok, Err}
 use Rattle.std.proofs.lemmas.List.{drop-drop}
 use Rattle.std.proofs.lemmas.Option.{slice_get-map}
 use Rattle.c_tree.specs.declared.outcome.CValue.{CValue}
 use Rattle.c_tree.specs.declared.outcome.CFault.{CFault}
-use Rattle.c_tree.specs.Faults.{Or, after, failing}
+use Rattle.c_tree.specs.Faults.{Or, after}
 use Rattle.c_tree.specs.Objects.{Object, Bytes, Values}
 use Rattle.run_bytes.specs.declared.access.AccessType.{AccessType}
 use Rattle.run_bytes.specs.declared.places.StoredObject.{StoredObject}

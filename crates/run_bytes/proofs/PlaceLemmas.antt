@@ -1,5 +1,5 @@
 -- What is read and stored at the place of one object.
-use Rattle.std.proofs.Common.{◌≡◌, ℕ, zero, suc, ◌+◌, ◌-◌, ◌<◌, ◌≤◌, Bool, true, false, if◌then◌else◌, List, ◌++◌, length, take, drop, replicate, Option, Some, None, refl, ap, sym, ◌∙◌, subst, arith, length-take, length-drop}
+use Rattle.std.proofs.Common.{◌≡◌, ℕ, ◌+◌, ◌<◌, ◌≤◌, Bool, true, false, if◌then◌else◌, List, length, take, drop, replicate, Option, Some, None, refl, ap, sym, ◌∙◌, subst, arith, length-drop}
 use Rattle.std.specs.Prelude.{nat_le, slice_set, slice_get, Result, Ok, Err, OnOk, IfErr}
 use Rattle.std.proofs.lemmas.Bool.Decides.{nat_tests}
 use Rattle.std.proofs.lemmas.List.{length-take-le, length-replicate}
@@ -17,7 +17,7 @@ use Rattle.run_bytes.specs.declared.places.StoredObject.{StoredObject}
 use Rattle.run_bytes.specs.declared.places.StoredObject.TheVariants as stored
 use Rattle.run_bytes.specs.Accesses.{access_of}
 use Rattle.run_bytes.specs.Cells.{marked, Changes}
-use Rattle.run_bytes.specs.Layout.{part, object_in, IsInside, IsWithinBytes, IsWithinValues, SameAround, ChangesOnly, Writes, unset_object}
+use Rattle.run_bytes.specs.Layout.{part, object_in, IsInside, IsWithinBytes, IsWithinValues, Writes, unset_object}
 use Rattle.run_bytes.proofs.CellLemmas.{marked-part, part-lengths, length-marked, marked-unset}
 use Rattle.run_bytes.proofs.PartLemmas.{part-put_mid, around-put_mid}
 

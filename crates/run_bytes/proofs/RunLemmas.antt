@@ -1,16 +1,16 @@
 -- The objects of a run as a call opens them: its vectors, as slices, are what the objects stand in.
-use Rattle.std.proofs.Common.{◌≡◌, ℕ, zero, suc, Bool, List, [], ◌∷◌, length, Option, Some, None, refl, ap, sym, ◌∙◌, subst, arith}
-use Rattle.std.specs.Prelude.{slice_set, slice_get, option_map, Result, Ok, Err}
+use Rattle.std.proofs.Common.{◌≡◌, ℕ, zero, suc, Bool, List, [], ◌∷◌, length, Option, Some, None, refl, ap, sym, ◌∙◌, subst}
+use Rattle.std.specs.Prelude.{slice_set, slice_get, Result, Ok}
 use Rattle.c_tree.specs.declared.outcome.CValue.{CValue}
 use Rattle.c_tree.specs.declared.outcome.CFault.{CFault}
 use Rattle.c_tree.specs.declared.outcome.CFault.TheVariants.{Outside}
 use Rattle.c_tree.specs.Faults.{Or, after, failing}
-use Rattle.c_tree.specs.Objects.{Object, extent}
+use Rattle.c_tree.specs.Objects.{Object}
 use Rattle.run_bytes.specs.declared.places.StoredObject.{StoredObject}
 use Rattle.run_bytes.specs.Cells.{marked}
-use Rattle.run_bytes.specs.Layout.{object_in, objects_in, IsInside, IsWithinBytes, IsWithinValues, ChangesOnly, Writes, IsLaidOut, Stores, unset_object, unset_at, held_type}
+use Rattle.run_bytes.specs.Layout.{object_in, objects_in, IsInside, IsWithinBytes, IsWithinValues, Writes, IsLaidOut, Stores, unset_object, unset_at}
 use Rattle.run_bytes.proofs.PlaceLemmas.{within-bytes, within-values}
-use Rattle.run_bytes.proofs.LayoutLemmas.{inside-at, found, missing, laid-after, laid-written, stored-at, one-changed}
+use Rattle.run_bytes.proofs.LayoutLemmas.{inside-at, found, missing, laid-written, stored-at, one-changed}
 
 -- the objects stand in slices, which hold what the vectors do
 pub record Opens (objects : List Object) (places : List StoredObject) (bytes : List ℕ) (marks : List Bool) (values : List (Option CValue)) : Type 0 where

@@ -1,5 +1,5 @@
 -- What a function answers, as the meaning of C texts has it: a fault is why the run cannot go on.
-use Rattle.std.specs.Prelude.{◌≡◌, Result, Ok, Err, MatchResult}
+use Rattle.std.specs.Prelude.{Result, Ok, Err}
 use Rattle.c_tree.specs.declared.outcome.CFault.{CFault}
 use Rattle.c_tree.specs.Faults.{Or, failing}
 

@@ -1,10 +1,10 @@
 -- Where the objects of a run stand: the bytes of each behind those of the one before it, and its values behind the earlier values.
-use Rattle.std.specs.Prelude.{◌≡◌, ℕ, zero, suc, ◌+◌, ◌≤◌, Bool, List, [], ◌∷◌, ◌++◌, length, map, take, drop, replicate, Option, Some, None, Result, Ok, Err}
+use Rattle.std.specs.Prelude.{◌≡◌, ℕ, zero, suc, ◌+◌, ◌≤◌, Bool, List, [], ◌∷◌, ◌++◌, length, map, take, drop, Option, Some, None, Result, Ok, Err}
 use Rattle.c_tree.specs.declared.outcome.CValue.{CValue}
 use Rattle.c_tree.specs.declared.outcome.CFault.{CFault}
 use Rattle.c_tree.specs.Faults.{Or, failing}
 use Rattle.c_tree.specs.Access.{Access}
-use Rattle.c_tree.specs.Objects.{Object, Bytes, Values, extent}
+use Rattle.c_tree.specs.Objects.{Object, Bytes, Values}
 use Rattle.c_tree.specs.Declarations.{unset, unset_values}
 use Rattle.run_bytes.specs.declared.places.StoredObject.{StoredObject}
 use Rattle.run_bytes.specs.declared.places.StoredObject.TheVariants as stored

@@ -4,9 +4,8 @@ use Rattle.std.proofs.Common.{ap, inl, inr}
 use Rattle.std.specs.Coded.{Coded, code_by, coded_ℕ, coded_ℤ, coded_list, coded_option, coded×, coded⊎}
 use Rattle.c_tree.specs.declared.outcome.CValue.{CValue}
 use Rattle.c_tree.specs.declared.outcome.CValue.TheVariants.{Number, Pointer, Null, Function}
-use Rattle.c_tree.specs.declared.types.ListType.{ListType}
 use Rattle.c_tree.specs.declared.types.ListType.TheVariants as list
-use Rattle.c_tree.specs.Access.{Access, ToNumber, ToChar, ToByte, ToList, ToField, ToPointer, ToFunction, ToNothing, FieldKind, NumberField, TextField}
+use Rattle.c_tree.specs.Access.{Access, ToNumber, ToChar, ToByte, ToList, ToField, ToPointer, ToFunction, ToNothing, NumberField, TextField}
 use Rattle.c_tree.specs.Objects.{Object, Bytes, Values}
 
 abbrev access_numbers : Access → List ℕ

@@ -1,6 +1,6 @@
 //! Objects by their places in all bytes and all values (C89, 3.3.2).
 
-ghost use Rattle.std.specs.Prelude.{◌≡◌, replicate, ℕ, Bool, List, Option, Some, Ok, ◌<◌, ◌≤◌, length, option_map, slice_get, slice_set, OnOk, IfErr};
+ghost use Rattle.std.specs.Prelude.{◌≡◌, replicate, ℕ, Bool, List, Option, Some, Ok, ◌<◌, ◌≤◌, ◌^◌, length, option_map, slice_get, slice_set, OnOk, IfErr};
 ghost use Rattle.c_tree.specs.declared.outcome.CValue.{CValue};
 ghost use Rattle.c_tree.specs.declared.outcome.CFault.TheVariants.{Outside};
 ghost use Rattle.c_tree.specs.Objects as objects;
@@ -231,9 +231,11 @@ pub(crate) fn unset(place: StoredObject, marks: &mut [bool], values: &mut [Optio
     }
 }
 
-/// How many bytes or values an object has.
-pub(crate) fn extent(place: StoredObject) -> usize
-    ensures { (bytes : List ℕ) → (marks : List Bool) → (values : List (Option CValue)) → length marks ≡ length bytes → IsInside place bytes values → result ≡ objects.extent (object_in (marked bytes marks) values place) }
+/// How many bytes or values an object has, which stands within all bytes and all values.
+pub(crate) fn extent(place: StoredObject, bytes: &[u8], values: &[Option<CValue>]) -> usize
+    requires { IsInside place bytes.now values.now }
+    ensures value { (marks : List Bool) → length marks ≡ length bytes.now → result ≡ objects.extent (object_in (marked bytes.now marks) values.now place) }
+    ensures small { result < 2 ^ 63 }
 {
     match place {
         StoredObject::Bytes { len, .. } => len,

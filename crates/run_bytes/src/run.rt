@@ -1,6 +1,6 @@
 //! The objects of a run (C89, 3.1.2.5 and 3.3.2).
 
-ghost use Rattle.std.specs.Prelude.{◌≡◌, Bool, List, Option, slice_get, option_map, map, length, IfOk, OnOk};
+ghost use Rattle.std.specs.Prelude.{◌≡◌, ◌<◌, ◌^◌, Bool, List, Option, slice_get, option_map, map, length, IfOk, IfSome, OnOk};
 ghost use Rattle.c_tree.specs.declared.outcome.CValue.TheVariants.{Pointer};
 ghost use Rattle.c_tree.specs.Objects as objects;
 ghost use Rattle.c_tree.specs.LibraryArguments as arguments;
@@ -210,10 +210,11 @@ impl RunBytes {
 
     /// How many bytes or values an object has.
     pub fn extent(&self, object: usize) -> Option<usize>
-        ensures { result ≡ option_map objects.extent (slice_get self.now object) }
+        ensures value { result ≡ option_map objects.extent (slice_get self.now object) }
+        ensures small { IfSome result (λ count. count < 2 ^ 63) }
     {
         match places::place_at(&self.places, object) {
-            Some(place) => Some(places::extent(place)),
+            Some(place) => Some(places::extent(place, &self.bytes, &self.values)),
             None => None,
         }
     }

@@ -1,131 +1,96 @@
--- The C file of the first tree of a set, and the first of its rows F99 and of those of the trees behind it.
-use Rattle.std.specs.Prelude.{◌≡◌, ℕ, ◌+◌, ◌<◌, ◌≤◌, List, [], ◌∷◌, ◌++◌, length, take, Option, Some, None, option_map, option_and_then, Result, Ok}
-use Rattle.std.proofs.Common.{refl, sym, ap, ◌∙◌, subst, get_or, arith}
-use Rattle.std.proofs.lemmas.List.{append_assoc, take_more, take_all}
+-- Trees that have C files have no row F99.
+use Rattle.std.specs.Prelude.{◌≡◌, ℕ, suc, ℤ, Bool, true, false, List, [], ◌∷◌, ◌++◌, Option, Some, None, option_map, option_and_then, Result, Ok, Err, if◌then◌else◌}
+use Rattle.std.proofs.Common.{refl, ap}
+use Rattle.std.proofs.lemmas.Bool.{and_parts}
 use Rattle.f_tree.specs.declared.names.Options.{Options}
 use Rattle.f_tree.specs.declared.refusals.Fail.{Fail}
+use Rattle.f_tree.specs.declared.refusals.Fail.TheVariants as fail
 use Rattle.f_tree.specs.declared.refusals.Refusal.{Refusal}
 use Rattle.f_tree.specs.declared.units.File.{File}
-use Rattle.f_tree.specs.declared.units.Unit.{Unit as WrittenUnit}
+use Rattle.f_tree.specs.declared.units.Unit.{Unit as GivenUnit}
 use Rattle.c_tree.specs.declared.file.CFile.{CFile}
 use Rattle.c_tree.specs.declared.statement.CStmt.{CStmt}
-use Rattle.declaration_rows.specs.Verdicts.{earlier, first_of}
-use Rattle.refusal_order.specs.Earliest.{earliest}
-use Rattle.refusal_order.proofs.FirstOfBoth.{first_of_both}
-use Rattle.unit_file.specs.UnitFile.{units_file, WrittenUnit as UnitWritten}
+use Rattle.declaration_rows.specs.GlobalRows.{all_units}
+use Rattle.declaration_rows.specs.Verdicts.{first_of}
+use Rattle.unit_file.specs.UnitFile.{WrittenUnit}
+use Rattle.unit_sites.specs.UnitSites.{UnitsOfFile, files_of as c_files}
 use Rattle.unit_translation.specs.UnitContents.{LoweredUnit, constants_passed, inventory_of}
-use Rattle.unit_translation.specs.UnitBodies.{written_before}
-use Rattle.named_units.specs.NamedUnits.{named_body_of, named_from, named_units, named_file}
-use Rattle.translated_files.specs.TranslatedFiles.{lowered_from, file_by, file_of, form_row, row_unless, rows_of_lowering, rows_of_bodies, rows_behind, units_not_translated, not_translated, further_units, further_files, files_not_translated}
-use Rattle.source_reader.specs.Trees.{IsUnless}
-use Rattle.source_translator.specs.TranslatedSource.{AreFilesOf, no_files, one_file, AreTranslated}
+use Rattle.unit_translation.specs.UnitBodies.{all_lowered, written_before}
+use Rattle.named_units.specs.NamedUnits.{named_body_of, named_from, named_file_of, named_files_from, named_files}
+use Rattle.translated_files.specs.TranslatedFiles.{lowered_files, has_units, each_has_units, made_files, files_of, form_row, row_unless, rows_of_lowering, rows_of_bodies, rows_of_files, rows_behind, units_not_translated, row_of_none, files_without_units, files_not_translated}
+use Rattle.translator.specs.TranslatedFiles.{AreTranslations}
+use Rattle.source_translator.specs.TranslatedSource.{AreTranslated}
 
--- A FILE THAT HAS A C FILE has no row
-body_made : (us : List LoweredUnit) (u : LoweredUnit) (given : WrittenUnit) (body : Option (List CStmt)) (behind : Option (List UnitWritten)) (all : List UnitWritten) (more : List Refusal) →
-    ((later : List UnitWritten) → behind ≡ Some later → more ≡ []) → written_before (inventory_of us u) body behind ≡ Some all → row_unless body (form_row given given.statements) ++ more ≡ []
+-- A FUNCTION that is made has no row
+body_made : (all : List LoweredUnit) (u : LoweredUnit) (given : GivenUnit) (body : Option (List CStmt)) (behind : Option (List WrittenUnit)) (ws : List WrittenUnit) (more : List Refusal) →
+    ((later : List WrittenUnit) → behind ≡ Some later → more ≡ []) → written_before (inventory_of all u) body behind ≡ Some ws → row_unless body (form_row given given.statements) ++ more ≡ []
 unfolding written_before row_unless
-body_made us u given None behind all more later is = absurd (cc)
-body_made us u given (Some body) None all more later is = absurd (cc)
-body_made us u given (Some body) (Some others) all more later is = later others refl
+body_made all u given None behind ws more later is = absurd (cc)
+body_made all u given (Some body) None ws more later is = absurd (cc)
+body_made all u given (Some body) (Some others) ws more later is = later others refl
 
-bodies_made : (us ls : List LoweredUnit) (givens : List WrittenUnit) (all : List UnitWritten) → named_from us ls ≡ Some all → rows_of_bodies us ls givens ≡ []
+bodies_made : (constants : List ℤ) (all ls : List LoweredUnit) (givens : List GivenUnit) (ws : List WrittenUnit) → named_from constants all ls ≡ Some ws → rows_of_bodies constants all ls givens ≡ []
 unfolding named_from rows_of_bodies
-bodies_made us [] givens all is = refl
-bodies_made us (u ∷ ls) [] all is = refl
-bodies_made us (u ∷ ls) (given ∷ givens) all is =
-    body_made us u given (named_body_of us u) (named_from us ls) all (rows_of_bodies us ls givens) (λ later its. bodies_made us ls givens later its) is
+bodies_made constants all [] givens ws is = refl
+bodies_made constants all (u ∷ ls) [] ws is = refl
+bodies_made constants all (u ∷ ls) (given ∷ givens) ws is =
+    body_made all u given (named_body_of constants all u) (named_from constants all ls) ws (rows_of_bodies constants all ls givens) (λ later its. bodies_made constants all ls givens later its) is
 
-file_made : (us : List LoweredUnit) (givens : List WrittenUnit) (found : Option (List UnitWritten)) (file : CFile) → named_from us us ≡ found →
-    option_map (units_file (constants_passed us)) found ≡ Some file → rows_of_bodies us us givens ≡ []
-file_made us givens None file its is = absurd (cc)
-file_made us givens (Some all) file its is = bodies_made us us givens all its
+file_made : (all us : List LoweredUnit) (givens : List GivenUnit) (found : Option (List WrittenUnit)) (f : UnitsOfFile) → named_from (constants_passed us) all us ≡ found →
+    option_map (λ (ws : List WrittenUnit). record { constants = constants_passed us; units = ws }) found ≡ Some f → rows_of_bodies (constants_passed us) all us givens ≡ []
+file_made all us givens None f its is = absurd (cc)
+file_made all us givens (Some ws) f its is = bodies_made (constants_passed us) all us givens ws its
 
-rows_of_made : (found : Option (List LoweredUnit)) (rows : List Refusal) (givens : List WrittenUnit) (file : CFile) → option_and_then named_file found ≡ Some file →
-    rows_behind found rows givens ≡ []
-unfolding rows_behind named_file named_units
-rows_of_made None rows givens file is = absurd (cc)
-rows_of_made (Some us) rows givens file is = file_made us givens (named_from us us) file refl is
+both_made : (f : Option UnitsOfFile) (fs : Option (List UnitsOfFile)) (all : List UnitsOfFile) (one others : List Refusal) → ((g : UnitsOfFile) → f ≡ Some g → one ≡ []) → ((gs : List UnitsOfFile) → fs ≡ Some gs → others ≡ []) →
+    option_and_then (λ g. option_map (λ gs. g ∷ gs) fs) f ≡ Some all → one ++ others ≡ []
+both_made None fs all one others first later is = absurd (cc)
+both_made (Some g) None all one others first later is = absurd (cc)
+both_made (Some g) (Some gs) all one others first later is = (λ i. first g refl i ++ later gs refl i)
 
-units_without_row : (options : Options) (us : List WrittenUnit) (file : CFile) → file_by options us ≡ Some file → units_not_translated options us ≡ []
-unfolding file_by units_not_translated
-units_without_row options [] file is = absurd (cc)
-units_without_row options (u ∷ us) file is = rows_of_made (lowered_from options (u ∷ us) 0 (u ∷ us)) (rows_of_lowering options (u ∷ us) 0 (u ∷ us)) (u ∷ us) file is
+files_made : (all : List LoweredUnit) (lfs : List (List LoweredUnit)) (trees : List File) (fs : List UnitsOfFile) → named_files_from all lfs ≡ Some fs → rows_of_files all lfs trees ≡ []
+unfolding named_files_from rows_of_files named_file_of
+files_made all [] trees fs is = refl
+files_made all (us ∷ lfs) [] fs is = refl
+files_made all (us ∷ lfs) (tree ∷ trees) fs is =
+    both_made (named_file_of all us) (named_files_from all lfs) fs (rows_of_bodies (constants_passed us) all us tree.units) (rows_of_files all lfs trees)
+    (λ f its. file_made all us tree.units (named_from (constants_passed us) all us) f refl its) (λ later its. files_made all lfs trees later its) is
 
-without_row : (options : Options) (tree : File) (file : CFile) → file_of options tree ≡ Some file → not_translated options tree ≡ []
-unfolding file_of
-without_row options tree file is = units_without_row options tree.units file is
+rows_of_made : (found : Option (List (List LoweredUnit))) (rows : List Refusal) (trees : List File) (fs : List UnitsOfFile) → option_and_then named_files found ≡ Some fs → rows_behind found rows trees ≡ []
+unfolding rows_behind named_files
+rows_of_made None rows trees fs is = absurd (cc)
+rows_of_made (Some lfs) rows trees fs is = files_made (all_lowered lfs) lfs trees fs is
 
--- THE ROWS of the files behind the first
-rows_and_one : (trees : List File) (tree : File) (r : Refusal) → further_units tree.units ≡ r ∷ [] → further_files (trees ++ tree ∷ []) ≡ further_files trees ++ r ∷ []
-unfolding further_files
-rows_and_one [] tree r is = ap (λ rs. rs ++ []) is
-rows_and_one (t ∷ ts) tree r is = ap (λ rs. further_units t.units ++ rs) (rows_and_one ts tree r is) ∙ sym (append_assoc (further_units t.units) (further_files ts) (r ∷ []))
+-- EACH FILE has a unit
+none_without : (k : ℕ) (trees : List File) → each_has_units trees ≡ true → files_without_units k trees ≡ []
+unfolding files_without_units each_has_units has_units row_of_none
+none_without k [] has = refl
+none_without k (tree ∷ trees) has =
+    let both = and_parts (has_units tree.units) (each_has_units trees) has in (λ i. one tree.units both.0 i ++ none_without (suc k) trees both.1 i)
+  where
+    one : (us : List GivenUnit) → has_units us ≡ true → row_of_none k us ≡ []
+    one [] there = absurd (cc)
+    one (u ∷ us) there = refl
 
-first_alone : (r : Refusal) → first_of (r ∷ []) ≡ Some r
-unfolding first_of earlier
-first_alone r = refl
+-- THE SET has no row
+made_if : (b : Bool) (x : Option (List UnitsOfFile)) (fs : List UnitsOfFile) → (if b then x else None) ≡ Some fs → (b ≡ true) × (x ≡ Some fs)
+made_if true x fs is = (refl, is)
+made_if false x fs is = absurd (cc)
 
-pub none_behind : (trees : List File) → None ≡ first_of (further_files (take 0 trees))
-unfolding further_files first_of
-none_behind trees = refl
+source_of : (found : Option (List UnitsOfFile)) (files : List CFile) → option_map c_files found ≡ Some files → (fs : List UnitsOfFile) × (found ≡ Some fs)
+source_of None files is = absurd (cc)
+source_of (Some fs) files is = (fs, refl)
 
-pub row_behind : (trees : List File) (place : ℕ) (tree : File) (found next : Option Refusal) (r : Refusal) → place < length trees → tree ≡ get_or trees place tree →
-    found ≡ first_of (further_files (take place trees)) → further_units tree.units ≡ r ∷ [] → next ≡ earliest found (Some r) → next ≡ first_of (further_files (take (place + 1) trees))
-row_behind trees place tree found next r within is so_far row earlier_is =
-    earlier_is ∙ (ap (λ f. earliest f (Some r)) so_far
-    ∙ (ap (earliest (first_of (further_files (take place trees)))) (sym (first_alone r))
-    ∙ (sym (first_of_both (further_files (take place trees)) (r ∷ []))
-    ∙ (ap first_of (sym (rows_and_one (take place trees) tree r row))
-    ∙ ap (λ ts. first_of (further_files ts)) (ap (λ t. take place trees ++ t ∷ []) is ∙ sym (take_more trees place tree within))))))
+pub without_row : (options : Options) (trees : List File) (files : List CFile) → files_of options trees ≡ Some files → files_not_translated options trees ≡ []
+unfolding files_of made_files files_not_translated units_not_translated
+without_row options trees files is =
+    let source = source_of (made_files options trees) files is in
+    let both = made_if (each_has_units trees) (option_and_then named_files (lowered_files options (all_units trees) 0 trees)) source.0 source.1 in
+    (λ i. none_without 0 trees both.0 i
+    ++ rows_of_made (lowered_files options (all_units trees) 0 trees) (rows_of_lowering options (all_units trees) 0 (all_units trees)) trees source.0 both.1 i)
 
-pub all_behind : (trees : List File) (place : ℕ) (found : Option Refusal) → length trees ≤ place → found ≡ first_of (further_files (take place trees)) → found ≡ first_of (further_files trees)
-all_behind trees place found past so_far = so_far ∙ ap (λ ts. first_of (further_files ts)) (take_all place trees past)
-
--- THE FIRST FILE and those behind it
-rows_with : (options : Options) (tree : File) (trees : List File) →
-    first_of (files_not_translated options (tree ∷ trees)) ≡ earliest (first_of (not_translated options tree)) (first_of (further_files trees))
-unfolding files_not_translated
-rows_with options tree trees = first_of_both (not_translated options tree) (further_files trees)
-
-rows_of_others : (options : Options) (tree : File) (trees : List File) (file : CFile) → file_of options tree ≡ Some file →
-    first_of (files_not_translated options (tree ∷ trees)) ≡ first_of (further_files trees)
-unfolding files_not_translated
-rows_of_others options tree trees file is = ap (λ rs. first_of (rs ++ further_files trees)) (without_row options tree file is)
-
-some_row : (us : List WrittenUnit) (rs : List Refusal) → first_of (further_units us ++ rs) ≡ None → ⊥
-unfolding first_of further_units
-some_row [] rs is = cc
-some_row (u ∷ us) rs is = cc
-
-no_further : (trees : List File) → first_of (further_files trees) ≡ None → trees ≡ []
-unfolding further_files
-no_further [] is = refl
-no_further (tree ∷ trees) is = absurd (some_row tree.units (further_files trees) is)
-
-alone : (options : Options) (tree : File) (trees : List File) (file : CFile) → file_of options tree ≡ Some file → first_of (further_files trees) ≡ None →
-    AreFilesOf options (tree ∷ trees) (file ∷ [])
-alone options tree trees file is none = subst (λ ts. AreFilesOf options (tree ∷ ts) (file ∷ [])) (sym (no_further trees none)) (one_file tree file [] [] is no_files)
-
-file_or_further : (options : Options) (tree : File) (trees : List File) (file : CFile) (made : List CFile) (further : Option Refusal) (result : Result (List CFile) Fail) →
-    file_of options tree ≡ Some file → made ≡ file ∷ [] → further ≡ first_of (further_files trees) → IsUnless further made result → AreTranslated options (tree ∷ trees) result
-file_or_further options tree trees file made None result is only none answer =
-    subst (AreTranslated options (tree ∷ trees)) (sym answer)
-    (rows_of_others options tree trees file is ∙ sym none, subst (AreFilesOf options (tree ∷ trees)) (sym only) (alone options tree trees file is (sym none)))
-file_or_further options tree trees file made (Some r) result is only some answer =
-    subst (AreTranslated options (tree ∷ trees)) (sym answer) (rows_of_others options tree trees file is ∙ sym some)
-
-pub first_made : (options : Options) (tree : File) (trees : List File) (file : CFile) (none made : List CFile) (further : Option Refusal) (result : Result (List CFile) Fail) →
-    file_of options tree ≡ Some file → none ≡ [] → made ≡ none ++ file ∷ [] → further ≡ first_of (further_files trees) → IsUnless further made result →
-    AreTranslated options (tree ∷ trees) result
-first_made options tree trees file none made further result is empty pushed rows answer =
-    file_or_further options tree trees file made further result is (pushed ∙ ap (λ fs. fs ++ file ∷ []) empty) rows answer
-
-pub first_refused : (options : Options) (tree : File) (trees : List File) (r q : Refusal) (further : Option Refusal) → first_of (not_translated options tree) ≡ Some r →
-    further ≡ first_of (further_files trees) → Some q ≡ earliest (Some r) further → first_of (files_not_translated options (tree ∷ trees)) ≡ Some q
-first_refused options tree trees r q further row rows chosen =
-    rows_with options tree trees ∙ (ap (λ f. earliest f (first_of (further_files trees))) row ∙ (ap (earliest (Some r)) (sym rows) ∙ sym chosen))
-
-pub no_trees : (options : Options) (trees : List File) (made : List CFile) → length trees < 1 → made ≡ [] → AreTranslated options trees (Ok made)
-unfolding files_not_translated first_of
-no_trees options [] made few empty = (refl, subst (AreFilesOf options []) (sym empty) no_files)
-no_trees options (tree ∷ trees) made few empty = absurd (omega (arith, few))
+-- THE ANSWER
+pub translations_are_translated : (options : Options) (trees : List File) (answer : Result (List CFile) Fail) → AreTranslations options trees answer → AreTranslated options trees answer
+unfolding first_of
+translations_are_translated options trees (Ok files) is = (ap first_of (without_row options trees files is), is)
+translations_are_translated options trees (Err (fail.Refused r)) is = is
+translations_are_translated options trees (Err fail.NoMemory) is = is

@@ -1,5 +1,5 @@
 -- What the translator of a source answers: the C files of the trees with which it is accepted, or its first refusal.
-use Rattle.std.specs.Prelude.{◌≡◌, ℕ, List, [], ◌∷◌, Some, None, Result, Ok, Err}
+use Rattle.std.specs.Prelude.{◌≡◌, ℕ, List, Some, None, Result, Ok, Err}
 use Rattle.f_tree.specs.declared.names.Options.{Options}
 use Rattle.f_tree.specs.declared.refusals.Fail.{Fail}
 use Rattle.f_tree.specs.declared.refusals.Fail.TheVariants as fail
@@ -9,24 +9,18 @@ use Rattle.f_tree.specs.declared.units.FileSet.{FileSet}
 use Rattle.c_tree.specs.declared.file.CFile.{CFile}
 use Rattle.declaration_rows.specs.GlobalRows.{all_units, units_global_rows}
 use Rattle.declaration_rows.specs.Verdicts.{first_of}
-use Rattle.translated_files.specs.TranslatedFiles.{file_of, files_not_translated}
+use Rattle.translated_files.specs.TranslatedFiles.{files_of, files_not_translated}
 use Rattle.source_acceptance.specs.SourceFiles.{Source}
 use Rattle.source_verdict.specs.SourceRows.{IsAccepted}
 use Rattle.source_verdict.specs.Fronts.{IsFirstOfAll}
 use Rattle.source_reader.specs.SourceReading.{entries}
 use Rattle.source_reader.specs.Sources.{source_of}
 
--- the C files of some trees, one for each, in their order
-pub data AreFilesOf (options : Options) : List File → List CFile → Type 0 where
-  no_files : AreFilesOf options [] []
-  one_file : (tree : File) (file : CFile) (trees : List File) (files : List CFile) → file_of options tree ≡ Some file → AreFilesOf options trees files
-      → AreFilesOf options (tree ∷ trees) (file ∷ files)
-
 -- the source is accepted, and these are the C files of the trees that it spells
 pub record AreFilesOfSource (options : Options) (source : Source) (made : List CFile) : Type 0 where
   pub set : FileSet
   pub accepted : IsAccepted options source set
-  pub files : AreFilesOf options set.files made
+  pub files : files_of options set.files ≡ Some made
 
 -- the C files, or the first refusal, whatever further files the source includes; want of memory says nothing
 abbrev pub IsSourceTranslated : Options → List (List ℕ) → List (List ℕ) → List (List ℕ) → Result (List CFile) Fail → Type 0
@@ -38,7 +32,7 @@ IsSourceTranslated options files names included (Err fail.NoMemory) = Unit {0}
 pub record AreFilesOfSet (options : Options) (trees : List File) (made : List CFile) : Type 0 where
   pub formed : first_of (files_not_translated options trees) ≡ None
   pub apart : first_of (units_global_rows (all_units trees)) ≡ None
-  pub files : AreFilesOf options trees made
+  pub files : files_of options trees ≡ Some made
 
 -- the first of the rows F99 of some trees, or else of the rows F51 and F52
 pub data IsFirstRow (options : Options) (trees : List File) (r : Refusal) : Type 0 where
@@ -53,6 +47,6 @@ IsSetTranslated options trees (Err fail.NoMemory) = Unit {0}
 
 -- the C files of some trees, or the first of their rows F99; want of memory says nothing
 abbrev pub AreTranslated : Options → List File → Result (List CFile) Fail → Type 0
-AreTranslated options trees (Ok made) = (first_of (files_not_translated options trees) ≡ None) × AreFilesOf options trees made
+AreTranslated options trees (Ok made) = (first_of (files_not_translated options trees) ≡ None) × (files_of options trees ≡ Some made)
 AreTranslated options trees (Err (fail.Refused r)) = first_of (files_not_translated options trees) ≡ Some r
 AreTranslated options trees (Err fail.NoMemory) = Unit {0}

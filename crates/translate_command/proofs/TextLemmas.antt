@@ -1,6 +1,6 @@
 -- The texts of the files of an accepted source are its texts.
 use Rattle.std.specs.Prelude.{◌≡◌, ℕ, suc, ◌+◌, ◌<◌, ◌≤◌, List, [], ◌∷◌, ◌++◌, length, take, map, Some, option_map}
-use Rattle.std.proofs.Common.{refl, sym, ap, ◌∙◌, subst, arith, get_or}
+use Rattle.std.proofs.Common.{refl, sym, ap, ◌∙◌, arith, get_or}
 use Rattle.std.proofs.lemmas.List.{take_all}
 use Rattle.f_tree.specs.declared.names.Options.{Options}
 use Rattle.f_tree.specs.declared.units.File.{File}
@@ -8,12 +8,16 @@ use Rattle.f_tree.specs.declared.units.FileSet.{FileSet}
 use Rattle.f_tree.specs.declared.units.Part.{Part}
 use Rattle.c_tree.specs.declared.file.CFile.{CFile}
 use Rattle.c_text.specs.Printed.{printed}
-use Rattle.translated_files.specs.TranslatedFiles.{file_of}
-use Rattle.translated_sets.specs.FaithfulSets.{translation_of, AreTranslations, no_texts, one_text, EachAcceptedSetIsFaithful}
+use Rattle.faithful.specs.Faithful as faithful
+use Rattle.faithful.specs.Faithful.{SpellAll}
+use Rattle.faithful.specs.Signatures as signed
+use Rattle.faithful.specs.Signatures.{EachHasSignatures}
+use Rattle.translated_files.specs.TranslatedFiles.{files_of}
+use Rattle.translated_sets.specs.FaithfulSets.{translations_of, EachAcceptedSetIsFaithful}
 use Rattle.source_acceptance.specs.SourceFiles as sources
 use Rattle.source_acceptance.specs.SourceFiles.{Source, SpellFiles, files_with_parts, SpellsSource}
 use Rattle.source_verdict.specs.SourceRows.{IsAccepted}
-use Rattle.source_translator.specs.TranslatedSource.{AreFilesOf, no_files, one_file, AreFilesOfSource}
+use Rattle.source_translator.specs.TranslatedSource.{AreFilesOfSource}
 use Rattle.translate_command.specs.SourceOnShelf.{AreTextsOf}
 use Rattle.translate_command.proofs.ListLemmas.{further, map_append}
 
@@ -31,21 +35,12 @@ as_many : (source : Source) (set : FileSet) → SpellsSource source set → leng
 as_many source set spelled =
     ap length spelled.set_is ∙ (with_parts_length spelled.parts spelled.trees ∙ spelled_length 0 source.files spelled.trees spelled.files_spell)
 
--- THE TEXT of each
-translated_as : (options : Options) (tree : File) (file : CFile) → file_of options tree ≡ Some file → translation_of options tree ≡ Some (printed file)
-unfolding translation_of
-translated_as options tree file is = ap (λ found. option_map printed found) is
-
-printed_are : (options : Options) (trees : List File) (files : List CFile) → AreFilesOf options trees files → AreTranslations options trees (map printed files)
-printed_are options _ _ (no_files) = no_texts
-printed_are options _ _ (one_file tree file trees files is rest) =
-    one_text tree (printed file) trees (map printed files) (translated_as options tree file is) (printed_are options trees files rest)
-
+-- THE TEXTS
 texts_of : EachAcceptedSetIsFaithful → (options : Options) (source : Source) (set : FileSet) (made : List CFile) (texts : List (List ℕ)) → 0 < length source.files →
-    IsAccepted options source set → AreFilesOf options set.files made → texts ≡ map printed made → AreTextsOf options source texts
+    IsAccepted options source set → files_of options set.files ≡ Some made → texts ≡ map printed made → AreTextsOf options source texts
+unfolding translations_of
 texts_of law options source set made texts some accepted are is =
-    let translations : AreTranslations options set.files texts =
-    subst (AreTranslations options set.files) (sym is) (printed_are options set.files made are) in
+    let translations : translations_of options set.files ≡ Some texts = ap (λ found. option_map (map printed) found) are ∙ ap Some (sym is) in
     let count = as_many source set accepted.spelled in
     record {
       set = set;
@@ -59,12 +54,17 @@ pub texts_of_source : EachAcceptedSetIsFaithful → (options : Options) (source 
 texts_of_source law options source made texts some of is = texts_of law options source of.set made texts some of.accepted of.files is
 
 -- as many texts as files
-texts_length : (options : Options) (trees : List File) (texts : List (List ℕ)) → AreTranslations options trees texts → length texts ≡ length trees
-texts_length options _ _ no_texts = refl
-texts_length options _ _ (one_text tree text trees texts is rest) = ap suc (texts_length options trees texts rest)
+as_many_spelled : (texts : List (List ℕ)) (files : List CFile) → SpellAll texts files → length texts ≡ length files
+as_many_spelled _ _ faithful.none = refl
+as_many_spelled _ _ (faithful.more bytes file texts files spells rest) = ap suc (as_many_spelled texts files rest)
+
+as_many_signed : (options : Options) (trees : List File) (files : List CFile) → EachHasSignatures options trees files → length files ≡ length trees
+as_many_signed options _ _ signed.none = refl
+as_many_signed options _ _ (signed.more tree file trees files has rest) = ap suc (as_many_signed options trees files rest)
 
 pub as_many_texts : (options : Options) (source : Source) (texts : List (List ℕ)) → AreTextsOf options source texts → length texts ≡ length source.files
-as_many_texts options source texts made = texts_length options made.set.files texts made.translations ∙ as_many source made.set made.accepted.spelled
+as_many_texts options source texts made =
+    as_many_spelled texts made.faithful.c_trees made.faithful.written ∙ as_many_signed options made.set.files made.faithful.c_trees made.faithful.signatures ∙ as_many source made.set made.accepted.spelled
 
 -- C FILES in their order
 pub none_printed : (files : List CFile) (texts : List (List ℕ)) → texts ≡ [] → texts ≡ map printed (take 0 files)

@@ -12,7 +12,7 @@ use Rattle.fortran_text.specs.FirstFault.{FaultOfFile, IsSound}
 use Rattle.source_acceptance.specs.SourceFiles.{Included, Source, mentioned_from, first_mentions}
 use Rattle.source_verdict.specs.SourceRows as verdict
 use Rattle.faithful.specs.Faithful.{Faithful}
-use Rattle.translated_sets.specs.FaithfulSets.{AreTranslations}
+use Rattle.translated_sets.specs.FaithfulSets.{translations_of}
 
 -- the names of the files that files include, each once, in the order of first mention
 abbrev pub mentions : List (List ℕ) → List (List ℕ)
@@ -62,7 +62,7 @@ pub record IsAccepted (options : Options) (source : Source) : Type 0 where
 pub record AreTextsOf (options : Options) (source : Source) (texts : List (List ℕ)) : Type 0 where
   pub set : FileSet
   pub accepted : verdict.IsAccepted options source set
-  pub translations : AreTranslations options set.files texts
+  pub translations : translations_of options set.files ≡ Some texts
   pub faithful : Faithful options set.files texts
 
 -- the places and each file that they include are there, the source is accepted, and these texts are its translation

@@ -1,18 +1,18 @@
--- A file of which all forms are translated is made of plain units with their lowered texts.
+-- Files of which all forms are translated are made of plain units with their lowered texts.
 use Rattle.std.specs.List.{list_all}
-use Rattle.std.specs.Prelude.{◌≡◌, ℕ, zero, suc, ◌+◌, ◌^◌, ◌≤◌, nat_lt, nat_le, Bool, true, false, ◌&&◌, List, [], ◌∷◌, ◌++◌, map, length, Option, Some, None, option_map, option_and_then, slice_get, if◌then◌else◌}
+use Rattle.std.specs.Prelude.{◌≡◌, ℕ, zero, suc, ◌+◌, ◌^◌, ◌<◌, ◌≤◌, nat_lt, nat_le, Bool, true, false, ◌&&◌, List, [], ◌∷◌, ◌++◌, map, length, Option, Some, None, option_and_then, slice_get, if◌then◌else◌}
 use Rattle.std.proofs.Common.{refl, sym, ap, ◌∙◌, subst, arith}
 use Rattle.std.proofs.lemmas.Bool.{leb-true, ltb-true}
 use Rattle.f_tree.specs.declared.names.Options.{Options}
 use Rattle.f_tree.specs.declared.units.File.{File}
 use Rattle.f_tree.specs.declared.units.Unit.{Unit as GivenUnit}
 use Rattle.f_tree.specs.Values.{Bytes}
-use Rattle.f_tree.specs.CNames.{DummyUse}
 use Rattle.f_tree.specs.Facts.{ProgramUnit}
 use Rattle.f_tree.specs.Uses.{uses_of_statements}
 use Rattle.f_tree.specs.Attributes.{arrays_of}
 use Rattle.f_tree.specs.Lines.{unit_read}
-use Rattle.f_tree.specs.Meaning.{units_in}
+use Rattle.f_tree.specs.Setting.{IsIn, first_in, later_in}
+use Rattle.declaration_rows.specs.GlobalRows.{all_units}
 use Rattle.declaration_rows.specs.NameRows.{given_names}
 use Rattle.l_core.specs.Steps.{Text}
 use Rattle.lowering.specs.Units.{lowered_unit}
@@ -24,18 +24,21 @@ use Rattle.main_translation.specs.Outlined.{labels_in}
 use Rattle.unit_forms.specs.OwnSetting.{own_facts}
 use Rattle.unit_forms.specs.PlainProcedures.{is_plain_unit}
 use Rattle.unit_forms.specs.SpellableUnits.{is_spellable_unit}
-use Rattle.unit_file.specs.UnitFile.{WrittenUnit, units_file}
-use Rattle.unit_translation.specs.UnitContents.{LoweredUnit, program_units, constants_passed, temporaries_kept}
+use Rattle.unit_sites.specs.UnitSites.{UnitsOfFile, file_for, files_of as c_files}
+use Rattle.unit_translation.specs.UnitContents.{LoweredUnit, program_units, temporaries_kept}
+use Rattle.unit_translation.specs.UnitBodies.{all_lowered}
 use Rattle.unit_translation_laws.specs.PlainUnits.{IsPlainUnitText}
-use Rattle.plain_unit_files.specs.PlainUnitFiles.{AreMadeOf, EachPlainUnitFileIsFaithful}
+use Rattle.unit_faithfulness.specs.UnitsFaithful as faithful
+use Rattle.unit_faithfulness.specs.UnitsFaithful.{AreOfFile, AreOfFiles}
+use Rattle.plain_unit_files.specs.PlainUnitFiles.{AreMadeOf, EachPlainUnitSetIsFaithful}
 use Rattle.plain_unit_files.proofs.Whole.{plain_units_of}
-use Rattle.named_units.specs.NamedUnits.{named_units, named_file}
+use Rattle.named_units.specs.NamedUnits.{named_files}
 use Rattle.named_unit_laws.specs.NamedBodies.{EachNamedUnitIsAUnit}
 use Rattle.translated_forms.specs.LoweredForms.{statements_lower}
 use Rattle.translated_forms.specs.TranslatedForms.{stop_fits}
 use Rattle.translated_laws.proofs.Translated.{left, right, each_of, mapped, stops}
-use Rattle.translated_files.specs.TranslatedFiles.{text_fits, procedure_names, procedures_are_defined, passes_tests, lowered_by, lowered_at, lowered_before, lowered_from, file_by, file_of}
-use Rattle.translated_file_laws.specs.FaithfulFiles.{translation_of, EachTranslationIsFaithful}
+use Rattle.translated_files.specs.TranslatedFiles.{text_fits, procedure_names, procedures_are_defined, passes_tests, lowered_by, lowered_at, lowered_before, lowered_from, files_before, lowered_files, has_units, each_has_units, made_files, files_of}
+use Rattle.translated_file_laws.specs.FaithfulFiles.{translations_of, EachTranslationIsFaithful}
 
 -- ## Texts that fit
 
@@ -161,7 +164,7 @@ at_place options units j _ _ (one_lowered _ first v later us one rest) (suc k) g
     let e : k + suc j ≡ suc k + j = omega arith in
     subst (λ (n : ℕ). IsLowered options units n given u) e (at_place options units (suc j) later us rest k given u at at')
 
--- ## The file
+-- ## The files
 
 -- what comes from an option
 record IsFrom {A B : Type 0} (f : A → Option B) (x : Option A) (b : B) : Type 0 where
@@ -173,34 +176,63 @@ from_option : {A B : Type 0} (f : A → Option B) (x : Option A) (b : B) → opt
 from_option f None b h = absurd (cc)
 from_option f (Some a) b h = record { from = a; was = refl; gives = h }
 
-record IsMadeFile (options : Options) (givens : List GivenUnit) (file : CFile) : Type 0 where
-  us : List LoweredUnit
-  ws : List WrittenUnit
-  lowered : AreLowered options givens 0 givens us
-  some : 1 ≤ length us
-  named : named_units us ≡ Some ws
-  made : units_file (constants_passed us) ws ≡ file
+-- the units of each file are lowered
+data AreLoweredFiles (options : Options) (units : List GivenUnit) : ℕ → List File → List (List LoweredUnit) → Type 0 where
+  no_files : (j : ℕ) → AreLoweredFiles options units j [] []
+  one_file : (j : ℕ) (tree : File) (us : List LoweredUnit) (trees : List File) (lfs : List (List LoweredUnit)) → AreLowered options units j tree.units us →
+      AreLoweredFiles options units (j + length tree.units) trees lfs → AreLoweredFiles options units j (tree ∷ trees) (us ∷ lfs)
 
-as_many : (options : Options) (units : List GivenUnit) (j : ℕ) (given : GivenUnit) (later : List GivenUnit) (us : List LoweredUnit) → AreLowered options units j (given ∷ later) us → 1 ≤ length us
-as_many options units j given later _ (one_lowered _ _ u _ us one rest) = omega arith
+both_lowered : (options : Options) (units : List GivenUnit) (j : ℕ) (tree : File) (trees : List File) (found : Option (List LoweredUnit)) (later : Option (List (List LoweredUnit))) (lfs : List (List LoweredUnit)) →
+    lowered_from options units j tree.units ≡ found → ((rest : List (List LoweredUnit)) → later ≡ Some rest → AreLoweredFiles options units (j + length tree.units) trees rest) → files_before found later ≡ Some lfs →
+    AreLoweredFiles options units j (tree ∷ trees) lfs
+unfolding files_before
+both_lowered options units j tree trees None later lfs is rest whole = absurd (cc)
+both_lowered options units j tree trees (Some us) None lfs is rest whole = absurd (cc)
+both_lowered options units j tree trees (Some us) (Some later) lfs is rest whole =
+    let all : us ∷ later ≡ lfs = cc in
+    subst (AreLoweredFiles options units j (tree ∷ trees)) all (one_file j tree us trees later (are_lowered options units j tree.units us is) (rest later refl))
 
-made_file : (options : Options) (givens : List GivenUnit) (file : CFile) → file_by options givens ≡ Some file → IsMadeFile options givens file
-unfolding file_by named_file
-made_file options [] file h = absurd (cc)
-made_file options (given ∷ later) file h =
-    let lowered = from_option named_file (lowered_from options (given ∷ later) 0 (given ∷ later)) file h in
-    let source = mapped (units_file (constants_passed lowered.from)) (named_units lowered.from) file lowered.gives in
-    let are = are_lowered options (given ∷ later) 0 (given ∷ later) lowered.from lowered.was in
-    record { us = lowered.from; ws = source.from; lowered = are; some = as_many options (given ∷ later) 0 given later lowered.from are; named = source.was; made = source.gives }
+are_lowered_files : (options : Options) (units : List GivenUnit) (j : ℕ) (trees : List File) (lfs : List (List LoweredUnit)) → lowered_files options units j trees ≡ Some lfs → AreLoweredFiles options units j trees lfs
+unfolding lowered_files
+are_lowered_files options units j [] lfs is = let none : [] ≡ lfs = cc in subst (AreLoweredFiles options units j []) none (no_files j)
+are_lowered_files options units j (tree ∷ trees) lfs is =
+    both_lowered options units j tree trees (lowered_from options units j tree.units) (lowered_files options units (j + length tree.units) trees) lfs refl
+    (λ rest later. are_lowered_files options units (j + length tree.units) trees rest later) is
 
--- a set of one file
-only_file : (options : Options) (tree : File) → units_in options (tree ∷ []) ≡ map (unit_read options) tree.units
-unfolding units_in
-only_file options tree = no_more (map (unit_read options) tree.units)
-  where
-    no_more : (us : List ProgramUnit) → us ++ [] ≡ us
-    no_more [] = refl
-    no_more (u ∷ us) = let same = no_more us in λ i. u ∷ same i
+-- those of all files, one file behind the other
+behind_lowered : (options : Options) (units : List GivenUnit) (j : ℕ) (gs hs : List GivenUnit) (us vs : List LoweredUnit) → AreLowered options units j gs us → AreLowered options units (j + length gs) hs vs →
+    AreLowered options units j (gs ++ hs) (us ++ vs)
+behind_lowered options units j _ hs _ vs (none_lowered _) others = subst (λ n. AreLowered options units n hs vs) {x = j + 0} {y = j} (omega arith) others
+behind_lowered options units j _ hs _ vs (one_lowered _ g u gs us one rest) others =
+    one_lowered j g u (gs ++ hs) (us ++ vs) one
+    (behind_lowered options units (suc j) gs hs us vs rest (subst (λ n. AreLowered options units n hs vs) {x = j + length (g ∷ gs)} {y = suc j + length gs} (omega arith) others))
+
+flat_lowered : (options : Options) (units : List GivenUnit) (j : ℕ) (trees : List File) (lfs : List (List LoweredUnit)) → AreLoweredFiles options units j trees lfs → AreLowered options units j (all_units trees) (all_lowered lfs)
+unfolding all_units
+flat_lowered options units j _ _ (no_files _) = none_lowered j
+flat_lowered options units j _ _ (one_file _ tree us trees lfs one rest) =
+    behind_lowered options units j tree.units (all_units trees) us (all_lowered lfs) one (flat_lowered options units (j + length tree.units) trees lfs rest)
+
+record AreMadeFiles (options : Options) (trees : List File) (files : List CFile) : Type 0 where
+  lfs : List (List LoweredUnit)
+  fs : List UnitsOfFile
+  lowered : AreLoweredFiles options (all_units trees) 0 trees lfs
+  filled : each_has_units trees ≡ true
+  named : named_files lfs ≡ Some fs
+  made : c_files fs ≡ files
+
+made_if : (options : Options) (trees : List File) (fs : List UnitsOfFile) (b : Bool) → each_has_units trees ≡ b → (if b then option_and_then named_files (lowered_files options (all_units trees) 0 trees) else None) ≡ Some fs →
+    (each_has_units trees ≡ true) × (option_and_then named_files (lowered_files options (all_units trees) 0 trees) ≡ Some fs)
+made_if options trees fs true is h = (is, h)
+made_if options trees fs false is h = absurd (cc)
+
+made_of_files : (options : Options) (trees : List File) (files : List CFile) → files_of options trees ≡ Some files → AreMadeFiles options trees files
+unfolding files_of made_files
+made_of_files options trees files h =
+    let source = mapped c_files (made_files options trees) files h in
+    let both = made_if options trees source.from (each_has_units trees) refl source.was in
+    let lowered = from_option named_files (lowered_files options (all_units trees) 0 trees) source.from both.1 in
+    record { lfs = lowered.from; fs = source.from; lowered = are_lowered_files options (all_units trees) 0 trees lowered.from lowered.was; filled = both.0; named = lowered.gives; made = source.gives }
 
 -- the unit that is given at a place
 given_at : (options : Options) (units : List GivenUnit) (j : ℕ) (givens : List GivenUnit) (us : List LoweredUnit) → AreLowered options units j givens us → (k : ℕ) (u : LoweredUnit) → slice_get us k ≡ Some u →
@@ -215,34 +247,69 @@ lowered_given options units j _ _ (none_lowered _) k given at = absurd (cc)
 lowered_given options units j _ _ (one_lowered _ first u later us one rest) zero given at = (u, refl)
 lowered_given options units j _ _ (one_lowered _ first u later us one rest) (suc k) given at = lowered_given options units (suc j) later us rest k given at
 
-made_of : (options : Options) (tree : File) (us : List LoweredUnit) → AreLowered options tree.units 0 tree.units us → 1 ≤ length us → AreMadeOf options tree us
-made_of options tree us lowered some =
-    let units = tree.units in
-    let same : map (unit_read options) units ≡ program_units us = same_units options units 0 tree.units us lowered in
-    let at : (k : ℕ) (given : GivenUnit) (u : LoweredUnit) → slice_get tree.units k ≡ Some given → slice_get us k ≡ Some u → IsLowered options units k given u
-    = λ k given u g v. (let e : k + 0 ≡ k = omega arith in subst (λ (n : ℕ). IsLowered options units n given u) e (at_place options units 0 tree.units us lowered k given u g v)) in
+file_of_units : (options : Options) (units : List GivenUnit) (j : ℕ) (tree : File) (us : List LoweredUnit) → AreLowered options units j tree.units us → AreOfFile options tree us
+file_of_units options units j tree us lowered = record {
+  units = same_units options units j tree.units us lowered;
+  uses = λ k given u g v x.
+      let one = at_place options units j tree.units us lowered k given u g v in
+      one.uses x ∙ sym (ap (λ (unit : ProgramUnit). (dummy_of (uses_of_statements (arrays_of given) given.statements) unit.attribute x).use_of) one.unit);
+}
+
+files_of_units : (options : Options) (units : List GivenUnit) (j : ℕ) (trees : List File) (lfs : List (List LoweredUnit)) → AreLoweredFiles options units j trees lfs → AreOfFiles options trees lfs
+files_of_units options units j _ _ (no_files _) = faithful.no_files
+files_of_units options units j _ _ (one_file _ tree us trees lfs one rest) =
+    faithful.one_file tree us trees lfs (file_of_units options units j tree us one) (files_of_units options units (j + length tree.units) trees lfs rest)
+
+-- each file has a unit
+has_one : (options : Options) (units : List GivenUnit) (j : ℕ) (gs : List GivenUnit) (us : List LoweredUnit) → AreLowered options units j gs us → has_units gs ≡ true → 1 ≤ length us
+unfolding has_units
+has_one options units j _ _ (none_lowered _) has = absurd (cc)
+has_one options units j _ _ (one_lowered _ g u gs us one rest) has = omega arith
+
+filled_by : (options : Options) (units : List GivenUnit) (j : ℕ) (trees : List File) (lfs : List (List LoweredUnit)) → AreLoweredFiles options units j trees lfs → each_has_units trees ≡ true → (us : List LoweredUnit) → IsIn us lfs → 1 ≤ length us
+unfolding each_has_units
+filled_by options units j _ _ (no_files _) has us o = elim o [ ]
+filled_by options units j _ _ (one_file _ tree first trees lfs one rest) has _ first_in = has_one options units j tree.units first one (left (has_units tree.units) (each_has_units trees) has)
+filled_by options units j _ _ (one_file _ tree first trees lfs one rest) has us (later_in o) =
+    filled_by options units (j + length tree.units) trees lfs rest (right (has_units tree.units) (each_has_units trees) has) us o
+
+as_many_files : (options : Options) (units : List GivenUnit) (j : ℕ) (trees : List File) (lfs : List (List LoweredUnit)) → AreLoweredFiles options units j trees lfs → length lfs ≡ length trees
+as_many_files options units j _ _ (no_files _) = refl
+as_many_files options units j _ _ (one_file _ tree us trees lfs one rest) = ap suc (as_many_files options units (j + length tree.units) trees lfs rest)
+
+made_of : (options : Options) (trees : List File) (lfs : List (List LoweredUnit)) → AreLoweredFiles options (all_units trees) 0 trees lfs → each_has_units trees ≡ true → 0 < length trees → AreMadeOf options trees lfs
+made_of options trees lfs lowered filled some =
+    let units = all_units trees in
+    let us = all_lowered lfs in
+    let flat = flat_lowered options units 0 trees lfs lowered in
+    let same : map (unit_read options) units ≡ program_units us = same_units options units 0 units us flat in
+    let count = as_many_files options units 0 trees lfs lowered in
+    let at : (k : ℕ) (given : GivenUnit) (u : LoweredUnit) → slice_get units k ≡ Some given → slice_get us k ≡ Some u → IsLowered options units k given u
+    = λ k given u g v. (let e : k + 0 ≡ k = omega arith in subst (λ (n : ℕ). IsLowered options units n given u) e (at_place options units 0 units us flat k given u g v)) in
     record {
-      of_file = record {
-        units = only_file options tree ∙ same;
-        uses = λ j given u g v x. (at j given u g v).uses x ∙ sym (ap (λ (unit : ProgramUnit). (dummy_of (uses_of_statements (arrays_of given) given.statements) unit.attribute x).use_of) (at j given u g v).unit);
-      };
-      some = some;
-      plain = λ j given g. (let v = lowered_given options units 0 tree.units us lowered j given g in (at j given v.0 g v.1).plain);
-      spellable = λ j given g. (let v = lowered_given options units 0 tree.units us lowered j given g in (at j given v.0 g v.1).spellable);
-      lowered = λ j u v. (let g = given_at options units 0 tree.units us lowered j u v in
+      of_files = files_of_units options units 0 trees lfs lowered;
+      some = omega (arith, count, some);
+      filled = filled_by options units 0 trees lfs lowered filled;
+      plain = λ j given g. (let v = lowered_given options units 0 units us flat j given g in (at j given v.0 g v.1).plain);
+      spellable = λ j given g. (let v = lowered_given options units 0 units us flat j given g in (at j given v.0 g v.1).spellable);
+      lowered = λ j u v. (let g = given_at options units 0 units us flat j u v in
           let is = at j g.0 u g.1 v in
           subst (λ (unit : ProgramUnit). lowered_unit (own_facts (program_units us) j unit) ≡ Some u.text) (sym is.unit)
           (subst (λ (all : List ProgramUnit). lowered_unit (own_facts all j (unit_read options g.0)) ≡ Some u.text) same is.text));
-      short = λ j u v. (let g = given_at options units 0 tree.units us lowered j u v in plain_text u.text (at j g.0 u g.1 v).short);
+      short = λ j u v. (let g = given_at options units 0 units us flat j u v in plain_text u.text (at j g.0 u g.1 v).short);
     }
 
 -- ## The whole
 
-pub translations_are_faithful_by : EachNamedUnitIsAUnit → EachPlainUnitFileIsFaithful → EachTranslationIsFaithful
-unfolding translation_of file_of
-translations_are_faithful_by named faithful options tree text faultless h =
-    let source = mapped printed (file_by options tree.units) text h in
-    let made = made_file options tree.units source.from source.was in
-    let are = made_of options tree made.us made.lowered made.some in
-    let plain = plain_units_of options tree made.us faultless are in
-    subst (λ printed_text. Faithful options (tree ∷ []) (printed_text ∷ [])) (ap printed made.made ∙ source.gives) (faithful options tree made.us made.ws faultless are (named made.us made.ws plain made.named))
+printed_each : (fs : List UnitsOfFile) → map printed (c_files fs) ≡ map (λ f. printed (file_for f)) fs
+printed_each [] = refl
+printed_each (f ∷ fs) = ap (λ later. printed (file_for f) ∷ later) (printed_each fs)
+
+pub translations_are_faithful_by : EachNamedUnitIsAUnit → EachPlainUnitSetIsFaithful → EachTranslationIsFaithful
+unfolding translations_of
+translations_are_faithful_by named faithful_sets options trees texts faultless some h =
+    let source = mapped (map printed) (files_of options trees) texts h in
+    let made = made_of_files options trees source.from source.was in
+    let are = made_of options trees made.lfs made.lowered made.filled some in
+    let plain = plain_units_of options trees made.lfs faultless are in
+    subst (Faithful options trees) (sym (printed_each made.fs) ∙ ap (map printed) made.made ∙ source.gives) (faithful_sets options trees made.lfs made.fs faultless are (named made.lfs made.fs plain made.named))

@@ -1,26 +1,26 @@
--- That the translation of each FORTRAN file of units of which all forms are translated is faithful to it. ANSI X3.9-1978, sections 2.4, 14 and 15.
-use Rattle.std.specs.Prelude.{◌≡◌, ℕ, List, [], ◌∷◌, Option, Some, option_map}
+-- That the translations of the FORTRAN files of a set of which all forms are translated are faithful to them. ANSI X3.9-1978, sections 2.4, 3.5, 14 and 15.
+use Rattle.std.specs.Prelude.{◌≡◌, ℕ, ◌<◌, List, [], map, length, Option, Some, option_map}
 use Rattle.f_tree.specs.declared.names.Options.{Options}
 use Rattle.f_tree.specs.declared.units.File.{File}
 use Rattle.c_tree.specs.declared.file.CFile.{CFile}
 use Rattle.c_text.specs.Printed.{printed}
 use Rattle.faithful.specs.Faithful.{Faithful}
 pub use Rattle.plain_unit_files.specs.PlainUnitFiles.{IsFaultless}
-use Rattle.translated_files.specs.TranslatedFiles.{file_of, not_translated}
+use Rattle.translated_files.specs.TranslatedFiles.{files_of, files_not_translated}
 
--- the text of the C file of a FORTRAN file
-unfoldable pub translation_of : Options → File → Option (List ℕ)
-translation_of options tree = option_map printed (file_of options tree)
+-- the texts of the C files of some FORTRAN files, one for each, in their order
+unfoldable pub translations_of : Options → List File → Option (List (List ℕ))
+translations_of options trees = option_map (map printed) (files_of options trees)
 
 -- LAWS
--- a file whose forms are all translated has a C file
-pub record HasFile (options : Options) (tree : File) : Type 0 where
-  pub file : CFile
-  pub is : file_of options tree ≡ Some file
+-- files whose forms are all translated have C files
+pub record HaveFiles (options : Options) (trees : List File) : Type 0 where
+  pub files : List CFile
+  pub are : files_of options trees ≡ Some files
 
-abbrev pub EachTranslatedFileHasOne : Type 0
-EachTranslatedFileHasOne = (options : Options) (tree : File) → not_translated options tree ≡ [] → HasFile options tree
+abbrev pub EachTranslatedSetHasFiles : Type 0
+EachTranslatedSetHasFiles = (options : Options) (trees : List File) → files_not_translated options trees ≡ [] → HaveFiles options trees
 
--- and its text is faithful to it, where it breaks no row of declarations and no name of it stands for two things
+-- and their texts are faithful to the files, where these break no row of declarations and no name stands for two things
 abbrev pub EachTranslationIsFaithful : Type 0
-EachTranslationIsFaithful = (options : Options) (tree : File) (text : List ℕ) → IsFaultless options tree → translation_of options tree ≡ Some text → Faithful options (tree ∷ []) (text ∷ [])
+EachTranslationIsFaithful = (options : Options) (trees : List File) (texts : List (List ℕ)) → IsFaultless options trees → 0 < length trees → translations_of options trees ≡ Some texts → Faithful options trees texts

@@ -1,1 +1,1 @@
-mod SingleSets
+mod AcceptedSets

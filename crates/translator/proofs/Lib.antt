@@ -11,4 +11,5 @@ pub mod UnitLemmas
 pub mod FileLemmas
 pub mod ListLemmas
 pub mod ProcedureLemmas
+pub mod SetLemmas
 pub mod WholeLemmas

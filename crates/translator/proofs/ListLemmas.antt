@@ -11,7 +11,7 @@ use Rattle.f_tree.specs.declared.refusals.Refusal.{Refusal}
 use Rattle.f_tree.specs.Values.{Bytes}
 use Rattle.declaration_rows.specs.Verdicts.{first_of}
 use Rattle.refusal_order.specs.Earliest.{earliest}
-use Rattle.refusal_order.proofs.FirstOfBoth.{earliest_along}
+use Rattle.refusal_order.proofs.FirstOfBoth.{earliest_along, earliest_none}
 use Rattle.c_tree.specs.declared.statement.CStmt.{CStmt}
 use Rattle.c_tree.specs.declared.file.CFunction.{CFunction}
 use Rattle.main_translation.specs.Contents.{with_new}
@@ -19,15 +19,15 @@ use Rattle.unit_contents.specs.ContentsOf.{TellsNames, AreContentsOf, AreMoreCon
 use Rattle.unit_file.specs.UnitFile.{WrittenUnit, unit_function}
 use Rattle.unit_translation.specs.UnitContents.{LoweredUnit, values_from, constants_passed, inventory_of}
 use Rattle.unit_translation.specs.UnitBodies.{written_before}
-use Rattle.named_units.specs.NamedUnits.{named_body_of, named_from, named_units}
+use Rattle.named_units.specs.NamedUnits.{named_body_of, named_from}
 use Rattle.unit_writer.specs.declared.heading.Procedure.{Procedure}
 use Rattle.unit_writer.specs.ToldUnits.{TellsProcedures, IsWrittenUnit}
 use Rattle.translated_files.specs.TranslatedFiles.{form_row, row_unless, rows_of_bodies}
 use Rattle.translator.specs.declared.unit.PlainUnit.{PlainUnit}
 use Rattle.translator.specs.UnitFiles.{IsToldAs}
-use Rattle.translator.specs.LoweredFiles.{AreTold, none_told, more_told, EachIsKnown, units_given, IsFunctionOf, AddsFunction, AreFunctionsOf}
+use Rattle.translator.specs.LoweredFiles.{AreTold, none_told, more_told, EachIsKnown, units_given, IsAnswer, IsFunctionOf, AddsFunction, functions_for, list_of, AreFunctionsOf}
 use Rattle.translator.proofs.NameLemmas.{rest_is}
-use Rattle.translator.proofs.FileLemmas.{none_along, some_along}
+use Rattle.translator.proofs.FileLemmas.{some_along}
 
 -- ## The unit at a place
 
@@ -91,41 +91,40 @@ all_constants us plains i keys told h so_far =
 pub is_function : (plain : PlainUnit) (procedures : Bytes → Option Procedure) (constants : List ℤ) (function : Option CFunction)
     → IsWrittenUnit plain.table (map (λ name. name.now) plain.names.items) plain.heading procedures constants plain.text plain.contents function → IsFunctionOf plain procedures constants function
 is_function plain procedures constants function written = record {
-  meant = λ us u told procedures_are constants_are.
-      written.meant us u told.program told.told procedures_are constants_are told.text (told.contents.meant u.text told.text (names_told u plain told));
+  meant = λ all u told tells. written.meant all u told.program told.told tells told.text (told.contents.meant u.text told.text (names_told u plain told));
 }
 
 abbrev made_of : List LoweredUnit → LoweredUnit → List CStmt → CFunction
-made_of us u body = unit_function (record { inventory = inventory_of us u; body = body })
+made_of all u body = unit_function (record { inventory = inventory_of all u; body = body })
 
 -- up to a place: the first of the rows, and where there is none the functions
-pub record AreMade (us : List LoweredUnit) (plains : List PlainUnit) (i : ℕ) (functions : List CFunction) (refusal : Option Refusal) : Type 0 where
-  rows : first_of (rows_of_bodies us us (units_given plains)) ≡ earliest refusal (first_of (rows_of_bodies us (drop i us) (units_given (drop i plains))))
-  made : refusal ≡ None → (later : List CFunction) → option_map (map unit_function) (named_from us (drop i us)) ≡ Some later
-      → option_map (map unit_function) (named_from us us) ≡ Some (functions ++ later)
+pub record AreMade (constants : List ℤ) (all us : List LoweredUnit) (plains : List PlainUnit) (i : ℕ) (functions : List CFunction) (refusal : Option Refusal) : Type 0 where
+  rows : first_of (rows_of_bodies constants all us (units_given plains)) ≡ earliest refusal (first_of (rows_of_bodies constants all (drop i us) (units_given (drop i plains))))
+  made : refusal ≡ None → (later : List CFunction) → functions_for constants all (drop i us) ≡ Some later → functions_for constants all us ≡ Some (functions ++ later)
 
-made_yet : (us : List LoweredUnit) (plains : List PlainUnit) → AreMade us plains 0 [] None
+made_yet : (constants : List ℤ) (all us : List LoweredUnit) (plains : List PlainUnit) → AreMade constants all us plains 0 [] None
 unfolding earliest
-made_yet us plains = record { rows = refl; made = λ none later is. is }
+made_yet constants all us plains = record { rows = refl; made = λ none later is. is }
 
-pub none_made : (us : List LoweredUnit) (plains : List PlainUnit) (functions : List CFunction) → functions ≡ [] → AreMade us plains 0 functions None
-none_made us plains functions none = subst (λ fs. AreMade us plains 0 fs None) (sym none) (made_yet us plains)
+pub none_made : (constants : List ℤ) (all us : List LoweredUnit) (plains : List PlainUnit) (functions : List CFunction) → functions ≡ [] → AreMade constants all us plains 0 functions None
+none_made constants all us plains functions none = subst (λ fs. AreMade constants all us plains 0 fs None) (sym none) (made_yet constants all us plains)
 
-body_there : (us : List LoweredUnit) (u : LoweredUnit) (function : CFunction) (o : Option (List CStmt)) → Some function ≡ option_map (made_of us u) o → (body : List CStmt) × (o ≡ Some body) × (function ≡ made_of us u body)
-body_there us u function None is = absurd (cc)
-body_there us u function (Some body) is = (body, refl, cc)
+body_there : (all : List LoweredUnit) (u : LoweredUnit) (function : CFunction) (o : Option (List CStmt)) → Some function ≡ option_map (made_of all u) o
+    → (body : List CStmt) × (o ≡ Some body) × (function ≡ made_of all u body)
+body_there all u function None is = absurd (cc)
+body_there all u function (Some body) is = (body, refl, cc)
 
-no_body : (us : List LoweredUnit) (u : LoweredUnit) (o : Option (List CStmt)) → None ≡ option_map (made_of us u) o → o ≡ None
-no_body us u None is = refl
-no_body us u (Some body) is = absurd (cc)
+no_body : (all : List LoweredUnit) (u : LoweredUnit) (o : Option (List CStmt)) → None ≡ option_map (made_of all u) o → o ≡ None
+no_body all u None is = refl
+no_body all u (Some body) is = absurd (cc)
 
-put_first : (us : List LoweredUnit) (u : LoweredUnit) (body : List CStmt) (rest : Option (List WrittenUnit)) (later : List CFunction) → option_map (map unit_function) rest ≡ Some later
-    → option_map (map unit_function) (written_before (inventory_of us u) (Some body) rest) ≡ Some (made_of us u body ∷ later)
+put_first : (all : List LoweredUnit) (u : LoweredUnit) (body : List CStmt) (rest : Option (List WrittenUnit)) (later : List CFunction) → option_map (map unit_function) rest ≡ Some later
+    → option_map (map unit_function) (written_before (inventory_of all u) (Some body) rest) ≡ Some (made_of all u body ∷ later)
 unfolding written_before
-put_first us u body None later is = absurd (cc)
-put_first us u body (Some ws) later is = ap (λ o. o) (let same : map unit_function ws ≡ later = cc in ap (λ fs. Some (made_of us u body ∷ fs)) same)
+put_first all u body None later is = absurd (cc)
+put_first all u body (Some ws) later is = ap (λ o. o) (let same : map unit_function ws ≡ later = cc in ap (λ fs. Some (made_of all u body ∷ fs)) same)
 
-module _ (us : List LoweredUnit) (plains : List PlainUnit) (i : ℕ) (plain d : PlainUnit) (told : AreTold us plains) (h : i < length plains) (is : plain ≡ get_or plains i d) where
+module _ (constants : List ℤ) (all us : List LoweredUnit) (plains : List PlainUnit) (i : ℕ) (plain d : PlainUnit) (told : AreTold us plains) (h : i < length plains) (is : plain ≡ get_or plains i d) where
   at : ToldAt us i plain
   at = told_at us plains i plain d told h is
 
@@ -135,43 +134,43 @@ module _ (us : List LoweredUnit) (plains : List PlainUnit) (i : ℕ) (plain d : 
   abbrev row : Refusal
   row = form_row plain.unit.now plain.unit.now.statements
 
-  rows_at : (o : Option (List CStmt)) → named_body_of us at.one ≡ o
-      → first_of (rows_of_bodies us (drop i us) (units_given (drop i plains))) ≡ first_of (row_unless o row ++ rows_of_bodies us behind (units_given (drop (i + 1) plains)))
+  abbrev later_rows : List Refusal
+  later_rows = rows_of_bodies constants all behind (units_given (drop (i + 1) plains))
+
+  rows_at : (o : Option (List CStmt)) → named_body_of constants all at.one ≡ o
+      → first_of (rows_of_bodies constants all (drop i us) (units_given (drop i plains))) ≡ first_of (row_unless o row ++ later_rows)
   unfolding rows_of_bodies
   rows_at o body =
-      ap (λ vs. first_of (rows_of_bodies us vs (units_given (drop i plains)))) at.rest
-      ∙ ap (λ ps. first_of (rows_of_bodies us (at.one ∷ behind) (units_given ps))) (rest_is plains i plain d h is)
-      ∙ ap (λ p. first_of (row_unless p row ++ rows_of_bodies us behind (units_given (drop (i + 1) plains)))) body
+      ap (λ vs. first_of (rows_of_bodies constants all vs (units_given (drop i plains)))) at.rest
+      ∙ ap (λ ps. first_of (rows_of_bodies constants all (at.one ∷ behind) (units_given ps))) (rest_is plains i plain d h is)
+      ∙ ap (λ p. first_of (row_unless p row ++ later_rows)) body
 
-  functions_at : (body : List CStmt) (later : List CFunction) → named_body_of us at.one ≡ Some body → option_map (map unit_function) (named_from us behind) ≡ Some later
-      → option_map (map unit_function) (named_from us (drop i us)) ≡ Some (made_of us at.one body ∷ later)
-  unfolding named_from
+  functions_at : (body : List CStmt) (later : List CFunction) → named_body_of constants all at.one ≡ Some body → functions_for constants all behind ≡ Some later
+      → functions_for constants all (drop i us) ≡ Some (made_of all at.one body ∷ later)
+  unfolding named_from functions_for
   functions_at body later there rest =
-      ap (λ vs. option_map (map unit_function) (named_from us vs)) at.rest
-      ∙ ap (λ o. option_map (map unit_function) (written_before (inventory_of us at.one) o (named_from us behind))) there
-      ∙ put_first us at.one body (named_from us behind) later rest
+      ap (λ vs. option_map (map unit_function) (named_from constants all vs)) at.rest
+      ∙ ap (λ o. option_map (map unit_function) (written_before (inventory_of all at.one) o (named_from constants all behind))) there
+      ∙ put_first all at.one body (named_from constants all behind) later rest
 
-  pub function_added : (procedures : Bytes → Option Procedure) (constants : List ℤ) (functions new : List CFunction) (found refusal now : Option Refusal) → TellsProcedures us procedures
-      → constants ≡ constants_passed us → AddsFunction plain procedures constants functions new found → now ≡ earliest refusal found → AreMade us plains i functions refusal
-      → AreMade us plains (i + 1) new now
+  pub function_added : (procedures : Bytes → Option Procedure) (functions new : List CFunction) (found refusal now : Option Refusal) → TellsProcedures all procedures
+      → AddsFunction plain procedures constants functions new found → now ≡ earliest refusal found → AreMade constants all us plains i functions refusal
+      → AreMade constants all us plains (i + 1) new now
   unfolding AddsFunction row_unless first_of earliest
-  function_added procedures constants functions new None refusal now procedures_are constants_are adds made so_far =
-      let there = body_there us at.one adds.function (named_body_of us at.one) (adds.is.meant us at.one at.told procedures_are constants_are) in
-      let same : now ≡ refusal = made ∙ none_along refusal in
+  function_added procedures functions new None refusal now procedures_are adds made so_far =
+      let there = body_there all at.one adds.function (named_body_of constants all at.one) (adds.is.meant all at.one at.told procedures_are) in
+      let same : now ≡ refusal = made ∙ earliest_none refusal in
       record {
-        rows =
-            so_far.rows ∙ ap (earliest refusal) (rows_at (Some there.0) there.1)
-            ∙ ap (λ q. earliest q (first_of (rows_of_bodies us behind (units_given (drop (i + 1) plains))))) (sym same);
+        rows = so_far.rows ∙ ap (earliest refusal) (rows_at (Some there.0) there.1) ∙ ap (λ q. earliest q (first_of later_rows)) (sym same);
         made = λ none later rest.
-            so_far.made (sym same ∙ none) (made_of us at.one there.0 ∷ later) (functions_at there.0 later there.1 rest)
+            so_far.made (sym same ∙ none) (made_of all at.one there.0 ∷ later) (functions_at there.0 later there.1 rest)
             ∙ ap Some (ap (λ f. functions ++ f ∷ later) (sym there.2) ∙ sym (append_assoc functions (adds.function ∷ []) later) ∙ ap (λ fs. fs ++ later) (sym adds.put));
       }
-  function_added procedures constants functions new (Some r) refusal now procedures_are constants_are adds made so_far = record {
+  function_added procedures functions new (Some r) refusal now procedures_are adds made so_far = record {
     rows =
-        so_far.rows ∙ ap (earliest refusal) (rows_at None (no_body us at.one (named_body_of us at.one) (adds.is.meant us at.one at.told procedures_are constants_are)))
-        ∙ ap (λ q. earliest refusal (earliest (Some q) (first_of (rows_of_bodies us behind (units_given (drop (i + 1) plains)))))) (sym adds.row)
-        ∙ sym (earliest_along refusal (Some r) (first_of (rows_of_bodies us behind (units_given (drop (i + 1) plains)))))
-        ∙ ap (λ q. earliest q (first_of (rows_of_bodies us behind (units_given (drop (i + 1) plains))))) (sym made);
+        so_far.rows ∙ ap (earliest refusal) (rows_at None (no_body all at.one (named_body_of constants all at.one) (adds.is.meant all at.one at.told procedures_are)))
+        ∙ ap (λ q. earliest refusal (earliest (Some q) (first_of later_rows))) (sym adds.row) ∙ sym (earliest_along refusal (Some r) (first_of later_rows))
+        ∙ ap (λ q. earliest q (first_of later_rows)) (sym made);
     made = λ none. absurd (some_along refusal r (sym made ∙ none));
   }
 
@@ -179,25 +178,38 @@ module _ (plains : List PlainUnit) (procedures : Bytes → Option Procedure) (co
   past : (us : List LoweredUnit) → AreTold us plains → drop i us ≡ []
   past us told = drop_all i us (let same : length us ≡ length plains = as_long us plains told in omega (arith, same, h))
 
-  rows_so : (us : List LoweredUnit) (functions : List CFunction) (refusal : Option Refusal) → AreTold us plains → AreMade us plains i functions refusal
-      → first_of (rows_of_bodies us us (units_given plains)) ≡ refusal
-  unfolding rows_of_bodies first_of
-  rows_so us functions refusal told so_far =
-      so_far.rows ∙ ap (λ vs. earliest refusal (first_of (rows_of_bodies us vs (units_given (drop i plains))))) (past us told) ∙ none_along refusal
+  module _ (all us : List LoweredUnit) (functions : List CFunction) (told : AreTold us plains) where
+    rows_so : (refusal : Option Refusal) → AreMade constants all us plains i functions refusal → first_of (rows_of_bodies constants all us (units_given plains)) ≡ refusal
+    unfolding rows_of_bodies first_of
+    rows_so refusal so_far =
+        so_far.rows ∙ ap (λ vs. earliest refusal (first_of (rows_of_bodies constants all vs (units_given (drop i plains))))) (past us told) ∙ earliest_none refusal
 
-  functions_so : (us : List LoweredUnit) (functions : List CFunction) → AreTold us plains → AreMade us plains i functions None → option_map (map unit_function) (named_units us) ≡ Some functions
-  unfolding named_units named_from
-  functions_so us functions told so_far =
-      so_far.made refl [] (ap (λ vs. option_map (map unit_function) (named_from us vs)) (past us told)) ∙ ap Some (append-nil functions)
+    functions_so : AreMade constants all us plains i functions None → functions_for constants all us ≡ Some functions
+    unfolding named_from functions_for
+    functions_so so_far = so_far.made refl [] (ap (λ vs. option_map (map unit_function) (named_from constants all vs)) (past us told)) ∙ ap Some (append-nil functions)
+
+    answer_so : (found : Vec CFunction) (refusal : Option Refusal) (result : Result (Vec CFunction) Fail) → found.items ≡ functions → AreMade constants all us plains i functions refusal
+        → (refusal ≡ None → result ≡ Ok found) → ((row : Refusal) → refusal ≡ Some row → result ≡ Err (fail.Refused row))
+        → IsAnswer (List CFunction) (rows_of_bodies constants all us (units_given plains)) (functions_for constants all us) (list_of result)
+    unfolding IsAnswer list_of
+    answer_so found None result same so_far kept refused =
+        subst (λ r. IsAnswer (List CFunction) (rows_of_bodies constants all us (units_given plains)) (functions_for constants all us) (list_of r)) (sym (kept refl))
+        (record { made = functions_so so_far ∙ ap Some (sym same); no_row = rows_so None so_far })
+    answer_so found (Some r) result same so_far kept refused =
+        subst (λ q. IsAnswer (List CFunction) (rows_of_bodies constants all us (units_given plains)) (functions_for constants all us) (list_of q)) (sym (refused r refl)) (rows_so (Some r) so_far)
 
   pub functions_end : (found : Vec CFunction) (refusal : Option Refusal) (result : Result (Vec CFunction) Fail)
-      → ((us : List LoweredUnit) → AreTold us plains → TellsProcedures us procedures → constants ≡ constants_passed us → AreMade us plains i found.items refusal)
+      → ((all us : List LoweredUnit) → AreTold us plains → TellsProcedures all procedures → AreMade constants all us plains i found.items refusal)
       → (refusal ≡ None → result ≡ Ok found) → ((row : Refusal) → refusal ≡ Some row → result ≡ Err (fail.Refused row)) → AreFunctionsOf plains procedures constants result
-  unfolding AreFunctionsOf
-  functions_end found None result so_far kept refused =
-      subst (AreFunctionsOf plains procedures constants) (sym (kept refl)) (λ us told ps cs. functions_so us found.items told (so_far us told ps cs))
-  functions_end found (Some r) result so_far kept refused =
-      subst (AreFunctionsOf plains procedures constants) (sym (refused r refl)) (λ us told ps cs. rows_so us found.items (Some r) told (so_far us told ps cs))
+  functions_end found refusal result so_far kept refused = record {
+    meant = λ all us told tells. answer_so all us found.items told found refusal result refl (so_far all us told tells) kept refused;
+  }
+
+-- want of memory
+pub no_functions : (plains : List PlainUnit) (procedures : Bytes → Option Procedure) (constants : List ℤ) (result : Result (Vec CFunction) Fail) → result ≡ Err fail.NoMemory
+    → AreFunctionsOf plains procedures constants result
+unfolding IsAnswer list_of
+no_functions plains procedures constants result none = subst (AreFunctionsOf plains procedures constants) (sym none) (record { meant = λ all us told tells. tt })
 
 -- ## One function
 

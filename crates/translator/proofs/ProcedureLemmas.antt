@@ -1,4 +1,4 @@
--- The procedures of a file by their names: of two units with one name the first.
+-- The procedures of a set by their names: of two units with one name the first.
 use Rattle.std.specs.Prelude.{◌≡◌, ℕ, zero, suc, ◌+◌, ◌<◌, ◌≤◌, Bool, true, false, ◌&&◌, ◌||◌, List, [], ◌∷◌, map, length, drop, Option, Some, None, option_and_then, is_some, slice_get, bytes_eq, if◌then◌else◌}
 use Rattle.std.proofs.Common.{refl, sym, ap, subst, ◌∙◌, arith, get_or}
 use Rattle.std.proofs.lemmas.List.{drop_all}

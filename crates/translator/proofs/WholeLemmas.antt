@@ -1,137 +1,101 @@
--- The C file of a file.
+-- The C files of a set.
 use Rattle.std.specs.Global.{Vec}
-use Rattle.std.specs.Prelude.{◌≡◌, ℕ, suc, ℤ, nat_eq, true, false, List, [], ◌∷◌, ◌++◌, map, length, Option, Some, None, option_map, option_and_then, Result, Ok, Err}
-use Rattle.std.proofs.Common.{refl, sym, ap, subst, ◌∙◌, arith}
+use Rattle.std.specs.Prelude.{◌≡◌, ℕ, suc, Bool, true, ◌&&◌, List, [], ◌∷◌, ◌++◌, Option, Some, None, option_map, option_and_then, Result, Ok, Err, if◌then◌else◌}
+use Rattle.std.proofs.Common.{refl, sym, ap, subst, ◌∙◌}
 use Rattle.f_tree.specs.declared.names.Options.{Options}
 use Rattle.f_tree.specs.declared.refusals.Fail.{Fail}
 use Rattle.f_tree.specs.declared.refusals.Fail.TheVariants as fail
-use Rattle.f_tree.specs.declared.refusals.Kind.TheVariants.{NotBuiltYet}
 use Rattle.f_tree.specs.declared.refusals.Refusal.{Refusal}
 use Rattle.f_tree.specs.declared.units.File.{File}
 use Rattle.f_tree.specs.declared.units.Unit.{Unit as GivenUnit}
 use Rattle.f_tree.specs.Values.{Bytes}
-use Rattle.declaration_rows.specs.Verdicts.{earlier, first_of}
+use Rattle.declaration_rows.specs.GlobalRows.{all_units}
+use Rattle.declaration_rows.specs.Verdicts.{first_of}
+use Rattle.refusal_order.specs.Earliest.{earliest}
+use Rattle.refusal_order.proofs.FirstOfBoth.{first_of_both, earliest_none}
 use Rattle.c_tree.specs.declared.file.CFile.{CFile}
-use Rattle.c_tree.specs.declared.file.CFunction.{CFunction}
-use Rattle.main_file.specs.MainFile.{constant_for}
-use Rattle.unit_file.specs.UnitFile.{WrittenUnit, unit_function, units_file}
-use Rattle.unit_translation.specs.UnitContents.{LoweredUnit, constants_passed}
-use Rattle.named_units.specs.NamedUnits.{named_units, named_file}
-use Rattle.unit_writer.specs.declared.heading.Procedure.{Procedure}
-use Rattle.unit_writer.specs.ToldUnits.{TellsProcedures}
-use Rattle.translated_files.specs.TranslatedFiles.{procedure_names, lowered_at, lowered_before, lowered_from, file_by, file_of, form_row, row_unless, rows_of_lowering, rows_of_bodies, rows_behind, units_not_translated}
+use Rattle.unit_sites.specs.UnitSites.{files_of as c_files}
+use Rattle.unit_translation.specs.UnitContents.{LoweredUnit}
+use Rattle.unit_translation.specs.UnitBodies.{all_lowered}
+use Rattle.named_units.specs.NamedUnits.{named_files}
+use Rattle.translated_files.specs.TranslatedFiles.{procedure_names, lowered_files, has_units, each_has_units, made_files, files_of, rows_of_lowering, rows_behind, row_of_none, files_without_units, units_not_translated, files_not_translated}
 use Rattle.translator.specs.declared.unit.PlainUnit.{PlainUnit}
-use Rattle.translator.specs.LoweredFiles.{AreTold, EachIsKnown, WereLowered, AreUnitsOf, AreFunctionsOf, IsWrittenFile}
-use Rattle.translator.specs.TranslatedFiles.{IsTranslation}
-
--- ## From the functions
-
-file_by_functions : (constants passed : List ℤ) (functions : List CFunction) (file : CFile) (o : Option (List WrittenUnit)) → constants ≡ passed → option_map (map unit_function) o ≡ Some functions
-    → file ≡ record { objects = []; constants = map constant_for constants; functions = functions } → option_map (units_file passed) o ≡ Some file
-file_by_functions constants passed functions file None same is made = absurd (cc)
-file_by_functions constants passed functions file (Some ws) same is made =
-    let written : map unit_function ws ≡ functions = cc in
-    ap (λ (fs : List CFunction). Some (record { objects = []; constants = map constant_for passed; functions = fs })) written
-    ∙ ap (λ zs. Some (record { objects = []; constants = map constant_for zs; functions = functions })) (sym same) ∙ ap Some (sym made)
-
-module _ (plains : List PlainUnit) (procedures : Bytes → Option Procedure) (constants : List ℤ) (procedures_are : (us : List LoweredUnit) → AreTold us plains → TellsProcedures us procedures)
-    (constants_are : (us : List LoweredUnit) → AreTold us plains → constants ≡ constants_passed us) where
-  pub written_file : (functions : _) (file : CFile) → AreFunctionsOf plains procedures constants (Ok functions)
-      → file ≡ record { objects = []; constants = map constant_for constants; functions = functions.items } → IsWrittenFile plains (Ok file)
-  unfolding AreFunctionsOf IsWrittenFile named_file
-  written_file functions file are made us told =
-      file_by_functions constants (constants_passed us) functions.items file (named_units us) (constants_are us told) (are us told (procedures_are us told) (constants_are us told)) made
-
-  pub not_written : (e : Fail) → AreFunctionsOf plains procedures constants (Err e) → IsWrittenFile plains (Err e)
-  unfolding AreFunctionsOf IsWrittenFile
-  not_written (fail.Refused r) are = λ us told. are us told (procedures_are us told) (constants_are us told)
-  not_written fail.NoMemory are = tt
+use Rattle.translator.specs.LoweredFiles.{EachIsKnown, WereLowered, AreUnitsOf, IsAnswer, AreFilesBy, AreWrittenFiles, AreTranslatedUnits}
+use Rattle.translator.specs.TranslatedFiles.{AreTranslations}
+use Rattle.translator.proofs.FileLemmas.{no_rows, in_one_list}
 
 -- ## From the units
 
--- where a unit has a row, not all are lowered
-one_lowered : (o : Option LoweredUnit) (us : Option (List LoweredUnit)) (later : List LoweredUnit) → lowered_before o us ≡ Some later → (u : LoweredUnit) × (o ≡ Some u)
-unfolding lowered_before
-one_lowered None us later is = absurd (cc)
-one_lowered (Some u) us later is = (u, refl)
+module _ (options : Options) (files : List File) where
+  abbrev lowered_rows : List Refusal
+  lowered_rows = rows_of_lowering options (all_units files) 0 (all_units files)
 
-others_lowered : (o : Option LoweredUnit) (us : Option (List LoweredUnit)) (later : List LoweredUnit) → lowered_before o us ≡ Some later → (vs : List LoweredUnit) × (us ≡ Some vs)
-unfolding lowered_before
-others_lowered None us later is = absurd (cc)
-others_lowered (Some u) None later is = absurd (cc)
-others_lowered (Some u) (Some vs) later is = (vs, refl)
+  -- where a unit has a row, not all are lowered
+  refused_by : (r : Refusal) (o : Option (List (List LoweredUnit))) → lowered_files options (all_units files) 0 files ≡ o → first_of lowered_rows ≡ Some r
+      → first_of (units_not_translated options files) ≡ Some r
+  unfolding units_not_translated rows_behind first_of
+  refused_by r None lowered is = ap (λ o. first_of (rows_behind o lowered_rows files)) lowered ∙ is
+  refused_by r (Some lfs) lowered is =
+      let none : None ≡ Some r =
+      sym (ap first_of (no_rows options (all_units files) 0 (all_units files) (all_lowered lfs) (in_one_list options (all_units files) 0 files lfs lowered))) ∙ is in
+      absurd (cc)
 
-no_rows : (options : Options) (units : List GivenUnit) (j : ℕ) (givens : List GivenUnit) (us : List LoweredUnit) → lowered_from options units j givens ≡ Some us → rows_of_lowering options units j givens ≡ []
-unfolding lowered_from rows_of_lowering row_unless
-no_rows options units j [] us is = refl
-no_rows options units j (u ∷ later) us is =
-    let one = one_lowered (lowered_at options units j u) (lowered_from options units (suc j) later) us is in
-    let others = others_lowered (lowered_at options units j u) (lowered_from options units (suc j) later) us is in
-    ap (λ o. row_unless o (form_row u u.statements) ++ rows_of_lowering options units (suc j) later) one.1 ∙ no_rows options units (suc j) later others.0 others.1
+  -- a row of the units, or want of memory, is the answer
+  pub units_refused : (procedures : List Bytes) (e : Fail) → procedure_names (all_units files) ≡ procedures → AreUnitsOf options procedures files (Err e) → AreTranslatedUnits options files (Err e)
+  unfolding AreUnitsOf AreTranslatedUnits IsAnswer
+  units_refused procedures (fail.Refused r) names are = refused_by r (lowered_files options (all_units files) 0 files) refl (are names)
+  units_refused procedures fail.NoMemory names are = tt
 
-abbrev IsOf : Options → List GivenUnit → Result CFile Fail → Type 0
-IsOf options units (Ok file) = file_by options units ≡ Some file
-IsOf options units (Err (fail.Refused r)) = first_of (units_not_translated options units) ≡ Some r
-IsOf options units (Err fail.NoMemory) = Unit {0}
+  pub units_lowered : (procedures : List Bytes) (found : Vec PlainUnit) → procedure_names (all_units files) ≡ procedures → AreUnitsOf options procedures files (Ok found) → WereLowered options files found.items
+  unfolding AreUnitsOf
+  units_lowered procedures found names are = are names
 
-of_file : (options : Options) (tree : File) (r : Result CFile Fail) → IsOf options tree.units r → IsTranslation options tree r
-unfolding file_of
-of_file options tree (Ok file) is = is
-of_file options tree (Err (fail.Refused r)) is = is
-of_file options tree (Err fail.NoMemory) is = tt
+  pub units_known : (plains : List PlainUnit) → WereLowered options files plains → EachIsKnown plains
+  units_known plains were = record { units = all_lowered were.lowered; told = were.told }
 
-refused_by : (options : Options) (u : GivenUnit) (later : List GivenUnit) (r : Refusal) (o : Option (List LoweredUnit)) → lowered_from options (u ∷ later) 0 (u ∷ later) ≡ o
-    → first_of (rows_of_lowering options (u ∷ later) 0 (u ∷ later)) ≡ Some r → first_of (units_not_translated options (u ∷ later)) ≡ Some r
-unfolding units_not_translated rows_behind first_of
-refused_by options u later r None lowered is = ap (λ o. first_of (rows_behind o (rows_of_lowering options (u ∷ later) 0 (u ∷ later)) (u ∷ later))) lowered ∙ is
-refused_by options u later r (Some us) lowered is = let none : None ≡ Some r = sym (ap first_of (no_rows options (u ∷ later) 0 (u ∷ later) us lowered)) ∙ is in absurd (cc)
+  pub units_translated : (plains : List PlainUnit) (result : Result (List CFile) Fail) → WereLowered options files plains → AreWrittenFiles files plains result → AreTranslatedUnits options files result
+  unfolding AreTranslatedUnits AreFilesBy units_not_translated rows_behind named_files
+  units_translated plains result were written =
+      subst (λ o. IsAnswer (List CFile) (rows_behind o lowered_rows files) (option_map c_files (option_and_then named_files o)) result) (sym were.were)
+      (written.meant were.lowered were.told were.many)
 
-refused_units : (options : Options) (units : List GivenUnit) (r : Refusal) → nat_eq (length units) 0 ≡ false → first_of (rows_of_lowering options units 0 units) ≡ Some r → first_of (units_not_translated options units) ≡ Some r
-refused_units options [] r some is = absurd (cc)
-refused_units options (u ∷ later) r some is = refused_by options u later r (lowered_from options (u ∷ later) 0 (u ∷ later)) refl is
+  -- want of memory
+  pub none_translated : (result : Result (List CFile) Fail) → result ≡ Err fail.NoMemory → AreTranslatedUnits options files result
+  unfolding AreTranslatedUnits IsAnswer
+  none_translated result none = subst (AreTranslatedUnits options files) (sym none) tt
 
-translated_units : (options : Options) (units : List GivenUnit) (plains : List PlainUnit) (r : Result CFile Fail) → nat_eq (length units) 0 ≡ false → WereLowered options units plains → IsWrittenFile plains r
-    → IsOf options units r
-unfolding IsWrittenFile file_by units_not_translated rows_behind
-translated_units options [] plains r some were written = absurd (cc)
-translated_units options (u ∷ later) plains (Ok file) some were written = ap (option_and_then named_file) were.were ∙ written were.lowered were.told
-translated_units options (u ∷ later) plains (Err (fail.Refused r)) some were written =
-    ap (λ o. first_of (rows_behind o (rows_of_lowering options (u ∷ later) 0 (u ∷ later)) (u ∷ later))) were.were
-    ∙ ap (λ us. first_of (rows_of_bodies were.lowered were.lowered us)) (sym were.given) ∙ written were.lowered were.told
-translated_units options (u ∷ later) plains (Err fail.NoMemory) some were written = tt
+-- ## Files without units
 
-no_units_by : (options : Options) (units : List GivenUnit) (r : Refusal) → nat_eq (length units) 0 ≡ true → r ≡ record { file = 0; card = 1; kind = NotBuiltYet }
-    → first_of (units_not_translated options units) ≡ Some r
-unfolding units_not_translated first_of earlier
-no_units_by options [] r none is = ap Some (sym is)
-no_units_by options (u ∷ later) r none is = let some : nat_eq (length (u ∷ later)) 0 ≡ false = grind arith in absurd (cc)
+none_here : (k : ℕ) (units : List GivenUnit) (later : List Refusal) → first_of (row_of_none k units ++ later) ≡ None → (has_units units ≡ true) × (first_of later ≡ None)
+unfolding has_units row_of_none first_of
+none_here k [] later none = absurd (cc)
+none_here k (u ∷ units) later none = (refl, none)
 
-pub no_units : (options : Options) (tree : File) (units : List GivenUnit) (r : Refusal) → units ≡ tree.units → nat_eq (length units) 0 ≡ true → r ≡ record { file = 0; card = 1; kind = NotBuiltYet }
-    → IsTranslation options tree (Err (fail.Refused r))
-no_units options tree units r same none is =
-    of_file options tree (Err (fail.Refused r)) (subst (λ us. IsOf options us (Err (fail.Refused r))) same (no_units_by options units r none is))
+none_empty : (k : ℕ) (files : List File) → first_of (files_without_units k files) ≡ None → each_has_units files ≡ true
+unfolding each_has_units files_without_units
+none_empty k [] none = refl
+none_empty k (f ∷ files) none =
+    let here = none_here k f.units (files_without_units (suc k) files) none in
+    λ i. here.0 i && none_empty (suc k) files here.1 i
 
-pub refused_file : (options : Options) (tree : File) (units : List GivenUnit) (r : Refusal) → units ≡ tree.units → nat_eq (length units) 0 ≡ false
-    → first_of (rows_of_lowering options units 0 units) ≡ Some r → IsTranslation options tree (Err (fail.Refused r))
-refused_file options tree units r same some is =
-    of_file options tree (Err (fail.Refused r)) (subst (λ us. IsOf options us (Err (fail.Refused r))) same (refused_units options units r some is))
+-- ## The whole
 
-pub translated_file : (options : Options) (tree : File) (units : List GivenUnit) (plains : List PlainUnit) (r : Result CFile Fail) → units ≡ tree.units → nat_eq (length units) 0 ≡ false
-    → WereLowered options units plains → IsWrittenFile plains r → IsTranslation options tree r
-translated_file options tree units plains r same some were written =
-    of_file options tree r (subst (λ us. IsOf options us r) same (translated_units options units plains r some were written))
+module _ (options : Options) (files : List File) (empty : Option Refusal) (none : empty ≡ first_of (files_without_units 0 files)) where
+  rows_are : (units : Option Refusal) → first_of (units_not_translated options files) ≡ units → first_of (files_not_translated options files) ≡ earliest empty units
+  unfolding files_not_translated
+  rows_are units is = first_of_both (files_without_units 0 files) (units_not_translated options files) ∙ (λ i. earliest (sym none i) (is i))
 
--- a row of the units, or want of memory, is the answer for the file
-pub units_refused : (options : Options) (tree : File) (units : List GivenUnit) (procedures : List Bytes) (e : Fail) → units ≡ tree.units → nat_eq (length units) 0 ≡ false
-    → procedure_names units ≡ procedures → AreUnitsOf options procedures units (Err e) → IsTranslation options tree (Err e)
-unfolding AreUnitsOf
-units_refused options tree units procedures (fail.Refused r) same some names are = refused_file options tree units r same some (are names)
-units_refused options tree units procedures fail.NoMemory same some names are = tt
+  pub set_refused : (r row : Refusal) → AreTranslatedUnits options files (Err (fail.Refused row)) → Some r ≡ earliest empty (Some row) → AreTranslations options files (Err (fail.Refused r))
+  unfolding AreTranslatedUnits IsAnswer
+  set_refused r row is first = rows_are (Some row) is ∙ sym first
 
-pub units_lowered : (options : Options) (units : List GivenUnit) (procedures : List Bytes) (found : Vec PlainUnit) → procedure_names units ≡ procedures
-    → AreUnitsOf options procedures units (Ok found) → WereLowered options units found.items
-unfolding AreUnitsOf
-units_lowered options units procedures found names are = are names
-
-pub units_known : (options : Options) (units : List GivenUnit) (plains : List PlainUnit) → WereLowered options units plains → EachIsKnown plains
-units_known options units plains were = record { units = were.lowered; told = were.told }
+  pub set_translated : (made : List CFile) (result : Result (List CFile) Fail) → AreTranslatedUnits options files (Ok made) → (empty ≡ None → result ≡ Ok made)
+      → ((row : Refusal) → empty ≡ Some row → result ≡ Err (fail.Refused row)) → AreTranslations options files result
+  unfolding AreTranslatedUnits IsAnswer files_of made_files
+  set_translated made result is kept refused = by empty refl
+    where
+      by : (o : Option Refusal) → empty ≡ o → AreTranslations options files result
+      by None same =
+          subst (AreTranslations options files) (sym (kept same))
+          (ap (λ (b : Bool). option_map c_files (if b then option_and_then named_files (lowered_files options (all_units files) 0 files) else None)) (none_empty 0 files (sym none ∙ same)) ∙ is.made)
+      by (Some r) same = subst (AreTranslations options files) (sym (refused r same)) (rows_are None is.no_row ∙ earliest_none empty ∙ same)

@@ -44,7 +44,7 @@ unfoldable pub dummy_is_spelled : DummyArgument → Bool
 dummy_is_spelled (dummy.Named x) = begins_with is_letter x
 dummy_is_spelled dummy.AlternateReturn = true
 
--- whether a unit is plain, its names are spelled in C, and its procedures are those of the file
+-- whether a unit is plain, its names are spelled in C, and its procedures are those of the set
 pub record IsPlainIf (procedures : List Bytes) (u : GivenUnit) (b : Bool) : Type 0 where
   pub is : (options : Options) → b ≡ (is_plain_unit options u && (is_spellable_unit (unit_read options u) && procedures_are_defined procedures u))
 
@@ -86,7 +86,7 @@ unfoldable pub IsFittingIf : LoweredText → Option LoweredText → Type 0
 IsFittingIf t None = FitsIf t false
 IsFittingIf t (Some other) = IsFitting t other
 
--- among the units of a file, whatever its number, this is the text of a unit
+-- among the units of a set, whatever its number, this is the text of a unit
 pub record IsTextAt (options : Options) (u : GivenUnit) (t : LoweredText) (o : Option LoweredUnit) : Type 0 where
   pub plain : is_plain_unit options u ≡ true
   pub text : Text

@@ -1,5 +1,5 @@
-//! The functions of the units of a file, from what they are lowered to: the constants of the file, its procedures, and the functions. Sections 2.4, 12.8,
-//! 15.5 and 15.6; C89, 3.7.
+//! The functions of the units of a file, from what they are lowered to: the constants of the file, the procedures of the set, and the functions. Sections
+//! 2.4, 3.5, 12.8, 15.5 and 15.6; C89, 3.7.
 
 ghost use Rattle.std.specs.HashMap.{get_by};
 ghost use Rattle.std.specs.Prelude.{◌≡◌, IfOk, List, OnOk, bytes_eq, map, ℕ};
@@ -118,7 +118,7 @@ fn no_procedures<'a>(alloc: Global) -> IndexMap<&'a [u8], Procedure>
     IndexMap::new(alloc)
 }
 
-/// The procedures of a file, by their names: of two units with one name the first.
+/// The procedures of a set, by their names: of two units with one name the first.
 pub(crate) fn procedures_of<'a>(
     alloc: Global,
     units: &[PlainUnit<'a>],
@@ -161,12 +161,11 @@ fn add_function<'a>(
     }
 }
 
-/// The functions of the units of a file, given its procedures and its constants.
+/// The functions of the units of a file, given the procedures of the set and the constants of the file.
 ///
 /// # Errors
 ///
 /// The first of the rows of the units that have no function; or want of memory.
-#[tactic(auto, unfolding(crate::specs::LoweredFiles::AreFunctionsOf))]
 pub(crate) fn functions_of<'a>(
     alloc: Global,
     units: &[PlainUnit<'a>],

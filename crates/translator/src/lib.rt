@@ -1,8 +1,8 @@
-//! The C file of a FORTRAN file, or the first statement of a form that is not translated. Sections 2.4 and 4 to 15 of the standard, ANSI X3.9-1978;
-//! CSTR 149.
+//! The C files of the FORTRAN files of a set, one for each, or the first statement of a form that is not translated. Sections 2.4, 3.5 and 4 to 15 of the
+//! standard, ANSI X3.9-1978; CSTR 149.
 #![tactic(auto)]
 
-mod file;
+mod files;
 mod fitting;
 mod forms;
 mod functions;
@@ -14,5 +14,4 @@ mod tests;
 mod texts;
 mod unit;
 
-pub use file::translate_file;
-pub use rows::further_row;
+pub use files::translate_files;

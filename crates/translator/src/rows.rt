@@ -1,10 +1,12 @@
-//! Where a file has a form that is not translated: the rows F99.
+//! Where files have a form that is not translated: the rows F99.
 
-ghost use Rattle.std.specs.Prelude.{◌≡◌, ◌∷◌, []};
+ghost use Rattle.std.specs.Prelude.{◌≡◌};
+ghost use Rattle.declaration_rows.specs.Verdicts.{first_of};
 ghost use Rattle.translated_files.specs.TranslatedFiles as spec;
 
 use crate::forms::is_translated_form;
 use f_tree::{File, Kind, Refusal, Unit};
+use refusal_order::earlier_of;
 
 /// The row at a card of a file.
 pub(crate) fn row_at(file: usize, card: u32) -> Refusal
@@ -30,13 +32,24 @@ pub(crate) fn form_row(unit: &Unit) -> Refusal
     row_at(unit.file, unit.card)
 }
 
-/// The row of a file that stands behind the first of a set: where its first unit begins, and at card 1 of a file without units.
-#[tactic(auto, unfolding(translated_files::specs::TranslatedFiles::further_units))]
-pub fn further_row(file: &File) -> Refusal
-    ensures { spec.further_units file.now.units ≡ result ∷ [] }
+/// The row of a file without units, by its number, if it is one.
+#[tactic(auto, unfolding(translated_files::specs::TranslatedFiles::row_of_none, declaration_rows::specs::Verdicts::first_of, declaration_rows::specs::Verdicts::earlier))]
+fn row_of_none(number: usize, file: &File) -> Option<Refusal>
+    ensures { result ≡ first_of (spec.row_of_none number file.now.units) }
 {
     match file.units.as_slice() {
-        [] => row_at(0, 1),
-        [unit, ..] => row_at(unit.file, unit.card),
+        [] => Some(row_at(number, 1)),
+        _ => None,
     }
+}
+
+/// The first of the rows of files without units.
+pub(crate) fn without_units(files: &[File]) -> Option<Refusal>
+    ensures { result ≡ first_of (spec.files_without_units 0 files.now) }
+{
+    let mut refusal = None;
+    for (number, file) in files.iter().enumerate() {
+        refusal = earlier_of(refusal, row_of_none(number, file));
+    }
+    refusal
 }

@@ -17,7 +17,7 @@ use plain_names::is_spellable;
 use plain_procedures::has_plain_parts;
 use std::alloc::{AllocError, Global};
 
-/// Whether a unit is a plain one whose names can be spelled, and whose procedures are those of the file.
+/// Whether a unit is a plain one whose names can be spelled, and whose procedures are those of the set.
 pub(crate) fn is_plain(
     alloc: Global,
     procedures: &NameSet,

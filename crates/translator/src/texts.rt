@@ -41,7 +41,7 @@ fn fitting(text: LoweredText) -> Option<LoweredText>
     if text_fits(&text) { Some(text) } else { None }
 }
 
-/// The lowered text of a unit, given what its names are, the names in their order, and the names of the procedures of its file; none where the unit is not
+/// The lowered text of a unit, given what its names are, the names in their order, and the names of the procedures of the set; none where the unit is not
 /// translated.
 pub(crate) fn text_of(
     alloc: Global,

@@ -1,4 +1,4 @@
-//! The units of a file, lowered.
+//! The units of a set, lowered.
 
 ghost use Rattle.std.specs.Prelude.{◌≡◌, IfOk};
 ghost use Rattle.f_tree.specs.declared.refusals.Refusal.{Refusal as Row};
@@ -6,13 +6,13 @@ ghost use Rattle.name_table.specs.Named.{IsNameSet, names_in};
 ghost use Rattle.name_classes.specs.KnownSigns.{AreSigns};
 ghost use Rattle.name_facts.specs.GivenFacts.{AreNameFacts};
 ghost use Rattle.translator.specs.UnitFiles.{IsNamed, IsUnitIf};
-ghost use Rattle.translator.specs.LoweredFiles.{AddsUnit, AreUnitsOf};
+ghost use Rattle.translator.specs.LoweredFiles.{AddsUnit, AddsUnits, AreUnitsOf};
 
 use crate::heading::heading;
 use crate::rows::form_row;
 use crate::texts::text_of;
 use decl_table::name_facts;
-use f_tree::{Fail, Options, Refusal, Unit};
+use f_tree::{Fail, File, Options, Refusal, Unit};
 use lowered_text::LoweredText;
 use name_classes::{Signs, unit_signs};
 use name_facts::NameFacts;
@@ -68,7 +68,7 @@ fn named<'a>(alloc: Global, unit: &'a Unit, table: &NameFacts) -> Result<NamedUn
     named_by(alloc, unit, &signs, table)
 }
 
-/// A unit lowered, given the names of the procedures of its file; none where it has a form that is not translated.
+/// A unit lowered, given the names of the procedures of the set; none where it has a form that is not translated.
 fn plain_unit<'a>(
     alloc: Global,
     options: Options,
@@ -125,7 +125,26 @@ fn add_unit<'a>(
     }
 }
 
-/// The units of a file, lowered, given the names of its procedures.
+/// Lowers the units of a file; the first of the rows of those that have a form that is not translated.
+fn add_units<'a>(
+    alloc: Global,
+    options: Options,
+    procedures: &NameSet,
+    units: &'a [Unit],
+    found: &mut Vec<PlainUnit<'a>>,
+) -> Result<Option<Refusal>, AllocError>
+    requires { IsNameSet procedures.now }
+    ensures { IfOk result (AddsUnits options (names_in procedures.now) units.now found.old.items found.new.items) }
+{
+    let mut refusal = None;
+    for unit in units {
+        let row = add_unit(alloc, options, procedures, unit, found)?;
+        refusal = earlier_of(refusal, row);
+    }
+    Ok(refusal)
+}
+
+/// The units of the files of a set, lowered, given the names of its procedures.
 ///
 /// # Errors
 ///
@@ -135,16 +154,22 @@ pub(crate) fn plain_units<'a>(
     alloc: Global,
     options: Options,
     procedures: &NameSet,
-    units: &'a [Unit],
+    files: &'a [File],
 ) -> Result<Vec<PlainUnit<'a>>, Fail>
     requires { IsNameSet procedures.now }
-    ensures { AreUnitsOf options (names_in procedures.now) units.now result }
+    ensures { AreUnitsOf options (names_in procedures.now) files.now result }
 {
     let mut found = Vec::new(alloc);
     let mut refusal = None;
-    for unit in units {
-        let row = add_unit(alloc, options, procedures, unit, &mut found)?;
-        refusal = earlier_of(refusal, row);
+    for file in files {
+        let first = add_units(
+            alloc,
+            options,
+            procedures,
+            file.units.as_slice(),
+            &mut found,
+        )?;
+        refusal = earlier_of(refusal, first);
     }
     unless_refused(found, refusal)
 }

@@ -1,53 +1,60 @@
--- The text of the C file that is made for units of numbers that call each other is faithful to the file of those units, where such units run as their C
--- files do. ANSI X3.9-1978, sections 2.4, 5, 14 and 15; C89, 3.1.2.2 and 3.7.
-use Rattle.std.specs.Prelude.{◌≡◌, ℕ, List, [], ◌∷◌, Some}
-use Rattle.std.proofs.Common.{sym, subst}
+-- The texts of the C files that are made for files of units of numbers that call each other are faithful to those files, where such units run as their C
+-- files do. ANSI X3.9-1978, sections 2.4, 3.5, 5, 14 and 15; C89, 3.1.2.2 and 3.7.
+use Rattle.std.specs.Prelude.{◌≡◌, ℕ, List, ◌++◌, Some}
+use Rattle.std.proofs.Common.{refl, sym, ◌∙◌, subst}
+use Rattle.std.proofs.lemmas.List.{map-append}
 use Rattle.run_state.specs.Units.{Units}
+use Rattle.f_tree.specs.declared.names.Options.{Options}
+use Rattle.f_tree.specs.declared.units.File.{File}
 use Rattle.f_tree.specs.Values.{Gives}
 use Rattle.f_tree.specs.Store.{Store}
 use Rattle.f_tree.specs.Facts.{ProgramUnit}
 use Rattle.f_tree.specs.Setting.{Setting, IsSetting}
 use Rattle.f_tree.specs.Images.{image_store}
-use Rattle.f_tree.specs.Meaning.{Closed}
-use Rattle.c_tree.specs.declared.file.CFile.{CFile}
-use Rattle.faithful.specs.Faithful as faithful
+use Rattle.f_tree.specs.Meaning.{units_in, Closed}
 use Rattle.faithful.specs.Faithful.{SameRuns, SamePrograms}
-use Rattle.faithful.specs.Signatures as signed
 use Rattle.unit_forms.specs.OwnSetting.{own_setting}
-use Rattle.unit_file.specs.UnitFile.{WrittenUnit, units_file}
-use Rattle.unit_translation.specs.UnitContents.{LoweredUnit, program_units, constants_passed}
-use Rattle.unit_translation.specs.UnitBodies.{written_units}
+use Rattle.unit_sites.specs.UnitSites.{UnitsOfFile, files_of}
+use Rattle.unit_translation.specs.UnitContents.{LoweredUnit, program_units}
+use Rattle.unit_translation.specs.UnitBodies.{all_lowered, written_files}
 use Rattle.unit_translation_laws.specs.PlainUnits.{ArePlainUnits, PlainUnitsRunAlike}
-use Rattle.unit_faithfulness.specs.UnitsFaithful.{AreMeant, EachUnitsFileIsFaithful}
+use Rattle.unit_faithfulness.specs.UnitsFaithful.{AreOfFiles, no_files, one_file, AreMeant, EachUnitsSetIsFaithful}
 use Rattle.unit_faithfulness.proofs.Settings.{own_is_setting, only_own, own_image}
 use Rattle.unit_faithfulness.proofs.Written.{storage_in}
-use Rattle.unit_faithfulness.proofs.Signed.{units_have_signatures}
+use Rattle.unit_faithfulness.proofs.Signed.{files_have_signatures}
 use Rattle.unit_faithfulness.proofs.Links.{units_link}
 
-module _ (alike : PlainUnitsRunAlike) (us : List LoweredUnit) (ws : List WrittenUnit) (plain : ArePlainUnits us) (written : written_units us ≡ Some ws) (meant : AreMeant us) where
-  abbrev its_file : CFile
-  its_file = units_file (constants_passed us) ws
+-- the units of the files are those that are lowered
+pub units_are : (options : Options) (trees : List File) (lfs : List (List LoweredUnit)) → AreOfFiles options trees lfs → units_in options trees ≡ program_units (all_lowered lfs)
+unfolding units_in
+units_are options _ _ no_files = refl
+units_are options _ _ (one_file tree us trees lfs first later) =
+    (λ i. first.units i ++ units_are options trees lfs later i) ∙ sym (map-append (λ (u : LoweredUnit). u.unit) us (all_lowered lfs))
 
-  -- over each setting of the units their runs are those of the file
-  runs_over : (homes : Setting) → IsSetting (program_units us) homes → (units : Units) (n : ℕ) → SameRuns (program_units us) homes (its_file ∷ []) units n
+module _ (alike : PlainUnitsRunAlike) (lfs : List (List LoweredUnit)) (fs : List UnitsOfFile) (plain : ArePlainUnits (all_lowered lfs)) (written : written_files lfs ≡ Some fs) (meant : AreMeant (all_lowered lfs)) where
+  abbrev us : List LoweredUnit
+  us = all_lowered lfs
+
+  -- over each setting of the units their runs are those of the files
+  runs_over : (homes : Setting) → IsSetting (program_units us) homes → (units : Units) (n : ℕ) → SameRuns (program_units us) homes (files_of fs) units n
   runs_over homes setting units n =
-      subst (λ (h : Setting). SameRuns (program_units us) h (its_file ∷ []) units n) (sym (only_own (program_units us) (storage_in us plain) homes setting)) (alike us ws plain written units n (meant units n))
+      subst (λ (h : Setting). SameRuns (program_units us) h (files_of fs) units n) (sym (only_own (program_units us) (storage_in us plain) homes setting)) (alike lfs fs plain written units n (meant units n))
 
-  programs_are : Closed (program_units us) → SamePrograms (program_units us) (its_file ∷ [])
-  programs_are closed = record { linked = units_link us ws plain written (constants_passed us) closed.one_main; runs = λ homes setting units are n. runs_over homes setting units n }
+  programs_are : Closed (program_units us) → SamePrograms (program_units us) (files_of fs)
+  programs_are closed = record { linked = units_link lfs fs plain written closed.one_main; runs = λ homes setting units are n. runs_over homes setting units n }
 
--- where units run as the C file that is made for them
-pub units_files_are_faithful_by : PlainUnitsRunAlike → EachUnitsFileIsFaithful
-units_files_are_faithful_by alike options tree us ws bytes of_file plain written spelled meant =
-    let S = program_units us in
-    let back = sym of_file.units in
-    let storage = storage_in us plain in
+-- where units run as the C files that are made for them
+pub units_sets_are_faithful_by : PlainUnitsRunAlike → EachUnitsSetIsFaithful
+units_sets_are_faithful_by alike options trees lfs fs texts of_files plain written spelled meant =
+    let S = program_units (all_lowered lfs) in
+    let back = sym (units_are options trees lfs of_files) in
+    let storage = storage_in (all_lowered lfs) plain in
     record {
-      c_trees = units_file (constants_passed us) ws ∷ [];
-      written = faithful.more bytes (units_file (constants_passed us) ws) [] [] spelled faithful.none;
-      signatures = signed.more tree (units_file (constants_passed us) ws) [] [] (units_have_signatures options tree us ws of_file plain written) signed.none;
+      c_trees = files_of fs;
+      written = spelled;
+      signatures = files_have_signatures options trees lfs fs of_files plain written;
       setting = own_setting S;
       is_setting = subst (λ (units : List ProgramUnit). IsSetting units (own_setting S)) back (own_is_setting S storage);
       imaged = λ homes setting. subst (λ (units : List ProgramUnit). (store : Store) × (image_store homes units ≡ Gives store)) back (own_image homes S storage);
-      closed = subst (λ (units : List ProgramUnit). Closed units → SamePrograms units (units_file (constants_passed us) ws ∷ [])) back (programs_are alike us ws plain written meant);
+      closed = subst (λ (units : List ProgramUnit). Closed units → SamePrograms units (files_of fs)) back (programs_are alike lfs fs plain written meant);
     }

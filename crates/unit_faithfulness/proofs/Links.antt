@@ -1,9 +1,9 @@
--- The C file of units of numbers that call each other links, where one of them is a main program: no function is defined twice or under a name of the
--- library, and each function that one declares and calls is one of the file or of the library. C89, 3.1.2.2 and 3.7; CSTR 149.
+-- The C files of units of numbers that call each other link, where one unit is a main program: no function is defined twice or under a name of the
+-- library, and each function that one declares and calls is one of the files or of the library. C89, 3.1.2.2 and 3.7; CSTR 149.
 use Rattle.std.specs.List.{flat_map}
-use Rattle.std.specs.Prelude.{◌≡◌, ℕ, suc, Bool, true, false, not, ◌&&◌, ◌||◌, nat_lt, ℤ, List, [], ◌∷◌, ◌++◌, map, length, Option, Some, None, option_and_then, slice_get, bytes_eq, if◌then◌else◌}
+use Rattle.std.specs.Prelude.{◌≡◌, ℕ, suc, Bool, true, false, not, ◌&&◌, ◌||◌, nat_lt, List, [], ◌∷◌, ◌++◌, map, length, Option, Some, None, option_and_then, slice_get, bytes_eq, if◌then◌else◌}
 use Rattle.std.proofs.Common.{refl, sym, ap, ◌∙◌, subst, arith}
-use Rattle.std.proofs.lemmas.List.{append-nil, map-append}
+use Rattle.std.proofs.lemmas.List.{map-append}
 use Rattle.std.proofs.lemmas.Slice.Eq.{bytes_eq-Decides}
 use Rattle.f_tree.specs.Values.{Bytes}
 use Rattle.f_tree.specs.Facts.{MainProgram, SubroutineUnit, FunctionUnit, BlockDataUnit, UnitKind, Formal, EntryPoint}
@@ -18,7 +18,7 @@ use Rattle.c_tree.specs.Builtins.{builtin_names}
 use Rattle.c_tree.specs.Declarations.{declared_externs, functions_in_lists}
 use Rattle.c_tree.specs.FlatForm.{whole_body}
 use Rattle.c_tree.specs.Linking as linking
-use Rattle.c_tree.specs.Linking.{Routines, any_of, routines, function_names, all_functions, named, has_parameters, lacks_main, repeats, defined_again, mentioned, misses, first_broken_rule, broken_rule}
+use Rattle.c_tree.specs.Linking.{Routines, any_of, routines, function_names, all_functions, named, has_parameters, lacks_main, repeats, defined_again, mentioned, misses, all_imaged, first_broken_rule, broken_rule}
 use Rattle.faithful.specs.Faithful.{is_linked}
 use Rattle.faithful.specs.StorageImage.{function_name}
 use Rattle.faithful.specs.Signatures.{named_formals}
@@ -30,9 +30,9 @@ use Rattle.main_translation_laws.proofs.Lists.{at_in, in_at}
 use Rattle.main_faithfulness.proofs.LinkRules.{is_missing, names_called, none_of_both, none_by_each, found_among, calls_there, past_temporaries, past_calls, extern_temporaries, extern_calls, none_mentioned, fourth_only}
 use Rattle.unit_file.specs.UnitFile.{Parameter, Callee, Inventory, WrittenUnit, parameter_for, result_local, extern_for, unit_locals, unit_function}
 use Rattle.unit_file.specs.UnitNames.{called_names, own_names}
-use Rattle.unit_places.specs.UnitPlaces.{inventories, files_of}
+use Rattle.unit_sites.specs.UnitSites.{UnitsOfFile, inventories, all_units, files_of}
 use Rattle.unit_translation.specs.UnitContents.{LoweredUnit, program_units, parameter_for as parameter_type, formals_in, parameters_in, library_callee, unit_callee, procedure_callee, procedures_in, unit_numbers, inventory_of, inventories_of}
-use Rattle.unit_translation.specs.UnitBodies.{written_units}
+use Rattle.unit_translation.specs.UnitBodies.{all_lowered, written_files}
 use Rattle.unit_translation_laws.specs.PlainUnits.{IsPlainUnit, ArePlainUnits}
 use Rattle.unit_translation_laws.proofs.Functions.{own_apart}
 use Rattle.unit_faithfulness.proofs.Written.{inventories_are, written_for}
@@ -191,8 +191,9 @@ module _ (us : List LoweredUnit) where
 
 -- ## The rules
 
-functions_of : (constants : List ℤ) (ws : List WrittenUnit) → all_functions (files_of constants ws) ≡ map unit_function ws
-functions_of constants ws = append-nil (map unit_function ws)
+functions_of : (fs : List UnitsOfFile) → all_functions (files_of fs) ≡ map unit_function (all_units fs)
+functions_of [] = refl
+functions_of (f ∷ fs) = ap (λ later. map unit_function f.units ++ later) (functions_of fs) ∙ sym (map-append unit_function f.units (all_units fs))
 
 names_written : (ws : List WrittenUnit) → function_names (map unit_function ws) ≡ own_names (inventories ws)
 names_written [] = refl
@@ -211,12 +212,18 @@ one_of_names name [] among = elim among [ ]
 one_of_names name (function ∷ later) first_in = ap (λ t. t || any_of (named name) later) (same_bytes function.name function.name refl)
 one_of_names name (function ∷ later) (later_in among) = or_true (named name function) (one_of_names name later among)
 
-module _ (us : List LoweredUnit) (ws : List WrittenUnit) (plain : ArePlainUnits us) (written : written_units us ≡ Some ws) where
+module _ (lfs : List (List LoweredUnit)) (fs : List UnitsOfFile) (plain : ArePlainUnits (all_lowered lfs)) (written : written_files lfs ≡ Some fs) where
+  abbrev us : List LoweredUnit
+  us = all_lowered lfs
+
+  abbrev ws : List WrittenUnit
+  ws = all_units fs
+
   abbrev its_functions : List CFunction
   its_functions = map unit_function ws
 
   defined_are : function_names its_functions ≡ defined_by us
-  defined_are = names_written ws ∙ ap own_names (inventories_are us ws written) ∙ names_defined us us
+  defined_are = names_written ws ∙ ap own_names (inventories_are lfs fs written) ∙ names_defined us us
 
   has_no_parameters : (w : WrittenUnit) (u : LoweredUnit) → inventory_of us u ≡ w.inventory → parameters_in u ≡ [] → has_parameters (unit_function w) ≡ false
   has_no_parameters w u is none = ap (λ (v : Inventory). nat_lt 0 (length (map parameter_for v.parameters))) (sym is) ∙ ap (λ (ps : List Parameter). nat_lt 0 (length (map parameter_for ps))) none
@@ -224,7 +231,7 @@ module _ (us : List LoweredUnit) (ws : List WrittenUnit) (plain : ArePlainUnits 
   main_plain : (has : HasMain us) (k : ℕ) (w : WrittenUnit) → slice_get ws k ≡ Some w → (t : Bool) → named main_name (unit_function w) ≡ t → (t && has_parameters (unit_function w)) ≡ false
   main_plain has k w at false is = refl
   main_plain has k w at true is =
-      let own = written_for us ws written k w at in
+      let own = written_for lfs fs written k w at in
       let named_so : function_name own.one.unit ≡ main_name = ap (λ (v : Inventory). v.name) own.is ∙ sym ((bytes_eq-Decides main_name w.inventory.name).0 is) in
       has_no_parameters w own.one own.is (main_parameters us k own.one (plain.units k own.one own.one_is) (one_main us plain has k own.one own.one_is named_so))
 
@@ -237,20 +244,31 @@ module _ (us : List LoweredUnit) (ws : List WrittenUnit) (plain : ArePlainUnits 
       ∙ none_of_functions (λ function. named main_name function && has_parameters function) ws (λ k w at. main_plain has k w at (named main_name (unit_function w)) refl)
 
   none_missing : any_of (misses (routines (defined_by us))) its_functions ≡ false
-  none_missing = none_of_functions (misses (routines (defined_by us))) ws (λ k w at. let own = written_for us ws written k w at in nothing_misses us w own.one own.is)
+  none_missing = none_of_functions (misses (routines (defined_by us))) ws (λ k w at. let own = written_for lfs fs written k w at in nothing_misses us w own.one own.is)
 
   abbrev rule_for : List CFunction → List (List ℕ) → Bool → Option ℕ
   rule_for functions defined fourth = broken_rule (lacks_main functions) (defined_again defined || false) (any_of (misses (routines defined)) functions) fourth
 
   rules_hold : HasMain us → (fourth : Bool) → is_linked (rule_for its_functions (defined_by us) fourth) ≡ true
-  rules_hold has fourth = ap is_linked (λ i. broken_rule (main_there has i) (none_again us ws plain (inventories_are us ws written) i || false) (none_missing i) fourth) ∙ fourth_only fourth
+  rules_hold has fourth = ap is_linked (λ i. broken_rule (main_there has i) (none_again us ws plain (inventories_are lfs fs written) i || false) (none_missing i) fourth) ∙ fourth_only fourth
 
-  rule_of : (constants : List ℤ) → (fourth : Bool) × (first_broken_rule (files_of constants ws) ≡ rule_for (all_functions (files_of constants ws)) (function_names (all_functions (files_of constants ws))) fourth)
+  -- no file has an external object
+  none_imaged : (files : List UnitsOfFile) → all_imaged (files_of files) ≡ []
+  none_imaged [] = refl
+  none_imaged (f ∷ files) = none_imaged files
+
+  abbrev rule_with : List (List ℕ) → Option ℕ
+  rule_with imaged =
+      let functions = all_functions (files_of fs) in
+      let defined = function_names functions in
+      broken_rule (lacks_main functions) (defined_again defined || repeats imaged) (any_of (misses (routines defined)) functions) (nat_lt linking.byte_limit (linking.bytes_of_objects (linking.program (files_of fs)).objects))
+
+  rule_of : (fourth : Bool) × (first_broken_rule (files_of fs) ≡ rule_for (all_functions (files_of fs)) (function_names (all_functions (files_of fs))) fourth)
   unfolding first_broken_rule
-  rule_of constants = (nat_lt linking.byte_limit (linking.bytes_of_objects (linking.program (files_of constants ws)).objects), refl)
+  rule_of = (nat_lt linking.byte_limit (linking.bytes_of_objects (linking.program (files_of fs)).objects), ap rule_with (none_imaged fs))
 
-  pub units_link : (constants : List ℤ) → mains (program_units us) ≡ 1 → is_linked (first_broken_rule (files_of constants ws)) ≡ true
-  units_link constants one =
-      let rule = rule_of constants in
-      let are = functions_of constants ws in
+  pub units_link : mains (program_units us) ≡ 1 → is_linked (first_broken_rule (files_of fs)) ≡ true
+  units_link one =
+      let rule = rule_of in
+      let are = functions_of fs in
       ap is_linked (rule.1 ∙ (λ i. rule_for (are i) ((ap function_names are ∙ defined_are) i) rule.0)) ∙ rules_hold (has_main us 0 one) rule.0

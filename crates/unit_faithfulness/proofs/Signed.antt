@@ -1,8 +1,8 @@
--- The C file of units of numbers that call each other has the functions that their FORTRAN file asks, with their results and parameters, and no external
+-- The C files of units of numbers that call each other have the functions that their FORTRAN files ask, with their results and parameters, and no external
 -- object. ANSI X3.9-1978, sections 8.3, 14 and 15.5 to 15.7; CSTR 149.
 use Rattle.std.specs.List.{flat_map}
-use Rattle.std.specs.Prelude.{◌≡◌, ℕ, suc, true, List, [], ◌∷◌, ◌++◌, map, Some, slice_get}
-use Rattle.std.proofs.Common.{refl, sym, ap, ◌∙◌}
+use Rattle.std.specs.Prelude.{◌≡◌, ℕ, suc, ◌+◌, true, List, [], ◌∷◌, ◌++◌, map, length, Some, slice_get}
+use Rattle.std.proofs.Common.{refl, sym, ap, ◌∙◌, subst}
 use Rattle.std.proofs.lemmas.List.{append-nil, map-append}
 use Rattle.f_tree.specs.declared.names.Options.{Options}
 use Rattle.f_tree.specs.declared.names.Basic.{Basic}
@@ -17,20 +17,22 @@ use Rattle.f_tree.specs.Attributes.{Described, arrays_of, all_described}
 use Rattle.f_tree.specs.Lines.{unit_read}
 use Rattle.f_tree.specs.CNames as c
 use Rattle.f_tree.specs.CNames.{Dummy, DummyUse, Gives, external_name, main_name, variable_name, parameter_of, length_parameter_of, parameters_of_all, length_parameters_of_all, result_parameters_of, parameters_of}
-use Rattle.f_tree.specs.Meaning.{units_in}
 use Rattle.c_tree.specs.declared.types.ResultType.{ResultType}
 use Rattle.c_emit.specs.Numbers.{is_numeric}
 use Rattle.faithful.specs.StorageImage.{block_name, name_of_entries, function_name}
-use Rattle.faithful.specs.Signatures.{Signature, Parameter, result_type, parameter_type, signature, dummy_of, named_formals, gives_type, gives_of, entry_signature, procedure_signatures, signatures_by, unit_signatures, file_signatures, signature_of, blocks_added, file_blocks, HasSignatures}
+use Rattle.faithful.specs.Signatures.{Signature, Parameter, result_type, parameter_type, signature, dummy_of, named_formals, gives_type, gives_of, entry_signature, procedure_signatures, signatures_by, unit_signatures, file_signatures, signature_of, blocks_added, file_blocks, HasSignatures, EachHasSignatures}
+use Rattle.faithful.specs.Signatures as signed
 use Rattle.procedure_emission.specs.EmittedUnits.{number_result, is_number_pointer, is_function_pointer}
-use Rattle.unit_file.specs.UnitFile.{Inventory, WrittenUnit, parameter_for, unit_function, units_file}
-use Rattle.unit_places.specs.UnitPlaces.{inventories}
+use Rattle.unit_file.specs.UnitFile.{Inventory, WrittenUnit, parameter_for, unit_function}
+use Rattle.linking_laws.proofs.Places.{get_front, get_back}
+use Rattle.unit_sites.specs.UnitSites.{UnitsOfFile, file_for, files_of, inventories}
 use Rattle.unit_translation.specs.UnitContents as contents
-use Rattle.unit_translation.specs.UnitContents.{LoweredUnit, program_units, constants_passed, formals_in, parameters_in, type_given, basic_given, result_by, result_given, inventory_of, inventories_of}
-use Rattle.unit_translation.specs.UnitBodies.{written_units}
-use Rattle.unit_translation_laws.specs.PlainUnits.{IsPlainDummy, is_number, is_procedure, IsPlainUnit, ArePlainUnits}
-use Rattle.unit_faithfulness.specs.UnitsFaithful.{AreOfFile}
-use Rattle.unit_faithfulness.proofs.Written.{inventories_are, storage_in}
+use Rattle.unit_translation.specs.UnitContents.{LoweredUnit, program_units, formals_in, parameters_in, type_given, basic_given, result_by, result_given, inventory_of}
+use Rattle.unit_translation.specs.UnitBodies.{all_lowered, written_files}
+use Rattle.unit_translation_laws.specs.PlainUnits.{HasPlainStorage, IsPlainDummy, is_number, is_procedure, IsPlainUnit, ArePlainUnits}
+use Rattle.unit_faithfulness.specs.UnitsFaithful.{AreOfFile, AreOfFiles, no_files, one_file}
+use Rattle.unit_faithfulness.proofs.Settings.{HavePlainStorage}
+use Rattle.unit_faithfulness.proofs.Written.{IsFileFor, AreFilesFor, none_for, one_for, files_are, lowered_at}
 
 -- ## Parameters
 
@@ -205,7 +207,7 @@ abbrev HaveUses : List GivenUnit → List LoweredUnit → Type 0
 HaveUses gs later = (i : ℕ) (given : GivenUnit) (u : LoweredUnit) → slice_get gs i ≡ Some given → slice_get later i ≡ Some u → (x : Bytes) →
     u.use_of x ≡ (dummy_of (uses_of_statements (arrays_of given) given.statements) u.unit.attribute x).use_of
 
-all_signed : (options : Options) (us : List LoweredUnit) (gs : List GivenUnit) (later : List LoweredUnit) → map (unit_read options) gs ++ [] ≡ program_units later → HaveUses gs later → ArePlain us later →
+all_signed : (options : Options) (us : List LoweredUnit) (gs : List GivenUnit) (later : List LoweredUnit) → map (unit_read options) gs ≡ program_units later → HaveUses gs later → ArePlain us later →
     map signature_for (map (inventory_of us) later) ≡ flat_map (unit_signatures options) gs
 all_signed options us [] [] are uses plain = refl
 all_signed options us [] (u ∷ later) are uses plain = absurd (cc)
@@ -216,7 +218,7 @@ all_signed options us (given ∷ gs) (u ∷ later) are uses plain =
     ++ all_signed options us gs later (cc) (λ k. uses (suc k)) (λ k. plain (suc k)) i)
 
 -- no common blocks
-no_blocks : (options : Options) (gs : List GivenUnit) (S : List ProgramUnit) → map (unit_read options) gs ++ [] ≡ S → ((k : ℕ) (u : ProgramUnit) → HasUnit S k u → u.blocks ≡ []) →
+no_blocks : (options : Options) (gs : List GivenUnit) (S : List ProgramUnit) → map (unit_read options) gs ≡ S → ((k : ℕ) (u : ProgramUnit) → HasUnit S k u → u.blocks ≡ []) →
     flat_map (λ (given : GivenUnit). (unit_read options given).blocks) gs ≡ []
 no_blocks options [] S are none = refl
 no_blocks options (given ∷ gs) [] are none = absurd (cc)
@@ -238,10 +240,32 @@ none_named : (blocks : List Block) → blocks ≡ [] → names_of_blocks blocks 
 unfolding blocks_added
 none_named blocks none = ap names_of_blocks none
 
-pub units_have_signatures : (options : Options) (tree : File) (us : List LoweredUnit) (ws : List WrittenUnit) → AreOfFile options tree us → ArePlainUnits us → written_units us ≡ Some ws →
-    HasSignatures options tree (units_file (constants_passed us) ws)
-unfolding file_signatures file_blocks units_in
-units_have_signatures options tree us ws of_file plain written = record {
-  functions = signatures_of_written ws ∙ ap (map signature_for) (inventories_are us ws written) ∙ all_signed options us tree.units us of_file.units (λ i given u at own. of_file.uses i given u at own) (λ i u at. (i, plain.units i u at));
-  objects = sym (none_named _ (no_blocks options tree.units (program_units us) of_file.units (λ k unit at. (storage_in us plain k unit at).blocks)));
+-- the C file for some of the units
+file_signed : (options : Options) (tree : File) (all us : List LoweredUnit) (f : UnitsOfFile) → AreOfFile options tree us → IsFileFor all us f → ArePlain all us → HavePlainStorage (program_units us) →
+    HasSignatures options tree (file_for f)
+unfolding file_signatures file_blocks
+file_signed options tree all us f of_file is plain storage = record {
+  functions = signatures_of_written f.units ∙ ap (map signature_for) is.inventories_are ∙ all_signed options all tree.units us of_file.units (λ i given u at own. of_file.uses i given u at own) plain;
+  objects = sym (none_named _ (no_blocks options tree.units (program_units us) of_file.units (λ k unit at. (storage k unit at).blocks)));
 }
+
+-- those of a file are plain where all are
+front_plain : (all us later : List LoweredUnit) → ArePlain all (us ++ later) → ArePlain all us
+front_plain all us later plain i u at = plain i u (get_front us later i u at)
+
+back_plain : (all us later : List LoweredUnit) → ArePlain all (us ++ later) → ArePlain all later
+back_plain all us later plain i u at = plain (length us + i) u (get_back us later (length us + i) i u refl at)
+
+plain_storage : (all us : List LoweredUnit) → ArePlain all us → HavePlainStorage (program_units us)
+plain_storage all us plain k unit at = let own = lowered_at us k unit at in subst HasPlainStorage own.is (plain k own.one own.one_is).1.storage
+
+each_signed : (options : Options) (all : List LoweredUnit) (trees : List File) (lfs : List (List LoweredUnit)) (fs : List UnitsOfFile) → AreOfFiles options trees lfs → AreFilesFor all lfs fs → ArePlain all (all_lowered lfs) →
+    EachHasSignatures options trees (files_of fs)
+each_signed options all _ _ _ no_files none_for plain = signed.none
+each_signed options all _ _ _ (one_file tree us trees lfs first later) (one_for _ f _ fs is rest) plain =
+    let own = front_plain all us (all_lowered lfs) plain in
+    signed.more tree (file_for f) trees (files_of fs) (file_signed options tree all us f first is own (plain_storage all us own)) (each_signed options all trees lfs fs later rest (back_plain all us (all_lowered lfs) plain))
+
+pub files_have_signatures : (options : Options) (trees : List File) (lfs : List (List LoweredUnit)) (fs : List UnitsOfFile) → AreOfFiles options trees lfs → ArePlainUnits (all_lowered lfs) → written_files lfs ≡ Some fs →
+    EachHasSignatures options trees (files_of fs)
+files_have_signatures options trees lfs fs of_files plain written = each_signed options (all_lowered lfs) trees lfs fs of_files (files_are lfs fs written) (λ i u at. (i, plain.units i u at))

@@ -1,6 +1,6 @@
--- That the text of the C file which is made for units of numbers that call each other is faithful to the file of those units.
--- ANSI X3.9-1978, sections 2.4, 5, 14 and 15; C89, 3.1.2.2 and 3.7.
-use Rattle.std.specs.Prelude.{◌≡◌, ℕ, List, [], ◌∷◌, Some, slice_get}
+-- That the texts of the C files which are made for files of units of numbers that call each other are faithful to those files.
+-- ANSI X3.9-1978, sections 2.4, 3.5, 5, 14 and 15; C89, 3.1.2.2 and 3.7.
+use Rattle.std.specs.Prelude.{◌≡◌, ℕ, List, [], ◌∷◌, map, Some, slice_get}
 use Rattle.run_state.specs.Units.{Units}
 use Rattle.f_tree.specs.declared.names.Options.{Options}
 use Rattle.f_tree.specs.declared.units.Unit.{Unit as GivenUnit}
@@ -8,28 +8,34 @@ use Rattle.f_tree.specs.declared.units.File.{File}
 use Rattle.f_tree.specs.Values.{Bytes, NoMeaning}
 use Rattle.f_tree.specs.Uses.{uses_of_statements}
 use Rattle.f_tree.specs.Attributes.{arrays_of}
-use Rattle.f_tree.specs.Meaning.{units_in, ftn, act_of}
-use Rattle.c_tree.specs.CText.{CText}
-use Rattle.faithful.specs.Faithful.{Faithful}
+use Rattle.f_tree.specs.Lines.{unit_read}
+use Rattle.f_tree.specs.Meaning.{ftn, act_of}
+use Rattle.faithful.specs.Faithful.{SpellAll, Faithful}
 use Rattle.faithful.specs.Signatures.{dummy_of}
 use Rattle.unit_forms.specs.OwnSetting.{own_setting}
-use Rattle.unit_file.specs.UnitFile.{WrittenUnit, units_file}
-use Rattle.unit_translation.specs.UnitContents.{LoweredUnit, program_units, constants_passed}
-use Rattle.unit_translation.specs.UnitBodies.{written_units}
+use Rattle.unit_sites.specs.UnitSites.{UnitsOfFile, files_of}
+use Rattle.unit_translation.specs.UnitContents.{LoweredUnit, program_units}
+use Rattle.unit_translation.specs.UnitBodies.{all_lowered, written_files}
 use Rattle.unit_translation_laws.specs.PlainUnits.{ArePlainUnits}
 
 -- the units are those of the file, and their dummies stand for what the statements say
 pub record AreOfFile (options : Options) (tree : File) (us : List LoweredUnit) : Type 0 where
-  pub units : units_in options (tree ∷ []) ≡ program_units us
+  pub units : map (unit_read options) tree.units ≡ program_units us
   pub uses : (j : ℕ) (given : GivenUnit) (u : LoweredUnit) → slice_get tree.units j ≡ Some given → slice_get us j ≡ Some u → (x : Bytes) →
       u.use_of x ≡ (dummy_of (uses_of_statements (arrays_of given) given.statements) u.unit.attribute x).use_of
+
+-- the units of each file
+pub data AreOfFiles (options : Options) : List File → List (List LoweredUnit) → Type 0 where
+  no_files : AreOfFiles options [] []
+  one_file : (tree : File) (us : List LoweredUnit) (trees : List File) (lfs : List (List LoweredUnit)) → AreOfFile options tree us → AreOfFiles options trees lfs
+      → AreOfFiles options (tree ∷ trees) (us ∷ lfs)
 
 -- the units never come to a form without meaning
 abbrev pub AreMeant : List LoweredUnit → Type 0
 AreMeant us = (units : Units) (n : ℕ) → act_of (ftn (own_setting (program_units us)) (program_units us) units n) ≡ Some NoMeaning → ⊥
 
 -- LAW
--- a file of such units, which are lowered, and bytes that spell the C file for them
-abbrev pub EachUnitsFileIsFaithful : Type 0
-EachUnitsFileIsFaithful = (options : Options) (tree : File) (us : List LoweredUnit) (ws : List WrittenUnit) (bytes : List ℕ) → AreOfFile options tree us → ArePlainUnits us → written_units us ≡ Some ws →
-    CText bytes (units_file (constants_passed us) ws) → AreMeant us → Faithful options (tree ∷ []) (bytes ∷ [])
+-- files of such units, which are lowered, and texts of which each spells the C file for one of them
+abbrev pub EachUnitsSetIsFaithful : Type 0
+EachUnitsSetIsFaithful = (options : Options) (trees : List File) (lfs : List (List LoweredUnit)) (fs : List UnitsOfFile) (texts : List (List ℕ)) → AreOfFiles options trees lfs → ArePlainUnits (all_lowered lfs) →
+    written_files lfs ≡ Some fs → SpellAll texts (files_of fs) → AreMeant (all_lowered lfs) → Faithful options trees texts

@@ -1,9 +1,9 @@
-//! A file of units of numbers that call each other, as the contract of a call that does nothing.
+//! Files of units of numbers that call each other, as the contract of a call that does nothing.
 
-ghost use Rattle.unit_faithfulness.specs.UnitsFaithful.{EachUnitsFileIsFaithful};
+ghost use Rattle.unit_faithfulness.specs.UnitsFaithful.{EachUnitsSetIsFaithful};
 
-/// A text that spells the C file that is made for a file of main programs, subroutines and functions of numbers is faithful to it: the functions with their
-/// parameters are those of the units, it links where the set is closed, and over each setting each of its runs is that of the units.
-pub fn units_files_are_faithful()
-    ensures { EachUnitsFileIsFaithful }
+/// Texts that spell the C files that are made for files of main programs, subroutines and functions of numbers are faithful to them: the functions of each
+/// with their parameters are those of its units, the files link where the set is closed, and over each setting each of their runs is that of the units.
+pub fn units_sets_are_faithful()
+    ensures { EachUnitsSetIsFaithful }
 {}

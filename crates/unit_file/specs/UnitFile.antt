@@ -103,10 +103,6 @@ first_object first [] j = first
 first_object first (v ∷ vs) zero = first
 first_object first (v ∷ vs) (suc j) = first_object (first + object_count v) vs j
 
--- the functions of the program are those of the file, and its first objects the constants
-abbrev pub bases_at : List ℤ → List Inventory → ℕ → Bases
-bases_at constants vs j = record { own = length vs; file = 0; function = first_object (length constants) vs j }
-
 abbrev pub first_list : Inventory → Bases → ℕ
 first_list v b = b.function + length v.variables
 

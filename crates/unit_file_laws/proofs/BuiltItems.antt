@@ -1,5 +1,5 @@
 -- The function of a unit has its items and its strings.
-use Rattle.std.specs.Prelude.{◌≡◌, ℕ, suc, ◌+◌, ◌-◌, nat_eq, nat_le, nat_lt, ℤ, Bool, true, false, not, ◌&&◌, List, [], ◌∷◌, ◌++◌, map, length, position, Option, Some, None, option_map, unwrap_or, slice_get, codes}
+use Rattle.std.specs.Prelude.{◌≡◌, ℕ, suc, ◌+◌, ◌-◌, ◌≤◌, nat_eq, nat_le, nat_lt, Bool, true, false, not, ◌&&◌, List, [], ◌∷◌, ◌++◌, map, length, position, Option, Some, None, option_map, unwrap_or, slice_get, codes}
 use Rattle.std.proofs.Common.{refl, sym, ap, ◌∙◌, subst, arith}
 use Rattle.std.proofs.lemmas.Bool.{and_from, lt-ltb, le-leb}
 use Rattle.std.proofs.lemmas.List.{append_assoc, length-append}
@@ -19,7 +19,7 @@ use Rattle.c_tree.specs.Flat as flat
 use Rattle.c_tree.specs.Flat.{Flat}
 use Rattle.c_tree.specs.Drafts.{Scope}
 use Rattle.c_tree.specs.FlatForm.{whole_body}
-use Rattle.c_tree.specs.Linking.{Routines, file_scope, strings_of}
+use Rattle.c_tree.specs.Linking.{Routines, file_scope, strings_of, linked_function}
 use Rattle.c_image.specs.Addresses.{Address, Alone, Through, number_term}
 use Rattle.c_structure.specs.Expressions.{Names, strings_in, strings_in_all}
 use Rattle.c_structure.specs.Expressions as written
@@ -39,9 +39,10 @@ use Rattle.emitted_names.proofs.ItemNames.{address_plain, held_is}
 use Rattle.procedure_emission.specs.ProcedureItems.{Numbers, pointer_term, procedure_argument, routine_term, name_argument, argument_term, argument_terms, callee_for, function_called, procedure_item}
 use Rattle.main_file.specs.MainItems.{stops_from}
 use Rattle.main_file_laws.proofs.BuiltItems.{AreBelow, none_below, below_next, below_both, place_behind, before_by}
-use Rattle.unit_file.specs.UnitFile.{Inventory, Bases, WrittenUnit, units_file, unit_function, first_string, first_parameter, parameter_object, result_object, place_or_none, place_of_variable, place_of_string, address_in}
+use Rattle.unit_file.specs.UnitFile.{Inventory, Bases, WrittenUnit, unit_function, first_string, first_parameter, parameter_object, result_object, place_or_none, place_of_variable, place_of_string, address_in}
 use Rattle.unit_file.specs.UnitNames.{string_at}
-use Rattle.unit_places.specs.UnitPlaces.{inventories, bases_of}
+use Rattle.unit_sites.specs.UnitSites.{inventories, Site}
+use Rattle.unit_places.specs.UnitPlaces.{file_with}
 use Rattle.unit_places.proofs.Declared.{unit_strings, unit_statics_count}
 use Rattle.unit_file_laws.specs.KnownUnits.{NamesDiffer, NamesAreListed, unit_writing, unit_names, scope_in, UnitIsKnown}
 use Rattle.unit_file_laws.specs.ProcedureNames.{ArePlain, KnowsCall, KnowsUnitStep}
@@ -94,36 +95,36 @@ unfolding strings_in
 pointed_plain scope names parameter is = record { knows = is.knows; no_strings = refl }
 
 -- what is said of the steps of a text and of what its function has, whatever statements that has, if they have as many strings
-pub record AreEmitted (numbers : Numbers) (constants : List ℤ) (ws : List WrittenUnit) (j : ℕ) (w : WrittenUnit) (u : Text) (kind : ℕ → ℕ → Option Basic) (all : List Flat) : Type 0 where
-  pub differ : NamesDiffer constants w.inventory
+pub record AreEmitted (numbers : Numbers) (ws : List WrittenUnit) (s : Site) (w : WrittenUnit) (u : Text) (kind : ℕ → ℕ → Option Basic) (all : List Flat) : Type 0 where
+  pub differ : NamesDiffer s.constants w.inventory
   pub names_listed : NamesAreListed w.inventory u.facts
   pub listed : AreListed numbers (inventories ws) u.facts w.inventory 0 u.steps
   pub stops : w.inventory.strings ≡ stops_from 0 u.steps
-  pub emitted : unit_items numbers (unit_writing constants ws j w u.facts kind) u.position 0 u.steps ≡ Some all
+  pub emitted : unit_items numbers (unit_writing s w u.facts kind) u.position 0 u.steps ≡ Some all
   pub as_many : length (whole_body w.body).items.strings ≡ length w.inventory.strings
 
-module _ (routines : Routines) (objects : List ℕ → Option ℕ) (functions : List CFunction) (numbers : Numbers) (constants : List ℤ) (ws : List WrittenUnit) (j : ℕ) (w : WrittenUnit) (u : Text) (kind : ℕ → ℕ → Option Basic) (all : List Flat)
-    (numbered : AreNumbered routines numbers ws w.inventory) (is : AreEmitted numbers constants ws j w u kind all) where
+module _ (routines : Routines) (objects : List ℕ → Option ℕ) (functions : List CFunction) (numbers : Numbers) (ws : List WrittenUnit) (s : Site) (w : WrittenUnit) (u : Text) (kind : ℕ → ℕ → Option Basic) (all : List Flat)
+    (owned : s.bases.own ≡ length ws) (constants_before : s.bases.file + length s.constants ≤ s.bases.function) (numbered : AreNumbered routines numbers ws w.inventory) (is : AreEmitted numbers ws s w u kind all) where
   abbrev v : Inventory
   v = w.inventory
 
   abbrev b : Bases
-  b = bases_of constants ws j
+  b = s.bases
 
   abbrev vs : List Inventory
   vs = inventories ws
 
   abbrev writing : Writing
-  writing = unit_writing constants ws j w u.facts kind
+  writing = unit_writing s w u.facts kind
 
   abbrev names : Names
-  names = unit_names constants ws j w
+  names = unit_names ws s w
 
   abbrev scope : Scope
-  scope = scope_in routines objects constants functions ws j w
+  scope = scope_in routines objects functions s w
 
-  known : UnitIsKnown routines objects constants functions ws j w u.facts kind
-  known = unit_files_are_known routines objects constants functions ws j w u.facts kind is.differ is.names_listed is.as_many
+  known : UnitIsKnown routines objects functions ws s w u.facts kind
+  known = unit_files_are_known routines objects functions ws s w u.facts kind owned constants_before is.differ is.names_listed is.as_many
 
   -- ## Procedures
 
@@ -175,8 +176,8 @@ module _ (routines : Routines) (objects : List ℕ → Option ℕ) (functions : 
   routine_by x class.DummyProcedure a term is' at declared h = absurd (cc)
   routine_by x other a term is' at declared h = absurd (cc)
 
-  both_so : (s t : Bool) → s ≡ true → t ≡ true → s && t ≡ true
-  both_so s t one other = and_from s t one other
+  both_so : (p q : Bool) → p ≡ true → q ≡ true → p && q ≡ true
+  both_so p q one other = and_from p q one other
 
   scalar_known : (x : Bytes) → has_number writing x ≡ true → has_bounds (u.facts.program.attribute x).bounds ≡ false → IsPlain scope names (number_term (writing.naming.address x))
   unfolding is_scalar
@@ -290,10 +291,10 @@ module _ (routines : Routines) (objects : List ℕ → Option ℕ) (functions : 
   knows_step n (Acts Takes ps m) listed stop = known.calls listed.0 21 (codes "do_lio") listed.1 refl (numbered.library (codes "do_lio") 21 listed refl)
   knows_step n (Acts Finishes ps m) listed stop = known.calls listed.0 24 (codes "e_wsle") listed.1 refl (numbered.library (codes "e_wsle") 24 listed refl)
   knows_step n (Halt text) listed stop =
-      let s = stop text refl in (
+      let told = stop text refl in (
         known.calls listed.0 11 (codes "s_stop") listed.1 refl (numbered.library (codes "s_stop") 11 listed refl),
-        subst (λ p. KnowsArray scope (names.object (first_string v b + place_or_none p)) (string_at v b (first_string v b + place_or_none p)) (first_string v b + place_or_none p) ToChar) (sym s.placed)
-            (subst (λ found. KnowsArray scope (names.object (first_string v b + s.place)) found (first_string v b + s.place) ToChar) (sym s.string) refl),
+        subst (λ p. KnowsArray scope (names.object (first_string v b + place_or_none p)) (string_at v b (first_string v b + place_or_none p)) (first_string v b + place_or_none p) ToChar) (sym told.placed)
+            (subst (λ found. KnowsArray scope (names.object (first_string v b + told.place)) found (first_string v b + told.place) ToChar) (sym told.string) refl),
       )
   knows_step n (Compute k f ps) listed stop = function_known f listed
   knows_step n st listed stop = tt
@@ -353,37 +354,44 @@ module _ (routines : Routines) (objects : List ℕ → Option ℕ) (functions : 
   every = items_known 0 [] u.steps all is.stops none_below is.listed is.emitted
 
 -- the function in its file
-module _ (routines : Routines) (objects : List ℕ → Option ℕ) (own : ℕ) (numbers : Numbers) (constants : List ℤ) (ws : List WrittenUnit) (j : ℕ) (w : WrittenUnit) (u : Text) (kind : ℕ → ℕ → Option Basic) (o : Outline) (all : List Flat)
-    (numbered : AreNumbered routines numbers ws w.inventory) (is : IsUnitBuilt numbers constants ws j w u kind o all) where
-  emitted : AreEmitted numbers constants ws j w u kind all
+module _ (routines : Routines) (objects : List ℕ → Option ℕ) (own : ℕ) (numbers : Numbers) (ws : List WrittenUnit) (s : Site) (w : WrittenUnit) (u : Text) (kind : ℕ → ℕ → Option Basic) (o : Outline) (all : List Flat) (owned : s.bases.own ≡ length ws)
+    (constants_before : s.bases.file + length s.constants ≤ s.bases.function) (numbered : AreNumbered routines numbers ws w.inventory) (is : IsUnitBuilt numbers ws s w u kind o all) where
+  emitted : AreEmitted numbers ws s w u kind all
   emitted = record { differ = is.differ; names_listed = is.names_listed; listed = is.listed; stops = is.stops; emitted = is.emitted; as_many = is.as_many }
 
-  all_known : (functions : List CFunction) → KnowsItems (scope_in routines objects constants functions ws j w) o.names all
-  all_known functions = subst (λ ns. KnowsItems (scope_in routines objects constants functions ws j w) ns all) (sym is.names) (every routines objects functions numbers constants ws j w u kind all numbered emitted).knows
+  all_known : (functions : List CFunction) → KnowsItems (scope_in routines objects functions s w) o.names all
+  all_known functions = subst (λ ns. KnowsItems (scope_in routines objects functions s w) ns all) (sym is.names) (every routines objects functions numbers ws s w u kind all owned constants_before numbered emitted).knows
 
-  has : HasItsItems routines objects own constants ws j w o all
+  ordered : AreInOrder (first_string w.inventory s.bases) (strings_of_items (unit_names ws s w) all)
+  ordered =
+      subst (λ k. AreInOrder k (strings_of_items (unit_names ws s w) all)) {x = first_string w.inventory s.bases + 0} {y = first_string w.inventory s.bases} (omega arith)
+      (every routines objects [] numbers ws s w u kind all owned constants_before numbered emitted).in_order
+
+  code_is : (functions : List CFunction) → (linked_function routines own (file_scope routines objects s.bases.file (file_with s.constants functions)) s.bases.function (unit_function w)).function.code ≡ all
+  code_is functions =
+      let first = linked.first_string s.bases.function (unit_function w) + length (strings_of (linked.statics (unit_function w))) in
+      let kept = unit_statics_count w.inventory in
+      let passed = ap length (unit_strings w.inventory) in
+      let there : first_string w.inventory s.bases ≡ first = omega (arith, kept, passed) in
+      code_is_theirs routines own (file_scope routines objects s.bases.file (file_with s.constants functions)) s.bases.function (unit_function w) o all is.built (all_known functions)
+      (subst (λ ns. AreInOrder first (strings_of_items ns all)) (sym is.names) (subst (λ k. AreInOrder k (strings_of_items (unit_names ws s w) all)) there ordered))
+
+  has : HasItsItems routines objects own s w o all
   has =
       let v = w.inventory in
-      let b = bases_of constants ws j in
-      let names = unit_names constants ws j w in
-      let outer = file_scope routines objects 0 (units_file constants ws) in
-      let known = all_known (map unit_function ws) in
-      let listed = every routines objects (map unit_function ws) numbers constants ws j w u kind all numbered emitted in
-      let ordered = subst (λ k. AreInOrder k (strings_of_items names all)) {x = first_string v b + 0} {y = first_string v b} (omega arith) listed.in_order in
-      let kept = unit_statics_count v in
-      let passed = ap length (unit_strings v) in
-      let there : first_string v b ≡ linked.first_string b.function (unit_function w) + length (strings_of (linked.statics (unit_function w))) = omega (arith, kept, passed) in
-      let theirs = strings_are_theirs routines outer b.function (unit_function w) o all is.built known in
+      let names = unit_names ws s w in
+      let outer = file_scope routines objects s.bases.file (file_with s.constants []) in
+      let known = all_known [] in
+      let theirs = strings_are_theirs routines outer s.bases.function (unit_function w) o all is.built known in
       record {
         known = all_known;
-        code = code_is_theirs routines own outer b.function (unit_function w) o all is.built known
-            (subst (λ ns. AreInOrder (linked.first_string b.function (unit_function w) + length (strings_of (linked.statics (unit_function w)))) (strings_of_items ns all)) (sym is.names)
-            (subst (λ k. AreInOrder k (strings_of_items names all)) there ordered));
-        size = ap (λ body. body.size) (whole_is o all (unit_function w) is.built) ∙ (built_fit (scope_of routines outer b.function (unit_function w)) o all (unit_function w) is.built known).size;
-        strings = strings_same names.string v.texts (first_string v b) (whole_body w.body).items.strings (strings_of_items names all) v.strings
-            (subst (λ ns. AreBytesOf ns (whole_body w.body).items.strings (strings_of_items ns all)) is.names theirs) ordered (listed.counted ∙ ap length (sym is.stops))
-            (string_told routines objects (map unit_function ws) numbers constants ws j w u kind all numbered emitted);
+        code = code_is;
+        size = ap (λ body. body.size) (whole_is o all (unit_function w) is.built) ∙ (built_fit (scope_of routines outer s.bases.function (unit_function w)) o all (unit_function w) is.built known).size;
+        strings = strings_same names.string v.texts (first_string v s.bases) (whole_body w.body).items.strings (strings_of_items names all) v.strings
+            (subst (λ ns. AreBytesOf ns (whole_body w.body).items.strings (strings_of_items ns all)) is.names theirs) ordered
+            ((every routines objects [] numbers ws s w u kind all owned constants_before numbered emitted).counted ∙ ap length (sym is.stops))
+            (string_told routines objects [] numbers ws s w u kind all owned constants_before numbered emitted);
       }
 
 pub units_have_their_items : UnitsHaveTheirItems
-units_have_their_items routines objects own numbers constants ws j w u kind o items numbered is = has routines objects own numbers constants ws j w u kind o items numbered is
+units_have_their_items routines objects own numbers ws s w u kind o items owned before numbered is = has routines objects own numbers ws s w u kind o items owned before numbered is

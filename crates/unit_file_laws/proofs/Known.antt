@@ -1,5 +1,5 @@
--- The names of the functions of a file of several units stand for their objects, and for the functions that they call.
-use Rattle.std.specs.Prelude.{◌≡◌, ℕ, zero, suc, ◌+◌, ◌-◌, ◌<◌, nat_le, nat_lt, nat_eq, ℤ, pos, Bool, true, false, not, ◌&&◌, List, [], ◌∷◌, ◌++◌, map, length, replicate, position, Option, Some, None, is_some, unwrap_or, slice_get, bytes_eq}
+-- The names of the functions of files of several units stand for their objects, and for the functions that they call.
+use Rattle.std.specs.Prelude.{◌≡◌, ℕ, zero, suc, ◌+◌, ◌-◌, ◌<◌, ◌≤◌, nat_le, nat_lt, nat_eq, ℤ, pos, Bool, true, false, not, ◌&&◌, List, [], ◌∷◌, ◌++◌, map, length, replicate, position, Option, Some, None, is_some, unwrap_or, slice_get, bytes_eq}
 use Rattle.std.specs.Ordering.{int_eq}
 use Rattle.std.proofs.Common.{refl, sym, ap, ◌∙◌, subst, arith}
 use Rattle.std.proofs.lemmas.Bool.{and_left, ltb-true, le-leb, lt-leb}
@@ -43,10 +43,11 @@ use Rattle.main_file_laws.proofs.Known.{position_finds}
 use Rattle.unit_file.specs.UnitFile as file
 use Rattle.unit_file.specs.UnitFile.{Listing, Parameter, Inventory, Bases, WrittenUnit, constant_for, parameter_for, unit_locals, unit_function, units_file, result_count, frame_count, first_list, first_string, first_parameter, result_object, first_temporary, place_or_none, place_of_constant, place_of_variable, place_of_parameter, place_of_list, lasting_names, framed_names, parameter_object, address_in, lower_of, size_of, writing_of}
 use Rattle.unit_file.specs.UnitNames.{constant_names, called_names, object_names, object_name, string_at, own_names, routine_name}
-use Rattle.unit_places.specs.UnitPlaces.{inventories, bases_of}
+use Rattle.unit_sites.specs.UnitSites.{inventories, Site}
+use Rattle.unit_places.specs.UnitPlaces.{file_with}
 use Rattle.unit_places.proofs.Declared.{unit_strings, unit_statics_count, unit_lasting_names, unit_variable, unit_listing, framed_by, framed_are, framed_parameter, framed_result, framed_temporary}
-use Rattle.unit_file_laws.specs.KnownUnits.{NamesDiffer, IsVariable, IsParameter, NamesAreListed, unit_writing, unit_names, file_with, scope_in, UnitIsKnown, UnitFilesAreKnown}
-use Rattle.unit_file_laws.proofs.Listed.{framed_names_are, framed_names_by, externs_are, number_access, function_access, first_behind}
+use Rattle.unit_file_laws.specs.KnownUnits.{NamesDiffer, IsVariable, IsParameter, NamesAreListed, unit_writing, unit_names, scope_in, UnitIsKnown, UnitFilesAreKnown}
+use Rattle.unit_file_laws.proofs.Listed.{framed_names_are, framed_names_by, externs_are, number_access, function_access}
 
 -- ## Positions
 
@@ -94,28 +95,29 @@ count_some : (count : Option ℕ) → is_some count ≡ true → (n : ℕ) × (c
 count_some None h = absurd (cc)
 count_some (Some n) h = (n, refl)
 
-module _ (numbers : Routines) (objects : List ℕ → Option ℕ) (constants : List ℤ) (functions : List CFunction) (ws : List WrittenUnit) (j : ℕ) (w : WrittenUnit) (facts : Facts) (kind : ℕ → ℕ → Option Basic) (differ : NamesDiffer constants w.inventory)
+module _ (numbers : Routines) (objects : List ℕ → Option ℕ) (functions : List CFunction) (ws : List WrittenUnit) (s : Site) (w : WrittenUnit) (facts : Facts) (kind : ℕ → ℕ → Option Basic) (owned : s.bases.own ≡ length ws)
+    (constants_before : s.bases.file + length s.constants ≤ s.bases.function) (differ : NamesDiffer s.constants w.inventory)
     (listed : NamesAreListed w.inventory facts) (strings : length (whole_body w.body).items.strings ≡ length w.inventory.strings) where
   abbrev v : Inventory
   v = w.inventory
 
   abbrev b : Bases
-  b = bases_of constants ws j
+  b = s.bases
 
   abbrev outer : Scope
-  outer = file_scope numbers objects 0 (file_with constants functions)
+  outer = file_scope numbers objects s.bases.file (file_with s.constants functions)
 
   abbrev scope : Scope
-  scope = scope_in numbers objects constants functions ws j w
+  scope = scope_in numbers objects functions s w
 
   abbrev names : Names
-  names = unit_names constants ws j w
+  names = unit_names ws s w
 
   inner : linked.NamesAreKnown numbers outer b.function (unit_function w)
   inner = scopes_are_known numbers outer b.function (unit_function w)
 
-  around : linked.FileNamesAreKnown numbers objects 0 (file_with constants functions)
-  around = file_scopes_are_known numbers objects 0 (file_with constants functions)
+  around : linked.FileNamesAreKnown numbers objects s.bases.file (file_with s.constants functions)
+  around = file_scopes_are_known numbers objects s.bases.file (file_with s.constants functions)
 
   -- ## Where the frame stands
 
@@ -130,37 +132,36 @@ module _ (numbers : Routines) (objects : List ℕ → Option ℕ) (constants : L
 
   -- ## Names of objects
 
-  own_name : (i : ℕ) (name : List ℕ) → slice_get (object_names v) i ≡ Some name → object_name constants v b (b.function + i) ≡ name
+  own_name : (i : ℕ) (name : List ℕ) → slice_get (object_names v) i ≡ Some name → object_name s.constants v b (b.function + i) ≡ name
   unfolding object_name
   own_name i name at =
-      taken (nat_le b.function (b.function + i)) (unwrap_or (slice_get (object_names v) ((b.function + i) - b.function)) []) (unwrap_or (slice_get (constant_names constants) ((b.function + i) - b.file)) []) (le-leb b.function (b.function + i) (omega arith))
+      taken (nat_le b.function (b.function + i)) (unwrap_or (slice_get (object_names v) ((b.function + i) - b.function)) []) (unwrap_or (slice_get (constant_names s.constants) ((b.function + i) - b.file)) []) (le-leb b.function (b.function + i) (omega arith))
       ∙ ap (λ k. unwrap_or (slice_get (object_names v) k) []) {x = (b.function + i) - b.function} {y = i} (omega arith) ∙ ap (λ o. unwrap_or o []) at
 
-  lasting_name : (i : ℕ) (name : List ℕ) → slice_get (lasting_names v) i ≡ Some name → object_name constants v b (b.function + i) ≡ name
+  lasting_name : (i : ℕ) (name : List ℕ) → slice_get (lasting_names v) i ≡ Some name → object_name s.constants v b (b.function + i) ≡ name
   lasting_name i name at = own_name i name (get_front (lasting_names v) (replicate (length v.strings) [] ++ framed_names v) i name at)
 
   lasting_count : length (lasting_names v) ≡ length v.variables + length v.lists
   lasting_count =
       length-append (map (λ (one : file.Variable). variable_name one.name) v.variables) (list_names 1 v.lists) ∙ (λ i. length-map v.variables (λ (one : file.Variable). variable_name one.name) i + list_names_count 1 v.lists i)
 
-  framed_name : (k : ℕ) (name : List ℕ) → slice_get (framed_names v) k ≡ Some name → object_name constants v b (first_parameter v b + k) ≡ name
+  framed_name : (k : ℕ) (name : List ℕ) → slice_get (framed_names v) k ≡ Some name → object_name s.constants v b (first_parameter v b + k) ≡ name
   framed_name k name at =
       let kept = lasting_count in
       let blanks : length {A = List ℕ} (replicate (length v.strings) []) ≡ length v.strings = length-replicate (length v.strings) [] in
-      ap (object_name constants v b) {x = first_parameter v b + k} {y = b.function + (length v.variables + length v.lists + length v.strings + k)} (omega arith)
+      ap (object_name s.constants v b) {x = first_parameter v b + k} {y = b.function + (length v.variables + length v.lists + length v.strings + k)} (omega arith)
       ∙ own_name (length v.variables + length v.lists + length v.strings + k) name
       (get_back (lasting_names v) (replicate (length v.strings) [] ++ framed_names v) (length v.variables + length v.lists + length v.strings + k) (length v.strings + k) name (omega (arith, kept))
       (get_back (replicate (length v.strings) []) (framed_names v) (length v.strings + k) k name (omega (arith, blanks)) at))
 
-  file_name : (i : ℕ) (name : List ℕ) → slice_get (constant_names constants) i ≡ Some name → object_name constants v b (b.file + i) ≡ name
+  file_name : (i : ℕ) (name : List ℕ) → slice_get (constant_names s.constants) i ≡ Some name → object_name s.constants v b (b.file + i) ≡ name
   unfolding object_name
   file_name i name at =
-      let less = within (constant_names constants) i name at in
-      let count = length-map constants (λ z. made_name (ConstantOf z)) in
-      let before = first_behind (length constants) (inventories ws) j in
-      skipped (nat_le b.function (b.file + i)) (unwrap_or (slice_get (object_names v) ((b.file + i) - b.function)) []) (unwrap_or (slice_get (constant_names constants) ((b.file + i) - b.file)) [])
-      (lt-leb b.function (b.file + i) (omega (arith, less, count, before)))
-      ∙ ap (λ k. unwrap_or (slice_get (constant_names constants) k) []) {x = (b.file + i) - b.file} {y = i} (omega arith) ∙ ap (λ o. unwrap_or o []) at
+      let less = within (constant_names s.constants) i name at in
+      let count = length-map s.constants (λ z. made_name (ConstantOf z)) in
+      skipped (nat_le b.function (b.file + i)) (unwrap_or (slice_get (object_names v) ((b.file + i) - b.function)) []) (unwrap_or (slice_get (constant_names s.constants) ((b.file + i) - b.file)) [])
+      (lt-leb b.function (b.file + i) (omega (arith, less, count, constants_before)))
+      ∙ ap (λ k. unwrap_or (slice_get (constant_names s.constants) k) []) {x = (b.file + i) - b.file} {y = i} (omega arith) ∙ ap (λ o. unwrap_or o []) at
 
   no_string : (k : ℕ) → k < first_string v b → string_at v b k ≡ None
   unfolding string_at
@@ -170,14 +171,14 @@ module _ (numbers : Routines) (objects : List ℕ → Option ℕ) (constants : L
 
   -- ## What they stand for
 
-  plain_variable : (k : ℕ) (access : Access) → scope (object_name constants v b k) ≡ Variable k access → IsPlain scope names (Variable k access)
+  plain_variable : (k : ℕ) (access : Access) → scope (object_name s.constants v b k) ≡ Variable k access → IsPlain scope names (Variable k access)
   unfolding strings_in
   plain_variable k access known = record { knows = known; no_strings = refl }
 
-  plain_array : (k : ℕ) (access : Access) → string_at v b k ≡ None → scope (object_name constants v b k) ≡ Array k access → IsPlain scope names (Array k access)
+  plain_array : (k : ℕ) (access : Access) → string_at v b k ≡ None → scope (object_name s.constants v b k) ≡ Array k access → IsPlain scope names (Array k access)
   unfolding strings_in written.string_at
   plain_array k access none known = record {
-    knows = subst (λ found. KnowsArray scope (object_name constants v b k) found k access) (sym none) known;
+    knows = subst (λ found. KnowsArray scope (object_name s.constants v b k) found k access) (sym none) known;
     no_strings = ap (λ found. written.string_at found k) none;
   }
 
@@ -196,22 +197,22 @@ module _ (numbers : Routines) (objects : List ℕ → Option ℕ) (constants : L
   none_called : (name : List ℕ) → IsNone name (called_names v) → IsNone name (declared_externs (unit_locals v))
   none_called name none = subst (IsNone name) (sym (externs_are v)) none
 
-  variable_stands : (i : ℕ) (one : file.Variable) → slice_get v.variables i ≡ Some one → scope (object_name constants v b (b.function + i)) ≡ stands_by one.count (b.function + i)
+  variable_stands : (i : ℕ) (one : file.Variable) → slice_get v.variables i ≡ Some one → scope (object_name s.constants v b (b.function + i)) ≡ stands_by one.count (b.function + i)
   variable_stands i one at =
       ap scope (lasting_name i (variable_name one.name) (get_front (map (λ (z : file.Variable). variable_name z.name) v.variables) (list_names 1 v.lists) i (variable_name one.name) (map_at (λ (z : file.Variable). variable_name z.name) v.variables i one at)))
       ∙ inner.lasting i (declared_variable one) distinct_lasting (unit_variable v i one at)
 
   -- an object of the frame
-  framed_stands : (i : ℕ) (d : Declared) → slice_get (framed_by v) i ≡ Some d → scope (object_name constants v b (first_parameter v b + i)) ≡ d.stands (first_parameter v b + i)
+  framed_stands : (i : ℕ) (d : Declared) → slice_get (framed_by v) i ≡ Some d → scope (object_name s.constants v b (first_parameter v b + i)) ≡ d.stands (first_parameter v b + i)
   framed_stands i d at =
       let named : slice_get (framed_names v) i ≡ Some d.name = ap (λ ns. slice_get ns i) (framed_names_by v) ∙ map_at (λ (e : Declared). e.name) (framed_by v) i d at in
       ap scope (framed_name i d.name named)
       ∙ inner.in_frame i d distinct_framed (none_lasting d.name (differ.not_lasting i d.name named)) (ap (λ ds. slice_get ds i) (framed_are v) ∙ at)
       ∙ ap (λ n. d.stands (n + i)) frame_is
 
-  parameter_stands : (x : Bytes) (points : _) (access : Access) → (p : IsParameter v x points) → parameter_access p.one.type ≡ access → scope (object_name constants v b (parameter_object v b x)) ≡ Variable (parameter_object v b x) access
+  parameter_stands : (x : Bytes) (points : _) (access : Access) → (p : IsParameter v x points) → parameter_access p.one.type ≡ access → scope (object_name s.constants v b (parameter_object v b x)) ≡ Variable (parameter_object v b x) access
   parameter_stands x points access p is =
-      subst (λ place. scope (object_name constants v b (first_parameter v b + unwrap_or place (frame_count v))) ≡ Variable (first_parameter v b + unwrap_or place (frame_count v)) access) (sym p.placed)
+      subst (λ place. scope (object_name s.constants v b (first_parameter v b + unwrap_or place (frame_count v))) ≡ Variable (first_parameter v b + unwrap_or place (frame_count v)) access) (sym p.placed)
       (framed_stands p.place (declared_parameter (parameter_for p.one)) (framed_parameter v p.place p.one p.at) ∙ ap (Variable (first_parameter v b + p.place)) is)
 
   -- ## Variables, arrays and dummies
@@ -251,26 +252,26 @@ module _ (numbers : Routines) (objects : List ℕ → Option ℕ) (constants : L
   array_by x class.Result is variable numeric some = let no : true ≡ false = sym some ∙ (listed.results x is numeric).0 in absurd (cc)
   array_by x other is variable numeric some = absurd (cc)
 
-  scalar_plain : (x : Bytes) → is_scalar (unit_writing constants ws j w facts kind) x ≡ true → IsPlain scope names (number_term (address_in v b x (facts.program.attribute x).class))
+  scalar_plain : (x : Bytes) → is_scalar (unit_writing s w facts kind) x ≡ true → IsPlain scope names (number_term (address_in v b x (facts.program.attribute x).class))
   unfolding is_scalar has_number
   scalar_plain x holds =
       let both = both_hold (is_variable (facts.program.attribute x).class && is_numeric (facts.program.attribute x).basic) (not (has_bounds (facts.program.attribute x).bounds)) holds in
       let number = both_hold (is_variable (facts.program.attribute x).class) (is_numeric (facts.program.attribute x).basic) both.0 in
       scalar_by x (facts.program.attribute x).class refl number.0 number.1 (not_so (has_bounds (facts.program.attribute x).bounds) both.1)
 
-  array_plain : (x : Bytes) → is_array (unit_writing constants ws j w facts kind) x ≡ true → StartIsPlain scope names (array_of (address_in v b x (facts.program.attribute x).class))
+  array_plain : (x : Bytes) → is_array (unit_writing s w facts kind) x ≡ true → StartIsPlain scope names (array_of (address_in v b x (facts.program.attribute x).class))
   unfolding is_array has_number
   array_plain x holds =
       let both = both_hold (is_variable (facts.program.attribute x).class && is_numeric (facts.program.attribute x).basic) (has_bounds (facts.program.attribute x).bounds) holds in
       let number = both_hold (is_variable (facts.program.attribute x).class) (is_numeric (facts.program.attribute x).basic) both.0 in
       array_by x (facts.program.attribute x).class refl number.0 number.1 both.1
 
-  pointer_stands : (x : Bytes) (parameter : ℕ) (k : Class) → (facts.program.attribute x).class ≡ class.DummyProcedure → k ≡ class.DummyProcedure → address_in v b x k ≡ Through parameter → scope (object_name constants v b parameter) ≡ Variable parameter ToFunction
+  pointer_stands : (x : Bytes) (parameter : ℕ) (k : Class) → (facts.program.attribute x).class ≡ class.DummyProcedure → k ≡ class.DummyProcedure → address_in v b x k ≡ Through parameter → scope (object_name s.constants v b parameter) ≡ Variable parameter ToFunction
   unfolding address_in
   pointer_stands x parameter class.DummyProcedure is same at =
       let p = listed.procedures x is in
       let there : parameter_object v b x ≡ parameter = through_same (parameter_object v b x) parameter at in
-      subst (λ k. scope (object_name constants v b k) ≡ Variable k ToFunction) there (parameter_stands x is_function_pointer ToFunction p (function_access p.one.type p.typed))
+      subst (λ k. scope (object_name s.constants v b k) ≡ Variable k ToFunction) there (parameter_stands x is_function_pointer ToFunction p (function_access p.one.type p.typed))
     where
       through_same : (m n : ℕ) → Through m ≡ Through n → m ≡ n
       through_same m n h = cc
@@ -285,20 +286,20 @@ module _ (numbers : Routines) (objects : List ℕ → Option ℕ) (constants : L
       subst (λ n. IsPlain scope names (Variable n ToNumber)) {x = first_parameter v b + index} {y = first_temporary v b + k} (omega arith)
       (plain_variable (first_parameter v b + index) ToNumber (framed_stands index (declared_temporary (1 + k)) (framed_temporary v k below)))
 
-  constant_stands : (i : ℕ) (z : ℤ) → slice_get constants i ≡ Some z → scope (object_name constants v b (b.file + i)) ≡ Variable (b.file + i) ToNumber
+  constant_stands : (i : ℕ) (z : ℤ) → slice_get s.constants i ≡ Some z → scope (object_name s.constants v b (b.file + i)) ≡ Variable (b.file + i) ToNumber
   constant_stands i z at =
       let name = made_name (ConstantOf z) in
-      let named = map_at (λ (y : ℤ). made_name (ConstantOf y)) constants i z at in
+      let named = map_at (λ (y : ℤ). made_name (ConstantOf y)) s.constants i z at in
       let none = differ.not_own i name named in
       ap scope (file_name i name named)
       ∙ inner.others name (none_lasting name none.0) (none_framed name none.1) (none_called name none.2)
-      ∙ around.constants i (declared_constant z) (subst AreDistinct (sym (ap linked.names_of (constants_declared constants) ∙ constants_named constants)) differ.constants)
-      (ap (λ ds. slice_get ds i) (constants_declared constants) ∙ map_at declared_constant constants i z at)
+      ∙ around.constants i (declared_constant z) (subst AreDistinct (sym (ap linked.names_of (constants_declared s.constants) ∙ constants_named s.constants)) differ.constants)
+      (ap (λ ds. slice_get ds i) (constants_declared s.constants) ∙ map_at declared_constant s.constants i z at)
 
-  constant_plain : (z : ℤ) → is_some (place_of_constant constants z) ≡ true → IsPlain scope names (Variable (b.file + place_or_none (place_of_constant constants z)) ToNumber)
+  constant_plain : (z : ℤ) → is_some (place_of_constant s.constants z) ≡ true → IsPlain scope names (Variable (b.file + place_or_none (place_of_constant s.constants z)) ToNumber)
   constant_plain z h =
-      let place = some_place (place_of_constant constants z) h in
-      let found = position_finds (int_eq z) constants place.0 place.1 in
+      let place = some_place (place_of_constant s.constants z) h in
+      let found = position_finds (int_eq z) s.constants place.0 place.1 in
       subst (λ p. IsPlain scope names (Variable (b.file + place_or_none p) ToNumber)) (sym place.1) (plain_variable (b.file + place.0) ToNumber (constant_stands place.0 found.one found.at))
 
   list_plain : (n i : ℕ) → place_of_list v n ≡ Some i → IsPlain scope names (Variable (first_list v b + place_or_none (place_of_list v n)) (ToList list_type.Transfer))
@@ -328,18 +329,18 @@ module _ (numbers : Routines) (objects : List ℕ → Option ℕ) (constants : L
       let none = differ.not_objects i name at in
       inner.called i name (ap (λ ns. slice_get ns i) (externs_are v) ∙ at) (none_lasting name none.0) (none_framed name none.1) ∙ ap routine number
 
-  call_known : (i k : ℕ) (name : List ℕ) → slice_get (called_names v) i ≡ Some name → position (bytes_eq name) builtin_names ≡ Some k → numbers name ≡ Some (length ws + k) → Calls scope names (unit_writing constants ws j w facts kind) name
+  call_known : (i k : ℕ) (name : List ℕ) → slice_get (called_names v) i ≡ Some name → position (bytes_eq name) builtin_names ≡ Some k → numbers name ≡ Some (length ws + k) → Calls scope names (unit_writing s w facts kind) name
   call_known i k name at is number =
       let found = position_finds (bytes_eq name) builtin_names k is in
       let same : name ≡ found.one = (bytes_eq-Decides name found.one).0 found.passes in
       let as_many = length-map ws (λ (z : WrittenUnit). z.inventory) in
       let counted = length-map (inventories ws) (λ (z : Inventory). z.name) in
-      let called : routine_name (inventories ws) (length (inventories ws) + k) ≡ name =
-      ap (λ o. unwrap_or o []) (get_back (own_names (inventories ws)) builtin_names (length (inventories ws) + k) k found.one (omega (arith, counted)) found.at) ∙ sym same in
-      subst (λ p. scope (routine_name (inventories ws) (length (inventories ws) + unwrap_or p 0)) ≡ Routine (length (inventories ws) + unwrap_or p 0)) (sym is)
-      (ap scope called ∙ routine_stands i (length ws + k) name at number ∙ ap Routine {x = length ws + k} {y = length (inventories ws) + k} (omega (arith, as_many)))
+      let called : routine_name (inventories ws) (s.bases.own + k) ≡ name =
+      ap (λ o. unwrap_or o []) (get_back (own_names (inventories ws)) builtin_names (s.bases.own + k) k found.one (omega (arith, as_many, counted, owned)) found.at) ∙ sym same in
+      subst (λ p. scope (routine_name (inventories ws) (s.bases.own + unwrap_or p 0)) ≡ Routine (s.bases.own + unwrap_or p 0)) (sym is)
+      (ap scope called ∙ routine_stands i (length ws + k) name at number ∙ ap Routine {x = length ws + k} {y = s.bases.own + k} (omega (arith, owned)))
 
-  all_known : UnitIsKnown numbers objects constants functions ws j w facts kind
+  all_known : UnitIsKnown numbers objects functions ws s w facts kind
   all_known = record {
     names = record {
       scalars = scalar_plain;
@@ -356,4 +357,4 @@ module _ (numbers : Routines) (objects : List ℕ → Option ℕ) (constants : L
   }
 
 pub unit_files_are_known : UnitFilesAreKnown
-unit_files_are_known numbers objects constants functions ws j w facts kind differ listed strings = all_known numbers objects constants functions ws j w facts kind differ listed strings
+unit_files_are_known numbers objects functions ws s w facts kind owned before differ listed strings = all_known numbers objects functions ws s w facts kind owned before differ listed strings

@@ -1,6 +1,6 @@
 -- What the locals of a unit declare, by their names.
-use Rattle.std.specs.Prelude.{◌≡◌, ℕ, zero, suc, ◌+◌, ◌≤◌, true, List, [], ◌∷◌, ◌++◌, map, Option, Some, None}
-use Rattle.std.proofs.Common.{refl, sym, ap, ◌∙◌, arith}
+use Rattle.std.specs.Prelude.{◌≡◌, ℕ, zero, suc, true, List, [], ◌∷◌, ◌++◌, map, Option, Some, None}
+use Rattle.std.proofs.Common.{refl, sym, ap, ◌∙◌}
 use Rattle.std.proofs.lemmas.List.{append-nil}
 use Rattle.f_tree.specs.CNames.{variable_name}
 use Rattle.c_tree.specs.declared.types.NumberType.{NumberType}
@@ -12,7 +12,7 @@ use Rattle.c_tree.specs.Declarations.{Declared, parameter_access, declared_param
 use Rattle.main_file_laws.proofs.Listed.{temporaries, automatics_listed, temporary_names_are, externs_listed}
 use Rattle.linking_laws.specs.Linked.{names_of}
 use Rattle.procedure_emission.specs.EmittedUnits.{is_number_pointer, is_function_pointer}
-use Rattle.unit_file.specs.UnitFile.{Parameter, Callee, Inventory, variable_for, lists_from, temporaries_from, parameter_for, result_local, extern_for, unit_locals, object_count, first_object, result_names, framed_names}
+use Rattle.unit_file.specs.UnitFile.{Parameter, Callee, Inventory, variable_for, lists_from, temporaries_from, parameter_for, result_local, extern_for, unit_locals, result_names, framed_names}
 use Rattle.unit_file.specs.UnitNames.{called_names}
 use Rattle.unit_places.proofs.Declared.{as_main, declared_result, framed_by, framed_are}
 
@@ -78,10 +78,3 @@ function_access parameter.Logicals h = absurd (cc)
 function_access parameter.Chars h = absurd (cc)
 function_access parameter.Length h = absurd (cc)
 function_access parameter.Int h = absurd (cc)
-
--- ## Where functions stand
-
-pub first_behind : (first : ℕ) (vs : List Inventory) (j : ℕ) → first ≤ first_object first vs j
-first_behind first [] j = omega arith
-first_behind first (v ∷ vs) zero = omega arith
-first_behind first (v ∷ vs) (suc j) = let later = first_behind (first + object_count v) vs j in omega (arith, later)

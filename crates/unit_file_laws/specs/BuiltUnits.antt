@@ -1,5 +1,5 @@
 -- That the function of a unit has the items that are emitted for its lowered text, where its statements are built for them. C89, 3.6.
-use Rattle.std.specs.Prelude.{◌≡◌, ℕ, suc, ◌+◌, ℤ, List, [], ◌∷◌, map, length, position, Option, Some, None, slice_get, bytes_eq, codes}
+use Rattle.std.specs.Prelude.{◌≡◌, ℕ, suc, ◌+◌, ◌≤◌, List, [], ◌∷◌, map, length, position, Option, Some, None, slice_get, bytes_eq, codes}
 use Rattle.f_tree.specs.declared.names.Basic.{Basic}
 use Rattle.f_tree.specs.Values.{Bytes}
 use Rattle.f_tree.specs.Facts.{Facts}
@@ -16,10 +16,11 @@ use Rattle.c_emit.specs.LibraryFunctions.{LibraryFunction, library_function}
 use Rattle.linking_laws.specs.Linked.{IsBuilt}
 use Rattle.main_file.specs.MainItems.{stops_from}
 use Rattle.procedure_emission.specs.ProcedureItems.{Numbers}
-use Rattle.unit_file.specs.UnitFile.{Inventory, WrittenUnit, units_file, unit_function, place_of_list}
+use Rattle.unit_file.specs.UnitFile.{Inventory, WrittenUnit, unit_function, place_of_list}
 use Rattle.unit_file.specs.UnitNames.{called_names, routine_name}
 unfoldable pub use Rattle.unit_file.specs.UnitItems.{unit_items, procedure_called, procedure_passed, procedures_passed, procedures_named, unit_items_opened}
-use Rattle.unit_places.specs.UnitPlaces.{inventories, bases_of}
+use Rattle.unit_sites.specs.UnitSites.{inventories, Site}
+use Rattle.unit_places.specs.UnitPlaces.{file_with}
 use Rattle.unit_file_laws.specs.KnownUnits.{NamesDiffer, NamesAreListed, unit_writing, unit_names, scope_in}
 
 -- ## What is declared
@@ -53,14 +54,14 @@ AreListed numbers vs c v n (st ∷ later) = IsListed numbers vs c v n st × AreL
 
 -- ## The function
 
--- a lowered text, its items, and the statements that are built for them
-pub record IsUnitBuilt (numbers : Numbers) (constants : List ℤ) (ws : List WrittenUnit) (j : ℕ) (w : WrittenUnit) (u : Text) (kind : ℕ → ℕ → Option Basic) (o : Outline) (items : List Flat) : Type 0 where
-  pub differ : NamesDiffer constants w.inventory
+-- a lowered text, its items, and the statements that are built for them, given the units of all files and the site of this one
+pub record IsUnitBuilt (numbers : Numbers) (ws : List WrittenUnit) (s : Site) (w : WrittenUnit) (u : Text) (kind : ℕ → ℕ → Option Basic) (o : Outline) (items : List Flat) : Type 0 where
+  pub differ : NamesDiffer s.constants w.inventory
   pub names_listed : NamesAreListed w.inventory u.facts
   pub listed : AreListed numbers (inventories ws) u.facts w.inventory 0 u.steps
   pub stops : w.inventory.strings ≡ stops_from 0 u.steps
-  pub names : o.names ≡ unit_names constants ws j w
-  pub emitted : unit_items numbers (unit_writing constants ws j w u.facts kind) u.position 0 u.steps ≡ Some items
+  pub names : o.names ≡ unit_names ws s w
+  pub emitted : unit_items numbers (unit_writing s w u.facts kind) u.position 0 u.steps ≡ Some items
   pub built : IsBuilt o items (unit_function w)
   pub as_many : length (whole_body w.body).items.strings ≡ length w.inventory.strings
 
@@ -69,18 +70,19 @@ pub record AreNumbered (routines : Routines) (numbers : Numbers) (ws : List Writ
   pub library : (name : List ℕ) (k : ℕ) → IsCalled v name → position (bytes_eq name) builtin_names ≡ Some k → routines name ≡ Some (length ws + k)
   pub own : (called : Called) (k : ℕ) → numbers called ≡ Some k → routines (routine_name (inventories ws) k) ≡ Some k
 
--- the names of its items are known, whatever functions are in scope around it; its code is the items, its statements have as many, and its strings are those
--- that are listed
-pub record HasItsItems (routines : Routines) (objects : List ℕ → Option ℕ) (own : ℕ) (constants : List ℤ) (ws : List WrittenUnit) (j : ℕ) (w : WrittenUnit) (o : Outline) (items : List Flat) : Type 0 where
-  pub known : (functions : List CFunction) → KnowsItems (scope_in routines objects constants functions ws j w) o.names items
-  pub code : (linked_function routines own (file_scope routines objects 0 (units_file constants ws)) (bases_of constants ws j).function (unit_function w)).function.code ≡ items
+-- whatever functions of its file are in scope around it, the names of its items are known, and its code is the items; its statements have as many, and its
+-- strings are those that are listed
+pub record HasItsItems (routines : Routines) (objects : List ℕ → Option ℕ) (own : ℕ) (s : Site) (w : WrittenUnit) (o : Outline) (items : List Flat) : Type 0 where
+  pub known : (functions : List CFunction) → KnowsItems (scope_in routines objects functions s w) o.names items
+  pub code : (functions : List CFunction) → (linked_function routines own (file_scope routines objects s.bases.file (file_with s.constants functions)) s.bases.function (unit_function w)).function.code ≡ items
   pub size : (whole_body w.body).size ≡ length items
   pub strings : (whole_body w.body).items.strings ≡ map w.inventory.texts w.inventory.strings
 
 -- LAW
+-- where the program has a function for each unit, and the constants of the file stand before the objects of the function
 abbrev pub UnitsHaveTheirItems : Type 0
-UnitsHaveTheirItems = (routines : Routines) (objects : List ℕ → Option ℕ) (own : ℕ) (numbers : Numbers) (constants : List ℤ) (ws : List WrittenUnit) (j : ℕ) (w : WrittenUnit) (u : Text) (kind : ℕ → ℕ → Option Basic) (o : Outline) (items : List Flat) →
-    AreNumbered routines numbers ws w.inventory → IsUnitBuilt numbers constants ws j w u kind o items → HasItsItems routines objects own constants ws j w o items
+UnitsHaveTheirItems = (routines : Routines) (objects : List ℕ → Option ℕ) (own : ℕ) (numbers : Numbers) (ws : List WrittenUnit) (s : Site) (w : WrittenUnit) (u : Text) (kind : ℕ → ℕ → Option Basic) (o : Outline) (items : List Flat) →
+    s.bases.own ≡ length ws → s.bases.file + length s.constants ≤ s.bases.function → AreNumbered routines numbers ws w.inventory → IsUnitBuilt numbers ws s w u kind o items → HasItsItems routines objects own s w o items
 
 unfoldable pub built_units_opened : Unit {0}
 unfolding unit_items_opened

@@ -1,6 +1,6 @@
--- That what a function of a file of several units goes by is known in it: its names stand for its objects, and for the functions that it calls.
+-- That what a function of files of several units goes by is known in it: its names stand for its objects, and for the functions that it calls.
 -- C89, 3.1.2.1 and 3.5.4.3.
-use Rattle.std.specs.Prelude.{◌≡◌, ℕ, ◌+◌, ℤ, Bool, true, false, List, [], map, length, position, Option, Some, is_some, slice_get, bytes_eq}
+use Rattle.std.specs.Prelude.{◌≡◌, ℕ, ◌+◌, ◌≤◌, ℤ, Bool, true, false, List, length, position, Option, Some, is_some, slice_get, bytes_eq}
 use Rattle.f_tree.specs.declared.names.Basic.{Basic}
 use Rattle.f_tree.specs.declared.names.Class.TheVariants as class
 use Rattle.f_tree.specs.Values.{Bytes}
@@ -9,7 +9,6 @@ use Rattle.c_tree.specs.declared.types.NumberType.{NumberType}
 use Rattle.c_tree.specs.declared.types.ParameterType.{ParameterType}
 use Rattle.c_tree.specs.declared.types.ListType.TheVariants as list_type
 use Rattle.c_tree.specs.declared.file.CFunction.{CFunction}
-use Rattle.c_tree.specs.declared.file.CFile.{CFile}
 use Rattle.c_tree.specs.Access.{ToFunction, ToList}
 use Rattle.c_tree.specs.Terms.{Variable, Routine}
 use Rattle.c_tree.specs.Builtins.{builtin_names}
@@ -22,9 +21,10 @@ use Rattle.c_emit.specs.Numbers.{Writing, is_numeric, has_bounds}
 use Rattle.linking_laws.specs.Linked.{AreDistinct, IsNone, scope_of}
 use Rattle.emitted_names.specs.KnownNames.{IsPlain, IsKnownBy, Calls}
 use Rattle.procedure_emission.specs.EmittedUnits.{is_number_pointer, is_function_pointer}
-use Rattle.unit_file.specs.UnitFile.{Variable as Declared, Parameter, Inventory, WrittenUnit, constant_for, unit_function, place_of_variable, place_of_parameter, place_of_list, lasting_names, framed_names, writing_of}
+use Rattle.unit_file.specs.UnitFile.{Variable as Declared, Parameter, Inventory, WrittenUnit, unit_function, place_of_variable, place_of_parameter, place_of_list, lasting_names, framed_names, writing_of}
 use Rattle.unit_file.specs.UnitNames.{constant_names, called_names, routine_name, names_of}
-use Rattle.unit_places.specs.UnitPlaces.{inventories, bases_of}
+use Rattle.unit_sites.specs.UnitSites.{inventories, Site}
+use Rattle.unit_places.specs.UnitPlaces.{file_with}
 
 -- all names are told apart
 pub record NamesDiffer (zs : List ℤ) (v : Inventory) : Type 0 where
@@ -59,37 +59,34 @@ pub record NamesAreListed (v : Inventory) (facts : Facts) : Type 0 where
   pub results : (x : Bytes) → (facts.program.attribute x).class ≡ class.Result → is_numeric (facts.program.attribute x).basic ≡ true →
       (has_bounds (facts.program.attribute x).bounds ≡ false) × ((type : NumberType) × (v.returned ≡ Some type))
 
--- what a function of the file goes by
-abbrev pub unit_writing : List ℤ → List WrittenUnit → ℕ → WrittenUnit → Facts → (ℕ → ℕ → Option Basic) → Writing
-unit_writing constants ws j w facts kind = writing_of constants w.inventory (bases_of constants ws j) facts kind
+-- what a function goes by, by its site
+abbrev pub unit_writing : Site → WrittenUnit → Facts → (ℕ → ℕ → Option Basic) → Writing
+unit_writing s w facts kind = writing_of s.constants w.inventory s.bases facts kind
 
-abbrev pub unit_names : List ℤ → List WrittenUnit → ℕ → WrittenUnit → Names
-unit_names constants ws j w = names_of constants (inventories ws) w.inventory (bases_of constants ws j)
+abbrev pub unit_names : List WrittenUnit → Site → WrittenUnit → Names
+unit_names ws s w = names_of s.constants (inventories ws) w.inventory s.bases
 
--- the constants, and some functions: those of all units, or those that stand before one
-abbrev pub file_with : List ℤ → List CFunction → CFile
-file_with constants functions = record { objects = []; constants = map constant_for constants; functions = functions }
+-- the names in scope of a function, by what functions of its file are in scope around it
+abbrev pub scope_in : Routines → (List ℕ → Option ℕ) → List CFunction → Site → WrittenUnit → Scope
+scope_in numbers objects functions s w = scope_of numbers (file_scope numbers objects s.bases.file (file_with s.constants functions)) s.bases.function (unit_function w)
 
--- the names in scope of a function of the file, by what functions are in scope around it
-abbrev pub scope_in : Routines → (List ℕ → Option ℕ) → List ℤ → List CFunction → List WrittenUnit → ℕ → WrittenUnit → Scope
-scope_in numbers objects constants functions ws j w = scope_of numbers (file_scope numbers objects 0 (file_with constants functions)) (bases_of constants ws j).function (unit_function w)
-
--- what is known there
-pub record UnitIsKnown (numbers : Routines) (objects : List ℕ → Option ℕ) (constants : List ℤ) (functions : List CFunction) (ws : List WrittenUnit) (j : ℕ) (w : WrittenUnit) (facts : Facts) (kind : ℕ → ℕ → Option Basic) : Type 0 where
-  pub names : IsKnownBy (scope_in numbers objects constants functions ws j w) (unit_names constants ws j w) (unit_writing constants ws j w facts kind)
+-- what is known there, given the units of all files
+pub record UnitIsKnown (numbers : Routines) (objects : List ℕ → Option ℕ) (functions : List CFunction) (ws : List WrittenUnit) (s : Site) (w : WrittenUnit) (facts : Facts) (kind : ℕ → ℕ → Option Basic) : Type 0 where
+  pub names : IsKnownBy (scope_in numbers objects functions s w) (unit_names ws s w) (unit_writing s w facts kind)
   -- the control lists, and the functions of the library that are called
-  pub lists : (n i : ℕ) → place_of_list w.inventory n ≡ Some i →
-      IsPlain (scope_in numbers objects constants functions ws j w) (unit_names constants ws j w) (Variable ((unit_writing constants ws j w facts kind).library.list n) (ToList list_type.Transfer))
+  pub lists : (n i : ℕ) → place_of_list w.inventory n ≡ Some i → IsPlain (scope_in numbers objects functions s w) (unit_names ws s w) (Variable ((unit_writing s w facts kind).library.list n) (ToList list_type.Transfer))
   pub calls : (i k : ℕ) (name : List ℕ) → slice_get (called_names w.inventory) i ≡ Some name → position (bytes_eq name) builtin_names ≡ Some k → numbers name ≡ Some (length ws + k) →
-      Calls (scope_in numbers objects constants functions ws j w) (unit_names constants ws j w) (unit_writing constants ws j w facts kind) name
+      Calls (scope_in numbers objects functions s w) (unit_names ws s w) (unit_writing s w facts kind) name
   -- those of other units, and the parameters that point to functions
   pub routines : (i k : ℕ) → slice_get (called_names w.inventory) i ≡ Some (routine_name (inventories ws) k) → numbers (routine_name (inventories ws) k) ≡ Some k →
-      scope_in numbers objects constants functions ws j w (routine_name (inventories ws) k) ≡ Routine k
-  pub pointers : (x : Bytes) (parameter : ℕ) → (facts.program.attribute x).class ≡ class.DummyProcedure → (unit_writing constants ws j w facts kind).naming.address x ≡ Through parameter →
-      scope_in numbers objects constants functions ws j w ((unit_names constants ws j w).object parameter) ≡ Variable parameter ToFunction
+      scope_in numbers objects functions s w (routine_name (inventories ws) k) ≡ Routine k
+  pub pointers : (x : Bytes) (parameter : ℕ) → (facts.program.attribute x).class ≡ class.DummyProcedure → (unit_writing s w facts kind).naming.address x ≡ Through parameter →
+      scope_in numbers objects functions s w ((unit_names ws s w).object parameter) ≡ Variable parameter ToFunction
 
 -- LAW
--- where the strings of its statements are as many as are listed
+-- where the program has a function for each unit, the constants of the file stand before the objects of the function, and the strings of its statements are as
+-- many as are listed
 abbrev pub UnitFilesAreKnown : Type 0
-UnitFilesAreKnown = (numbers : Routines) (objects : List ℕ → Option ℕ) (constants : List ℤ) (functions : List CFunction) (ws : List WrittenUnit) (j : ℕ) (w : WrittenUnit) (facts : Facts) (kind : ℕ → ℕ → Option Basic) →
-    NamesDiffer constants w.inventory → NamesAreListed w.inventory facts → length (whole_body w.body).items.strings ≡ length w.inventory.strings → UnitIsKnown numbers objects constants functions ws j w facts kind
+UnitFilesAreKnown = (numbers : Routines) (objects : List ℕ → Option ℕ) (functions : List CFunction) (ws : List WrittenUnit) (s : Site) (w : WrittenUnit) (facts : Facts) (kind : ℕ → ℕ → Option Basic) →
+    s.bases.own ≡ length ws → s.bases.file + length s.constants ≤ s.bases.function → NamesDiffer s.constants w.inventory → NamesAreListed w.inventory facts → length (whole_body w.body).items.strings ≡ length w.inventory.strings →
+    UnitIsKnown numbers objects functions ws s w facts kind

@@ -1,4 +1,4 @@
-//! That what the functions of a file of several units go by is known in them, and that they have the items of their lowered texts. The functions here do
+//! That what the functions of files of several units go by is known in them, and that they have the items of their lowered texts. The functions here do
 //! nothing; their contracts are the laws.
 #![tactic(auto)]
 

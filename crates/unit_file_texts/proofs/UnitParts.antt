@@ -18,7 +18,7 @@ use Rattle.c_tree.specs.CText.{no_names, ReadsFunction, a_function, ReadsFunctio
 use Rattle.main_file.specs.MainFile.{temporary_names}
 use Rattle.unit_file.specs.UnitFile.{Variable, Listing, Parameter, Callee, Inventory, WrittenUnit, constant_for, variable_for, lists_from, temporaries_from, parameter_for, result_local, extern_for, unit_locals, unit_function, units_file, result_names}
 use Rattle.unit_file.specs.UnitNames.{called_names, own_names}
-use Rattle.unit_places.specs.UnitPlaces.{inventories}
+use Rattle.unit_sites.specs.UnitSites.{inventories}
 use Rattle.main_file_texts.specs.WellFormedMains.{IsSpelled}
 use Rattle.main_file_texts.proofs.Declared.{local_name, local_names, with_all, with_constants, constant_texts, parameter_names, with_params, with_functions}
 use Rattle.main_file_texts.proofs.Declarations.{temporary_spelled, extern_spelled, AreReadable, readable_both, temporaries_readable, variables_readable, lists_readable, temporaries_named, variables_named, lists_named, AllNew, locals_spelled, names_behind, AreThere, parts_spelled}

@@ -1,6 +1,6 @@
--- The strings of the file of units that call each other are the texts of STOP statements, so that its printed text spells it.
+-- The strings of each file of units that call each other are the texts of STOP statements, so that its printed text spells it.
 use Rattle.std.specs.List.{list_all}
-use Rattle.std.specs.Prelude.{◌≡◌, ℕ, zero, suc, ◌+◌, true, ◌&&◌, List, [], ◌∷◌, ◌++◌, map, Option, Some, None, slice_get}
+use Rattle.std.specs.Prelude.{◌≡◌, ℕ, zero, suc, ◌+◌, true, ◌&&◌, List, [], ◌∷◌, ◌++◌, map, length, Option, Some, None, slice_get}
 use Rattle.std.proofs.Common.{refl, sym, ap, ◌∙◌, subst, arith}
 use Rattle.std.proofs.lemmas.Bool.{lt-ltb}
 use Rattle.std.proofs.lemmas.List.Folds.{list_all-append}
@@ -10,17 +10,18 @@ use Rattle.f_tree.specs.Setting.{first_in, later_in}
 use Rattle.l_core.specs.Steps.{Step, Halt}
 use Rattle.c_tree.specs.declared.types.NumberType.{NumberType}
 use Rattle.c_tree.specs.declared.declaration.CLocal.{CLocal}
-use Rattle.c_spelling.specs.Spelled.{of_bytes, statements_of_bytes, local_of_bytes, function_of_bytes}
+use Rattle.c_spelling.specs.Spelled.{of_bytes, file_of_bytes, statements_of_bytes, local_of_bytes, function_of_bytes}
 use Rattle.c_spelling.proofs.Files.{file_spelled}
 use Rattle.faithful.specs.UnitsAtStart.{AreBytes}
 use Rattle.main_file.specs.MainFile.{variable_by}
 use Rattle.main_file.specs.MainItems.{stops_from}
 use Rattle.unit_file.specs.UnitFile.{Variable, Listing, Callee, Inventory, variable_for, lists_from, temporaries_from, result_local, extern_for, unit_locals, unit_function, units_file}
+use Rattle.unit_sites.specs.UnitSites.{file_for}
 use Rattle.unit_programs.specs.TranslatedUnits.{Rendering, written_of}
 use Rattle.unit_programs.proofs.Objects.{its_items}
 use Rattle.unit_file_texts.specs.SpelledUnits.{UnitFilesAreOfBytes, UnitFilesAreSpelled}
 use Rattle.unit_file_texts.proofs.TreeStrings.{all_of_bytes, in_whole}
-use Rattle.unit_file_texts.proofs.UnitTexts.{unit_files_are_well_formed}
+use Rattle.unit_file_texts.proofs.UnitTexts.{stands_in, unit_files_are_well_formed}
 
 -- ## The texts of STOP statements
 
@@ -80,16 +81,18 @@ functions_hold [] each = refl
 functions_hold (r ∷ rs) each = (λ i. function_holds r (each zero r refl) i && functions_hold rs (λ j q at. each (suc j) q at) i)
 
 pub unit_files_are_of_bytes : UnitFilesAreOfBytes
-unit_files_are_of_bytes constants rs is = functions_hold rs statements
+unit_files_are_of_bytes fs rs is f part of = subst (λ units. file_of_bytes (units_file f.constants units) ≡ true) of.written (functions_hold part statements)
   where
-    statements : (j : ℕ) (r : Rendering) → slice_get rs j ≡ Some r → statements_of_bytes r.written.body ≡ true
-    statements j r at =
-        let unit = is.units j r at in
+    statements : (i : ℕ) (r : Rendering) → slice_get part i ≡ Some r → statements_of_bytes r.written.body ≡ true
+    statements i r at =
+        let j = length of.before + i in
+        let stands = stands_in rs f part of i r at in
+        let unit = is.units j r stands in
         let v = r.written.inventory in
-        sym (in_whole r.written.body) ∙ ap all_of_bytes ((its_items constants rs is j r at).strings ∙ ap (map v.texts) unit.built.stops)
+        sym (in_whole r.written.body) ∙ ap all_of_bytes ((its_items fs rs is j r stands).strings ∙ ap (map v.texts) unit.built.stops)
         ∙ stops_of_bytes v.texts 0 r.text.steps
         (λ n m text same there.
         let here : m ≡ n = omega (arith, same) in subst (λ k. of_bytes (v.texts k) ≡ true) (sym here) (ap of_bytes (unit.passes.texts n text there) ∙ text_of_bytes text (unit.passes.short n text there).0))
 
 pub unit_files_are_spelled : UnitFilesAreSpelled
-unit_files_are_spelled constants rs is spellable = file_spelled (units_file constants (written_of rs)) (unit_files_are_of_bytes constants rs is) (unit_files_are_well_formed constants rs is spellable)
+unit_files_are_spelled fs rs is f part of spellable = file_spelled (file_for f) (unit_files_are_of_bytes fs rs is f part of) (unit_files_are_well_formed fs rs is f part of spellable)

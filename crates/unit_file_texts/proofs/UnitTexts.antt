@@ -1,9 +1,10 @@
--- The C file of units that call each other is well formed.
+-- The C files of units that call each other are well formed.
 use Rattle.std.specs.List.{list_all}
-use Rattle.std.specs.Prelude.{◌≡◌, ◌≢◌, ℕ, ◌*◌, nat_le, ℤ, Bool, true, false, ◌||◌, List, [], ◌∷◌, ◌++◌, map, length, Some, unwrap_or, slice_get, bytes_eq}
+use Rattle.std.specs.Prelude.{◌≡◌, ◌≢◌, ℕ, ◌+◌, ◌*◌, nat_le, ℤ, Bool, true, false, ◌||◌, List, [], ◌∷◌, ◌++◌, map, length, Some, unwrap_or, slice_get, bytes_eq}
 use Rattle.std.proofs.Common.{refl, sym, ap, ◌∙◌, subst, arith}
 use Rattle.std.proofs.lemmas.Bool.{leb-true}
 use Rattle.std.proofs.lemmas.List.{append_assoc}
+use Rattle.f_tree.specs.Values.{in_range}
 use Rattle.f_tree.specs.Facts.{ProgramUnit}
 use Rattle.f_tree.specs.Setting.{IsIn, first_in, later_in}
 use Rattle.c_tree.specs.Drafts as linking
@@ -18,16 +19,17 @@ use Rattle.c_structure_laws.specs.Fitting.{KnowsItems}
 use Rattle.linking_laws.specs.Linked as linked
 use Rattle.linking_laws.specs.Linked.{AreDistinct, IsNone, IsBuilt, routines_of, outside_of}
 use Rattle.linking_laws.proofs.BuiltCode.{built_fit}
-use Rattle.linking_laws.proofs.Places.{some_same, within, some_at}
+use Rattle.linking_laws.proofs.Places.{some_same, get_front, get_back, within, some_at}
 use Rattle.main_file.specs.MainFile.{temporary_names}
 use Rattle.main_programs.proofs.MainStorage.{map_back}
 use Rattle.main_translation_laws.proofs.Lists.{AreApart, none_apart, one_apart, at_in, in_either, InEither, in_one, in_other, apart_append}
 use Rattle.unit_file.specs.UnitFile.{Variable, Inventory, WrittenUnit, constant_for, unit_locals, unit_function, units_file, result_names, lasting_names, framed_names}
 use Rattle.unit_file.specs.UnitNames.{constant_names, called_names}
-use Rattle.unit_places.specs.UnitPlaces.{files_of, bases_of}
-use Rattle.unit_file_laws.specs.KnownUnits.{NamesDiffer, unit_writing, file_with, scope_in}
+use Rattle.unit_sites.specs.UnitSites.{UnitsOfFile, files_of}
+use Rattle.unit_places.specs.UnitPlaces.{file_with}
+use Rattle.unit_file_laws.specs.KnownUnits.{NamesDiffer, unit_writing}
 use Rattle.unit_programs.specs.OwnStorage.{bytes_in, HasOwnStorage}
-use Rattle.unit_programs.specs.TranslatedUnits.{Rendering, written_of, numbers_of, IsTranslatedUnit, IsTranslatedFile}
+use Rattle.unit_programs.specs.TranslatedUnits.{Rendering, written_of, numbers_of, IsTranslatedUnit, IsTranslatedSet}
 use Rattle.unit_programs.proofs.Objects.{its_items}
 use Rattle.main_file_texts.specs.WellFormedMains.{Agrees, AreSpelled, IsSpelled}
 use Rattle.main_file_texts.proofs.Declared.{same_text, none_among, none_in_first, local_names, with_all, with_constants, constant_texts, parameter_names, with_params, with_functions, names_agree, around_units}
@@ -35,7 +37,7 @@ use Rattle.main_file_texts.proofs.SpelledStatements.{statements_are_spelled}
 use Rattle.main_file_texts.proofs.MeetingLabels.{labels_do_meet}
 use Rattle.main_file_texts.proofs.Declarations.{AreReadable, AllNew, all_new}
 use Rattle.main_file_texts.proofs.Files.{apart_by, all_words, constants_named, declared_named, constant_fit}
-use Rattle.unit_file_texts.specs.WellFormedUnits.{parameter_words, local_words, has_elements, is_short, IsSpellable, AreSpellable, UnitFilesAreWellFormed}
+use Rattle.unit_file_texts.specs.WellFormedUnits.{parameter_words, local_words, has_elements, is_short, IsSpellable, AreSpellable, AreOfOneFile, UnitFilesAreWellFormed}
 use Rattle.unit_file_texts.proofs.UnitFieldless.{unit_items_fieldless}
 use Rattle.unit_file_texts.proofs.UnitParts.{new_first, new_last, params_named, locals_readable, locals_named, params_of, scope_within, function_spelled, names_in, file_spelled}
 
@@ -131,9 +133,37 @@ length_is unit v storage all one n o is =
 
 -- ## The functions
 
-module _ (constants : List ℤ) (rs : List Rendering) (is : IsTranslatedFile constants rs) (spellable : AreSpellable constants rs) where
+-- a unit of the file among all
+pub stands_in : (rs : List Rendering) (f : UnitsOfFile) (part : List Rendering) → (of : AreOfOneFile rs f part) → (i : ℕ) (r : Rendering) → slice_get part i ≡ Some r → slice_get rs (length of.before + i) ≡ Some r
+stands_in rs f part of i r at =
+    ap (λ all. slice_get all (length of.before + i)) of.whole ∙ get_back of.before (part ++ of.behind) (length of.before + i) i r refl (get_front part of.behind i r at)
+
+distinct_front : (names more : List (List ℕ)) → AreDistinct (names ++ more) → AreDistinct names
+distinct_front names more distinct i j name at other = distinct i j name (get_front names more i name at) (get_front names more j name other)
+
+distinct_back : (names more : List (List ℕ)) → AreDistinct (names ++ more) → AreDistinct more
+distinct_back names more distinct i j name at other =
+    let same : length names + i ≡ length names + j = distinct (length names + i) (length names + j) name (get_back names more (length names + i) i name refl at) (get_back names more (length names + j) j name refl other) in
+    omega (arith, same)
+
+names_split : (before part behind : List Rendering) → names_in (written_of (before ++ (part ++ behind))) ≡ names_in (written_of before) ++ (names_in (written_of part) ++ names_in (written_of behind))
+names_split [] [] behind = refl
+names_split [] (r ∷ part) behind = ap (λ names. r.written.inventory.name ∷ names) (names_split [] part behind)
+names_split (r ∷ before) part behind = ap (λ names. r.written.inventory.name ∷ names) (names_split before part behind)
+
+-- its functions are told apart as all are
+part_distinct : (rs : List Rendering) (f : UnitsOfFile) (part : List Rendering) → AreOfOneFile rs f part → AreDistinct (names_in (written_of rs)) → AreDistinct (names_in (written_of part))
+part_distinct rs f part of distinct =
+    distinct_front (names_in (written_of part)) (names_in (written_of of.behind))
+    (distinct_back (names_in (written_of of.before)) (names_in (written_of part) ++ names_in (written_of of.behind))
+    (subst AreDistinct (ap (λ all. names_in (written_of all)) of.whole ∙ names_split of.before part of.behind) distinct))
+
+module _ (fs : List UnitsOfFile) (rs : List Rendering) (is : IsTranslatedSet fs rs) (f : UnitsOfFile) (part : List Rendering) (of : AreOfOneFile rs f part) (spellable : AreSpellable f.constants part) where
   abbrev ws : List WrittenUnit
-  ws = written_of rs
+  ws = written_of part
+
+  abbrev constants : List ℤ
+  constants = f.constants
 
   abbrev of_constants : Scope
   of_constants = with_constants no_names (map constant_for constants)
@@ -147,10 +177,13 @@ module _ (constants : List ℤ) (rs : List Rendering) (is : IsTranslatedFile con
       let one = at_in x (constant_names constants) o in
       none_among x (names_in ws) (λ y p same. let other = at_in y (names_in ws) p in spellable.apart one.index x one.at other.index (other.at ∙ ap Some (sym same)))
 
-  module _ (j : ℕ) (r : Rendering) (at : slice_get rs j ≡ Some r) (names : List (List ℕ))
+  module _ (i : ℕ) (r : Rendering) (at : slice_get part i ≡ Some r) (names : List (List ℕ))
       (apart : (x : List ℕ) → is_among x (linked.names_of (declared_constants (map constant_for constants))) ≡ true → is_among x (names ++ r.written.inventory.name ∷ []) ≡ false) where
     abbrev v : Inventory
     v = r.written.inventory
+
+    abbrev j : ℕ
+    j = length of.before + i
 
     abbrev first_names : List (List ℕ)
     first_names = parameter_names (params_of r.written)
@@ -158,17 +191,20 @@ module _ (constants : List ℤ) (rs : List Rendering) (is : IsTranslatedFile con
     abbrev later_names : List (List ℕ)
     later_names = local_names (unit_locals v)
 
-    unit : IsTranslatedUnit constants rs j r
-    unit = is.units j r at
+    there : slice_get rs j ≡ Some r
+    there = stands_in rs f part of i r at
+
+    unit : IsTranslatedUnit rs j r
+    unit = is.units j r there
 
     fine : IsSpellable r
-    fine = spellable.functions j r at
+    fine = spellable.functions i r at
 
     named : first_names ++ later_names ≡ parameter_words v ++ local_words v
-    named = λ i. params_named v.parameters i ++ locals_named v i
+    named = λ k. params_named v.parameters k ++ locals_named v k
 
     names_apart : AreApart (first_names ++ later_names)
-    names_apart = subst AreApart (sym named) (words_apart constants v unit.built.differ fine.calls)
+    names_apart = subst AreApart (sym named) (words_apart r.site.constants v unit.built.differ fine.calls)
 
     names_new : AllNew [] (first_names ++ later_names)
     names_new = all_new [] (first_names ++ later_names) (λ name o. all_words (parameter_words v ++ local_words v) fine.names name (subst (IsIn name) named o)) names_apart (λ x y p q. elim q [ ])
@@ -177,27 +213,31 @@ module _ (constants : List ℤ) (rs : List Rendering) (is : IsTranslatedFile con
     readable = locals_readable v (length_is r.unit v unit.storage fine.elements) (λ l o. all_hold is_short v.lists fine.outputs l o)
 
     -- what is in scope where the function is linked, with no other function of the file around it
+    abbrev links_with : List ℤ → linking.Scope
+    links_with zs =
+        linked.scope_of (routines_of (files_of fs)) (file_scope (routines_of (files_of fs)) (outside_of (files_of fs)) r.site.bases.file (file_with zs [])) r.site.bases.function (unit_function r.written)
+
     abbrev links : linking.Scope
-    links = scope_in (routines_of (files_of constants ws)) (outside_of (files_of constants ws)) constants [] ws j r.written
+    links = links_with constants
 
     abbrev inner : Scope
     inner = scope_within (with_functions of_constants names) r.written
 
     known : KnowsItems links r.outline.names r.items
-    known = (its_items constants rs is j r at).known []
+    known = subst (λ zs. KnowsItems (links_with zs) r.outline.names r.items) (of.constants i r at) ((its_items fs rs is j r there).known [])
 
     agrees : Agrees links inner
     agrees =
         subst (λ scope. Agrees links (with_all (with_params scope (params_of r.written)) (unit_locals v))) (functions_end of_constants names v.name)
-        (names_agree (routines_of (files_of constants ws)) (bases_of constants ws j).function (linked.frame (bases_of constants ws j).function (unit_function r.written)) (params_of r.written) (unit_locals v)
-        (file_scope (routines_of (files_of constants ws)) (outside_of (files_of constants ws)) 0 (file_with constants [])) (with_functions of_constants (names ++ v.name ∷ []))
-        (around_units 0 (map constant_for constants) (names ++ v.name ∷ []) apart) (first_apart first_names later_names names_apart) (last_apart first_names later_names names_apart)
+        (names_agree (routines_of (files_of fs)) r.site.bases.function (linked.frame r.site.bases.function (unit_function r.written)) (params_of r.written) (unit_locals v)
+        (file_scope (routines_of (files_of fs)) (outside_of (files_of fs)) r.site.bases.file (file_with constants [])) (with_functions of_constants (names ++ v.name ∷ []))
+        (around_units r.site.bases.file (map constant_for constants) (names ++ v.name ∷ []) apart) (first_apart first_names later_names names_apart) (last_apart first_names later_names names_apart)
         (none_between first_names later_names names_apart))
 
     spelled : AreSpelled r.outline inner r.written.body
     spelled =
         statements_are_spelled r.outline links inner unit.built.built.turns 0 r.items r.written.body agrees fine.labels unit.built.built.statements known
-        (unit_items_fieldless (unit_writing constants ws j r.written r.text.facts r.kind) (numbers_of rs) r.text.position 0 r.text.steps r.items unit.built.emitted)
+        (unit_items_fieldless (unit_writing r.site r.written r.text.facts r.kind) (numbers_of rs) r.text.position 0 r.text.steps r.items unit.built.emitted)
 
     meet : labels_meet r.written.body ≡ true
     meet =
@@ -211,7 +251,7 @@ module _ (constants : List ℤ) (rs : List Rendering) (is : IsTranslatedFile con
 
   each : (before : List WrittenUnit) (w : WrittenUnit) (after : List WrittenUnit) → ws ≡ before ++ w ∷ after → IsSpelled (ReadsFunction (with_functions of_constants (names_in before)) (unit_function w))
   each before w after same =
-      let r = map_back (λ (q : Rendering). q.written) rs (length before) w (ap (λ zs. slice_get zs (length before)) same ∙ at_back before w after) in
+      let r = map_back (λ (q : Rendering). q.written) part (length before) w (ap (λ zs. slice_get zs (length before)) same ∙ at_back before w after) in
       subst (λ (z : WrittenUnit). IsSpelled (ReadsFunction (with_functions of_constants (names_in before)) (unit_function z))) r.2 (one_spelled (length before) r.0 r.1 (names_in before) (none_of r.0 r.2))
     where
       none_of : (r : Rendering) → r.written ≡ w → (x : List ℕ) → is_among x (linked.names_of (declared_constants (map constant_for constants))) ≡ true → is_among x (names_in before ++ r.written.inventory.name ∷ []) ≡ false
@@ -221,19 +261,26 @@ module _ (constants : List ℤ) (rs : List Rendering) (is : IsTranslatedFile con
           (ap (is_among x) (sym (names_around before w after)) ∙ ap (λ zs. is_among x (names_in zs)) (sym same)
           ∙ no_function_named x (in_list x (constant_names constants) (ap (is_among x) (sym (declared_named (map constant_for constants) ∙ constant_words)) ∙ among))))
 
-  constants_apart : AreApart (constant_names constants)
-  constants_apart = let r = some_at rs 0 is.some in apart_by (constant_names constants) (is.units 0 r.0 r.1).built.differ.constants
+  constants_distinct : AreDistinct (constant_names constants)
+  constants_distinct =
+      let r = some_at part 0 of.some in
+      subst (λ zs. AreDistinct (constant_names zs)) (of.constants 0 r.0 r.1) (is.units (length of.before + 0) r.0 (stands_in rs f part of 0 r.0 r.1)).built.differ.constants
+
+  constants_fit : (i : ℕ) (z : ℤ) → slice_get constants i ≡ Some z → in_range z ≡ true
+  constants_fit i z at =
+      let r = some_at part 0 of.some in
+      is.numbers (length of.before + 0) r.0 (stands_in rs f part of 0 r.0 r.1) i z (ap (λ zs. slice_get zs i) (of.constants 0 r.0 r.1) ∙ at)
 
   all_names_new : AllNew [] (constant_texts (map constant_for constants) ++ names_in ws)
   all_names_new =
       subst (λ names. AllNew [] (names ++ names_in ws)) (sym constant_words)
       (all_new [] (constant_names constants ++ names_in ws) (λ name o. all_words (constant_names constants ++ names_in ws) spellable.names name o)
-      (apart_append (constant_names constants) (names_in ws) constants_apart (apart_by (names_in ws) is.differ)
+      (apart_append (constant_names constants) (names_in ws) (apart_by (constant_names constants) constants_distinct) (apart_by (names_in ws) (part_distinct rs f part of is.differ))
       (λ x y p q same. let one = at_in x (constant_names constants) p in let other = at_in y (names_in ws) q in spellable.apart one.index x one.at other.index (other.at ∙ ap Some (sym same))))
       (λ x y p q. elim q [ ]))
 
   formed : WellFormed (units_file constants ws)
-  formed = file_spelled constants ws (constant_fit constants (λ z o. let there = at_in z constants o in is.numbers there.index z there.at)) all_names_new each
+  formed = file_spelled constants ws (constant_fit constants (λ z o. let there = at_in z constants o in constants_fit there.index z there.at)) all_names_new each
 
 pub unit_files_are_well_formed : UnitFilesAreWellFormed
-unit_files_are_well_formed constants rs is spellable = formed constants rs is spellable
+unit_files_are_well_formed fs rs is f part of spellable = subst (λ units. WellFormed (units_file f.constants units)) of.written (formed fs rs is f part of spellable)

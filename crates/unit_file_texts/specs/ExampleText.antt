@@ -1,8 +1,25 @@
--- The printed text of the C file of the example: a main program, a function and a subroutine. C89, 3.5, 3.6 and 3.7.
-use Rattle.std.specs.Prelude.{ℕ, List, ◌++◌, codes}
+-- The printed texts of the C files of the example: that of a main program, and that of a function and a subroutine which it calls. C89, 3.5, 3.6 and 3.7.
+use Rattle.std.specs.Prelude.{ℕ, List, [], ◌∷◌, ◌++◌, codes}
+use Rattle.unit_sites.specs.UnitSites.{UnitsOfFile}
+use Rattle.unit_programs.specs.TranslatedUnits.{Rendering}
+use Rattle.unit_programs.specs.Example.{its_constants, main_written, function_written, subroutine_written, main_rendering, function_rendering, subroutine_rendering}
 
-abbrev pub its_printed_text : List ℕ
-its_printed_text =
+abbrev pub main_file : UnitsOfFile
+main_file = record { constants = its_constants; units = main_written ∷ [] }
+
+abbrev pub procedures_file : UnitsOfFile
+procedures_file = record { constants = []; units = function_written ∷ subroutine_written ∷ [] }
+
+-- what becomes of the units of each
+abbrev pub main_part : List Rendering
+main_part = main_rendering ∷ []
+
+abbrev pub procedures_part : List Rendering
+procedures_part = function_rendering ∷ subroutine_rendering ∷ []
+
+-- the file of the main program
+abbrev pub main_text : List ℕ
+main_text =
     codes "/* translated by f2c */\n\n"
     ++ codes "#include \"f2c.h\"\n\n"
     ++ codes "/* Table of constant values */\n\n"
@@ -30,7 +47,13 @@ its_printed_text =
     ++ codes "    do_lio(&c__3, &c__1, (char *)&k, (ftnlen)sizeof(integer));\n"
     ++ codes "    e_wsle();\n"
     ++ codes "    return 0;\n"
-    ++ codes "} /* MAIN__ */\n\n"
+    ++ codes "} /* MAIN__ */\n"
+
+-- the file of the function and the subroutine
+abbrev pub procedures_text : List ℕ
+procedures_text =
+    codes "/* translated by f2c */\n\n"
+    ++ codes "#include \"f2c.h\"\n\n"
     ++ codes "integer f_(integer *n)\n"
     ++ codes "{\n"
     ++ codes "    /* System generated locals */\n"

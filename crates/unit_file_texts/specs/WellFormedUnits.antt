@@ -1,16 +1,16 @@
--- That the C file of units that call each other is well formed: some tokens spell it. C89, 3.1.2, 3.5, 3.6 and 3.7.
+-- That the C files of units that call each other are well formed: some tokens spell each. C89, 3.1.2, 3.5, 3.6 and 3.7.
 use Rattle.std.specs.List.{list_all}
-use Rattle.std.specs.Prelude.{◌≡◌, ℕ, nat_le, ℤ, Bool, true, List, ◌++◌, map, Some, unwrap_or, slice_get}
+use Rattle.std.specs.Prelude.{◌≡◌, ◌≤◌, ℕ, nat_le, ℤ, Bool, true, List, ◌++◌, map, length, Some, unwrap_or, slice_get}
 use Rattle.f_tree.specs.Values.{in_range}
 use Rattle.f_tree.specs.CNames.{variable_name}
 use Rattle.c_tree.specs.CWords.{is_name}
 use Rattle.c_tree.specs.CText.{WellFormed}
 use Rattle.linking_laws.specs.Linked.{AreDistinct, IsNone}
 use Rattle.main_file.specs.MainFile.{temporary_names}
-use Rattle.unit_file.specs.UnitFile.{Variable, Listing, Parameter, Inventory, units_file, result_names, lasting_names}
+use Rattle.unit_file.specs.UnitFile.{Variable, Listing, Parameter, Inventory, result_names, lasting_names}
 use Rattle.unit_file.specs.UnitNames.{constant_names, called_names, own_names}
-use Rattle.unit_places.specs.UnitPlaces.{inventories}
-use Rattle.unit_programs.specs.TranslatedUnits.{Rendering, written_of, IsTranslatedFile}
+use Rattle.unit_sites.specs.UnitSites.{UnitsOfFile, file_for, inventories}
+use Rattle.unit_programs.specs.TranslatedUnits.{Rendering, written_of, IsTranslatedSet}
 
 -- the names that a function declares, in their order: its parameters, then the variable for its result, temporaries, functions, variables and control lists
 abbrev pub parameter_words : Inventory → List (List ℕ)
@@ -41,7 +41,16 @@ pub record AreSpellable (constants : List ℤ) (rs : List Rendering) : Type 0 wh
   pub names : list_all is_name (constant_names constants ++ own_names (inventories (written_of rs))) ≡ true
   pub apart : (i : ℕ) (name : List ℕ) → slice_get (constant_names constants) i ≡ Some name → IsNone name (own_names (inventories (written_of rs)))
 
+-- what becomes of the units of a file, of which there are some: they stand one behind the other among all
+pub record AreOfOneFile (rs : List Rendering) (f : UnitsOfFile) (part : List Rendering) : Type 0 where
+  pub before : List Rendering
+  pub behind : List Rendering
+  pub whole : rs ≡ before ++ (part ++ behind)
+  pub some : 1 ≤ length part
+  pub written : written_of part ≡ f.units
+  pub constants : (i : ℕ) (r : Rendering) → slice_get part i ≡ Some r → r.site.constants ≡ f.constants
+
 -- LAW
--- the file of translated units is well formed
+-- each file of translated units is well formed
 abbrev pub UnitFilesAreWellFormed : Type 0
-UnitFilesAreWellFormed = (constants : List ℤ) (rs : List Rendering) → IsTranslatedFile constants rs → AreSpellable constants rs → WellFormed (units_file constants (written_of rs))
+UnitFilesAreWellFormed = (fs : List UnitsOfFile) (rs : List Rendering) → IsTranslatedSet fs rs → (f : UnitsOfFile) (part : List Rendering) → AreOfOneFile rs f part → AreSpellable f.constants part → WellFormed (file_for f)

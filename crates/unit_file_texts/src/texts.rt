@@ -1,16 +1,15 @@
-//! Texts of files of several units, as the contracts of calls that do nothing.
+//! Texts of files of units, as the contracts of calls that do nothing.
 
-ghost use Rattle.std.specs.Prelude.{◌≡◌};
+ghost use Rattle.std.specs.Prelude.{◌≡◌, []};
 ghost use Rattle.c_tree.specs.CText.{CText, WellFormed};
 ghost use Rattle.c_text.specs.Printed.{printed};
-ghost use Rattle.unit_file.specs.UnitFile.{units_file};
-ghost use Rattle.unit_programs.specs.TranslatedUnits.{written_of};
-ghost use Rattle.unit_programs.specs.Example.{its_constants, its_renderings};
+ghost use Rattle.unit_sites.specs.UnitSites.{file_for};
+ghost use Rattle.unit_programs.specs.Example.{its_constants};
 ghost use Rattle.unit_file_texts.specs.WellFormedUnits.{AreSpellable, UnitFilesAreWellFormed};
 ghost use Rattle.unit_file_texts.specs.SpelledUnits.{UnitFilesAreOfBytes, UnitFilesAreSpelled};
-ghost use Rattle.unit_file_texts.specs.ExampleText.{its_printed_text};
+ghost use Rattle.unit_file_texts.specs.ExampleText.{main_file, procedures_file, main_part, procedures_part, main_text, procedures_text};
 
-/// The C file of units that call each other is well formed: some tokens spell it, each name in it is declared before it is used and once in its scope, and
+/// Each C file of units that call each other is well formed: some tokens spell it, each name in it is declared before it is used and once in its scope, and
 /// each label that is named stands once. Besides what makes the units run as their file does, each name and each label is one of C, an array has an element,
 /// and what a function calls is declared once.
 pub fn unit_files_are_well_formed()
@@ -23,11 +22,15 @@ pub fn unit_files_are_spelled()
     ensures spelled { UnitFilesAreSpelled }
 {}
 
-/// The file of a main program, which calls a function and a subroutine and writes its variable, of the function, and of the subroutine is such a one, so it
-/// is well formed and its printed text, which is written here, spells it.
+/// The file of a main program, which calls a function and a subroutine and writes its variable, and the file of the function and of the subroutine are such
+/// files, so they are well formed and their printed texts, which are written here, spell them.
 pub fn example_is_well_formed()
-    ensures spellable { AreSpellable its_constants its_renderings }
-    ensures formed { WellFormed (units_file its_constants (written_of its_renderings)) }
-    ensures spelled { CText (printed (units_file its_constants (written_of its_renderings))) (units_file its_constants (written_of its_renderings)) }
-    ensures printed { printed (units_file its_constants (written_of its_renderings)) ≡ its_printed_text }
+    ensures main_spellable { AreSpellable its_constants main_part }
+    ensures main_formed { WellFormed (file_for main_file) }
+    ensures main_spelled { CText (printed (file_for main_file)) (file_for main_file) }
+    ensures main_printed { printed (file_for main_file) ≡ main_text }
+    ensures procedures_spellable { AreSpellable [] procedures_part }
+    ensures procedures_formed { WellFormed (file_for procedures_file) }
+    ensures procedures_spelled { CText (printed (file_for procedures_file)) (file_for procedures_file) }
+    ensures procedures_printed { printed (file_for procedures_file) ≡ procedures_text }
 {}

@@ -1,5 +1,5 @@
 -- What the objects of a unit are called.
-use Rattle.std.specs.Prelude.{◌≡◌, ℕ, zero, suc, ◌+◌, ◌-◌, ◌<◌, nat_le, nat_lt, nat_eq, ℤ, true, ◌&&◌, List, [], ◌∷◌, ◌++◌, map, length, replicate, Option, Some, None, is_some, unwrap_or, slice_get, bytes_eq}
+use Rattle.std.specs.Prelude.{◌≡◌, ℕ, zero, suc, ◌+◌, ◌-◌, ◌<◌, ◌≤◌, nat_le, nat_lt, nat_eq, ℤ, true, ◌&&◌, List, [], ◌∷◌, ◌++◌, map, length, replicate, Option, Some, None, is_some, unwrap_or, slice_get, bytes_eq}
 use Rattle.std.specs.Ordering.{int_eq}
 use Rattle.std.proofs.Common.{refl, sym, ap, ◌∙◌, arith}
 use Rattle.std.proofs.lemmas.Bool.{ltb-true, lt-ltb, le-leb, lt-leb}
@@ -11,50 +11,49 @@ use Rattle.c_tree.specs.declared.types.NumberType.{NumberType}
 use Rattle.c_tree.specs.Builtins.{builtin_names}
 use Rattle.main_file.specs.MainFile.{list_names, temporary_names}
 use Rattle.unit_file.specs.UnitFile as file
-use Rattle.unit_file.specs.UnitFile.{Listing, Inventory, Bases, bases_at, result_count, frame_count, first_list, first_string, first_parameter, result_object, first_temporary, place_or_none, place_of_constant, place_of_variable, place_of_parameter, place_of_list, place_of_string, lasting_names, result_names, framed_names, parameter_object}
+use Rattle.unit_file.specs.UnitFile.{Listing, Inventory, Bases, result_count, frame_count, first_list, first_string, first_parameter, result_object, first_temporary, place_or_none, place_of_constant, place_of_variable, place_of_parameter, place_of_list, place_of_string, lasting_names, result_names, framed_names, parameter_object}
 use Rattle.unit_file.specs.UnitNames.{constant_names, object_names, object_name, string_at, own_names, routine_name}
-use Rattle.unit_file_laws.proofs.Listed.{first_behind}
+use Rattle.unit_sites.specs.UnitSites.{Site}
 use Rattle.item_emission.proofs.ObjectNames.{get_front, get_back, map_at, chosen, other, and_false, and_true, position_finds, within, some_place, temporary_named, list_named, list_names_count, equal_is, same_number}
 
 result_names_count : (returned : Option NumberType) → length (result_names returned) ≡ result_count returned
 result_names_count None = refl
 result_names_count (Some type) = refl
 
-module _ (constants : List ℤ) (vs : List Inventory) (j : ℕ) (v : Inventory) where
+module _ (s : Site) (v : Inventory) where
   abbrev b : Bases
-  b = bases_at constants vs j
+  b = s.bases
 
-  own_name : (i : ℕ) (name : List ℕ) → slice_get (object_names v) i ≡ Some name → object_name constants v b (b.function + i) ≡ name
+  own_name : (i : ℕ) (name : List ℕ) → slice_get (object_names v) i ≡ Some name → object_name s.constants v b (b.function + i) ≡ name
   unfolding object_name
   own_name i name at =
-      chosen (nat_le b.function (b.function + i)) (unwrap_or (slice_get (object_names v) ((b.function + i) - b.function)) []) (unwrap_or (slice_get (constant_names constants) ((b.function + i) - b.file)) []) (le-leb b.function (b.function + i) (omega arith))
+      chosen (nat_le b.function (b.function + i)) (unwrap_or (slice_get (object_names v) ((b.function + i) - b.function)) []) (unwrap_or (slice_get (constant_names s.constants) ((b.function + i) - b.file)) []) (le-leb b.function (b.function + i) (omega arith))
       ∙ ap (λ k. unwrap_or (slice_get (object_names v) k) []) {x = (b.function + i) - b.function} {y = i} (omega arith) ∙ ap (λ o. unwrap_or o []) at
 
-  lasting_name : (i : ℕ) (name : List ℕ) → slice_get (lasting_names v) i ≡ Some name → object_name constants v b (b.function + i) ≡ name
+  lasting_name : (i : ℕ) (name : List ℕ) → slice_get (lasting_names v) i ≡ Some name → object_name s.constants v b (b.function + i) ≡ name
   lasting_name i name at = own_name i name (get_front (lasting_names v) (replicate (length v.strings) [] ++ framed_names v) i name at)
 
   lasting_count : length (lasting_names v) ≡ length v.variables + length v.lists
   lasting_count =
       length-append (map (λ (one : file.Variable). variable_name one.name) v.variables) (list_names 1 v.lists) ∙ (λ i. length-map v.variables (λ (one : file.Variable). variable_name one.name) i + list_names_count 1 v.lists i)
 
-  framed_name : (k : ℕ) (name : List ℕ) → slice_get (framed_names v) k ≡ Some name → object_name constants v b (first_parameter v b + k) ≡ name
+  framed_name : (k : ℕ) (name : List ℕ) → slice_get (framed_names v) k ≡ Some name → object_name s.constants v b (first_parameter v b + k) ≡ name
   framed_name k name at =
       let kept = lasting_count in
       let blanks : length {A = List ℕ} (replicate (length v.strings) []) ≡ length v.strings = length-replicate (length v.strings) [] in
-      ap (object_name constants v b) {x = first_parameter v b + k} {y = b.function + (length v.variables + length v.lists + length v.strings + k)} (omega arith)
+      ap (object_name s.constants v b) {x = first_parameter v b + k} {y = b.function + (length v.variables + length v.lists + length v.strings + k)} (omega arith)
       ∙ own_name (length v.variables + length v.lists + length v.strings + k) name
       (get_back (lasting_names v) (replicate (length v.strings) [] ++ framed_names v) (length v.variables + length v.lists + length v.strings + k) (length v.strings + k) name (omega (arith, kept))
       (get_back (replicate (length v.strings) []) (framed_names v) (length v.strings + k) k name (omega (arith, blanks)) at))
 
-  file_name : (i : ℕ) (name : List ℕ) → slice_get (constant_names constants) i ≡ Some name → object_name constants v b (b.file + i) ≡ name
+  file_name : s.bases.file + length s.constants ≤ s.bases.function → (i : ℕ) (name : List ℕ) → slice_get (constant_names s.constants) i ≡ Some name → object_name s.constants v b (b.file + i) ≡ name
   unfolding object_name
-  file_name i name at =
-      let less = within (constant_names constants) i name at in
-      let count = length-map constants (λ z. made_name (ConstantOf z)) in
-      let before = first_behind (length constants) vs j in
-      other (nat_le b.function (b.file + i)) (unwrap_or (slice_get (object_names v) ((b.file + i) - b.function)) []) (unwrap_or (slice_get (constant_names constants) ((b.file + i) - b.file)) [])
+  file_name before i name at =
+      let less = within (constant_names s.constants) i name at in
+      let count = length-map s.constants (λ z. made_name (ConstantOf z)) in
+      other (nat_le b.function (b.file + i)) (unwrap_or (slice_get (object_names v) ((b.file + i) - b.function)) []) (unwrap_or (slice_get (constant_names s.constants) ((b.file + i) - b.file)) [])
       (lt-leb b.function (b.file + i) (omega (arith, less, count, before)))
-      ∙ ap (λ k. unwrap_or (slice_get (constant_names constants) k) []) {x = (b.file + i) - b.file} {y = i} (omega arith) ∙ ap (λ o. unwrap_or o []) at
+      ∙ ap (λ k. unwrap_or (slice_get (constant_names s.constants) k) []) {x = (b.file + i) - b.file} {y = i} (omega arith) ∙ ap (λ o. unwrap_or o []) at
 
   no_string : (k : ℕ) → k < first_string v b → string_at v b k ≡ None
   unfolding string_at
@@ -64,11 +63,11 @@ module _ (constants : List ℤ) (vs : List Inventory) (j : ℕ) (v : Inventory) 
 
   -- ## Variables, parameters and the result
 
-  pub variable_is : (x : Bytes) (i : ℕ) → place_of_variable v x ≡ Some i → object_name constants v b (b.function + place_or_none (place_of_variable v x)) ≡ variable_name x
+  pub variable_is : (x : Bytes) (i : ℕ) → place_of_variable v x ≡ Some i → object_name s.constants v b (b.function + place_or_none (place_of_variable v x)) ≡ variable_name x
   variable_is x i is =
       let found = position_finds (λ (one : file.Variable). bytes_eq x one.name) v.variables i is in
       let same : x ≡ found.one.name = (bytes_eq-Decides x found.one.name).0 found.passes in
-      ap (λ o. object_name constants v b (b.function + place_or_none o)) is
+      ap (λ o. object_name s.constants v b (b.function + place_or_none o)) is
       ∙ lasting_name i (variable_name found.one.name)
       (get_front (map (λ (one : file.Variable). variable_name one.name) v.variables) (list_names 1 v.lists) i (variable_name found.one.name) (map_at (λ (one : file.Variable). variable_name one.name) v.variables i found.one found.at))
       ∙ ap variable_name (sym same)
@@ -79,11 +78,11 @@ module _ (constants : List ℤ) (vs : List Inventory) (j : ℕ) (v : Inventory) 
       let less = within v.variables i found.one found.at in
       ap (λ o. string_at v b (b.function + place_or_none o)) is ∙ no_string (b.function + i) (omega (arith, less))
 
-  pub parameter_is : (x : Bytes) (i : ℕ) → place_of_parameter v x ≡ Some i → object_name constants v b (parameter_object v b x) ≡ variable_name x
+  pub parameter_is : (x : Bytes) (i : ℕ) → place_of_parameter v x ≡ Some i → object_name s.constants v b (parameter_object v b x) ≡ variable_name x
   parameter_is x i is =
       let found = position_finds (λ (one : file.Parameter). bytes_eq x one.name) v.parameters i is in
       let same : x ≡ found.one.name = (bytes_eq-Decides x found.one.name).0 found.passes in
-      ap (λ o. object_name constants v b (first_parameter v b + unwrap_or o (frame_count v))) is
+      ap (λ o. object_name s.constants v b (first_parameter v b + unwrap_or o (frame_count v))) is
       ∙ framed_name i (variable_name found.one.name)
       (get_front (map (λ (one : file.Parameter). variable_name one.name) v.parameters) (result_names v.returned ++ temporary_names 1 v.temporaries) i (variable_name found.one.name)
       (map_at (λ (one : file.Parameter). variable_name one.name) v.parameters i found.one found.at))
@@ -92,7 +91,7 @@ module _ (constants : List ℤ) (vs : List Inventory) (j : ℕ) (v : Inventory) 
   parameters_count : length (map (λ (one : file.Parameter). variable_name one.name) v.parameters) ≡ length v.parameters
   parameters_count = length-map v.parameters (λ (one : file.Parameter). variable_name one.name)
 
-  pub result_is : (type : NumberType) → v.returned ≡ Some type → object_name constants v b (result_object v b) ≡ made_name FunctionResult
+  pub result_is : (type : NumberType) → v.returned ≡ Some type → object_name s.constants v b (result_object v b) ≡ made_name FunctionResult
   result_is type is =
       let count = parameters_count in
       framed_name (length v.parameters) (made_name FunctionResult)
@@ -101,34 +100,34 @@ module _ (constants : List ℤ) (vs : List Inventory) (j : ℕ) (v : Inventory) 
 
   -- ## Temporaries, constants, control lists and texts
 
-  pub temporary_is : (k : ℕ) → nat_lt k v.temporaries ≡ true → object_name constants v b (first_temporary v b + k) ≡ made_name (NumberTemporary (suc k))
+  pub temporary_is : (k : ℕ) → nat_lt k v.temporaries ≡ true → object_name s.constants v b (first_temporary v b + k) ≡ made_name (NumberTemporary (suc k))
   temporary_is k h =
       let count = parameters_count in
       let results = result_names_count v.returned in
       let index = length v.parameters + (result_count v.returned + k) in
       let name = made_name (NumberTemporary (1 + k)) in
-      ap (object_name constants v b) {x = first_temporary v b + k} {y = first_parameter v b + index} (omega arith)
+      ap (object_name s.constants v b) {x = first_temporary v b + k} {y = first_parameter v b + index} (omega arith)
       ∙ framed_name index name
       (get_back (map (λ (one : file.Parameter). variable_name one.name) v.parameters) (result_names v.returned ++ temporary_names 1 v.temporaries) index (result_count v.returned + k) name (omega (arith, count))
       (get_back (result_names v.returned) (temporary_names 1 v.temporaries) (result_count v.returned + k) k name (omega (arith, results)) (temporary_named 1 v.temporaries k (ltb-true k v.temporaries h))))
       ∙ ap (λ n. made_name (NumberTemporary n)) {x = 1 + k} {y = suc k} (omega arith)
 
-  pub constant_is : (z : ℤ) → is_some (place_of_constant constants z) ≡ true → object_name constants v b (b.file + place_or_none (place_of_constant constants z)) ≡ made_name (ConstantOf z)
-  constant_is z h =
-      let place = some_place (place_of_constant constants z) h in
-      let found = position_finds (int_eq z) constants place.0 place.1 in
-      ap (λ o. object_name constants v b (b.file + place_or_none o)) place.1
-      ∙ file_name place.0 (made_name (ConstantOf found.one)) (map_at (λ (y : ℤ). made_name (ConstantOf y)) constants place.0 found.one found.at)
+  pub constant_is : s.bases.file + length s.constants ≤ s.bases.function → (z : ℤ) → is_some (place_of_constant s.constants z) ≡ true → object_name s.constants v b (b.file + place_or_none (place_of_constant s.constants z)) ≡ made_name (ConstantOf z)
+  constant_is before z h =
+      let place = some_place (place_of_constant s.constants z) h in
+      let found = position_finds (int_eq z) s.constants place.0 place.1 in
+      ap (λ o. object_name s.constants v b (b.file + place_or_none o)) place.1
+      ∙ file_name before place.0 (made_name (ConstantOf found.one)) (map_at (λ (y : ℤ). made_name (ConstantOf y)) s.constants place.0 found.one found.at)
       ∙ ap (λ y. made_name (ConstantOf y)) (sym (equal_is z found.one found.passes))
 
-  pub list_is : (n i : ℕ) → place_of_list v n ≡ Some i → object_name constants v b (first_list v b + place_or_none (place_of_list v n)) ≡ made_name (ControlList (suc i))
+  pub list_is : (n i : ℕ) → place_of_list v n ≡ Some i → object_name s.constants v b (first_list v b + place_or_none (place_of_list v n)) ≡ made_name (ControlList (suc i))
   list_is n i is =
       let found = position_finds (λ (l : Listing). nat_eq n l.step) v.lists i is in
       let name = made_name (ControlList (1 + i)) in
       let count = length-map v.variables (λ (one : file.Variable). variable_name one.name) in
       let there = length v.variables + i in
-      ap (λ o. object_name constants v b (first_list v b + place_or_none o)) is
-      ∙ ap (object_name constants v b) {x = first_list v b + i} {y = b.function + there} (omega arith)
+      ap (λ o. object_name s.constants v b (first_list v b + place_or_none o)) is
+      ∙ ap (object_name s.constants v b) {x = first_list v b + i} {y = b.function + there} (omega arith)
       ∙ lasting_name there name (get_back (map (λ (one : file.Variable). variable_name one.name) v.variables) (list_names 1 v.lists) there i name (omega (arith, count)) (list_named 1 v.lists i found.one found.at))
       ∙ ap (λ k. made_name (ControlList k)) {x = 1 + i} {y = suc i} (omega arith)
 
@@ -146,14 +145,15 @@ module _ (constants : List ℤ) (vs : List Inventory) (j : ℕ) (v : Inventory) 
       let found = position_finds (nat_eq n) v.strings i is in
       ap (λ o. string_at v b (first_string v b + place_or_none o)) is ∙ text_by n i (found.at ∙ ap Some (same_number n found.one found.passes))
 
-  -- ## Functions of the library
+-- ## Functions of the library
 
-  past : {A : Type 0} (xs ys : List A) (n k : ℕ) → n ≡ length xs + k → slice_get (xs ++ ys) n ≡ slice_get ys k
-  past [] ys n k at = ap (slice_get ys) {x = n} {y = k} (omega (arith, at))
-  past (x ∷ xs) ys zero k at = absurd (let no : ⊥ = omega (arith, at) in no)
-  past (x ∷ xs) ys (suc n) k at = past xs ys n k (omega (arith, at))
+past : {A : Type 0} (xs ys : List A) (n k : ℕ) → n ≡ length xs + k → slice_get (xs ++ ys) n ≡ slice_get ys k
+past [] ys n k at = ap (slice_get ys) {x = n} {y = k} (omega (arith, at))
+past (x ∷ xs) ys zero k at = absurd (let no : ⊥ = omega (arith, at) in no)
+past (x ∷ xs) ys (suc n) k at = past xs ys n k (omega (arith, at))
 
-  pub library_is : (k : ℕ) → routine_name vs (b.own + k) ≡ unwrap_or (slice_get builtin_names k) []
-  library_is k =
-      let counted = length-map vs (λ (u : Inventory). u.name) in
-      ap (λ o. unwrap_or o []) (past (own_names vs) builtin_names (b.own + k) k (omega (arith, counted)))
+-- they have their numbers behind those of the program
+pub library_is : (vs : List Inventory) (own k : ℕ) → own ≡ length vs → routine_name vs (own + k) ≡ unwrap_or (slice_get builtin_names k) []
+library_is vs own k owned =
+    let counted = length-map vs (λ (u : Inventory). u.name) in
+    ap (λ o. unwrap_or o []) (past (own_names vs) builtin_names (own + k) k (omega (arith, counted, owned)))

@@ -1,5 +1,5 @@
 -- The items of a unit's steps by names are those of its flat items.
-use Rattle.std.specs.Prelude.{◌≡◌, ℕ, ℤ, Bool, true, false, not, ◌&&◌, List, [], ◌∷◌, Option, Some, None, is_some, option_map, option_and_then, if◌then◌else◌}
+use Rattle.std.specs.Prelude.{◌≡◌, ℕ, ◌+◌, ◌≤◌, Bool, true, false, not, ◌&&◌, List, [], ◌∷◌, length, Option, Some, None, is_some, option_map, option_and_then, if◌then◌else◌}
 use Rattle.std.proofs.Common.{refl, sym, ap, ◌∙◌}
 use Rattle.f_tree.specs.declared.names.Basic.{Basic}
 use Rattle.f_tree.specs.declared.names.Basic.TheVariants.{Integer, Logical, Character, Untyped}
@@ -28,8 +28,9 @@ use Rattle.c_emit.specs.Numbers.{Writing, is_numeric, is_variable, has_number, h
 use Rattle.c_emit.specs.Calls.{address_of, held_term}
 use Rattle.c_emit.specs.Flats.{returned_by}
 use Rattle.procedure_emission.specs.ProcedureItems.{Numbers, pointer_term, routine_term, name_argument, argument_term, argument_terms, callee_for, function_called, call_item, basic_wanted, kept_item, call_for_item, result_term, back_item, back_by_item, procedure_item}
-use Rattle.unit_file.specs.UnitFile.{Inventory, Bases, bases_at, place_of_parameter, parameter_object, address_in, writing_of}
+use Rattle.unit_file.specs.UnitFile.{Inventory, Bases, place_of_parameter, parameter_object, address_in, writing_of}
 use Rattle.unit_file.specs.UnitNames.{object_name, routine_name, names_of}
+use Rattle.unit_sites.specs.UnitSites.{Site}
 use Rattle.unit_file_laws.specs.KnownUnits.{NamesAreListed}
 use Rattle.named_items.specs.declared.item.Callee.{Callee}
 use Rattle.named_items.specs.declared.item.Item.TheVariants as item
@@ -133,30 +134,31 @@ not_so : (s : Bool) → not s ≡ true → s ≡ false
 not_so true h = absurd (cc)
 not_so false h = refl
 
-module _ (constants : List ℤ) (vs : List Inventory) (j : ℕ) (v : Inventory) (facts : Facts) (numbers : Numbers) (kind : ℕ → ℕ → Option Basic) (label : ℕ → Option ℕ) (listed : NamesAreListed v facts) where
+module _ (vs : List Inventory) (s : Site) (v : Inventory) (facts : Facts) (numbers : Numbers) (kind : ℕ → ℕ → Option Basic) (label : ℕ → Option ℕ) (owned : s.bases.own ≡ length vs) (before : s.bases.file + length s.constants ≤ s.bases.function)
+    (listed : NamesAreListed v facts) where
   abbrev b : Bases
-  b = bases_at constants vs j
+  b = s.bases
 
   abbrev names : Names
-  names = names_of constants vs v b
+  names = names_of s.constants vs v b
 
   abbrev w : Writing
-  w = writing_of constants v b facts kind
+  w = writing_of s.constants v b facts kind
 
   abbrev known : Knowledge
-  known = known_of_unit constants vs v facts numbers label
+  known = known_of_unit s.constants vs v facts numbers label
 
   -- ## Names
 
-  parameter-name : (x : Bytes) (i : ℕ) → place_of_parameter v x ≡ Some i → Some (expr.Name (object_name constants v b (parameter_object v b x))) ≡ Some (variable_expr x)
+  parameter-name : (x : Bytes) (i : ℕ) → place_of_parameter v x ≡ Some i → Some (expr.Name (object_name s.constants v b (parameter_object v b x))) ≡ Some (variable_expr x)
   unfolding variable_expr
-  parameter-name x i is = ap (λ name. Some (expr.Name name)) (parameter_is constants vs j v x i is)
+  parameter-name x i is = ap (λ name. Some (expr.Name name)) (parameter_is s v x i is)
 
   scalar-by : (x : Bytes) (k : Class) → (facts.program.attribute x).class ≡ k → is_variable k ≡ true → is_numeric (facts.program.attribute x).basic ≡ true → expr_for names (number_term (address_in v b x k)) ≡ Some (scalar_expr (standing_in k) x)
   unfolding address_in is_variable expr_for scalar_expr standing_in result_object variable_expr
-  scalar-by x class.Stored is variable numeric = let p = listed.stored x is numeric in ap (λ name. Some (expr.Name name)) (variable_is constants vs j v x p.place p.placed)
-  scalar-by x class.Dummy is variable numeric = let p = listed.dummies x is numeric in ap (λ name. Some (expr.Unary prefix.Deref (expr.Name name))) (parameter_is constants vs j v x p.place p.placed)
-  scalar-by x class.Result is variable numeric = let r = (listed.results x is numeric).1 in ap (λ name. Some (expr.Name name)) (result_is constants vs j v r.0 r.1)
+  scalar-by x class.Stored is variable numeric = let p = listed.stored x is numeric in ap (λ name. Some (expr.Name name)) (variable_is s v x p.place p.placed)
+  scalar-by x class.Dummy is variable numeric = let p = listed.dummies x is numeric in ap (λ name. Some (expr.Unary prefix.Deref (expr.Name name))) (parameter_is s v x p.place p.placed)
+  scalar-by x class.Result is variable numeric = let r = (listed.results x is numeric).1 in ap (λ name. Some (expr.Name name)) (result_is s v r.0 r.1)
   scalar-by x other is variable numeric = absurd (cc)
 
   -- the start of an array, and an element of it
@@ -164,7 +166,7 @@ module _ (constants : List ℤ) (vs : List Inventory) (j : ℕ) (v : Inventory) 
       → expr_for names (pointer_term true (address_in v b x k)) ≡ Some (variable_expr x)
   unfolding address_in is_variable expr_for array_expr variable_expr
   start-by x class.Stored is variable numeric some =
-      let p = listed.stored x is numeric in (λ i. Some (array_expr (variable_is_no_string constants vs j v x p.place p.placed i) (variable_is constants vs j v x p.place p.placed i)))
+      let p = listed.stored x is numeric in (λ i. Some (array_expr (variable_is_no_string s v x p.place p.placed i) (variable_is s v x p.place p.placed i)))
   start-by x class.Dummy is variable numeric some = let p = listed.dummies x is numeric in parameter-name x p.place p.placed
   start-by x class.Result is variable numeric some = let no : true ≡ false = sym some ∙ (listed.results x is numeric).0 in absurd (cc)
   start-by x other is variable numeric some = absurd (cc)
@@ -197,7 +199,7 @@ module _ (constants : List ℤ) (vs : List Inventory) (j : ℕ) (v : Inventory) 
     temporaries = λ k. refl;
     scalar_names = scalar-name;
     array_names = array-name;
-    temporary_names = λ k there. temporary_is constants vs j v k there;
+    temporary_names = λ k there. temporary_is s v k there;
     lowers = λ x k. lower-agrees names (facts.program.attribute x).bounds k;
     sizes = λ x k. size-agrees names (facts.program.attribute x).bounds k;
   }
@@ -207,8 +209,8 @@ module _ (constants : List ℤ) (vs : List Inventory) (j : ℕ) (v : Inventory) 
     values = values-known;
     basics = λ x. refl;
     has = λ z. refl;
-    constants = λ z there. constant_is constants vs j v z there;
-    routines = λ k. library_is constants vs j v k;
+    constants = λ z there. constant_is s v before z there;
+    routines = λ k. library_is vs s.bases.own k owned;
     labels = λ l. refl;
   }
 
@@ -217,9 +219,9 @@ module _ (constants : List ℤ) (vs : List Inventory) (j : ℕ) (v : Inventory) 
   number-passed : (x : Bytes) (k : Class) → (facts.program.attribute x).class ≡ k → is_variable k ≡ true → is_numeric (facts.program.attribute x).basic ≡ true
       → expr_for names (pointer_term false (address_in v b x k)) ≡ Some (scalar_passed (standing_in k) x)
   unfolding address_in is_variable expr_for scalar_passed scalar_expr standing_in result_object variable_expr
-  number-passed x class.Stored is variable numeric = let p = listed.stored x is numeric in ap (λ name. Some (address_expr (expr.Name name))) (variable_is constants vs j v x p.place p.placed)
-  number-passed x class.Dummy is variable numeric = let p = listed.dummies x is numeric in ap (λ name. Some (expr.Name name)) (parameter_is constants vs j v x p.place p.placed)
-  number-passed x class.Result is variable numeric = let r = (listed.results x is numeric).1 in ap (λ name. Some (address_expr (expr.Name name))) (result_is constants vs j v r.0 r.1)
+  number-passed x class.Stored is variable numeric = let p = listed.stored x is numeric in ap (λ name. Some (address_expr (expr.Name name))) (variable_is s v x p.place p.placed)
+  number-passed x class.Dummy is variable numeric = let p = listed.dummies x is numeric in ap (λ name. Some (expr.Name name)) (parameter_is s v x p.place p.placed)
+  number-passed x class.Result is variable numeric = let r = (listed.results x is numeric).1 in ap (λ name. Some (address_expr (expr.Name name))) (result_is s v r.0 r.1)
   number-passed x other is variable numeric = absurd (cc)
 
   function-passed : (o : Option ℕ) → expr_of names (option_map (λ number. c.Cast (to.Function pointer.Unknown) (c.Routine number)) o) ≡ option_map procedure_expr (option_map (λ k. by_name (routine_name vs k)) o)
@@ -230,7 +232,7 @@ module _ (constants : List ℤ) (vs : List Inventory) (j : ℕ) (v : Inventory) 
   procedure-by : (x : Bytes) (k : Class) → (facts.program.attribute x).class ≡ k → expr_of names (routine_term numbers x k (address_in v b x k)) ≡ procedure_passed (is_procedure_in k) (routine_in numbers vs x k)
   unfolding routine_term address_in procedure_passed is_procedure_in routine_in expr_for procedure_expr
   procedure-by x class.Procedure is = function-passed (numbers (Procedure x))
-  procedure-by x class.DummyProcedure is = let p = listed.procedures x is in ap (λ name. Some (expr.Cast (to.Function pointer.Unknown) (expr.Name name))) (parameter_is constants vs j v x p.place p.placed)
+  procedure-by x class.DummyProcedure is = let p = listed.procedures x is in ap (λ name. Some (expr.Cast (to.Function pointer.Unknown) (expr.Name name))) (parameter_is s v x p.place p.placed)
   procedure-by x other is = refl
 
   name-by : (x : Bytes) (number bounds : Bool) → has_number w x ≡ number → has_bounds (facts.program.attribute x).bounds ≡ bounds
@@ -278,7 +280,7 @@ module _ (constants : List ℤ) (vs : List Inventory) (j : ℕ) (v : Inventory) 
   callee-by x class.Procedure is = direct-agrees (numbers (Procedure x))
   callee-by x class.Result is = direct-agrees (numbers (Procedure x))
   callee-by x class.Unit is = direct-agrees (numbers (Procedure x))
-  callee-by x class.DummyProcedure is = let p = listed.procedures x is in ap (λ name. Some (through name)) (parameter_is constants vs j v x p.place p.placed)
+  callee-by x class.DummyProcedure is = let p = listed.procedures x is in ap (λ name. Some (through name)) (parameter_is s v x p.place p.placed)
   callee-by x other is = refl
 
   callee-agrees : (x : Bytes) → option_and_then (callee_named names) (function_called numbers w x) ≡ known.routine x
@@ -324,9 +326,9 @@ module _ (constants : List ℤ) (vs : List Inventory) (j : ℕ) (v : Inventory) 
   unit-step n step.Back there = back-agrees facts.program.kind
   unit-step n (step.BackBy p) there = back-by-agrees p facts.program.kind
   unit-step n (step.Acts (step.Starts way layout controls) ps m) there =
-      step-known names w known label steps-known n (step.Acts (step.Starts way layout controls) ps m) (there.0, there.1, list_is constants vs j v n there.0 there.1)
-  unit-step n (step.Halt text) there = step-known names w known label steps-known n (step.Halt text) (text_is constants vs j v n there.0 there.1 ∙ ap Some there.2)
+      step-known names w known label steps-known n (step.Acts (step.Starts way layout controls) ps m) (there.0, there.1, list_is s v n there.0 there.1)
+  unit-step n (step.Halt text) there = step-known names w known label steps-known n (step.Halt text) (text_is s v n there.0 there.1 ∙ ap Some there.2)
   unit-step n st there = step-known names w known label steps-known n st tt
 
 pub unit_emissions_agree : UnitEmissionsAgree
-unit_emissions_agree constants vs j v facts numbers kind label n st listed there = unit-step constants vs j v facts numbers kind label listed n st there
+unit_emissions_agree vs s v facts numbers kind label n st owned before listed there = unit-step vs s v facts numbers kind label owned before listed n st there

@@ -1,7 +1,7 @@
 -- The items of a unit's steps by names are those of the flat items that it has for them, with its names for its objects and for the functions that it calls:
 -- what a file of several units has and what is said of a unit, as what is known. ANSI X3.9-1978, sections 15.5, 15.6, 15.8 and 15.9; C89, 3.1.2, 3.3.2.2 and
 -- 3.6.
-use Rattle.std.specs.Prelude.{◌≡◌, ℕ, ℤ, Bool, true, false, not, ◌&&◌, List, [], ◌∷◌, map, Option, Some, None, is_some, option_map, option_and_then}
+use Rattle.std.specs.Prelude.{◌≡◌, ℕ, ◌+◌, ◌≤◌, ℤ, Bool, true, false, not, ◌&&◌, List, [], ◌∷◌, map, length, Option, Some, None, is_some, option_map, option_and_then}
 use Rattle.f_tree.specs.declared.names.Basic.{Basic}
 use Rattle.f_tree.specs.declared.names.Class.{Class}
 use Rattle.f_tree.specs.declared.names.Class.TheVariants as class
@@ -12,8 +12,9 @@ use Rattle.f_tree.specs.CNames.{variable_name}
 use Rattle.l_core.specs.Steps.{Step, Starts, Acts, Halt}
 use Rattle.c_emit.specs.Numbers.{is_numeric, is_variable, has_bounds}
 use Rattle.procedure_emission.specs.ProcedureItems.{Numbers, procedure_item}
-use Rattle.unit_file.specs.UnitFile.{Inventory, bases_at, place_of_constant, place_of_list, place_of_string, writing_of}
+use Rattle.unit_file.specs.UnitFile.{Inventory, place_of_constant, place_of_list, place_of_string, writing_of}
 use Rattle.unit_file.specs.UnitNames.{routine_name, names_of}
+use Rattle.unit_sites.specs.UnitSites.{Site}
 use Rattle.unit_file_laws.specs.KnownUnits.{NamesAreListed}
 use Rattle.named_items.specs.declared.item.Callee.{Callee}
 use Rattle.named_items.specs.Items.{by_name, through, item_for}
@@ -79,12 +80,12 @@ IsListed v n (Halt text) = (i : ℕ) × (place_of_string v n ≡ Some i) × (v.t
 IsListed v n st = Unit {0}
 
 -- LAW
--- for the unit with a number in the file
+-- for a unit by its site, in a program with a function for each unit, where the constants of its file stand before the objects of its function
 abbrev pub UnitEmissionsAgree : Type 0
-UnitEmissionsAgree = (constants : List ℤ) (vs : List Inventory) (j : ℕ) (v : Inventory) (facts : Facts) (numbers : Numbers) (kind : ℕ → ℕ → Option Basic) (label : ℕ → Option ℕ) (n : ℕ) (st : Step) →
-    NamesAreListed v facts → IsListed v n st →
-    option_and_then (item_for (names_of constants vs v (bases_at constants vs j))) (procedure_item numbers (writing_of constants v (bases_at constants vs j) facts kind) (λ m. m) label n st)
-    ≡ item_step (known_of_unit constants vs v facts numbers label) (kind n) n st
+UnitEmissionsAgree = (vs : List Inventory) (s : Site) (v : Inventory) (facts : Facts) (numbers : Numbers) (kind : ℕ → ℕ → Option Basic) (label : ℕ → Option ℕ) (n : ℕ) (st : Step) →
+    s.bases.own ≡ length vs → s.bases.file + length s.constants ≤ s.bases.function → NamesAreListed v facts → IsListed v n st →
+    option_and_then (item_for (names_of s.constants vs v s.bases)) (procedure_item numbers (writing_of s.constants v s.bases facts kind) (λ m. m) label n st)
+    ≡ item_step (known_of_unit s.constants vs v facts numbers label) (kind n) n st
 
 unfoldable pub agreeing_units_opened : Unit {0}
 unfolding standing_in is_procedure_in routine_in result_in giving_of_unit

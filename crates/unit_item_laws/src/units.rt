@@ -2,8 +2,8 @@
 
 ghost use Rattle.unit_item_laws.specs.AgreeingUnits.{UnitEmissionsAgree};
 
-/// The item of a step by names is that of the flat item which the unit has for it, where each of its names is listed as what it is. C89, 3.1.2, 3.3.2.2 and
-/// 3.6.
+/// The item of a step by names is that of the flat item which the unit has for it, in whichever file it stands, where each of its names is listed as what it
+/// is. C89, 3.1.2, 3.3.2.2 and 3.6.
 pub fn unit_emissions_agree()
     ensures { UnitEmissionsAgree }
 {}

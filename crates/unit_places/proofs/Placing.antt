@@ -1,26 +1,27 @@
--- The functions of a file of several units, and their objects, have their places.
+-- The functions of files of several units, and their objects, have their places.
 use Rattle.std.specs.Prelude.{◌≡◌, ℕ, zero, suc, ◌+◌, ◌<◌, ◌≤◌, ℤ, List, [], ◌∷◌, ◌++◌, map, length, Option, Some, None, slice_get}
 use Rattle.std.proofs.Common.{refl, sym, ap, ◌∙◌, subst, arith}
-use Rattle.std.proofs.lemmas.List.{append-nil, length-append, length-map}
+use Rattle.std.proofs.lemmas.List.{map-append, length-append, length-map}
 use Rattle.c_tree.specs.declared.file.CFunction.{CFunction}
-use Rattle.c_tree.specs.declared.types.NumberType.{NumberType}
 use Rattle.c_tree.specs.Drafts.{Scope}
 use Rattle.c_tree.specs.Objects.{Object}
 use Rattle.c_tree.specs.Declarations.{Declared, string_object, unset, parameter_object, declared_statics}
 use Rattle.c_tree.specs.FlatForm.{whole_body}
 use Rattle.c_tree.specs.Linking as linking
-use Rattle.c_tree.specs.Linking.{Routines, function_names, all_functions, declared_constants, objects_of, linked_function, linked_functions}
+use Rattle.c_tree.specs.Linking.{LinkedFunction, External, Routines, externals_from, externals, external_object, function_names, all_functions, declared_constants, file_scope, objects_of, linked_function, linked_functions, linked_file, linked_files}
 use Rattle.c_image.specs.Held.{number_object}
 use Rattle.output_laws.specs.ListedOutputs.{list_object}
 use Rattle.linking_laws.specs.Linked as linked
-use Rattle.linking_laws.specs.Linked.{base_of_function, routines_of, own_of, file_names, base_at, function_base, linked_at, functions_before}
-use Rattle.linking_laws.proofs.Places.{some_same, map_at, some_at, within}
+use Rattle.linking_laws.specs.Linked.{base_of_function, base_of_file, routines_of, outside_of, own_of, file_names, base_at, function_base, linked_at, functions_before}
+use Rattle.linking_laws.proofs.Places.{some_same, get_front, get_back, map_at, some_at}
 use Rattle.linking_laws.proofs.FunctionObjects.{functions_have_objects, objects_count}
 use Rattle.linking_laws.proofs.Programs.{functions_stand, constants_stand}
-use Rattle.main_file_laws.proofs.Listed.{object_by, declared_variable, declared_listing, declared_temporary}
-use Rattle.unit_file.specs.UnitFile.{Variable, Listing, Parameter, Inventory, WrittenUnit, constant_for, unit_locals, parameter_for, unit_function, units_file, result_count, frame_count, object_count, first_object, first_list, first_string, first_parameter}
-use Rattle.unit_places.specs.UnitPlaces.{files_of, inventories, bases_of, linked_unit, HaveTheirStrings, variable_object, StandsAs, FunctionStands, HasPlaces, FunctionsHavePlaces}
-use Rattle.unit_places.proofs.Declared.{statics_are, unit_strings, unit_statics_count, unit_variable, unit_listing, framed_by, framed_are, framed_many, framed_parameter, framed_result, framed_temporary, types_are}
+use Rattle.main_file_laws.proofs.Listed.{object_by, declared_variable, declared_listing}
+use Rattle.unit_file.specs.UnitFile.{Variable, Listing, WrittenUnit, constant_for, unit_locals, unit_function, result_count, frame_count, object_count, first_object, first_list, first_string, first_parameter}
+use Rattle.unit_sites.specs.UnitSites.{UnitsOfFile, file_for, files_of, all_units, inventories, contents_of, all_inventories, Site, behind, sites_of}
+use Rattle.unit_places.specs.UnitPlaces.{HaveTheirStrings, variable_object, StandsAs, FunctionStands, FunctionsHavePlaces}
+use Rattle.unit_places.proofs.Declared.{unit_strings, unit_statics_count, unit_variable, unit_listing, framed_by, framed_are, framed_many, framed_parameter, framed_result, framed_temporary, types_are}
+use Rattle.unit_places.proofs.Sites.{first_behind, ends_before, inventory_at, file_end, file_start, site_in, placed}
 
 -- ## One function
 
@@ -35,7 +36,7 @@ framed_count : (w : WrittenUnit) → length (linked.framed (unit_function w)) �
 framed_count w = ap length (framed_are w.inventory) ∙ framed_many w.inventory
 
 -- how many objects it has
-objects_many : (numbers : Routines) (own : ℕ) (outer : Scope) (base : ℕ) (w : WrittenUnit) → (whole_body w.body).items.strings ≡ map w.inventory.texts w.inventory.strings →
+pub objects_many : (numbers : Routines) (own : ℕ) (outer : Scope) (base : ℕ) (w : WrittenUnit) → (whole_body w.body).items.strings ≡ map w.inventory.texts w.inventory.strings →
     length (linked_function numbers own outer base (unit_function w)).objects ≡ object_count w.inventory
 objects_many numbers own outer base w theirs =
     let has = functions_have_objects numbers own outer base (unit_function w) in
@@ -69,18 +70,19 @@ pub names_many : (fs : List CFunction) → length (function_names fs) ≡ length
 names_many [] = refl
 names_many (f ∷ fs) = ap suc (names_many fs)
 
--- the objects of a function end before those of all functions do
-ends_before : (numbers : Routines) (own : ℕ) (outer : Scope) (base : ℕ) (fs : List CFunction) (j : ℕ) (f : CFunction) → slice_get fs j ≡ Some f →
-    base_of_function numbers own outer base fs j + length (linked_function numbers own outer (base_of_function numbers own outer base fs j) f).objects ≤ base + length (linked_functions numbers own outer base fs).objects
-ends_before numbers own outer base [] j f at = absurd (cc)
-ends_before numbers own outer base (g ∷ fs) zero f at =
-    let same = ap (λ h. length (linked_function numbers own outer base h).objects) (some_same g f at) in
-    let all = length-append (linked_function numbers own outer base g).objects (linked_functions numbers own outer (base + length (linked_function numbers own outer base g).objects) fs).objects in
-    omega (arith, same, all)
-ends_before numbers own outer base (g ∷ fs) (suc j) f at =
-    let later = ends_before numbers own outer (base + length (linked_function numbers own outer base g).objects) fs j f at in
-    let all = length-append (linked_function numbers own outer base g).objects (linked_functions numbers own outer (base + length (linked_function numbers own outer base g).objects) fs).objects in
-    omega (arith, later, all)
+-- how many objects functions have
+functions_many : (numbers : Routines) (own : ℕ) (outer : Scope) (base : ℕ) (ws : List WrittenUnit) → HaveTheirStrings ws → base + length (linked_functions numbers own outer base (map unit_function ws)).objects ≡ behind base (inventories ws)
+functions_many numbers own outer base [] have = omega arith
+functions_many numbers own outer base (w ∷ ws) have =
+    let objects = (linked_function numbers own outer base (unit_function w)).objects in
+    let all = length-append objects (linked_functions numbers own outer (base + length objects) (map unit_function ws)).objects in
+    let later : base + object_count w.inventory + length (linked_functions numbers own outer (base + object_count w.inventory) (map unit_function ws)).objects ≡ behind base (inventories (w ∷ ws)) =
+    functions_many numbers own outer (base + object_count w.inventory) ws (later_strings w ws have) in
+    let one : base + length objects ≡ base + object_count w.inventory = ap (λ count. base + count) (objects_many numbers own outer base w (have 0 w refl)) in
+    let same : base + length objects + length (linked_functions numbers own outer (base + length objects) (map unit_function ws)).objects
+    ≡ base + object_count w.inventory + length (linked_functions numbers own outer (base + object_count w.inventory) (map unit_function ws)).objects =
+    ap (λ n. n + length (linked_functions numbers own outer n (map unit_function ws)).objects) one in
+    omega (arith, all, later, same)
 
 -- ## The constants
 
@@ -98,7 +100,70 @@ constant_at [] i z at = absurd (cc)
 constant_at (y ∷ zs) zero z at = subst (IsConstantAt (y ∷ zs) 0) (some_same y z at) (record { declared = _; at = refl; always = λ scope first. refl })
 constant_at (y ∷ zs) (suc i) z at = let later = constant_at zs i z at in record { declared = later.declared; at = later.at; always = later.always }
 
--- ## The file
+-- ## The files
+
+first_strings : (us ws : List WrittenUnit) → HaveTheirStrings (us ++ ws) → HaveTheirStrings us
+first_strings us ws have j w at = have j w (get_front us ws j w at)
+
+last_strings : (us ws : List WrittenUnit) → HaveTheirStrings (us ++ ws) → HaveTheirStrings ws
+last_strings us ws have j w at = have (length us + j) w (get_back us ws (length us + j) j w refl at)
+
+file_strings : (fs : List UnitsOfFile) (k : ℕ) (f : UnitsOfFile) → HaveTheirStrings (all_units fs) → slice_get fs k ≡ Some f → HaveTheirStrings f.units
+file_strings [] k f have at = absurd (cc)
+file_strings (g ∷ fs) zero f have at = subst (λ (h : UnitsOfFile). HaveTheirStrings h.units) (some_same g f at) (first_strings g.units (all_units fs) have)
+file_strings (g ∷ fs) (suc k) f have at = file_strings fs k f (last_strings g.units (all_units fs) have) at
+
+functions_are : (fs : List UnitsOfFile) → all_functions (files_of fs) ≡ map unit_function (all_units fs)
+functions_are [] = refl
+functions_are (f ∷ fs) = ap (λ later. map unit_function f.units ++ later) (functions_are fs) ∙ sym (map-append unit_function f.units (all_units fs))
+
+-- the program has as many functions as the files have units
+pub own_is : (fs : List UnitsOfFile) → own_of (files_of fs) ≡ length (all_units fs)
+own_is fs = names_many (all_functions (files_of fs)) ∙ ap length (functions_are fs) ∙ length-map (all_units fs) unit_function
+
+-- no file has an external object
+no_externals : (known : List External) (fs : List UnitsOfFile) → externals_from known (files_of fs) ≡ known
+no_externals known [] = refl
+no_externals known (f ∷ fs) = no_externals known fs
+
+-- where the objects of a file end
+file_many : (numbers : Routines) (objects : List ℕ → Option ℕ) (own first : ℕ) (f : UnitsOfFile) → HaveTheirStrings f.units → first + length (linked_file numbers objects own first (file_for f)).objects ≡ file_end first f
+file_many numbers objects own first f have =
+    let scope = file_scope numbers objects first (file_for f) in
+    let declared = declared_constants (map constant_for f.constants) in
+    let made = objects_of scope first declared in
+    let count : length made ≡ length f.constants = objects_count scope first declared ∙ constants_count f.constants in
+    let all = length-append made (linked_functions numbers own scope (first + length made) (map unit_function f.units)).objects in
+    let functions = functions_many numbers own scope (first + length made) f.units have in
+    let same : behind (first + length made) (inventories f.units) ≡ file_end first f = ap (λ n. behind (first + n) (inventories f.units)) count in
+    omega (arith, all, functions, same)
+
+module _ (numbers : Routines) (objects : List ℕ → Option ℕ) (own : ℕ) where
+  start_is : (first : ℕ) (fs : List UnitsOfFile) (k : ℕ) → HaveTheirStrings (all_units fs) → base_of_file numbers objects own first (files_of fs) k ≡ file_start first fs k
+  start_is first [] k have = refl
+  start_is first (f ∷ fs) zero have = refl
+  start_is first (f ∷ fs) (suc k) have =
+      ap (λ n. base_of_file numbers objects own n (files_of fs) k) (file_many numbers objects own first f (first_strings f.units (all_units fs) have)) ∙ start_is (file_end first f) fs k (last_strings f.units (all_units fs) have)
+
+  -- the objects of a file end before those of all files do
+  file_ends_before : (first : ℕ) (fs : List UnitsOfFile) (k : ℕ) (f : UnitsOfFile) → HaveTheirStrings (all_units fs) → slice_get fs k ≡ Some f →
+      file_end (file_start first fs k) f ≤ first + length (linked_files numbers objects own first (files_of fs)).objects
+  file_ends_before first [] k f have at = absurd (cc)
+  file_ends_before first (g ∷ fs) zero f have at =
+      let same : file_end first g ≡ file_end first f = ap (file_end first) (some_same g f at) in
+      let mine = (linked_file numbers objects own first (file_for g)).objects in
+      let all = length-append mine (linked_files numbers objects own (first + length mine) (files_of fs)).objects in
+      let ends = file_many numbers objects own first g (first_strings g.units (all_units fs) have) in
+      omega (arith, same, all, ends)
+  file_ends_before first (g ∷ fs) (suc k) f have at =
+      let mine = (linked_file numbers objects own first (file_for g)).objects in
+      let all = length-append mine (linked_files numbers objects own (first + length mine) (files_of fs)).objects in
+      let later = file_ends_before (file_end first g) fs k f (last_strings g.units (all_units fs) have) at in
+      let same : first + length mine + length (linked_files numbers objects own (first + length mine) (files_of fs)).objects ≡ file_end first g + length (linked_files numbers objects own (file_end first g) (files_of fs)).objects =
+      ap (λ n. n + length (linked_files numbers objects own n (files_of fs)).objects) (file_many numbers objects own first g (first_strings g.units (all_units fs) have)) in
+      omega (arith, all, later, same)
+
+-- ## A unit of a file
 
 object_same : (count : Option ℕ) → object_by count ≡ variable_object count
 object_same None = refl
@@ -107,111 +172,135 @@ object_same (Some count) = refl
 variable_always : (v : Variable) → linked.IsAlways (declared_variable v) (variable_object v.count)
 variable_always v scope first = object_same v.count
 
-module _ (constants : List ℤ) (ws : List WrittenUnit) (have : HaveTheirStrings ws) where
-  own_is : own_of (files_of constants ws) ≡ length ws
-  own_is = names_many (map unit_function ws ++ []) ∙ ap length (append-nil (map unit_function ws)) ∙ length-map ws unit_function
+module _ (fs : List UnitsOfFile) (have : HaveTheirStrings (all_units fs)) where
+  abbrev numbers : Routines
+  numbers = routines_of (files_of fs)
 
-  pub base_there : (j : ℕ) → function_base (files_of constants ws) 0 (units_file constants ws) j ≡ (bases_of constants ws j).function
-  base_there j =
-      ap (λ first. base_of_function (routines_of (files_of constants ws)) (own_of (files_of constants ws)) (file_names (files_of constants ws) 0 (units_file constants ws)) first (map unit_function ws) j)
-      {x = base_at (files_of constants ws) 0 + length (declared_constants (map constant_for constants))} {y = length constants} (let count = constants_count constants in omega (arith, count))
-      ∙ base_is (routines_of (files_of constants ws)) (own_of (files_of constants ws)) (file_names (files_of constants ws) 0 (units_file constants ws)) (length constants) ws j have
+  abbrev outside : List ℕ → Option ℕ
+  outside = outside_of (files_of fs)
 
-  module _ (j : ℕ) (w : WrittenUnit) (at : slice_get ws j ≡ Some w) where
-    stand : linked.IsInProgram (files_of constants ws) 0 (units_file constants ws) j (unit_function w)
-    stand = functions_stand (files_of constants ws) 0 (units_file constants ws) j (unit_function w) refl (map_at unit_function ws j w at)
+  abbrev own : ℕ
+  own = own_of (files_of fs)
 
-    has : linked.HasItsObjects (linked_at (files_of constants ws) 0 (units_file constants ws) j (unit_function w)) (function_base (files_of constants ws) 0 (units_file constants ws) j) (unit_function w)
-    has =
-        functions_have_objects (routines_of (files_of constants ws)) (own_of (files_of constants ws)) (file_names (files_of constants ws) 0 (units_file constants ws)) (function_base (files_of constants ws) 0 (units_file constants ws) j)
-        (unit_function w)
+  outside_none : length (externals (files_of fs)) ≡ 0
+  outside_none = ap length (no_externals [] fs)
 
-    -- an object of the function, by its place among those of the function
-    object_there : (n number : ℕ) (object : Object) → number ≡ (bases_of constants ws j).function + n → slice_get (linked_at (files_of constants ws) 0 (units_file constants ws) j (unit_function w)).objects n ≡ Some object →
-        StandsAs constants ws number object
-    object_there n number object there got =
-        let base = base_there j in
-        ap (slice_get (linking.program (files_of constants ws)).objects) {x = number} {y = function_base (files_of constants ws) 0 (units_file constants ws) j + n} (omega (arith, there, base)) ∙ stand.objects n object got
+  module _ (k : ℕ) (f : UnitsOfFile) (file_at : slice_get fs k ≡ Some f) where
+    abbrev start : ℕ
+    start = file_start 0 fs k
 
-    fresh_at : (i : ℕ) (d : Declared) (object : Object) → slice_get (framed_by w.inventory) i ≡ Some d → linked.IsAlways d object → slice_get (linked_unit constants ws j w).fresh i ≡ Some object
-    fresh_at i d object got always = has.fresh i d object (ap (λ ds. slice_get ds i) (framed_are w.inventory) ∙ got) always
+    abbrev outer : Scope
+    outer = file_scope numbers outside start (file_for f)
 
-    frame_there : (linked_unit constants ws j w).frame ≡ first_parameter w.inventory (bases_of constants ws j)
-    frame_there = has.at ∙ frame_is (function_base (files_of constants ws) 0 (units_file constants ws) j) w (have j w at) ∙ ap (λ base. base + length w.inventory.variables + length w.inventory.lists + length w.inventory.strings) (base_there j)
+    file_there : slice_get (files_of fs) k ≡ Some (file_for f)
+    file_there = map_at file_for fs k f file_at
 
-    variable_there : (i : ℕ) (one : Variable) → slice_get w.inventory.variables i ≡ Some one → StandsAs constants ws ((bases_of constants ws j).function + i) (variable_object one.count)
-    variable_there i one got =
-        object_there i ((bases_of constants ws j).function + i) (variable_object one.count) refl (has.lasting i (declared_variable one) (variable_object one.count) (unit_variable w.inventory i one got) (variable_always one))
+    base_there : base_at (files_of fs) k ≡ start
+    base_there = ap (λ first. base_of_file numbers outside own first (files_of fs) k) outside_none ∙ start_is numbers outside own 0 fs k have
 
-    list_there : (i : ℕ) (l : Listing) → slice_get w.inventory.lists i ≡ Some l → StandsAs constants ws (first_list w.inventory (bases_of constants ws j) + i) (list_object l.unit)
-    list_there i l got =
-        object_there (length w.inventory.variables + i) (first_list w.inventory (bases_of constants ws j) + i) (list_object l.unit) (omega arith)
-        (has.lasting (length w.inventory.variables + i) (declared_listing (1 + i) l) (list_object l.unit) (unit_listing w.inventory i l got) (λ scope first. refl))
+    units_have : HaveTheirStrings f.units
+    units_have = file_strings fs k f have file_at
 
-    string_there : (i n : ℕ) → slice_get w.inventory.strings i ≡ Some n → StandsAs constants ws (first_string w.inventory (bases_of constants ws j) + i) (string_object (w.inventory.texts n))
-    string_there i n got =
-        let statics = unit_statics_count w.inventory in
-        object_there (length (declared_statics (unit_locals w.inventory)) + i) (first_string w.inventory (bases_of constants ws j) + i) (string_object (w.inventory.texts n)) (omega (arith, statics))
-        (has.passed i (w.inventory.texts n) (ap (λ ss. slice_get ss i) (strings_are w (have j w at)) ∙ map_at w.inventory.texts w.inventory.strings i n got))
+    function_there : (i : ℕ) → function_base (files_of fs) k (file_for f) i ≡ first_object (start + length f.constants) (inventories f.units) i
+    function_there i =
+        ap (λ first. base_of_function numbers own (file_names (files_of fs) k (file_for f)) first (map unit_function f.units) i) ((λ n. base_there n + constants_count f.constants n))
+        ∙ base_is numbers own (file_names (files_of fs) k (file_for f)) (start + length f.constants) f.units i units_have
 
-    frame_has : (i : ℕ) → i < frame_count w.inventory → (object : Object) × StandsAs constants ws (first_parameter w.inventory (bases_of constants ws j) + i) object
-    frame_has i below =
-        let many = has.as_many in
-        let framed = framed_count w in
-        let statics = unit_statics_count w.inventory in
-        let strings = strings_many w (have j w at) in
-        let x = some_at (linked_unit constants ws j w).fresh i (omega (arith, many, framed, below)) in (
-          x.0,
-          object_there (length (linked.statics (unit_function w)) + (length (linked.strings (unit_function w)) + i)) (first_parameter w.inventory (bases_of constants ws j) + i) x.0 (omega (arith, statics, strings))
-              (has.in_frame i x.0 x.1),
-        )
+    constant_there : (i : ℕ) (z : ℤ) → slice_get f.constants i ≡ Some z → StandsAs fs (start + i) (number_object z)
+    constant_there i z got =
+        let c = constant_at f.constants i z got in
+        ap (λ first. slice_get (linking.program (files_of fs)).objects (first + i)) (sym base_there) ∙ constants_stand (files_of fs) k (file_for f) i c.declared (number_object z) file_there c.at c.always
 
-    -- how many objects the program has
-    program_objects : length (linking.program (files_of constants ws)).objects ≡ length (declared_constants (map constant_for constants))
-        + length (linked_functions (routines_of (files_of constants ws)) (own_of (files_of constants ws)) (file_names (files_of constants ws) 0 (units_file constants ws))
-        (base_at (files_of constants ws) 0 + length (declared_constants (map constant_for constants))) (map unit_function ws)).objects
-    unfolding linking.program
-    program_objects =
-        let scope = file_names (files_of constants ws) 0 (units_file constants ws) in
-        let base = base_at (files_of constants ws) 0 in
-        let made = objects_of scope base (declared_constants (map constant_for constants)) in
-        let count : length made ≡ length (declared_constants (map constant_for constants)) = objects_count scope base (declared_constants (map constant_for constants)) in
-        ap length (append-nil (made ++ (linked_functions (routines_of (files_of constants ws)) (own_of (files_of constants ws)) scope (base + length made) (map unit_function ws)).objects))
-        ∙ length-append made (linked_functions (routines_of (files_of constants ws)) (own_of (files_of constants ws)) scope (base + length made) (map unit_function ws)).objects
-        ∙ ap (λ n. n + length (linked_functions (routines_of (files_of constants ws)) (own_of (files_of constants ws)) scope (base + n) (map unit_function ws)).objects) count
+    module _ (i : ℕ) (w : WrittenUnit) (at : slice_get f.units i ≡ Some w) where
+      abbrev site : Site
+      site = site_in (length (all_inventories (map contents_of fs))) start f i
 
-    all_inside : first_parameter w.inventory (bases_of constants ws j) + frame_count w.inventory ≤ length (linking.program (files_of constants ws)).objects
-    all_inside =
-        let ends =
-        ends_before (routines_of (files_of constants ws)) (own_of (files_of constants ws)) (file_names (files_of constants ws) 0 (units_file constants ws))
-        (base_at (files_of constants ws) 0 + length (declared_constants (map constant_for constants))) (map unit_function ws) j (unit_function w) (map_at unit_function ws j w at) in
-        let base = base_there j in
-        let count = objects_many (routines_of (files_of constants ws)) (own_of (files_of constants ws)) (file_names (files_of constants ws) 0 (units_file constants ws)) (function_base (files_of constants ws) 0 (units_file constants ws) j) w (have j w at) in
-        let all = program_objects in
-        omega (arith, ends, base, count, all)
+      abbrev linked_here : LinkedFunction
+      linked_here = linked_function numbers own outer site.bases.function (unit_function w)
 
-    function_stands : FunctionStands constants ws j w
-    function_stands = record {
-      function_is = ap (slice_get (linking.program (files_of constants ws)).functions) {x = j} {y = functions_before (files_of constants ws) 0 + j} (omega arith) ∙ stand.function_is;
-      written = ap (slice_get (all_functions (files_of constants ws))) {x = j} {y = functions_before (files_of constants ws) 0 + j} (omega arith) ∙ stand.written;
-      own = own_is;
-      parameters_are = types_are w.inventory.parameters;
-      frame = frame_there;
-      inside = all_inside;
-      as_many = has.as_many ∙ framed_count w;
-      parameter = λ i one got. fresh_at i _ (parameter_object one.type) (framed_parameter w.inventory i one got) (λ scope first. refl);
-      result = λ type is. fresh_at (length w.inventory.parameters) _ (unset 4) (framed_result w.inventory type is) (λ scope first. refl);
-      temporary = λ k below. fresh_at (length w.inventory.parameters + (result_count w.inventory.returned + k)) _ (unset 4) (framed_temporary w.inventory k below) (λ scope first. refl);
-      variable = variable_there;
-      list = list_there;
-      string = string_there;
-      in_frame = frame_has;
-    }
+      theirs : (whole_body w.body).items.strings ≡ map w.inventory.texts w.inventory.strings
+      theirs = units_have i w at
 
-  constant_there : (i : ℕ) (z : ℤ) → slice_get constants i ≡ Some z → StandsAs constants ws i (number_object z)
-  constant_there i z got =
-      let c = constant_at constants i z got in
-      ap (slice_get (linking.program (files_of constants ws)).objects) {x = i} {y = 0 + i} (omega arith) ∙ constants_stand (files_of constants ws) 0 (units_file constants ws) i c.declared (number_object z) refl c.at c.always
+      linked_same : linked_at (files_of fs) k (file_for f) i (unit_function w) ≡ linked_here
+      linked_same = (λ n. linked_function numbers own (file_scope numbers outside (base_there n) (file_for f)) (function_there i n) (unit_function w))
+
+      stand : linked.IsInProgram (files_of fs) k (file_for f) i (unit_function w)
+      stand = functions_stand (files_of fs) k (file_for f) i (unit_function w) file_there (map_at unit_function f.units i w at)
+
+      has : linked.HasItsObjects linked_here site.bases.function (unit_function w)
+      has = functions_have_objects numbers own outer site.bases.function (unit_function w)
+
+      -- an object of the function, by its place among those of the function
+      object_there : (n number : ℕ) (object : Object) → number ≡ site.bases.function + n → slice_get linked_here.objects n ≡ Some object → StandsAs fs number object
+      object_there n number object there got =
+          ap (slice_get (linking.program (files_of fs)).objects) (there ∙ ap (λ base. base + n) (sym (function_there i)))
+          ∙ stand.objects n object (ap (λ (l : LinkedFunction). slice_get l.objects n) linked_same ∙ got)
+
+      fresh_at : (n : ℕ) (d : Declared) (object : Object) → slice_get (framed_by w.inventory) n ≡ Some d → linked.IsAlways d object → slice_get linked_here.function.fresh n ≡ Some object
+      fresh_at n d object got always = has.fresh n d object (ap (λ ds. slice_get ds n) (framed_are w.inventory) ∙ got) always
+
+      variable_there : (n : ℕ) (one : Variable) → slice_get w.inventory.variables n ≡ Some one → StandsAs fs (site.bases.function + n) (variable_object one.count)
+      variable_there n one got =
+          object_there n (site.bases.function + n) (variable_object one.count) refl (has.lasting n (declared_variable one) (variable_object one.count) (unit_variable w.inventory n one got) (variable_always one))
+
+      list_there : (n : ℕ) (l : Listing) → slice_get w.inventory.lists n ≡ Some l → StandsAs fs (first_list w.inventory site.bases + n) (list_object l.unit)
+      list_there n l got =
+          object_there (length w.inventory.variables + n) (first_list w.inventory site.bases + n) (list_object l.unit) (omega arith)
+          (has.lasting (length w.inventory.variables + n) (declared_listing (1 + n) l) (list_object l.unit) (unit_listing w.inventory n l got) (λ scope first. refl))
+
+      string_there : (m n : ℕ) → slice_get w.inventory.strings m ≡ Some n → StandsAs fs (first_string w.inventory site.bases + m) (string_object (w.inventory.texts n))
+      string_there m n got =
+          let statics = unit_statics_count w.inventory in
+          object_there (length (declared_statics (unit_locals w.inventory)) + m) (first_string w.inventory site.bases + m) (string_object (w.inventory.texts n)) (omega (arith, statics))
+          (has.passed m (w.inventory.texts n) (ap (λ ss. slice_get ss m) (strings_are w theirs) ∙ map_at w.inventory.texts w.inventory.strings m n got))
+
+      frame_has : (n : ℕ) → n < frame_count w.inventory → (object : Object) × StandsAs fs (first_parameter w.inventory site.bases + n) object
+      frame_has n below =
+          let many = has.as_many in
+          let framed = framed_count w in
+          let statics = unit_statics_count w.inventory in
+          let strings = strings_many w theirs in
+          let x = some_at linked_here.function.fresh n (omega (arith, many, framed, below)) in (
+            x.0,
+            object_there (length (linked.statics (unit_function w)) + (length (linked.strings (unit_function w)) + n)) (first_parameter w.inventory site.bases + n) x.0 (omega (arith, statics, strings)) (has.in_frame n x.0 x.1),
+          )
+
+      all_inside : first_parameter w.inventory site.bases + frame_count w.inventory ≤ length (linking.program (files_of fs)).objects
+      unfolding linking.program
+      all_inside =
+          let mine = ends_before (start + length f.constants) (inventories f.units) i w.inventory (inventory_at f.units i w at) in
+          let ends = file_ends_before numbers outside own 0 fs k f have file_at in
+          let first = outside_none in
+          let all = length-append (map external_object (externals (files_of fs))) (linked_files numbers outside own (length (externals (files_of fs))) (files_of fs)).objects in
+          let same : length (linked_files numbers outside own (length (externals (files_of fs))) (files_of fs)).objects ≡ length (linked_files numbers outside own 0 (files_of fs)).objects =
+          ap (λ n. length (linked_files numbers outside own n (files_of fs)).objects) outside_none in
+          omega (arith, mine, ends, all, same)
+
+      function_stands : (j : ℕ) → functions_before (files_of fs) k + i ≡ j → FunctionStands fs j site w
+      function_stands j there = record {
+        functions = map unit_function f.units;
+        function_is = ap (slice_get (linking.program (files_of fs)).functions) (sym there) ∙ stand.function_is ∙ ap (λ (l : LinkedFunction). Some l.function) linked_same;
+        written = ap (slice_get (all_functions (files_of fs))) (sym there) ∙ stand.written;
+        own = own_is fs;
+        parameters_are = types_are w.inventory.parameters;
+        frame = has.at ∙ frame_is site.bases.function w theirs;
+        inside = all_inside;
+        as_many = has.as_many ∙ framed_count w;
+        parameter = λ n one got. fresh_at n _ (parameter_object one.type) (framed_parameter w.inventory n one got) (λ scope first. refl);
+        result = λ type is. fresh_at (length w.inventory.parameters) _ (unset 4) (framed_result w.inventory type is) (λ scope first. refl);
+        temporary = λ n below. fresh_at (length w.inventory.parameters + (result_count w.inventory.returned + n)) _ (unset 4) (framed_temporary w.inventory n below) (λ scope first. refl);
+        variable = variable_there;
+        list = list_there;
+        string = string_there;
+        in_frame = frame_has;
+        number = constant_there;
+        before = first_behind (start + length f.constants) (inventories f.units) i;
+      }
+
+  unit_stands : (j : ℕ) (s : Site) (w : WrittenUnit) → slice_get (sites_of fs) j ≡ Some s → slice_get (all_units fs) j ≡ Some w → FunctionStands fs j s w
+  unit_stands j s w at unit =
+      let p = placed (length (all_inventories (map contents_of fs))) 0 fs j s w at unit in
+      subst (λ (t : Site). FunctionStands fs j t w) p.site (function_stands p.file p.one p.file_at p.place w p.unit_at j p.number)
 
 pub functions_have_places : FunctionsHavePlaces
-functions_have_places constants ws have = record { functions = λ j w at. function_stands constants ws have j w at; numbers = constant_there constants ws have }
+functions_have_places fs have = record { functions = unit_stands fs have }

@@ -1,4 +1,4 @@
--- Each function of the file is one of which all is so that is asked.
+-- Each function of the files is one of which all is so that is asked.
 use Rattle.std.specs.Prelude.{◌≡◌, ℕ, suc, ◌+◌, ◌-◌, ◌<◌, ◌≤◌, nat_eq, nat_lt, ℤ, true, false, List, [], ◌∷◌, ◌++◌, map, length, replicate, Option, Some, None, is_some, unwrap_or, slice_get, bytes_eq}
 use Rattle.std.specs.Ordering.{int_eq}
 use Rattle.std.proofs.Common.{refl, sym, ap, ◌∙◌, subst, arith}
@@ -32,16 +32,18 @@ use Rattle.main_file_laws.proofs.Known.{position_finds}
 use Rattle.main_programs.proofs.Emission.{lower_written, size_written}
 use Rattle.main_programs.proofs.MainRuns.{ones_cost}
 use Rattle.main_programs.proofs.MainStrings.{front_is, string_of}
-use Rattle.unit_file.specs.UnitFile.{Parameter, Inventory, Bases, WrittenUnit, result_count, frame_count, first_object, first_list, first_string, first_parameter, result_object, first_temporary, place_or_none, place_of_constant, place_of_list, place_of_parameter, place_of_string, framed_names, result_names, parameter_object, address_in, lower_of, size_of}
+use Rattle.unit_file.specs.UnitFile.{Parameter, Inventory, Bases, result_count, frame_count, first_list, first_string, first_parameter, result_object, first_temporary, place_or_none, place_of_constant, place_of_list, place_of_parameter, place_of_string, framed_names, result_names, parameter_object, address_in, lower_of, size_of}
 use Rattle.main_file.specs.MainFile.{temporary_names}
-use Rattle.unit_places.specs.UnitPlaces.{inventories, bases_of, FunctionStands}
+use Rattle.unit_sites.specs.UnitSites.{UnitsOfFile, all_units, sites_of}
 use Rattle.unit_places.proofs.Declared.{as_main}
-use Rattle.unit_programs.specs.TranslatedUnits.{Rendering, units_of, written_of, dummies_named, IsDummy, is_number, is_procedure, IsTranslatedUnit, IsTranslatedFile}
+use Rattle.unit_places.proofs.Sites.{owned, AreApart, constants_first, objects_first, constants_apart}
+use Rattle.unit_programs.specs.TranslatedUnits.{Rendering, units_of, dummies_named, IsDummy, is_number, is_procedure, IsTranslatedUnit, IsTranslatedSet}
 use Rattle.unit_programs.specs.EmittedFile.{room_at, surroundings_of, emission_of, costs_of, UnitsAreEmitted}
 use Rattle.unit_programs.proofs.Pieces.{placed_by}
-use Rattle.unit_programs.proofs.Sequences.{first_least, same_piece}
+use Rattle.unit_programs.proofs.Sequences.{same_unit}
+use Rattle.unit_programs.proofs.Held as held
 use Rattle.unit_programs.proofs.Objects as objects_of
-use Rattle.unit_programs.proofs.Objects.{found_back}
+use Rattle.unit_programs.proofs.Objects.{found_back, IsFunctionOf}
 use Rattle.unit_programs.proofs.Stored as stored_of
 
 -- ## Parameters before a call
@@ -64,87 +66,82 @@ function_parameter parameter.Chars h = absurd (cc)
 function_parameter parameter.Length h = absurd (cc)
 function_parameter parameter.Int h = absurd (cc)
 
-module _ (constants : List ℤ) (rs : List Rendering) (is : IsTranslatedFile constants rs) (j : ℕ) (r : Rendering) (at : slice_get rs j ≡ Some r) where
-  abbrev ws : List WrittenUnit
-  ws = written_of rs
-
-  abbrev vs : List Inventory
-  vs = inventories ws
-
+module _ (fs : List UnitsOfFile) (rs : List Rendering) (is : IsTranslatedSet fs rs) (j : ℕ) (r : Rendering) (at : slice_get rs j ≡ Some r) where
   abbrev v : Inventory
   v = r.written.inventory
 
   abbrev b : Bases
-  b = bases_of constants ws j
+  b = r.site.bases
 
   abbrev u : Text
   u = r.text
 
   abbrev s : Surroundings
-  s = surroundings_of constants rs
+  s = surroundings_of fs rs
 
   abbrev e : Emission
-  e = emission_of constants rs j r
+  e = emission_of fs j r
 
-  one : IsTranslatedUnit constants rs j r
+  one : IsTranslatedUnit rs j r
   one = is.units j r at
 
-  stands : FunctionStands constants ws j r.written
-  stands = objects_of.function_stands constants rs is j r at
+  function_is : IsFunctionOf fs r e.function
+  function_is = objects_of.function_of fs rs is j r at
+
+  site_there : slice_get (sites_of fs) j ≡ Some r.site
+  site_there = objects_of.site_at fs rs is j r at
+
+  written_there : slice_get (all_units fs) j ≡ Some r.written
+  written_there = objects_of.unit_written fs rs is j r at
 
   program_is : u.facts.program ≡ r.unit
-  program_is = stored_of.program_is constants rs is j r at
-
-  inventory_at : slice_get vs j ≡ Some v
-  inventory_at = objects_of.inventory_at constants rs is j r at
+  program_is = stored_of.program_is fs rs is j r at
 
   -- ## Steps
 
   item_of : (n : ℕ) (st : Step) → slice_get u.steps n ≡ Some st → IsItem s u e n st
   item_of n st there =
-      let i = objects_of.item_at constants rs is j r at n st there in
-      record { item = i.item; emitted = i.emitted; stands = ap (λ xs. slice_get xs n) (objects_of.code_is constants rs is j r at) ∙ i.at }
+      let i = objects_of.item_at fs rs is j r at n st there in
+      record { item = i.item; emitted = i.emitted; stands = ap (λ xs. slice_get xs n) function_is.code ∙ i.at }
 
   -- ## The frame
 
   room_is : s.rooms j ≡ record { first = e.function.frame; count = length e.function.fresh }
-  room_is =
-      ap (room_at constants ws j) (objects_of.written_at constants rs is j r at)
-      ∙ (λ i. record { first = sym stands.frame i; count = sym stands.as_many i })
+  room_is = ap room_at at ∙ (λ i. record { first = sym function_is.frame i; count = sym function_is.as_many i })
 
   inside : e.function.frame + length e.function.fresh ≤ s.objects
-  inside = let frame = stands.frame in let many = stands.as_many in let all = stands.inside in omega (arith, frame, many, all)
+  inside = let frame = function_is.frame in let many = function_is.as_many in let all = (objects_of.function_stands fs rs is j r at).inside in omega (arith, frame, many, all)
 
-  other_room : (i object : ℕ) → nat_eq i j ≡ false → (found : Option WrittenUnit) → slice_get ws i ≡ found → IsOfRoom (room_at constants ws i found) object → IsOfRoom (room_at constants ws j (Some r.written)) object → ⊥
+  other_room : (i object : ℕ) → nat_eq i j ≡ false → (found : Option Rendering) → slice_get rs i ≡ found → IsOfRoom (room_at found) object → IsOfRoom (room_at (Some r)) object → ⊥
   other_room i object apart None at' own mine = let low = own.0 in let high = own.1 in omega (arith, low, high)
-  other_room i object apart (Some w) at' own mine =
+  other_room i object apart (Some q) at' own mine =
       let low = own.0 in
       let high = own.1 in
       let low' = mine.0 in
       let high' = mine.1 in
-      let first = first_object (length constants) vs i in
-      let first' = first_object (length constants) vs j in
-      let same = same_piece (length constants) vs i j w.inventory v (object - first) (object - first') (map_at (λ (z : WrittenUnit). z.inventory) ws i w at') inventory_at (omega (arith, low, high)) (omega (arith, low', high')) (omega (arith, low, low')) in
+      let same = same_unit fs i j q.site r.site q.written r.written (object - q.site.bases.function) (object - b.function) (objects_of.site_at fs rs is i q at') (objects_of.unit_written fs rs is i q at') site_there written_there
+      (omega (arith, low, high)) (omega (arith, low', high')) (omega (arith, low, low')) in
       told (sym apart ∙ eq-eqb i j same)
     where
       told : false ≡ true → ⊥
       told h = absurd (cc)
 
+  constant_apart : (k : ℕ) (q : Rendering) → k < length r.site.constants → IsOfRoom (room_at (Some q)) (b.file + k) → AreApart q.site q.written r.site → ⊥
+  constant_apart k q below own (constants_first before) = let low = own.0 in omega (arith, below, low, before)
+  constant_apart k q below own (objects_first before) = let high = own.1 in omega (arith, high, before)
+
+  no_constant : (i : ℕ) (z : ℤ) (found : Option Rendering) → slice_get rs i ≡ found → (place : Option ℕ) → place_of_constant r.site.constants z ≡ place → is_some place ≡ true → IsOfRoom (room_at found) (b.file + place_or_none place) → ⊥
+  no_constant i z found at' None placed has own = absurd (cc)
+  no_constant i z None at' (Some k) placed has own = let low = own.0 in let high = own.1 in omega (arith, low, high)
+  no_constant i z (Some q) at' (Some k) placed has own =
+      let f = position_finds (int_eq z) r.site.constants k placed in
+      constant_apart k q (within r.site.constants k f.one f.at) own (constants_apart fs i j q.site r.site q.written (objects_of.site_at fs rs is i q at') (objects_of.unit_written fs rs is i q at') site_there)
+
   rooms_apart : RoomIsApart s j e
   rooms_apart = record {
-    rooms = λ i object apart own mine. other_room i object apart (slice_get ws i) refl own (subst (λ found. IsOfRoom (room_at constants ws j found) object) (objects_of.written_at constants rs is j r at) mine);
-    constants = λ i z apart has own. no_constant i z (slice_get ws i) (place_of_constant constants z) refl has own;
+    rooms = λ i object apart own mine. other_room i object apart (slice_get rs i) refl own (subst (λ found. IsOfRoom (room_at found) object) at mine);
+    constants = λ i z apart has own. no_constant i z (slice_get rs i) refl (place_of_constant r.site.constants z) refl has own;
   }
-    where
-      no_constant : (i : ℕ) (z : ℤ) (found : Option WrittenUnit) (place : Option ℕ) → place_of_constant constants z ≡ place → is_some place ≡ true → IsOfRoom (room_at constants ws i found) (0 + place_or_none place) → ⊥
-      no_constant i z found None placed has own = absurd (cc)
-      no_constant i z None (Some k) placed has own = let low = own.0 in let high = own.1 in omega (arith, low, high)
-      no_constant i z (Some w) (Some k) placed has own =
-          let f = position_finds (int_eq z) constants k placed in
-          let below = within constants k f.one f.at in
-          let least = first_least (length constants) vs i in
-          let low = own.0 in
-          omega (arith, below, least, low)
 
   -- ## Dummies
 
@@ -159,7 +156,7 @@ module _ (constants : List ℤ) (rs : List Rendering) (is : IsTranslatedFile con
   parameter_placed i p at' = placed_by (λ (z : Parameter). z.name) v.parameters i p (λ m q other same. parameter_alone i m p q at' other same) at'
 
   parameter_there : (x : Bytes) (i : ℕ) → place_of_parameter v x ≡ Some i → Through (parameter_object v b x) ≡ Through (e.function.frame + i)
-  parameter_there x i placed = ap (λ place. Through (first_parameter v b + unwrap_or place (frame_count v))) placed ∙ ap (λ n. Through (n + i)) (sym stands.frame)
+  parameter_there x i placed = ap (λ place. Through (first_parameter v b + unwrap_or place (frame_count v))) placed ∙ ap (λ n. Through (n + i)) (sym function_is.frame)
 
   pub dummy_address : (x : Bytes) (i : ℕ) → (u.facts.program.attribute x).class ≡ class.Dummy → place_of_parameter v x ≡ Some i → e.writing.naming.address x ≡ Through (e.function.frame + i)
   unfolding address_in
@@ -178,7 +175,7 @@ module _ (constants : List ℤ) (rs : List Rendering) (is : IsTranslatedFile con
         fixed = fixed;
         pointer = pointer;
         address = dummy_address p.name i own (parameter_placed i p at');
-        fresh = stands.parameter i p at' ∙ ap Some (number_parameter p.type pointer);
+        fresh = function_is.parameter i p at' ∙ ap Some (number_parameter p.type pointer);
       }) later
   with_parameter i formals p types at' (is_procedure own fixed pointer) later =
       named_procedure i p.name formals p.type types (record {
@@ -186,7 +183,7 @@ module _ (constants : List ℤ) (rs : List Rendering) (is : IsTranslatedFile con
         fixed = fixed;
         pointer = pointer;
         address = procedure_address p.name i own (parameter_placed i p at');
-        fresh = stands.parameter i p at' ∙ ap Some (function_parameter p.type pointer);
+        fresh = function_is.parameter i p at' ∙ ap Some (function_parameter p.type pointer);
       }) later
 
   parameters_from : (i : ℕ) (formals : List Formal) (ps : List Parameter) → dummies_named formals ≡ map (λ (p : Parameter). p.name) ps → ((m : ℕ) (p : Parameter) → slice_get ps m ≡ Some p → slice_get v.parameters (i + m) ≡ Some p)
@@ -204,11 +201,11 @@ module _ (constants : List ℤ) (rs : List Rendering) (is : IsTranslatedFile con
 
   parameters_are : AreParameters u e 0 one.entry.formals e.function.parameters
   parameters_are =
-      subst (AreParameters u e 0 one.entry.formals) (sym stands.parameters_are)
+      subst (AreParameters u e 0 one.entry.formals) (sym function_is.parameters_are)
       (parameters_from 0 one.entry.formals v.parameters one.dummies (λ m p there. ap (slice_get v.parameters) {x = 0 + m} {y = m} (omega arith) ∙ there))
 
   parameters_many : length e.function.parameters ≡ length v.parameters
-  parameters_many = ap length stands.parameters_are ∙ length-map v.parameters (λ (p : Parameter). p.type)
+  parameters_many = ap length function_is.parameters_are ∙ length-map v.parameters (λ (p : Parameter). p.type)
 
   -- ## The result and the temporaries
 
@@ -217,7 +214,7 @@ module _ (constants : List ℤ) (rs : List Rendering) (is : IsTranslatedFile con
   result_made function =
       let res = one.result function in
       let many = parameters_many in
-      let frame = stands.frame in
+      let frame = function_is.frame in
       record {
         object = result_object v b;
         made = record {
@@ -225,7 +222,7 @@ module _ (constants : List ℤ) (rs : List Rendering) (is : IsTranslatedFile con
             index = length v.parameters;
             at = omega (arith, frame);
             bytes = None ∷ None ∷ None ∷ None ∷ [];
-            is = stands.result res.type res.returned;
+            is = function_is.result res.type res.returned;
             room = omega arith;
           };
           behind = omega (arith, many);
@@ -233,20 +230,20 @@ module _ (constants : List ℤ) (rs : List Rendering) (is : IsTranslatedFile con
         own = res.own;
         numeric = res.numeric;
         address = λ x own. ap (address_in v b x) own;
-        gives = res.gives;
+        gives = function_is.gives ∙ res.gives;
         apart = λ k numeric same. (let counted = ap result_count res.returned in let no : ⊥ = omega (arith, counted, same) in no);
       }
 
   temporary_made : (k : ℕ) → nat_lt k v.temporaries ≡ true → IsMadeAnew e (first_temporary v b + k)
   temporary_made k h =
       let many = parameters_many in
-      let frame = stands.frame in
+      let frame = function_is.frame in
       record {
         in_frame = record {
           index = length v.parameters + (result_count v.returned + k);
           at = omega (arith, frame);
           bytes = None ∷ None ∷ None ∷ None ∷ [];
-          is = stands.temporary k (ltb-true k v.temporaries h);
+          is = function_is.temporary k (ltb-true k v.temporaries h);
           room = omega arith;
         };
         behind = omega (arith, many);
@@ -287,24 +284,24 @@ module _ (constants : List ℤ) (rs : List Rendering) (is : IsTranslatedFile con
   -- ## What is passed to the library
 
   constant_held : (z : ℤ) → e.writing.library.has z ≡ true → Holds (s.first.frozen (e.writing.library.constant z)) (IsInt z)
-  constant_held z h = by (place_of_constant constants z) refl h
+  constant_held z h = by (place_of_constant r.site.constants z) refl h
     where
-      by : (found : Option ℕ) → place_of_constant constants z ≡ found → is_some found ≡ true → Holds (s.first.frozen (0 + place_or_none found)) (IsInt z)
+      by : (found : Option ℕ) → place_of_constant r.site.constants z ≡ found → is_some found ≡ true → Holds (s.first.frozen (b.file + place_or_none found)) (IsInt z)
       by None there g = absurd (cc)
       by (Some i) there g =
-          let f = position_finds (int_eq z) constants i there in
+          let f = position_finds (int_eq z) r.site.constants i there in
           let same : z ≡ f.one = (Decides-int_eq z f.one).0 f.passes in
-          subst (λ y. Holds (s.first.frozen (0 + i)) (IsInt y)) (sym same) (record {
+          subst (λ y. Holds (s.first.frozen (b.file + i)) (IsInt y)) (sym same) (record {
             bytes = map Some (bytes_of_number f.one);
-            is = ap s.first.frozen {x = 0 + i} {y = i} (omega arith) ∙ objects_of.held_constant constants rs is i f.one f.at;
-            begins = (is.numbers i f.one f.at, refl);
+            is = held.constant_held fs j r.site r.written site_there written_there i f.one f.at;
+            begins = (is.numbers j r at i f.one f.at, refl);
           })
 
   list_held : (n : ℕ) (way : Direction) (layout : Layout) (controls : Controls) (ps : Pures) (m : ℕ) (unit : ℤ) → slice_get u.steps n ≡ Some (Acts (Starts way layout controls) ps m) → unit_of ps ≡ Some unit
       → s.first.frozen (e.writing.library.list n) ≡ Some (list_object unit)
   list_held n way layout controls ps m unit there of =
       let l = one.passes.units n way layout controls ps m unit there of in
-      objects_of.held_list constants rs is j v l.0 (first_list v b + place_or_none (place_of_list v n)) l.1 inventory_at (ap (λ found. first_list v b + place_or_none found) l.2) l.3 ∙ ap (λ z. Some (list_object z)) l.4
+      held.held_list fs j r.site r.written site_there written_there l.0 (first_list v b + place_or_none (place_of_list v n)) l.1 (ap (λ found. first_list v b + place_or_none found) l.2) l.3 ∙ ap (λ z. Some (list_object z)) l.4
 
   text_held : (n : ℕ) (text : Bytes) → slice_get u.steps n ≡ Some (Halt text) → Holds (s.first.frozen (e.writing.library.text n)) (IsText text)
   text_held n text there =
@@ -312,7 +309,7 @@ module _ (constants : List ℤ) (rs : List Rendering) (is : IsTranslatedFile con
       let short = one.passes.short n text there in
       record {
         bytes = map Some (text ++ replicate (length text + 1 - length text) 0);
-        is = objects_of.held_string constants rs is j v string.place (first_string v b + place_or_none (place_of_string v n)) n inventory_at (ap (λ found. first_string v b + place_or_none found) string.placed) string.at
+        is = held.held_string fs j r.site r.written site_there written_there string.place (first_string v b + place_or_none (place_of_string v n)) n (ap (λ found. first_string v b + place_or_none found) string.placed) string.at
             ∙ ap (λ bytes. Some (string_object bytes)) (one.passes.texts n text there);
         begins = (short.1, short.0, front_is text (replicate (length text + 1 - length text) 0));
       }
@@ -325,7 +322,7 @@ module _ (constants : List ℤ) (rs : List Rendering) (is : IsTranslatedFile con
     outputs = one.flows.outputs;
     returns = one.flows.returns;
     none_at_first = one.flows.none_at_first;
-    own = length-map ws (λ (w : WrittenUnit). w.inventory) ∙ sym stands.own;
+    own = owned fs j r.site site_there ∙ sym function_is.own;
     constants = constant_held;
     lists = list_held;
     texts = text_held;
@@ -340,12 +337,13 @@ module _ (constants : List ℤ) (rs : List Rendering) (is : IsTranslatedFile con
       let below = within (units_of rs) f.place f.unit f.at in
       let many = length-map rs (λ (q : Rendering). q.unit) in
       let written = length-map rs (λ (q : Rendering). q.written) in
-      let own = stands.own in
-      lt-ltb function e.function.own (omega (arith, there, below, many, written, own))
+      let all = ap length is.written in
+      let own = function_is.own in
+      lt-ltb function e.function.own (omega (arith, there, below, many, written, all, own))
 
   reached : (f : Frame) (x : Bytes) (p : Spot) → (u.facts.program.attribute x).class ≡ class.Stored → whole u.facts f x ≡ Gives (IsSpot p) → Reaches s.first p (e.writing.naming.address x)
   unfolding address_in
-  reached f x p own h = subst (λ k. Reaches s.first p (address_in v b x k)) (sym own) (stored_of.reached constants rs is j r at f x p own h)
+  reached f x p own h = subst (λ k. Reaches s.first p (address_in v b x k)) (sym own) (stored_of.reached fs rs is j r at f x p own h)
 
   pub emitted : IsEmittedUnit s j u (costs_of u) e
   emitted = record {
@@ -361,13 +359,13 @@ module _ (constants : List ℤ) (rs : List Rendering) (is : IsTranslatedFile con
     inside = inside;
     apart_rooms = rooms_apart;
     parameters = parameters_are;
-    gives = λ other. one.gives (λ function. other (ap (λ p. p.kind) program_is ∙ function));
+    gives = λ other. function_is.gives ∙ one.gives (λ function. other (ap (λ p. p.kind) program_is ∙ function));
     result = λ function. result_made (sym (ap (λ p. p.kind) program_is) ∙ function);
     temporaries = temporary_made;
     apart = apart;
     fit = fit;
     calls = calls;
-    sound = stored_of.sound constants rs is j r at;
+    sound = stored_of.sound fs rs is j r at;
     reached = reached;
     fits = one.fits;
     closed = one.closed;
@@ -376,4 +374,4 @@ module _ (constants : List ℤ) (rs : List Rendering) (is : IsTranslatedFile con
   }
 
 pub units_are_emitted : UnitsAreEmitted
-units_are_emitted constants rs is j r at = emitted constants rs is j r at
+units_are_emitted fs rs is j r at = emitted fs rs is j r at

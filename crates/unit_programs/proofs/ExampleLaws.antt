@@ -23,8 +23,8 @@ use Rattle.unit_file.specs.UnitNames.{own_names, routine_name}
 use Rattle.unit_file_laws.specs.KnownUnits.{IsVariable, IsParameter, NamesAreListed, unit_writing}
 use Rattle.unit_file_laws.specs.BuiltUnits.{IsCalled, AreListed, IsUnitBuilt}
 use Rattle.unit_programs.specs.OwnStorage.{HasOwnStorage}
-use Rattle.unit_programs.specs.TranslatedUnits.{Rendering, written_of, numbers_of, IsDummy, is_number, Flows, Passes, IsTranslatedUnit, IsTranslatedFile}
-use Rattle.unit_programs.specs.Example.{the_variable, the_dummy, the_function, the_subroutine, an_integer, no_name, main_attribute, function_attribute, subroutine_attribute, main_unit, function_unit, subroutine_unit, its_facts, text_with, main_steps, function_steps, subroutine_steps, main_kind, main_stage, its_constants, main_inventory, function_inventory, subroutine_inventory, its_inventories, main_items, function_items, subroutine_items, main_body, function_body, subroutine_body, outline_for, its_renderings, example_opened}
+use Rattle.unit_programs.specs.TranslatedUnits.{Rendering, written_of, numbers_of, IsDummy, is_number, Flows, Passes, IsTranslatedUnit, IsTranslatedSet}
+use Rattle.unit_programs.specs.Example.{the_variable, the_dummy, the_function, the_subroutine, an_integer, no_name, main_attribute, function_attribute, subroutine_attribute, main_unit, function_unit, subroutine_unit, its_facts, text_with, main_steps, function_steps, subroutine_steps, main_kind, main_stage, its_constants, main_inventory, function_inventory, subroutine_inventory, its_inventories, main_site, function_site, subroutine_site, main_items, function_items, subroutine_items, main_body, function_body, subroutine_body, outline_for, main_written, function_written, subroutine_written, its_files, main_rendering, function_rendering, subroutine_rendering, its_renderings, example_opened}
 use Rattle.unit_programs.proofs.Told.{differ_by, distinct_by, apart_by, EachAt, each_at}
 use Rattle.unit_programs.proofs.ExampleParts.{none_led, led_to, nothing_at_all, no_some, bare_bounds, KindsFit, IsKept, StageFits, OutputFits, flows_by, passes_by, storage_by, fixed_by}
 
@@ -77,7 +77,7 @@ no_strings : length (whole_body main_body).items.strings ≡ 0
 unfolding trees_opened
 no_strings = refl
 
-main_is_built : IsUnitBuilt (numbers_of its_renderings) its_constants (written_of its_renderings) 0 (record { inventory = main_inventory; body = main_body }) (text_with 0 main_unit main_steps) main_kind (outline_for 0 main_inventory) main_items
+main_is_built : IsUnitBuilt (numbers_of its_renderings) (written_of its_renderings) main_site main_written (text_with 0 main_unit main_steps) main_kind (outline_for main_site main_inventory) main_items
 unfolding example_opened
 main_is_built = record {
   differ = differ_by its_constants main_inventory refl refl refl refl refl refl refl refl refl;
@@ -97,11 +97,11 @@ first_kind : (k : ℕ) (b : Basic) → main_kind 1 k ≡ Some b → (if nat_eq k
 first_kind zero b h = h
 first_kind (suc k) b h = no_some b h
 
-main_flows : Flows (unit_writing its_constants (written_of its_renderings) 0 (record { inventory = main_inventory; body = main_body }) (its_facts 0 main_unit) main_kind) (text_with 0 main_unit main_steps) main_stage
+main_flows : Flows (unit_writing main_site main_written (its_facts 0 main_unit) main_kind) (text_with 0 main_unit main_steps) main_stage
     (record { name = []; formals = []; start = 0 })
 unfolding example_opened
 main_flows =
-    flows_by (unit_writing its_constants (written_of its_renderings) 0 (record { inventory = main_inventory; body = main_body }) (its_facts 0 main_unit) main_kind) (text_with 0 main_unit main_steps) main_stage
+    flows_by (unit_writing main_site main_written (its_facts 0 main_unit) main_kind) (text_with 0 main_unit main_steps) main_stage
     (record { name = []; formals = []; start = 0 }) (
       (λ m among k b is. first_kind k b (ap (λ i. main_kind i k) (led_to m 1 among) ∙ is)),
       (
@@ -179,18 +179,7 @@ main_runs h = cc
 main_none : MainProgram ≡ FunctionUnit → ⊥
 main_none h = cc
 
-abbrev main_rendering : Rendering
-main_rendering = record {
-  unit = main_unit;
-  text = text_with 0 main_unit main_steps;
-  written = record { inventory = main_inventory; body = main_body };
-  kind = main_kind;
-  stage = main_stage;
-  outline = outline_for 0 main_inventory;
-  items = main_items;
-}
-
-main_translated : IsTranslatedUnit its_constants its_renderings 0 main_rendering
+main_translated : IsTranslatedUnit its_renderings 0 main_rendering
 unfolding example_opened trees_opened
 main_translated = record {
   lowered = refl;
@@ -248,11 +237,10 @@ no_function_strings : length (whole_body function_body).items.strings ≡ 0
 unfolding trees_opened
 no_function_strings = refl
 
-function_is_built : IsUnitBuilt (numbers_of its_renderings) its_constants (written_of its_renderings) 1 (record { inventory = function_inventory; body = function_body }) (text_with 1 function_unit function_steps) (λ n k. None) (outline_for 1 function_inventory)
-    function_items
+function_is_built : IsUnitBuilt (numbers_of its_renderings) (written_of its_renderings) function_site function_written (text_with 1 function_unit function_steps) (λ n k. None) (outline_for function_site function_inventory) function_items
 unfolding example_opened
 function_is_built = record {
-  differ = differ_by its_constants function_inventory refl refl refl refl refl refl refl refl refl;
+  differ = differ_by [] function_inventory refl refl refl refl refl refl refl refl refl;
   names_listed = function_listed;
   listed = (tt, (tt, tt));
   stops = refl;
@@ -273,15 +261,7 @@ two_flow w u entry target value none steps =
     (subst (EachAt (OutputFits (λ n. None)) 0) (sym steps) (((λ h. no_truth h), (λ h. no_truth h)), (((λ h. no_truth h), (λ h. refl)), tt)))
     refl
 
-function_translated : IsTranslatedUnit its_constants its_renderings 1 (record {
-  unit = function_unit;
-  text = text_with 1 function_unit function_steps;
-  written = record { inventory = function_inventory; body = function_body };
-  kind = λ n k. None;
-  stage = λ n. None;
-  outline = outline_for 1 function_inventory;
-  items = function_items;
-})
+function_translated : IsTranslatedUnit its_renderings 1 function_rendering
 unfolding example_opened trees_opened
 function_translated = record {
   lowered = refl;
@@ -344,11 +324,11 @@ no_subroutine_strings : length (whole_body subroutine_body).items.strings ≡ 0
 unfolding trees_opened
 no_subroutine_strings = refl
 
-subroutine_is_built : IsUnitBuilt (numbers_of its_renderings) its_constants (written_of its_renderings) 2 (record { inventory = subroutine_inventory; body = subroutine_body }) (text_with 2 subroutine_unit subroutine_steps) (λ n k. None)
-    (outline_for 2 subroutine_inventory) subroutine_items
+subroutine_is_built : IsUnitBuilt (numbers_of its_renderings) (written_of its_renderings) subroutine_site subroutine_written (text_with 2 subroutine_unit subroutine_steps) (λ n k. None) (outline_for subroutine_site subroutine_inventory)
+    subroutine_items
 unfolding example_opened
 subroutine_is_built = record {
-  differ = differ_by its_constants subroutine_inventory refl refl refl refl refl refl refl refl refl;
+  differ = differ_by [] subroutine_inventory refl refl refl refl refl refl refl refl refl;
   names_listed = subroutine_listed;
   listed = (tt, (tt, tt));
   stops = refl;
@@ -358,15 +338,7 @@ subroutine_is_built = record {
   as_many = no_subroutine_strings;
 }
 
-subroutine_translated : IsTranslatedUnit its_constants its_renderings 2 (record {
-  unit = subroutine_unit;
-  text = text_with 2 subroutine_unit subroutine_steps;
-  written = record { inventory = subroutine_inventory; body = subroutine_body };
-  kind = λ n k. None;
-  stage = λ n. None;
-  outline = outline_for 2 subroutine_inventory;
-  items = subroutine_items;
-})
+subroutine_translated : IsTranslatedUnit its_renderings 2 subroutine_rendering
 unfolding example_opened trees_opened
 subroutine_translated = record {
   lowered = refl;
@@ -392,20 +364,25 @@ subroutine_translated = record {
   no_wrapper = refl;
 }
 
--- ## The file
+-- ## The files
 
-its_units_are_translated : (j : ℕ) (r : Rendering) → slice_get its_renderings j ≡ Some r → IsTranslatedUnit its_constants its_renderings j r
-its_units_are_translated = each_at (IsTranslatedUnit its_constants its_renderings) its_renderings (main_translated, (function_translated, (subroutine_translated, tt)))
+its_units_are_translated : (j : ℕ) (r : Rendering) → slice_get its_renderings j ≡ Some r → IsTranslatedUnit its_renderings j r
+its_units_are_translated = each_at (IsTranslatedUnit its_renderings) its_renderings (main_translated, (function_translated, (subroutine_translated, tt)))
 
 in_range_each : (i : ℕ) (z : ℤ) → slice_get its_constants i ≡ Some z → in_range z ≡ true
 unfolding in_range
 in_range_each = each_at (λ i z. in_range z ≡ true) its_constants (refl, (refl, (refl, tt)))
 
-pub example_is_translated : IsTranslatedFile its_constants its_renderings
+its_numbers : (j : ℕ) (r : Rendering) → slice_get its_renderings j ≡ Some r → (i : ℕ) (z : ℤ) → slice_get r.site.constants i ≡ Some z → in_range z ≡ true
+its_numbers = each_at (λ j r. (i : ℕ) (z : ℤ) → slice_get r.site.constants i ≡ Some z → in_range z ≡ true) its_renderings (in_range_each, ((λ i z at. nothing_at_all i z at), ((λ i z at. nothing_at_all i z at), tt)))
+
+pub example_is_translated : IsTranslatedSet its_files its_renderings
 example_is_translated = record {
   units = its_units_are_translated;
+  written = refl;
+  sited = refl;
   some = omega arith;
   differ = distinct_by (own_names its_inventories) refl;
   apart = apart_by builtin_names (own_names its_inventories) refl;
-  numbers = in_range_each;
+  numbers = its_numbers;
 }

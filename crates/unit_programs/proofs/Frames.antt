@@ -1,5 +1,5 @@
 -- What belongs to an active procedure stands in the frame of its function.
-use Rattle.std.specs.Prelude.{◌≡◌, ℕ, suc, ◌+◌, ℤ, Bool, true, false, ◌&&◌, ◌||◌, List, [], ◌∷◌, map, length, position, Some, option_map, slice_get, bytes_eq}
+use Rattle.std.specs.Prelude.{◌≡◌, ℕ, suc, ◌+◌, Bool, true, false, ◌&&◌, ◌||◌, List, [], ◌∷◌, map, length, position, Some, option_map, slice_get, bytes_eq}
 use Rattle.std.proofs.Common.{refl, sym, ap, ◌∙◌, subst, arith}
 use Rattle.std.proofs.lemmas.Slice.Eq.{bytes_eq-Decides}
 use Rattle.f_tree.specs.declared.names.Basic.{Basic}
@@ -7,7 +7,7 @@ use Rattle.f_tree.specs.declared.names.Basic.TheVariants as basic
 use Rattle.f_tree.specs.declared.names.Class.{Class}
 use Rattle.f_tree.specs.declared.names.Class.TheVariants as class
 use Rattle.f_tree.specs.CNames as c_names
-use Rattle.f_tree.specs.CNames.{variable_name, external_name, made_name, FunctionResult}
+use Rattle.f_tree.specs.CNames.{external_name, made_name, FunctionResult}
 use Rattle.f_tree.specs.Values.{Bytes, Spot, Datum, IsInt, IsLog, IsText, IsSpot, IsProc, IsLabel, Nothing, NoMeaning, Checked, Gives, Fails}
 use Rattle.f_tree.specs.Facts.{Attribute, Formal, Named, Alternate, MainProgram, SubroutineUnit, FunctionUnit, BlockDataUnit, UnitKind, EntryPoint, ProgramUnit, Facts, Frame}
 use Rattle.f_tree.specs.Setting.{IsIn, first_in, later_in}
@@ -31,11 +31,12 @@ use Rattle.emitted_texts.specs.SecondLayer.{Surroundings, Emission}
 use Rattle.procedure_emission.specs.CallLayer.{CallWorld, IsFrameOf, function_object, AreProceduresHeld}
 use Rattle.call_bridge.specs.CallBridge.{FramesStand}
 use Rattle.main_programs.proofs.MainStorage.{position_named}
-use Rattle.unit_file.specs.UnitFile.{Parameter, Inventory, Bases, WrittenUnit, parameter_for, result_object, address_in}
-use Rattle.unit_places.specs.UnitPlaces.{files_of, bases_of, FunctionStands}
+use Rattle.unit_file.specs.UnitFile.{Parameter, Inventory, Bases, parameter_for, first_parameter, result_object, address_in}
+use Rattle.unit_sites.specs.UnitSites.{UnitsOfFile, files_of}
+use Rattle.unit_places.specs.UnitPlaces.{linked_unit, FunctionStands}
 use Rattle.unit_places.proofs.Declared.{framed_by, framed_are, framed_parameter, framed_result}
 use Rattle.unit_file_laws.proofs.Listed.{framed_names_are}
-use Rattle.unit_programs.specs.TranslatedUnits.{Rendering, units_of, written_of, dummies_named, IsDummy, is_number, is_procedure, IsTranslatedUnit, IsTranslatedFile}
+use Rattle.unit_programs.specs.TranslatedUnits.{Rendering, units_of, dummies_named, IsDummy, is_number, is_procedure, IsTranslatedUnit, IsTranslatedSet}
 use Rattle.unit_programs.specs.EmittedFile.{surroundings_of, emission_of}
 use Rattle.unit_programs.proofs.Objects as objects_of
 use Rattle.unit_programs.proofs.Objects.{found_back}
@@ -84,51 +85,52 @@ one_entry : (e only : EntryPoint) → IsIn e (only ∷ []) → only ≡ e
 one_entry e _ first_in = refl
 one_entry e only (later_in among) = elim among [ ]
 
-module _ (constants : List ℤ) (rs : List Rendering) (is : IsTranslatedFile constants rs) (j : ℕ) (r : Rendering) (at : slice_get rs j ≡ Some r) where
-  abbrev ws : List WrittenUnit
-  ws = written_of rs
-
+module _ (fs : List UnitsOfFile) (rs : List Rendering) (is : IsTranslatedSet fs rs) (j : ℕ) (r : Rendering) (at : slice_get rs j ≡ Some r) where
   abbrev v : Inventory
   v = r.written.inventory
 
   abbrev b : Bases
-  b = bases_of constants ws j
+  b = r.site.bases
 
   abbrev u : Text
   u = r.text
 
   abbrev s : Surroundings
-  s = surroundings_of constants rs
+  s = surroundings_of fs rs
 
   abbrev e : Emission
-  e = emission_of constants rs j r
+  e = emission_of fs j r
 
-  one : IsTranslatedUnit constants rs j r
+  one : IsTranslatedUnit rs j r
   one = is.units j r at
 
-  stands : FunctionStands constants ws j r.written
-  stands = objects_of.function_stands constants rs is j r at
+  stands : FunctionStands fs j r.site r.written
+  stands = objects_of.function_stands fs rs is j r at
+
+  frame_is : e.function.frame ≡ first_parameter v b
+  frame_is = (objects_of.function_of fs rs is j r at).frame
 
   program_is : u.facts.program ≡ r.unit
-  program_is = stored_of.program_is constants rs is j r at
+  program_is = stored_of.program_is fs rs is j r at
 
   -- ## Objects of the frame
 
-  framed_object : (i : ℕ) (d : Declared) → slice_get (framed_by v) i ≡ Some d → frame_object (files_of constants ws) j d.name ≡ Some (e.function.frame + i)
+  framed_object : (i : ℕ) (d : Declared) → slice_get (framed_by v) i ≡ Some d → frame_object (files_of fs) j d.name ≡ Some (e.function.frame + i)
   unfolding frame_object
   framed_object i d there =
       (λ k. frame_object_at d.name (stands.written k) (stands.function_is k))
-      ∙ ap (option_map (λ place. e.function.frame + place))
+      ∙ ap (option_map (λ place. (linked_unit fs stands.functions r.site r.written).frame + place))
       (ap (position (λ (declared : Declared). bytes_eq declared.name d.name)) (framed_are v)
       ∙ position_named (framed_by v) i d (subst AreDistinct (sym (ap (map (λ (z : Declared). z.name)) (sym (framed_are v)) ∙ framed_names_are v)) one.built.differ.framed) there)
+      ∙ ap (λ frame. Some (frame + i)) (stands.frame ∙ sym frame_is)
 
-  number_there : (y : Bytes) (number : ℕ) → s.numbers (Procedure y) ≡ Some number → number_named (files_of constants ws) (external_name y) ≡ Some number
+  number_there : (y : Bytes) (number : ℕ) → s.numbers (Procedure y) ≡ Some number → number_named (files_of fs) (external_name y) ≡ Some number
   number_there y number found =
       let f = found_back 0 (units_of rs) (Procedure y) number found in
       let there = f.is in
-      let q = objects_of.of_unit constants rs is f.place f.unit f.at in
+      let q = objects_of.of_unit fs rs is f.place f.unit f.at in
       let name = procedure_named f.unit (is.units f.place q.0 q.1).entry y (ap (λ z. z.entries) (sym q.2) ∙ (is.units f.place q.0 q.1).only) f.answers in
-      ap (number_named (files_of constants ws)) (sym name ∙ ap function_name (sym q.2)) ∙ objects_of.unit_named constants rs is f.place q.0 q.1 ∙ ap Some {x = f.place} {y = number} (omega (arith, there))
+      ap (number_named (files_of fs)) (sym name ∙ ap function_name (sym q.2)) ∙ objects_of.unit_named fs rs is f.place q.0 q.1 ∙ ap Some {x = f.place} {y = number} (omega (arith, there))
 
   module _ (μ : CallWorld) (ν : World) (f : Frame) (kept : Temporaries) (objects : List Object) (of : IsFrameOf u.facts.program μ f) (known : IsKnown ν e.writing f kept) (procedures : AreProceduresHeld s e ν f)
       (held : (k : ℕ) (object : Object) → ν.frozen k ≡ Some object → slice_get objects k ≡ Some object) where
@@ -154,13 +156,13 @@ module _ (constants : List ℤ) (rs : List Rendering) (is : IsTranslatedFile con
     bound_procedure x d own bound = ap (class_value u.facts f x (u.facts.program.attribute x)) own ∙ ap if_bound bound
 
     -- a place that a parameter points to
-    points_at : (x : Bytes) (k : ℕ) (spot : Spot) → whole u.facts f x ≡ Gives (IsSpot spot) → e.writing.naming.address x ≡ Through k → StandsFor (files_of constants ws) ν.homes objects (Some k) (IsSpot spot)
+    points_at : (x : Bytes) (k : ℕ) (spot : Spot) → whole u.facts f x ≡ Gives (IsSpot spot) → e.writing.naming.address x ≡ Through k → StandsFor (files_of fs) ν.homes objects (Some k) (IsSpot spot)
     points_at x k spot h address =
         let reaches = subst (Reaches ν spot) address (known.knows.reaches x spot h) in
         (reaches.0, reaches.1, held_value k reaches.0 spot reaches.2)
 
     number_stands : (x : Bytes) (k : ℕ) (d : Datum) → (u.facts.program.attribute x).class ≡ class.Dummy → is_numeric (u.facts.program.attribute x).basic ≡ true → f.bound x ≡ Some d → e.writing.naming.address x ≡ Through k
-        → StandsFor (files_of constants ws) ν.homes objects (Some k) d
+        → StandsFor (files_of fs) ν.homes objects (Some k) d
     unfolding has_number is_variable
     number_stands x k (IsSpot spot) own numeric bound address = points_at x k spot (bound_dummy x (IsSpot spot) own bound) address
     number_stands x k (IsProc y) own numeric bound address =
@@ -176,12 +178,12 @@ module _ (constants : List ℤ) (rs : List Rendering) (is : IsTranslatedFile con
     number_stands x k (IsLabel l) own numeric bound address = tt
     number_stands x k Nothing own numeric bound address = tt
 
-    procedure_stands : (x : Bytes) (k : ℕ) (d : Datum) → (u.facts.program.attribute x).class ≡ class.DummyProcedure → f.bound x ≡ Some d → e.writing.naming.address x ≡ Through k → StandsFor (files_of constants ws) ν.homes objects (Some k) d
+    procedure_stands : (x : Bytes) (k : ℕ) (d : Datum) → (u.facts.program.attribute x).class ≡ class.DummyProcedure → f.bound x ≡ Some d → e.writing.naming.address x ≡ Through k → StandsFor (files_of fs) ν.homes objects (Some k) d
     procedure_stands x k (IsSpot spot) own bound address = points_at x k spot (bound_procedure x (IsSpot spot) own bound) address
     procedure_stands x k (IsProc y) own bound address =
         let p = procedures x (IsProc y) k own bound address in
         let same : y ≡ p.0 = names_same y p.0 p.2 in
-        (p.1, ap (λ z. number_named (files_of constants ws) (external_name z)) same ∙ number_there p.0 p.1 p.3, held_function k p.1 p.4)
+        (p.1, ap (λ z. number_named (files_of fs) (external_name z)) same ∙ number_there p.0 p.1 p.3, held_function k p.1 p.4)
       where
         names_same : (x y : Bytes) → IsProc x ≡ IsProc y → x ≡ y
         names_same x y h = cc
@@ -191,19 +193,19 @@ module _ (constants : List ℤ) (rs : List Rendering) (is : IsTranslatedFile con
     procedure_stands x k (IsLabel l) own bound address = tt
     procedure_stands x k Nothing own bound address = tt
 
-    dummy_stands : (i : ℕ) (p : Parameter) → slice_get v.parameters i ≡ Some p → IsDummy u.facts p → FormalStands (files_of constants ws) ν.homes objects j r.unit f (Named p.name)
+    dummy_stands : (i : ℕ) (p : Parameter) → slice_get v.parameters i ≡ Some p → IsDummy u.facts p → FormalStands (files_of fs) ν.homes objects j r.unit f (Named p.name)
     unfolding HasLength
     dummy_stands i p there (is_number own numeric width fixed pointer) = record {
-      parameter = λ d bound. subst (λ o. StandsFor (files_of constants ws) ν.homes objects o d) (sym (framed_object i (declared_parameter (parameter_for p)) (framed_parameter v i p there)))
-          (number_stands p.name (e.function.frame + i) d own numeric bound (dummy_address constants rs is j r at p.name i own (parameter_placed constants rs is j r at i p there)));
+      parameter = λ d bound. subst (λ o. StandsFor (files_of fs) ν.homes objects o d) (sym (framed_object i (declared_parameter (parameter_for p)) (framed_parameter v i p there)))
+          (number_stands p.name (e.function.frame + i) d own numeric bound (dummy_address fs rs is j r at p.name i own (parameter_placed fs rs is j r at i p there)));
       length = λ has n length. no_text (u.facts.program.attribute p.name).basic numeric (ap (λ z. (z.attribute p.name).basic) program_is ∙ has.1);
     }
       where
         no_text : {A : Type 0} (k : Basic) → is_numeric k ≡ true → k ≡ basic.Character → A
         no_text k numeric' text = let no : is_numeric basic.Character ≡ true = ap is_numeric (sym text) ∙ numeric' in absurd (text_is_none no)
     dummy_stands i p there (is_procedure own fixed pointer) = record {
-      parameter = λ d bound. subst (λ o. StandsFor (files_of constants ws) ν.homes objects o d) (sym (framed_object i (declared_parameter (parameter_for p)) (framed_parameter v i p there)))
-          (procedure_stands p.name (e.function.frame + i) d own bound (procedure_address constants rs is j r at p.name i own (parameter_placed constants rs is j r at i p there)));
+      parameter = λ d bound. subst (λ o. StandsFor (files_of fs) ν.homes objects o d) (sym (framed_object i (declared_parameter (parameter_for p)) (framed_parameter v i p there)))
+          (procedure_stands p.name (e.function.frame + i) d own bound (procedure_address fs rs is j r at p.name i own (parameter_placed fs rs is j r at i p there)));
       length = λ has n length. no_dummy (sym own ∙ ap (λ z. (z.attribute p.name).class) program_is ∙ has.0);
     }
       where
@@ -211,26 +213,26 @@ module _ (constants : List ℤ) (rs : List Rendering) (is : IsTranslatedFile con
         no_dummy h = absurd (cc)
 
     dummies_from : (i : ℕ) (formals : List Formal) (ps : List Parameter) → dummies_named formals ≡ map (λ (p : Parameter). p.name) ps → ((m : ℕ) (p : Parameter) → slice_get ps m ≡ Some p → slice_get v.parameters (i + m) ≡ Some p)
-        → Each (FormalStands (files_of constants ws) ν.homes objects j r.unit f) formals
+        → Each (FormalStands (files_of fs) ν.homes objects j r.unit f) formals
     dummies_from i [] ps same there = frames.none
     dummies_from i (Named x ∷ formals) [] same there = absurd (cc)
     dummies_from i (Named x ∷ formals) (p ∷ ps) same there =
         let first : p.name ≡ x = cc in
         let rest : dummies_named formals ≡ map (λ (q : Parameter). q.name) ps = cc in
         let here : slice_get v.parameters i ≡ Some p = ap (slice_get v.parameters) {x = i} {y = i + 0} (omega arith) ∙ there 0 p refl in
-        frames.more (Named x) formals (subst (λ y. FormalStands (files_of constants ws) ν.homes objects j r.unit f (Named y)) first (dummy_stands i p here (one.parameters i p here)))
+        frames.more (Named x) formals (subst (λ y. FormalStands (files_of fs) ν.homes objects j r.unit f (Named y)) first (dummy_stands i p here (one.parameters i p here)))
         (dummies_from (suc i) formals ps rest (λ m q other. ap (slice_get v.parameters) {x = suc i + m} {y = i + suc m} (omega arith) ∙ there (suc m) q other))
     dummies_from i (Alternate ∷ formals) ps same there = frames.more Alternate formals tt (dummies_from i formals ps same there)
 
-    dummies_stand : Each (FormalStands (files_of constants ws) ν.homes objects j r.unit f) f.called.formals
+    dummies_stand : Each (FormalStands (files_of fs) ν.homes objects j r.unit f) f.called.formals
     dummies_stand =
-        subst (λ (entry : EntryPoint). Each (FormalStands (files_of constants ws) ν.homes objects j r.unit f) entry.formals) entry_is
+        subst (λ (entry : EntryPoint). Each (FormalStands (files_of fs) ν.homes objects j r.unit f) entry.formals) entry_is
         (dummies_from 0 one.entry.formals v.parameters one.dummies (λ m p there. ap (slice_get v.parameters) {x = 0 + m} {y = m} (omega arith) ∙ there))
 
     -- ## The result
 
-    number_result_stands : (k : Basic) (spot : Spot) → is_numeric k ≡ true → (object : ℕ) → ν.homes spot.sequence ≡ Some object → frame_object (files_of constants ws) j (made_name FunctionResult) ≡ Some object
-        → ResultStandsAs k (files_of constants ws) ν.homes objects j spot
+    number_result_stands : (k : Basic) (spot : Spot) → is_numeric k ≡ true → (object : ℕ) → ν.homes spot.sequence ≡ Some object → frame_object (files_of fs) j (made_name FunctionResult) ≡ Some object
+        → ResultStandsAs k (files_of fs) ν.homes objects j spot
     unfolding is_numeric
     number_result_stands basic.Integer spot numeric object home there = (object, home, there)
     number_result_stands basic.Logical spot numeric object home there = (object, home, there)
@@ -241,41 +243,41 @@ module _ (constants : List ℤ) (rs : List Rendering) (is : IsTranslatedFile con
     unfolding whole named_as if_there
     result_whole x spot own there = ap (class_value u.facts f x (u.facts.program.attribute x)) own ∙ ap (if_there (u.facts.program.attribute x).basic) there
 
-    result_there : (spot : Spot) → r.unit.kind ≡ FunctionUnit → f.result ≡ Some spot → spot.basic ≡ (u.facts.program.attribute f.called.name).basic → ResultStands (files_of constants ws) ν.homes objects j (Some spot)
+    result_there : (spot : Spot) → r.unit.kind ≡ FunctionUnit → f.result ≡ Some spot → spot.basic ≡ (u.facts.program.attribute f.called.name).basic → ResultStands (files_of fs) ν.homes objects j (Some spot)
     unfolding address_in
     result_there spot function there typed =
         let res = one.result function in
         let name = one.entry.name in
         let reaches = known.knows.reaches name (record spot { basic = (u.facts.program.attribute name).basic }) (result_whole name spot res.own there) in
         let object = subst (λ k. Reaches ν (record spot { basic = (u.facts.program.attribute name).basic }) (address_in v b name k)) res.own reaches in
-        let frame = stands.frame in
-        subst (λ k. ResultStandsAs k (files_of constants ws) ν.homes objects j spot) (sym (typed ∙ ap (λ (entry : EntryPoint). (u.facts.program.attribute entry.name).basic) (sym entry_is)))
+        let frame = frame_is in
+        subst (λ k. ResultStandsAs k (files_of fs) ν.homes objects j spot) (sym (typed ∙ ap (λ (entry : EntryPoint). (u.facts.program.attribute entry.name).basic) (sym entry_is)))
         (number_result_stands (u.facts.program.attribute name).basic spot (res.numeric name res.own) (result_object v b) object.0
         (framed_object (length v.parameters) _ (framed_result v res.type res.returned) ∙ ap Some {x = e.function.frame + length v.parameters} {y = result_object v b} (omega (arith, frame))))
 
-    result_stands : ResultStands (files_of constants ws) ν.homes objects j f.result
+    result_stands : ResultStands (files_of fs) ν.homes objects j f.result
     result_stands = by r.unit.kind refl
       where
         kind_is : u.facts.program.kind ≡ r.unit.kind
         kind_is = ap (λ p. p.kind) program_is
 
-        none_of : (r.unit.kind ≡ FunctionUnit → ⊥) → ResultStands (files_of constants ws) ν.homes objects j f.result
-        none_of other = subst (ResultStands (files_of constants ws) ν.homes objects j) (sym (of.no_result (λ function. other (sym kind_is ∙ function)))) tt
+        none_of : (r.unit.kind ≡ FunctionUnit → ⊥) → ResultStands (files_of fs) ν.homes objects j f.result
+        none_of other = subst (ResultStands (files_of fs) ν.homes objects j) (sym (of.no_result (λ function. other (sym kind_is ∙ function)))) tt
 
-        by : (k : UnitKind) → r.unit.kind ≡ k → ResultStands (files_of constants ws) ν.homes objects j f.result
+        by : (k : UnitKind) → r.unit.kind ≡ k → ResultStands (files_of fs) ν.homes objects j f.result
         by FunctionUnit function =
             let p = of.result (kind_is ∙ function) in
-            subst (ResultStands (files_of constants ws) ν.homes objects j) (sym p.1) (result_there p.0 function p.1 p.2)
+            subst (ResultStands (files_of fs) ν.homes objects j) (sym p.1) (result_there p.0 function p.1 p.2)
         by MainProgram other = none_of (λ function. let no : MainProgram ≡ FunctionUnit = sym other ∙ function in absurd (cc))
         by SubroutineUnit other = none_of (λ function. let no : SubroutineUnit ≡ FunctionUnit = sym other ∙ function in absurd (cc))
         by BlockDataUnit other = none_of (λ function. let no : BlockDataUnit ≡ FunctionUnit = sym other ∙ function in absurd (cc))
 
-  pub frames_stand : FramesStand (units_of rs) (files_of constants ws) s j e
+  pub frames_stand : FramesStand (units_of rs) (files_of fs) s j e
   frames_stand μ ν f kept objects of known procedures held = record {
     unit = r.unit;
-    is = objects_of.unit_at constants rs is j r at;
+    is = objects_of.unit_at fs rs is j r at;
     function = j;
-    has = objects_of.unit_named constants rs is j r at;
+    has = objects_of.unit_named fs rs is j r at;
     dummies = dummies_stand μ ν f kept objects of known procedures held;
     result = result_stands μ ν f kept objects of known procedures held;
   }

@@ -1,5 +1,6 @@
 pub mod Pieces
 pub mod Sequences
+pub mod Held
 pub mod Objects
 pub mod Stored
 pub mod Emission

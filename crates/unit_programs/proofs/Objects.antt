@@ -1,47 +1,44 @@
--- The functions of the file by their numbers, and what its objects hold that no statement defines.
-use Rattle.std.specs.List.{flat_map}
-use Rattle.std.specs.Option.{option_flatten}
-use Rattle.std.specs.Prelude.{◌≡◌, ℕ, zero, suc, ◌+◌, ◌<◌, ◌≤◌, ℤ, Bool, true, false, List, [], ◌∷◌, ◌++◌, map, length, replicate, position, Option, Some, None, unwrap_or, slice_get, bytes_eq, if◌then◌else◌}
+-- The functions of the files by their numbers, and what linking makes of each.
+use Rattle.std.specs.Prelude.{◌≡◌, ℕ, zero, suc, ◌+◌, ◌<◌, ◌≤◌, Bool, true, false, List, [], ◌∷◌, ◌++◌, map, length, position, Option, Some, None, unwrap_or, slice_get, bytes_eq, if◌then◌else◌}
 use Rattle.std.proofs.Common.{refl, sym, ap, ◌∙◌, subst, arith}
-use Rattle.std.proofs.lemmas.List.{append-nil, length-map}
+use Rattle.std.proofs.lemmas.List.{length-map, map-append}
 use Rattle.std.proofs.lemmas.Slice.Eq.{bytes_eq-Decides}
 use Rattle.f_tree.specs.Facts.{MainProgram, SubroutineUnit, FunctionUnit, BlockDataUnit, UnitKind, ProgramUnit}
 use Rattle.f_tree.specs.CNames as c_names
 use Rattle.f_tree.specs.World.{Called, TheMain}
 use Rattle.f_tree.specs.Meaning.{is_main, answers_to, found_from}
 use Rattle.l_core.specs.Steps.{Step}
+use Rattle.c_tree.specs.declared.types.NumberType.{NumberType}
 use Rattle.c_tree.specs.declared.file.CFunction.{CFunction}
+use Rattle.c_tree.specs.declared.file.CFile.{CFile}
 use Rattle.c_tree.specs.Builtins.{builtin_names}
 use Rattle.c_tree.specs.Drafts.{Scope}
-use Rattle.c_tree.specs.Objects.{Object}
-use Rattle.c_tree.specs.Declarations.{string_object}
+use Rattle.c_tree.specs.Declarations.{parameter_object, unset}
 use Rattle.c_tree.specs.Flat.{Flat}
 use Rattle.c_tree.specs.FlatForm.{whole_body}
 use Rattle.c_tree.specs.Linking as linking
-use Rattle.c_tree.specs.Linking.{Routines, function_names, all_functions, linked_function, linked_functions}
-use Rattle.c_tree.specs.Meaning.{main_number, wrapped_by, steps_of, counted_steps, greatest_steps, step_factor}
+use Rattle.c_tree.specs.Linking.{Routines, externals, function_names, all_functions, file_scope, linked_function, linked_functions, linked_file, linked_files}
+use Rattle.c_tree.specs.Meaning.{no_function, text_of, main_number, wrapped_by, steps_of, counted_steps, greatest_steps, step_factor}
 use Rattle.faithful.specs.StorageImage.{name_of_entries, function_name, number_named, function_number}
-use Rattle.c_image.specs.Held.{number_object}
 use Rattle.c_emit.specs.Numbers.{Writing}
-use Rattle.output_laws.specs.ListedOutputs.{list_object}
-use Rattle.linking_laws.specs.Linked.{AreDistinct, routines_of, outside_of, own_of, file_names}
-use Rattle.linking_laws.proofs.Places.{some_same, get_front, get_back, map_at, IsAt, in_first, in_second, at_one}
+use Rattle.linking_laws.specs.Linked.{AreDistinct, routines_of, outside_of, own_of}
+use Rattle.linking_laws.proofs.Places.{some_same, get_front, map_at}
 use Rattle.linking_laws.proofs.Scopes.{own_are_numbered, builtins_are_numbered}
 use Rattle.procedure_emission.specs.ProcedureItems.{Numbers, procedure_item}
 use Rattle.main_file_laws.proofs.Known.{position_finds}
 use Rattle.main_file_laws.proofs.BuiltItems.{before_by}
 use Rattle.main_programs.proofs.MainStorage.{map_back}
-use Rattle.unit_file.specs.UnitFile.{Listing, Inventory, WrittenUnit, unit_function, units_file, frame_count, first_object, first_list, first_string, first_parameter}
+use Rattle.unit_file.specs.UnitFile.{Parameter, Inventory, WrittenUnit, unit_function, result_count, frame_count, first_parameter}
 use Rattle.unit_file.specs.UnitNames.{own_names, routine_name}
-use Rattle.unit_places.specs.UnitPlaces.{files_of, inventories, bases_of, linked_unit, HaveTheirStrings, StandsAs, FunctionStands, HasPlaces}
-use Rattle.unit_places.proofs.Placing.{base_there, functions_have_places}
+use Rattle.unit_sites.specs.UnitSites.{UnitsOfFile, files_of, all_units, inventories, sites_of}
+use Rattle.unit_places.specs.UnitPlaces.{linked_unit, HaveTheirStrings, FunctionStands, HasPlaces}
+use Rattle.unit_places.proofs.Sites.{owned, constants_before}
+use Rattle.unit_places.proofs.Placing.{functions_have_places}
 use Rattle.unit_file_laws.specs.KnownUnits.{unit_writing}
 use Rattle.unit_file_laws.specs.BuiltUnits.{unit_items, AreNumbered, HasItsItems}
 use Rattle.unit_file_laws.proofs.BuiltItems.{units_have_their_items}
-use Rattle.unit_programs.specs.OwnStorage.{held_of, held_objects}
-use Rattle.unit_programs.specs.TranslatedUnits.{Rendering, units_of, written_of, numbers_of, IsTranslatedFile}
-use Rattle.unit_programs.proofs.Pieces.{before, flat_there, flat_back, placed_by}
-use Rattle.unit_programs.proofs.Sequences.{first_is}
+use Rattle.unit_programs.specs.TranslatedUnits.{Rendering, units_of, written_of, numbers_of, IsTranslatedSet}
+use Rattle.unit_programs.proofs.Pieces.{placed_by}
 
 -- ## Units that are found
 
@@ -74,13 +71,28 @@ main_named u h = by u.kind h
 
 -- ## Names of functions
 
-names_from : (ws : List WrittenUnit) → function_names (map unit_function ws ++ []) ≡ own_names (inventories ws)
+-- the functions of all files are those of all units
+pub functions_are : (fs : List UnitsOfFile) → all_functions (files_of fs) ≡ map unit_function (all_units fs)
+functions_are [] = refl
+functions_are (f ∷ fs) = ap (λ later. map unit_function f.units ++ later) (functions_are fs) ∙ sym (map-append unit_function f.units (all_units fs))
+
+names_from : (ws : List WrittenUnit) → function_names (map unit_function ws) ≡ own_names (inventories ws)
 names_from [] = refl
 names_from (w ∷ ws) = ap (λ ns. w.inventory.name ∷ ns) (names_from ws)
 
-linked_names : (numbers : Routines) (own : ℕ) (outer : Scope) (base : ℕ) (fs : List CFunction) → map (λ (f : linking.Function). f.name) ((linked_functions numbers own outer base fs).functions ++ []) ≡ function_names fs
-linked_names numbers own outer base [] = refl
-linked_names numbers own outer base (f ∷ fs) = ap (λ ns. f.name ∷ ns) (linked_names numbers own outer (base + length (linked_function numbers own outer base f).objects) fs)
+abbrev names_in : List linking.Function → List (List ℕ)
+names_in functions = map (λ (f : linking.Function). f.name) functions
+
+linked_names : (numbers : Routines) (own : ℕ) (outer : Scope) (base : ℕ) (fs later : List CFunction) (linked : List linking.Function) → names_in linked ≡ function_names later
+    → names_in ((linked_functions numbers own outer base fs).functions ++ linked) ≡ function_names (fs ++ later)
+linked_names numbers own outer base [] later linked same = same
+linked_names numbers own outer base (f ∷ fs) later linked same = ap (λ ns. f.name ∷ ns) (linked_names numbers own outer (base + length (linked_function numbers own outer base f).objects) fs later linked same)
+
+names_linked : (numbers : Routines) (objects : List ℕ → Option ℕ) (own base : ℕ) (files : List CFile) → names_in (linked_files numbers objects own base files).functions ≡ function_names (all_functions files)
+names_linked numbers objects own base [] = refl
+names_linked numbers objects own base (file ∷ later) =
+    linked_names numbers own (file_scope numbers objects base file) _ file.functions (all_functions later) (linked_files numbers objects own (base + length (linked_file numbers objects own base file).objects) later).functions
+    (names_linked numbers objects own (base + length (linked_file numbers objects own base file).objects) later)
 
 -- ## Items
 
@@ -127,24 +139,21 @@ greatest all (g ∷ fs) zero f at none =
     omega (arith, one, steps)
 greatest all (g ∷ fs) (suc j) f at none = let later = greatest all fs j f at none in omega (arith, later)
 
--- ## What is held
+-- ## The function of a unit
 
-joined_is : (found : Option (Option Object)) (object : Object) → option_flatten found ≡ Some object → found ≡ Some (Some object)
-joined_is (Some (Some one)) object h = ap Some h
-joined_is (Some None) object h = absurd (cc)
-joined_is None object h = absurd (cc)
+-- its frame, and its items
+pub record IsFunctionOf (fs : List UnitsOfFile) (r : Rendering) (function : linking.Function) : Type 0 where
+  pub own : function.own ≡ length (all_units fs)
+  pub gives : function.result ≡ r.written.inventory.result
+  pub parameters_are : function.parameters ≡ map (λ (p : Parameter). p.type) r.written.inventory.parameters
+  pub frame : function.frame ≡ first_parameter r.written.inventory r.site.bases
+  pub as_many : length function.fresh ≡ frame_count r.written.inventory
+  pub parameter : (i : ℕ) (one : Parameter) → slice_get r.written.inventory.parameters i ≡ Some one → slice_get function.fresh i ≡ Some (parameter_object one.type)
+  pub result : (type : NumberType) → r.written.inventory.returned ≡ Some type → slice_get function.fresh (length r.written.inventory.parameters) ≡ Some (unset 4)
+  pub temporary : (k : ℕ) → k < r.written.inventory.temporaries → slice_get function.fresh (length r.written.inventory.parameters + (result_count r.written.inventory.returned + k)) ≡ Some (unset 4)
+  pub code : function.code ≡ r.items
 
-no_blank : {A : Type 0} (count j : ℕ) (object : Object) → slice_get (replicate count None) j ≡ Some (Some object) → A
-no_blank zero j object at = absurd (cc)
-no_blank (suc count) zero object at = absurd (cc)
-no_blank (suc count) (suc j) object at = no_blank count j object at
-
-blank_at : {A : Type 0} (count n : ℕ) → n < count → slice_get {X = Option A} (replicate count None) n ≡ Some None
-blank_at zero n below = absurd (let no : ⊥ = omega (arith, below) in no)
-blank_at (suc count) zero below = refl
-blank_at (suc count) (suc n) below = blank_at count n (omega (arith, below))
-
-module _ (constants : List ℤ) (rs : List Rendering) (is : IsTranslatedFile constants rs) where
+module _ (fs : List UnitsOfFile) (rs : List Rendering) (is : IsTranslatedSet fs rs) where
   abbrev ws : List WrittenUnit
   ws = written_of rs
 
@@ -165,27 +174,31 @@ module _ (constants : List ℤ) (rs : List Rendering) (is : IsTranslatedFile con
   pub of_unit : (j : ℕ) (u : ProgramUnit) → slice_get (units_of rs) j ≡ Some u → (r : Rendering) × (slice_get rs j ≡ Some r) × (r.unit ≡ u)
   of_unit j u at = map_back (λ (q : Rendering). q.unit) rs j u at
 
-  pub of_inventory : (j : ℕ) (v : Inventory) → slice_get vs j ≡ Some v → (r : Rendering) × (slice_get rs j ≡ Some r) × (r.written.inventory ≡ v)
-  of_inventory j v at =
-      let w = map_back (λ (z : WrittenUnit). z.inventory) ws j v at in
-      let r = map_back (λ (q : Rendering). q.written) rs j w.0 w.1 in
-      (r.0, r.1, ap (λ (z : WrittenUnit). z.inventory) r.2 ∙ w.2)
+  pub of_written : (j : ℕ) (w : WrittenUnit) → slice_get (all_units fs) j ≡ Some w → (r : Rendering) × (slice_get rs j ≡ Some r) × (r.written ≡ w)
+  of_written j w at = map_back (λ (q : Rendering). q.written) rs j w (ap (λ us. slice_get us j) is.written ∙ at)
+
+  -- among the units of the files
+  pub unit_written : (j : ℕ) (r : Rendering) → slice_get rs j ≡ Some r → slice_get (all_units fs) j ≡ Some r.written
+  unit_written j r at = ap (λ us. slice_get us j) (sym is.written) ∙ written_at j r at
+
+  pub site_at : (j : ℕ) (r : Rendering) → slice_get rs j ≡ Some r → slice_get (sites_of fs) j ≡ Some r.site
+  site_at j r at = ap (λ ss. slice_get ss j) (sym is.sited) ∙ map_at (λ (q : Rendering). q.site) rs j r at
 
   -- ## Functions by their names
 
-  functions_named : function_names (all_functions (files_of constants ws)) ≡ own_names vs
-  functions_named = names_from ws
+  functions_named : function_names (all_functions (files_of fs)) ≡ own_names vs
+  functions_named = ap function_names (functions_are fs) ∙ names_from (all_units fs) ∙ ap (λ us. own_names (inventories us)) (sym is.written)
 
   name_at : (j : ℕ) (r : Rendering) → slice_get rs j ≡ Some r → slice_get (own_names vs) j ≡ Some r.written.inventory.name
   name_at j r at = map_at (λ (v : Inventory). v.name) vs j r.written.inventory (inventory_at j r at)
 
-  numbered : (j : ℕ) (r : Rendering) → AreNumbered (routines_of (files_of constants ws)) (numbers_of rs) ws r.written.inventory
+  numbered : (j : ℕ) (r : Rendering) → AreNumbered (routines_of (files_of fs)) (numbers_of rs) ws r.written.inventory
   numbered j r = record {
     library = λ name k called at. library_number name k at;
     own = λ called k found. own_number called k found;
   }
     where
-      library_number : (name : List ℕ) (k : ℕ) → position (bytes_eq name) builtin_names ≡ Some k → routines_of (files_of constants ws) name ≡ Some (length ws + k)
+      library_number : (name : List ℕ) (k : ℕ) → position (bytes_eq name) builtin_names ≡ Some k → routines_of (files_of fs) name ≡ Some (length ws + k)
       library_number name k at =
           let f = position_finds (bytes_eq name) builtin_names k at in
           let same : name ≡ f.one = (bytes_eq-Decides name f.one).0 f.passes in
@@ -193,10 +206,10 @@ module _ (constants : List ℤ) (rs : List Rendering) (is : IsTranslatedFile con
           let count = ap length functions_named in
           let many = length-map ws (λ (w : WrittenUnit). w.inventory) in
           let names = length-map vs (λ (v : Inventory). v.name) in
-          builtins_are_numbered (function_names (all_functions (files_of constants ws))) k name (λ i there. none i (ap (λ ns. slice_get ns i) (sym functions_named) ∙ there)) at
-          ∙ ap Some {x = length (function_names (all_functions (files_of constants ws))) + k} {y = length ws + k} (omega (arith, count, many, names))
+          builtins_are_numbered (function_names (all_functions (files_of fs))) k name (λ i there. none i (ap (λ ns. slice_get ns i) (sym functions_named) ∙ there)) at
+          ∙ ap Some {x = length (function_names (all_functions (files_of fs))) + k} {y = length ws + k} (omega (arith, count, many, names))
 
-      own_number : (called : Called) (k : ℕ) → numbers_of rs called ≡ Some k → routines_of (files_of constants ws) (routine_name vs k) ≡ Some k
+      own_number : (called : Called) (k : ℕ) → numbers_of rs called ≡ Some k → routines_of (files_of fs) (routine_name vs k) ≡ Some k
       own_number called k found =
           let f = found_back 0 (units_of rs) called k found in
           let there = f.is in
@@ -205,159 +218,74 @@ module _ (constants : List ℤ) (rs : List Rendering) (is : IsTranslatedFile con
           let own = name_at f.place r'.0 r'.1 in
           let named : routine_name vs k ≡ r'.0.written.inventory.name =
           ap (λ o. unwrap_or o []) (get_front (own_names vs) builtin_names k r'.0.written.inventory.name (ap (slice_get (own_names vs)) place ∙ own)) in
-          ap (routines_of (files_of constants ws)) named
-          ∙ own_are_numbered (function_names (all_functions (files_of constants ws))) k r'.0.written.inventory.name (subst AreDistinct (sym functions_named) is.differ)
+          ap (routines_of (files_of fs)) named
+          ∙ own_are_numbered (function_names (all_functions (files_of fs))) k r'.0.written.inventory.name (subst AreDistinct (sym functions_named) is.differ)
           (ap (λ ns. slice_get ns k) functions_named ∙ ap (slice_get (own_names vs)) place ∙ own)
 
-  pub its_items : (j : ℕ) (r : Rendering) → slice_get rs j ≡ Some r → HasItsItems (routines_of (files_of constants ws)) (outside_of (files_of constants ws)) (own_of (files_of constants ws)) constants ws j r.written r.outline r.items
+  pub its_items : (j : ℕ) (r : Rendering) → slice_get rs j ≡ Some r → HasItsItems (routines_of (files_of fs)) (outside_of (files_of fs)) (own_of (files_of fs)) r.site r.written r.outline r.items
   its_items j r at =
-      units_have_their_items (routines_of (files_of constants ws)) (outside_of (files_of constants ws)) (own_of (files_of constants ws)) (numbers_of rs) constants ws j r.written r.text r.kind r.outline r.items (numbered j r) (is.units j r at).built
+      units_have_their_items (routines_of (files_of fs)) (outside_of (files_of fs)) (own_of (files_of fs)) (numbers_of rs) ws r.site r.written r.text r.kind r.outline r.items
+      (owned fs j r.site (site_at j r at) ∙ sym (ap length is.written)) (constants_before fs j r.site (site_at j r at)) (numbered j r) (is.units j r at).built
 
-  have : HaveTheirStrings ws
+  have : HaveTheirStrings (all_units fs)
   have j w at =
-      let r = map_back (λ (q : Rendering). q.written) rs j w at in
+      let r = of_written j w at in
       subst (λ (z : WrittenUnit). (whole_body z.body).items.strings ≡ map z.inventory.texts z.inventory.strings) r.2 (its_items j r.0 r.1).strings
 
-  pub places : HasPlaces constants ws
-  places = functions_have_places constants ws have
+  pub places : HasPlaces fs
+  places = functions_have_places fs have
 
-  pub function_stands : (j : ℕ) (r : Rendering) → slice_get rs j ≡ Some r → FunctionStands constants ws j r.written
-  function_stands j r at = places.functions j r.written (written_at j r at)
+  pub function_stands : (j : ℕ) (r : Rendering) → slice_get rs j ≡ Some r → FunctionStands fs j r.site r.written
+  function_stands j r at = places.functions j r.site r.written (site_at j r at) (unit_written j r at)
 
-  pub code_is : (j : ℕ) (r : Rendering) → slice_get rs j ≡ Some r → (linked_unit constants ws j r.written).code ≡ r.items
-  code_is j r at =
-      ap (λ base. (linked_function (routines_of (files_of constants ws)) (own_of (files_of constants ws)) (file_names (files_of constants ws) 0 (units_file constants ws)) base (unit_function r.written)).function.code) (base_there constants ws have j)
-      ∙ (its_items j r at).code
+  pub function_of : (j : ℕ) (r : Rendering) → slice_get rs j ≡ Some r → IsFunctionOf fs r (text_of (linking.program (files_of fs)).functions j)
+  function_of j r at =
+      let stands = function_stands j r at in
+      subst (IsFunctionOf fs r) (sym (ap (λ found. unwrap_or found no_function) stands.function_is)) (record {
+        own = stands.own;
+        gives = refl;
+        parameters_are = stands.parameters_are;
+        frame = stands.frame;
+        as_many = stands.as_many;
+        parameter = stands.parameter;
+        result = stands.result;
+        temporary = stands.temporary;
+        code = (its_items j r at).code stands.functions;
+      })
 
-  pub unit_named : (j : ℕ) (r : Rendering) → slice_get rs j ≡ Some r → function_number (files_of constants ws) r.unit ≡ Some j
+  pub unit_named : (j : ℕ) (r : Rendering) → slice_get rs j ≡ Some r → function_number (files_of fs) r.unit ≡ Some j
   unit_named j r at =
-      ap (number_named (files_of constants ws)) (sym (is.units j r at).named) ∙ ap (position (bytes_eq r.written.inventory.name)) functions_named
+      ap (number_named (files_of fs)) (sym (is.units j r at).named) ∙ ap (position (bytes_eq r.written.inventory.name)) functions_named
       ∙ placed_by (λ n. n) (own_names vs) j r.written.inventory.name (λ m name there same. is.differ m j r.written.inventory.name (there ∙ ap Some same) (name_at j r at)) (name_at j r at)
 
-  program_names : map (λ (f : linking.Function). f.name) (linking.program (files_of constants ws)).functions ≡ own_names vs
+  program_names : names_in (linking.program (files_of fs)).functions ≡ own_names vs
   unfolding linking.program
-  program_names =
-      linked_names (routines_of (files_of constants ws)) (own_of (files_of constants ws)) (file_names (files_of constants ws) 0 (units_file constants ws)) _ (map unit_function ws)
-      ∙ ap function_names (sym (append-nil (map unit_function ws))) ∙ functions_named
+  program_names = names_linked (routines_of (files_of fs)) (outside_of (files_of fs)) (own_of (files_of fs)) (length (externals (files_of fs))) (files_of fs) ∙ functions_named
 
-  pub main_is : (j : ℕ) → found_from 0 (units_of rs) TheMain ≡ Some j → main_number (linking.program (files_of constants ws)) ≡ j
+  pub main_is : (j : ℕ) → found_from 0 (units_of rs) TheMain ≡ Some j → main_number (linking.program (files_of fs)) ≡ j
   main_is j found =
       let f = found_back 0 (units_of rs) TheMain j found in
       let there = f.is in
       let place : f.place ≡ j = omega (arith, there) in
       let r = of_unit f.place f.unit f.at in
-      let stands = (function_stands f.place r.0 r.1).function_is in
+      let stands = function_stands f.place r.0 r.1 in
       let name : r.0.written.inventory.name ≡ linking.main_name = (is.units f.place r.0 r.1).named ∙ ap function_name r.2 ∙ main_named f.unit f.answers in
-      let function = linked_unit constants ws f.place r.0.written in
-      let alone : (m : ℕ) (z : linking.Function) → slice_get (linking.program (files_of constants ws)).functions m ≡ Some z → z.name ≡ r.0.written.inventory.name → m ≡ f.place =
-      λ m z at same. is.differ m f.place r.0.written.inventory.name (ap (λ ns. slice_get ns m) (sym program_names) ∙ map_at (λ (g : linking.Function). g.name) (linking.program (files_of constants ws)).functions m z at ∙ ap Some same) (name_at f.place r.0 r.1) in
-      ap (λ n. unwrap_or (position (λ (g : linking.Function). bytes_eq n g.name) (linking.program (files_of constants ws)).functions) 0) (sym name)
-      ∙ ap (λ o. unwrap_or o 0) (placed_by (λ (g : linking.Function). g.name) (linking.program (files_of constants ws)).functions f.place function alone stands) ∙ place
+      let function = linked_unit fs stands.functions r.0.site r.0.written in
+      let alone : (m : ℕ) (z : linking.Function) → slice_get (linking.program (files_of fs)).functions m ≡ Some z → z.name ≡ r.0.written.inventory.name → m ≡ f.place =
+      λ m z at same. is.differ m f.place r.0.written.inventory.name (ap (λ ns. slice_get ns m) (sym program_names) ∙ map_at (λ (g : linking.Function). g.name) (linking.program (files_of fs)).functions m z at ∙ ap Some same) (name_at f.place r.0 r.1) in
+      ap (λ n. unwrap_or (position (λ (g : linking.Function). bytes_eq n g.name) (linking.program (files_of fs)).functions) 0) (sym name)
+      ∙ ap (λ o. unwrap_or o 0) (placed_by (λ (g : linking.Function). g.name) (linking.program (files_of fs)).functions f.place function alone stands.function_is) ∙ place
 
   -- ## Steps
 
-  pub item_at : (j : ℕ) (r : Rendering) → slice_get rs j ≡ Some r → (n : ℕ) (st : Step) → slice_get r.text.steps n ≡ Some st → IsEmittedAt (numbers_of rs) (unit_writing constants ws j r.written r.text.facts r.kind) r.text.position n st r.items n
-  item_at j r at n st there = emitted_at (numbers_of rs) (unit_writing constants ws j r.written r.text.facts r.kind) r.text.position 0 n n r.text.steps r.items st (omega arith) (is.units j r at).built.emitted there
+  pub item_at : (j : ℕ) (r : Rendering) → slice_get rs j ≡ Some r → (n : ℕ) (st : Step) → slice_get r.text.steps n ≡ Some st → IsEmittedAt (numbers_of rs) (unit_writing r.site r.written r.text.facts r.kind) r.text.position n st r.items n
+  item_at j r at n st there = emitted_at (numbers_of rs) (unit_writing r.site r.written r.text.facts r.kind) r.text.position 0 n n r.text.steps r.items st (omega arith) (is.units j r at).built.emitted there
 
-  pub factor : (j : ℕ) (r : Rendering) → slice_get rs j ≡ Some r → length r.text.steps ≤ step_factor (files_of constants ws)
+  pub factor : (j : ℕ) (r : Rendering) → slice_get rs j ≡ Some r → length r.text.steps ≤ step_factor (files_of fs)
   unfolding step_factor
   factor j r at =
       let one = is.units j r at in
       let size = (its_items j r at).size in
       let many = items_many (numbers_of rs) _ r.text.position 0 r.text.steps r.items one.built.emitted in
-      let most = greatest (all_functions (files_of constants ws)) (all_functions (files_of constants ws)) j (unit_function r.written) (function_stands j r at).written one.no_wrapper in
+      let most = greatest (all_functions (files_of fs)) (all_functions (files_of fs)) j (unit_function r.written) (function_stands j r at).written one.no_wrapper in
       omega (arith, size, many, most)
-
-  -- ## What is held
-
-  pub held_constant : (i : ℕ) (z : ℤ) → slice_get constants i ≡ Some z → option_flatten (slice_get (held_objects constants vs) i) ≡ Some (number_object z)
-  held_constant i z at =
-      ap option_flatten (get_front (map (λ y. Some (number_object y)) constants) (flat_map held_of vs) i (Some (number_object z)) (map_at (λ y. Some (number_object y)) constants i z at))
-
-  -- what an object of a function holds
-  held_at : (j : ℕ) (v : Inventory) (i k : ℕ) (found : Option Object) → slice_get vs j ≡ Some v → k ≡ first_object (length constants) vs j + i → slice_get (held_of v) i ≡ Some found → option_flatten (slice_get (held_objects constants vs) k) ≡ found
-  held_at j v i k found at there got =
-      let count = length-map constants (λ z. Some (number_object z)) in
-      let first = first_is (length constants) vs j in
-      ap option_flatten (get_back (map (λ y. Some (number_object y)) constants) (flat_map held_of vs) k (before held_of vs j + i) found (omega (arith, count, first, there)) (flat_there held_of vs j v i found at got))
-
-  abbrev lists_held : Inventory → List (Option Object)
-  lists_held v = map (λ (l : Listing). Some (list_object l.unit)) v.lists
-
-  abbrev strings_held : Inventory → List (Option Object)
-  strings_held v = map (λ n. Some (string_object (v.texts n))) v.strings
-
-  abbrev blanks : ℕ → List (Option Object)
-  blanks n = replicate n None
-
-  blanks_many : (n : ℕ) → length (blanks n) ≡ n
-  blanks_many zero = refl
-  blanks_many (suc n) = ap suc (blanks_many n)
-
-  pub not_held : (j : ℕ) (v : Inventory) (i : ℕ) → slice_get vs j ≡ Some v → i < length v.variables → option_flatten (slice_get (held_objects constants vs) (first_object (length constants) vs j + i)) ≡ None
-  not_held j v i at below =
-      held_at j v i (first_object (length constants) vs j + i) None at refl
-      (get_front (blanks (length v.variables)) (lists_held v ++ (strings_held v ++ blanks (frame_count v))) i None (blank_at (length v.variables) i below))
-
-  pub held_list : (j : ℕ) (v : Inventory) (i k : ℕ) (l : Listing) → slice_get vs j ≡ Some v → k ≡ first_list v (bases_of constants ws j) + i → slice_get v.lists i ≡ Some l → option_flatten (slice_get (held_objects constants vs) k) ≡ Some (list_object l.unit)
-  held_list j v i k l at there got =
-      let many = blanks_many (length v.variables) in
-      held_at j v (length v.variables + i) k (Some (list_object l.unit)) at (omega (arith, there))
-      (get_back (blanks (length v.variables)) (lists_held v ++ (strings_held v ++ blanks (frame_count v))) (length v.variables + i) i (Some (list_object l.unit)) (omega (arith, many))
-      (get_front (lists_held v) (strings_held v ++ blanks (frame_count v)) i (Some (list_object l.unit)) (map_at (λ (one : Listing). Some (list_object one.unit)) v.lists i l got)))
-
-  pub held_string : (j : ℕ) (v : Inventory) (i k n : ℕ) → slice_get vs j ≡ Some v → k ≡ first_string v (bases_of constants ws j) + i → slice_get v.strings i ≡ Some n
-      → option_flatten (slice_get (held_objects constants vs) k) ≡ Some (string_object (v.texts n))
-  held_string j v i k n at there got =
-      let many = blanks_many (length v.variables) in
-      let lists = length-map v.lists (λ (l : Listing). Some (list_object l.unit)) in
-      held_at j v (length v.variables + (length v.lists + i)) k (Some (string_object (v.texts n))) at (omega (arith, there))
-      (get_back (blanks (length v.variables)) (lists_held v ++ (strings_held v ++ blanks (frame_count v))) (length v.variables + (length v.lists + i)) (length v.lists + i) (Some (string_object (v.texts n))) (omega (arith, many))
-      (get_back (lists_held v) (strings_held v ++ blanks (frame_count v)) (length v.lists + i) i (Some (string_object (v.texts n))) (omega (arith, lists))
-      (get_front (strings_held v) (blanks (frame_count v)) i (Some (string_object (v.texts n))) (map_at (λ m. Some (string_object (v.texts m))) v.strings i n got))))
-
-  -- of a frame nothing is held
-  pub frame_blank : (j : ℕ) (v : Inventory) (i k : ℕ) → slice_get vs j ≡ Some v → k ≡ first_parameter v (bases_of constants ws j) + i → i < frame_count v → option_flatten (slice_get (held_objects constants vs) k) ≡ None
-  frame_blank j v i k at there below =
-      let many = blanks_many (length v.variables) in
-      let lists = length-map v.lists (λ (l : Listing). Some (list_object l.unit)) in
-      let strings = length-map v.strings (λ n. Some (string_object (v.texts n))) in
-      held_at j v (length v.variables + (length v.lists + (length v.strings + i))) k None at (omega (arith, there))
-      (get_back (blanks (length v.variables)) (lists_held v ++ (strings_held v ++ blanks (frame_count v))) (length v.variables + (length v.lists + (length v.strings + i))) (length v.lists + (length v.strings + i)) None (omega (arith, many))
-      (get_back (lists_held v) (strings_held v ++ blanks (frame_count v)) (length v.lists + (length v.strings + i)) (length v.strings + i) None (omega (arith, lists))
-      (get_back (strings_held v) (blanks (frame_count v)) (length v.strings + i) i None (omega (arith, strings)) (blank_at (frame_count v) i below))))
-
-  -- what is held stands in the objects of the program
-  pub held_there : (k : ℕ) (object : Object) → option_flatten (slice_get (held_objects constants vs) k) ≡ Some object → slice_get (linking.program (files_of constants ws)).objects k ≡ Some object
-  held_there k object h = by (at_one (map (λ y. Some (number_object y)) constants) (flat_map held_of vs) k (Some object) (joined_is (slice_get (held_objects constants vs) k) object h))
-    where
-      in_function : (j i : ℕ) (r : Rendering) → slice_get rs j ≡ Some r → k ≡ first_object (length constants) vs j + i → IsAt (blanks (length r.written.inventory.variables)) (lists_held r.written.inventory ++ (strings_held r.written.inventory ++ blanks (frame_count r.written.inventory))) i (Some object)
-          → StandsAs constants ws k object
-      in_function j i r at there (in_first got) = no_blank (length r.written.inventory.variables) i object got
-      in_function j i r at there (in_second m apart got) = behind m (at_one (lists_held r.written.inventory) (strings_held r.written.inventory ++ blanks (frame_count r.written.inventory)) m (Some object) got)
-          (let many = blanks_many (length r.written.inventory.variables) in omega (arith, there, apart, many))
-        where
-          behind : (m : ℕ) → IsAt (lists_held r.written.inventory) (strings_held r.written.inventory ++ blanks (frame_count r.written.inventory)) m (Some object) → k ≡ first_list r.written.inventory (bases_of constants ws j) + m → StandsAs constants ws k object
-          behind m (in_first got') there' =
-              let l = map_back (λ (one : Listing). Some (list_object one.unit)) r.written.inventory.lists m (Some object) got' in
-              ap (slice_get (linking.program (files_of constants ws)).objects) there' ∙ (function_stands j r at).list m l.0 l.1 ∙ l.2
-          behind m (in_second p apart' got') there' = last p (at_one (strings_held r.written.inventory) (blanks (frame_count r.written.inventory)) p (Some object) got')
-              (let lists = length-map r.written.inventory.lists (λ (l : Listing). Some (list_object l.unit)) in omega (arith, there', apart', lists))
-            where
-              last : (p : ℕ) → IsAt (strings_held r.written.inventory) (blanks (frame_count r.written.inventory)) p (Some object) → k ≡ first_string r.written.inventory (bases_of constants ws j) + p → StandsAs constants ws k object
-              last p (in_first got'') there'' =
-                  let n = map_back (λ n. Some (string_object (r.written.inventory.texts n))) r.written.inventory.strings p (Some object) got'' in
-                  ap (slice_get (linking.program (files_of constants ws)).objects) there'' ∙ (function_stands j r at).string p n.0 n.1 ∙ n.2
-              last p (in_second q apart'' got'') there'' = no_blank (frame_count r.written.inventory) q object got''
-
-      by : IsAt (map (λ y. Some (number_object y)) constants) (flat_map held_of vs) k (Some object) → StandsAs constants ws k object
-      by (in_first at) = let z = map_back (λ y. Some (number_object y)) constants k (Some object) at in places.numbers k z.0 z.1 ∙ z.2
-      by (in_second m apart at) =
-          let f = flat_back held_of vs m (Some object) at in
-          let r = of_inventory f.piece f.whole f.at in
-          let count = length-map constants (λ z. Some (number_object z)) in
-          let first = first_is (length constants) vs f.piece in
-          let place = f.is in
-          in_function f.piece f.place r.0 r.1 (omega (arith, apart, count, first, place))
-          (at_one (blanks (length r.0.written.inventory.variables)) (lists_held r.0.written.inventory ++ (strings_held r.0.written.inventory ++ blanks (frame_count r.0.written.inventory))) f.place (Some object)
-          (ap (λ v. slice_get (held_of v) f.place) r.2 ∙ f.got))

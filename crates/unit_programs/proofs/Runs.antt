@@ -1,8 +1,7 @@
--- Units that call each other run as their file does.
-use Rattle.std.specs.Prelude.{◌≡◌, ℕ, ◌≤◌, nat_lt, ℤ, true, false, not, List, [], ◌∷◌, map, length, Option, Some, None, is_none, unwrap_or, slice_get}
+-- Units that call each other run as their files do.
+use Rattle.std.specs.Prelude.{◌≡◌, ℕ, ◌≤◌, nat_lt, true, false, not, List, [], ◌∷◌, length, Option, Some, None, is_none, unwrap_or, slice_get}
 use Rattle.std.proofs.Common.{refl, sym, ap, ◌∙◌, subst, arith}
 use Rattle.std.proofs.lemmas.Bool.{lt-ltb}
-use Rattle.std.proofs.lemmas.List.{append-nil}
 use Rattle.simulation.specs.LocalSimulation.{Local}
 use Rattle.f_tree.specs.Facts.{ProgramUnit}
 use Rattle.f_tree.specs.Attributes.{no_program, no_facts}
@@ -18,7 +17,7 @@ use Rattle.c_tree.specs.declared.file.CFunction.{CFunction}
 use Rattle.c_tree.specs.Flat.{Flat}
 use Rattle.c_tree.specs.FlatForm.{ends}
 use Rattle.c_tree.specs.Linking as linking
-use Rattle.c_tree.specs.Meaning.{no_function, wrapped_by, step_factor}
+use Rattle.c_tree.specs.Meaning.{wrapped_by, step_factor}
 use Rattle.faithful.specs.SameState.{is_inner}
 use Rattle.c_image.specs.World.{IsIdle}
 use Rattle.c_structure.specs.Statements.{Outline, statements_for}
@@ -32,10 +31,11 @@ use Rattle.call_bridge.proofs.Together.{calls_run_alike}
 use Rattle.main_programs.proofs.MainRuns.{ones_cost, ones_rest}
 use Rattle.main_programs.proofs.MainStorage.{map_back}
 use Rattle.unit_file.specs.UnitFile.{WrittenUnit, unit_function}
-use Rattle.unit_places.specs.UnitPlaces.{files_of, linked_unit}
+use Rattle.unit_sites.specs.UnitSites.{UnitsOfFile, files_of, all_units, Site}
+use Rattle.unit_places.specs.UnitPlaces.{linked_unit}
 use Rattle.unit_file_laws.specs.BuiltUnits.{unit_items}
 use Rattle.unit_programs.specs.OwnStorage.{own_setting}
-use Rattle.unit_programs.specs.TranslatedUnits.{Rendering, units_of, written_of, numbers_of, facts_of, IsTranslatedUnit, IsTranslatedFile}
+use Rattle.unit_programs.specs.TranslatedUnits.{Rendering, units_of, numbers_of, facts_of, IsTranslatedUnit, IsTranslatedSet}
 use Rattle.unit_programs.specs.EmittedFile.{room_at, surroundings_of, emission_of, costs_of}
 use Rattle.unit_programs.specs.UnitRuns.{UnitProgramsRunAlike}
 use Rattle.unit_programs.proofs.Objects as objects_of
@@ -57,8 +57,11 @@ no_unit = record {
   body = [];
 }
 
+abbrev no_site : Site
+no_site = record { constants = []; bases = record { own = 0; file = 0; function = 0 } }
+
 abbrev no_rendering : Rendering
-no_rendering = record { unit = no_program; text = no_text; written = no_unit; kind = λ n k. None; stage = λ n. None; outline = no_outline; items = [] }
+no_rendering = record { unit = no_program; text = no_text; written = no_unit; site = no_site; kind = λ n k. None; stage = λ n. None; outline = no_outline; items = [] }
 
 -- a function that ends with a return has a step
 has_steps : (numbers : Numbers) (w : Writing) (label : ℕ → Option ℕ) (steps : List Step) (items : List Flat) (o : Outline) (turns : ℕ) (body : List CStmt) → unit_items numbers w label 0 steps ≡ Some items → statements_for o turns 0 items ≡ Some body
@@ -70,10 +73,7 @@ has_steps numbers w label [] items o turns body emitted made ended =
     absurd (cc)
 has_steps numbers w label (st ∷ later) items o turns body emitted made ended = omega arith
 
-module _ (constants : List ℤ) (rs : List Rendering) (is : IsTranslatedFile constants rs) where
-  abbrev ws : List WrittenUnit
-  ws = written_of rs
-
+module _ (fs : List UnitsOfFile) (rs : List Rendering) (is : IsTranslatedSet fs rs) where
   abbrev us : List ProgramUnit
   us = units_of rs
 
@@ -83,10 +83,10 @@ module _ (constants : List ℤ) (rs : List Rendering) (is : IsTranslatedFile con
 
   abbrev translation : Translation
   translation = record {
-    surroundings = surroundings_of constants rs;
+    surroundings = surroundings_of fs rs;
     texts = λ i. (rendering_at i).text;
     costs = λ i. costs_of (rendering_at i).text;
-    emissions = λ i. emission_of constants rs i (rendering_at i);
+    emissions = λ i. emission_of fs i (rendering_at i);
     owner = λ k. k;
   }
 
@@ -96,7 +96,7 @@ module _ (constants : List ℤ) (rs : List Rendering) (is : IsTranslatedFile con
   -- ## One unit
 
   module _ (i : ℕ) (r : Rendering) (at : slice_get rs i ≡ Some r) where
-    one : IsTranslatedUnit constants rs i r
+    one : IsTranslatedUnit rs i r
     one = is.units i r at
 
     positive : (n : ℕ) (st : Step) → slice_get r.text.steps n ≡ Some st → 1 ≤ cost (costs_of r.text) n
@@ -106,76 +106,78 @@ module _ (constants : List ℤ) (rs : List Rendering) (is : IsTranslatedFile con
     unfolding facts_at
     upper = simulates i r.text (costs_of r.text) (laid_out (facts_of rs i r) r.text one.lowered one.direct one.ended one.loops) positive
 
-    lower : Local (call_couple (surroundings_of constants rs) i r.text (costs_of r.text) (emission_of constants rs i r))
-    lower = units_are_simulated (surroundings_of constants rs) i r.text (costs_of r.text) (emission_of constants rs i r) (units_are_emitted constants rs is i r at)
+    lower : Local (call_couple (surroundings_of fs rs) i r.text (costs_of r.text) (emission_of fs i r))
+    lower = units_are_simulated (surroundings_of fs rs) i r.text (costs_of r.text) (emission_of fs i r) (units_are_emitted fs rs is i r at)
 
-    narrow : rest (costs_of r.text) 0 ≤ step_factor (files_of constants ws)
-    narrow = let counted = ones_rest (length r.text.steps) in let most = objects_of.factor constants rs is i r at in omega (arith, counted, most)
+    narrow : rest (costs_of r.text) 0 ≤ step_factor (files_of fs)
+    narrow = let counted = ones_rest (length r.text.steps) in let most = objects_of.factor fs rs is i r at in omega (arith, counted, most)
 
-    own : nat_lt i (length (linking.program (files_of constants ws)).functions) ≡ true
-    own = lt-ltb i (length (linking.program (files_of constants ws)).functions) (within (linking.program (files_of constants ws)).functions i (linked_unit constants ws i r.written) (objects_of.function_stands constants rs is i r at).function_is)
+    own : nat_lt i (length (linking.program (files_of fs)).functions) ≡ true
+    own =
+        let stands = objects_of.function_stands fs rs is i r at in
+        lt-ltb i (length (linking.program (files_of fs)).functions) (within (linking.program (files_of fs)).functions i (linked_unit fs stands.functions r.site r.written) stands.function_is)
 
-    inner_is : is_inner (slice_get (linking.all_functions (files_of constants ws)) i) ≡ true
-    inner_is = ap is_inner (objects_of.function_stands constants rs is i r at).written ∙ ap is_none one.no_wrapper
+    inner_is : is_inner (slice_get (linking.all_functions (files_of fs)) i) ≡ true
+    inner_is = ap is_inner (objects_of.function_stands fs rs is i r at).written ∙ ap is_none one.no_wrapper
 
-  the_unit : (i : ℕ) → slice_get rs i ≡ Some (rendering_at i) → UnitIsTranslated (own_setting us) us (files_of constants ws) translation i
+  the_unit : (i : ℕ) → slice_get rs i ≡ Some (rendering_at i) → UnitIsTranslated (own_setting us) us (files_of fs) translation i
   the_unit i at = record {
     unit = (rendering_at i).unit;
-    has = objects_of.unit_at constants rs is i (rendering_at i) at;
+    has = objects_of.unit_at fs rs is i (rendering_at i) at;
     facts = (is.units i (rendering_at i) at).facts;
     upper = upper i (rendering_at i) at;
     lower = lower i (rendering_at i) at;
     narrow = narrow i (rendering_at i) at;
-    function = ap (λ found. unwrap_or found no_function) (objects_of.function_stands constants rs is i (rendering_at i) at).function_is;
+    function = refl;
     own = own i (rendering_at i) at;
     inner = inner_is i (rendering_at i) at;
-    named = objects_of.unit_named constants rs is i (rendering_at i) at;
+    named = objects_of.unit_named fs rs is i (rendering_at i) at;
     called = λ name found. found;
-    idle = subst (λ found. IsIdle (room_at constants ws i found).first (room_at constants ws i found).count (surroundings_of constants rs).first) (sym (objects_of.written_at constants rs is i (rendering_at i) at)) (stored_of.idle constants rs is i (rendering_at i) at);
-    frames = frames_stand constants rs is i (rendering_at i) at;
+    idle = subst (λ found. IsIdle (room_at found).first (room_at found).count (surroundings_of fs rs).first) (sym at) (stored_of.idle fs rs is i (rendering_at i) at);
+    frames = frames_stand fs rs is i (rendering_at i) at;
   }
 
   -- ## The file
 
-  unit_may_run : (i : ℕ) → MayRun us i → UnitIsTranslated (own_setting us) us (files_of constants ws) translation i
+  unit_may_run : (i : ℕ) → MayRun us i → UnitIsTranslated (own_setting us) us (files_of fs) translation i
   unit_may_run i may =
       let f = found_back 0 us may.0 i may.1 in
       let there = f.is in
-      let r = objects_of.of_unit constants rs is f.place f.unit f.at in
+      let r = objects_of.of_unit fs rs is f.place f.unit f.at in
       the_unit i (found_rendering i r.0 (ap (slice_get rs) {x = i} {y = f.place} (omega (arith, there)) ∙ r.1))
 
-  no_wrapper_at : (i : ℕ) → is_wrapper (slice_get (linking.all_functions (files_of constants ws)) i) ≡ false
+  no_wrapper_at : (i : ℕ) → is_wrapper (slice_get (linking.all_functions (files_of fs)) i) ≡ false
   unfolding is_wrapper
-  no_wrapper_at i = by (slice_get (linking.all_functions (files_of constants ws)) i) refl
+  no_wrapper_at i = by (slice_get (linking.all_functions (files_of fs)) i) refl
     where
-      by : (found : Option CFunction) → slice_get (linking.all_functions (files_of constants ws)) i ≡ found → is_wrapper found ≡ false
+      by : (found : Option CFunction) → slice_get (linking.all_functions (files_of fs)) i ≡ found → is_wrapper found ≡ false
       by None at = refl
       by (Some function) at =
-          let w = map_back unit_function ws i function (ap (λ fs. slice_get fs i) (sym (append-nil (map unit_function ws))) ∙ at) in
-          let r = map_back (λ (q : Rendering). q.written) rs i w.0 w.1 in
+          let w = map_back unit_function (all_units fs) i function (ap (λ functions. slice_get functions i) (sym (objects_of.functions_are fs)) ∙ at) in
+          let r = objects_of.of_written fs rs is i w.0 w.1 in
           let none : wrapped_by function.body ≡ None = ap (λ (g : CFunction). wrapped_by g.body) (sym w.2) ∙ ap (λ (z : WrittenUnit). wrapped_by z.body) (sym r.2) ∙ (is.units i r.0 r.1).no_wrapper in
           ap (λ name. not (is_none name)) none
 
-  some_step : 1 ≤ step_factor (files_of constants ws)
+  some_step : 1 ≤ step_factor (files_of fs)
   some_step =
       let first = some_at rs 0 (let some = is.some in omega (arith, some)) in
       let built = (is.units 0 first.0 first.1).built in
       let steps = has_steps (numbers_of rs) _ first.0.text.position first.0.text.steps first.0.items first.0.outline built.built.turns first.0.written.body built.emitted built.built.statements built.built.ended in
-      let most = objects_of.factor constants rs is 0 first.0 first.1 in
+      let most = objects_of.factor fs rs is 0 first.0 first.1 in
       omega (arith, steps, most)
 
-  translated : IsTranslated (own_setting us) us (files_of constants ws) translation
+  translated : IsTranslated (own_setting us) us (files_of fs) translation
   translated = record {
     units = unit_may_run;
     owned = λ i. refl;
     no_wrapper = no_wrapper_at;
     some_step = some_step;
-    main = objects_of.main_is constants rs is;
-    stands = stored_of.stands constants rs is;
+    main = objects_of.main_is fs rs is;
+    stands = stored_of.stands fs rs is;
     as_many = refl;
-    names = stored_of.names_stand constants rs is;
-    low = stored_of.low constants rs is;
+    names = stored_of.names_stand fs rs is;
+    low = stored_of.low fs rs is;
   }
 
 pub unit_programs_run_alike : UnitProgramsRunAlike
-unit_programs_run_alike constants rs is units n meant = calls_run_alike (own_setting (units_of rs)) (units_of rs) (files_of constants (written_of rs)) (translation constants rs is) (translated constants rs is) units n meant
+unit_programs_run_alike fs rs is units n meant = calls_run_alike (own_setting (units_of rs)) (units_of rs) (files_of fs) (translation fs rs is) (translated fs rs is) units n meant

@@ -1,7 +1,7 @@
--- The storage of the units stands in the objects of the file before the first step, each name in its object.
-use Rattle.std.specs.List.{cons_option, list_any}
+-- The storage of the units stands in the objects of the files before the first step, each name in its object.
+use Rattle.std.specs.List.{cons_option, list_any, flat_map}
 use Rattle.std.specs.Option.{option_flatten}
-use Rattle.std.specs.Prelude.{◌≡◌, ℕ, suc, ◌+◌, ◌-◌, ◌<◌, ◌≤◌, nat_eq, ℤ, true, false, ◌&&◌, ◌||◌, List, [], ◌∷◌, ◌++◌, map, length, position, Option, Some, None, is_none, option_map, option_and_then, unwrap_or, slice_get, bytes_eq, find, filter_map, if◌then◌else◌}
+use Rattle.std.specs.Prelude.{◌≡◌, ℕ, suc, ◌+◌, ◌-◌, ◌<◌, ◌≤◌, nat_eq, true, false, ◌&&◌, ◌||◌, List, [], ◌∷◌, ◌++◌, map, length, position, Option, Some, None, is_none, option_map, option_and_then, unwrap_or, slice_get, bytes_eq, find, filter_map, if◌then◌else◌}
 use Rattle.std.proofs.Common.{refl, sym, ap, ◌∙◌, subst, arith}
 use Rattle.std.proofs.lemmas.List.{length-map, length-replicate}
 use Rattle.run_state.specs.Units.{Units}
@@ -28,14 +28,16 @@ use Rattle.linking_laws.proofs.Places.{some_same, map_at, within, some_at}
 use Rattle.main_file_laws.proofs.Listed.{declared_variable}
 use Rattle.main_programs.proofs.MainStorage.{home_found, home_there, named_stored, stored_by, shaped, map_back, all_undefined, room_of, position_named}
 use Rattle.plain_forms.specs.OwnStorage.{homes_from, sizes_of}
-use Rattle.unit_file.specs.UnitFile.{Variable, Inventory, WrittenUnit, unit_function, unit_locals, object_count, frame_count, first_object, first_parameter, place_or_none, place_of_variable}
-use Rattle.unit_places.specs.UnitPlaces.{files_of, inventories, bases_of, linked_unit, variable_object}
+use Rattle.unit_file.specs.UnitFile.{Variable, Inventory, WrittenUnit, unit_function, unit_locals, object_count, frame_count, first_parameter, place_or_none, place_of_variable}
+use Rattle.unit_sites.specs.UnitSites.{UnitsOfFile, files_of, all_units, Site, sites_of}
+use Rattle.unit_places.specs.UnitPlaces.{linked_unit, variable_object}
 use Rattle.unit_places.proofs.Declared.{unit_strings, unit_statics_count, unit_lasting_names, unit_variable}
-use Rattle.unit_programs.specs.OwnStorage.{own_setting, bytes_in, held_objects, first_world}
-use Rattle.unit_programs.specs.TranslatedUnits.{Rendering, units_of, written_of, facts_of, IsTranslatedFile}
+use Rattle.unit_programs.specs.OwnStorage.{own_setting, bytes_in, held_in, first_world}
+use Rattle.unit_programs.specs.TranslatedUnits.{Rendering, units_of, facts_of, IsTranslatedSet}
 use Rattle.unit_programs.proofs.Pieces.{before, flat_there, flat_back, as_long}
-use Rattle.unit_programs.proofs.Sequences.{stored_of, variables_of, homes_there, variable_there, variable_back, same_piece}
-use Rattle.unit_programs.proofs.Objects.{inventory_at, unit_at, of_unit, of_inventory, function_stands, unit_named, not_held, frame_blank, held_there}
+use Rattle.unit_programs.proofs.Sequences.{stored_of, variables_of, homes_there, variable_there, variable_back, same_unit}
+use Rattle.unit_programs.proofs.Held.{not_held, frame_blank, held_there}
+use Rattle.unit_programs.proofs.Objects.{unit_at, of_unit, of_written, unit_written, site_at, places, function_stands, unit_named}
 
 -- ## Without COMMON, EQUIVALENCE and DATA
 
@@ -61,12 +63,12 @@ home_part : (x : Bytes) (ms : List Member) (found : Option (List Home)) (hs : Li
 unfolding homes_at
 home_part x ms found hs is = ap (λ o. home_among x ms (homes_at o)) is
 
-module _ (constants : List ℤ) (rs : List Rendering) (is : IsTranslatedFile constants rs) where
+module _ (fs : List UnitsOfFile) (rs : List Rendering) (is : IsTranslatedSet fs rs) where
   abbrev ws : List WrittenUnit
-  ws = written_of rs
+  ws = all_units fs
 
-  abbrev vs : List Inventory
-  vs = inventories ws
+  abbrev ss : List Site
+  ss = sites_of fs
 
   abbrev us : List ProgramUnit
   us = units_of rs
@@ -75,7 +77,7 @@ module _ (constants : List ℤ) (rs : List Rendering) (is : IsTranslatedFile con
   g = own_setting us
 
   abbrev world : World
-  world = first_world constants vs g
+  world = first_world fs g
 
   abbrev sizes_in : ProgramUnit → List ℕ
   sizes_in u = sizes_of u.stored
@@ -85,25 +87,25 @@ module _ (constants : List ℤ) (rs : List Rendering) (is : IsTranslatedFile con
   same_rendering : (j : ℕ) (r q : Rendering) → slice_get rs j ≡ Some r → slice_get rs j ≡ Some q → r ≡ q
   same_rendering j r q one other = some_same r q (sym one ∙ other)
 
-  as_high : length us ≡ length vs
-  as_high = let one = length-map rs (λ (r : Rendering). r.unit) in let two = length-map rs (λ (r : Rendering). r.written) in let three = length-map ws (λ (w : WrittenUnit). w.inventory) in omega (arith, one, two, three)
+  as_high : length us ≡ length ws
+  as_high = length-map rs (λ (r : Rendering). r.unit) ∙ sym (length-map rs (λ (r : Rendering). r.written)) ∙ ap length is.written
 
-  sequences_same : (j : ℕ) → before stored_of us j ≡ before variables_of vs j
-  sequences_same j = as_long stored_of variables_of us vs j as_many as_high
+  sequences_same : (j : ℕ) → before stored_of us j ≡ before variables_of ws j
+  sequences_same j = as_long stored_of variables_of us ws j as_many as_high
     where
-      as_many : (i : ℕ) (u : ProgramUnit) (v : Inventory) → slice_get us i ≡ Some u → slice_get vs i ≡ Some v → length u.stored ≡ length v.variables
-      as_many i u v at other =
-          let r = of_unit constants rs is i u at in
-          let q = of_inventory constants rs is i v other in
+      as_many : (i : ℕ) (u : ProgramUnit) (w : WrittenUnit) → slice_get us i ≡ Some u → slice_get ws i ≡ Some w → length u.stored ≡ length w.inventory.variables
+      as_many i u w at other =
+          let r = of_unit fs rs is i u at in
+          let q = of_written fs rs is i w other in
           let same = same_rendering i r.0 q.0 r.1 q.1 in
-          ap (λ (z : ProgramUnit). length z.stored) (sym r.2) ∙ sym (is.units i r.0 r.1).storage.as_many ∙ ap (λ (z : Rendering). length z.written.inventory.variables) same ∙ ap (λ (z : Inventory). length z.variables) q.2
+          ap (λ (z : ProgramUnit). length z.stored) (sym r.2) ∙ sym (is.units i r.0 r.1).storage.as_many ∙ ap (λ (z : Rendering). length z.written.inventory.variables) same ∙ ap (λ (z : WrittenUnit). length z.inventory.variables) q.2
 
   sizes_same : (j : ℕ) → before sizes_in us j ≡ before stored_of us j
   sizes_same j = as_long sizes_in stored_of us us j (λ i u v at other. length-map u.stored (λ (m : Member). m.size) ∙ ap (λ (z : ProgramUnit). length z.stored) (some_same u v (sym at ∙ other))) refl
 
-  pub home_there_at : (j : ℕ) (r : Rendering) → slice_get rs j ≡ Some r → (i : ℕ) → i < length r.written.inventory.variables → world.homes (before stored_of us j + i) ≡ Some ((bases_of constants ws j).function + i)
+  pub home_there_at : (j : ℕ) (r : Rendering) → slice_get rs j ≡ Some r → (i : ℕ) → i < length r.written.inventory.variables → world.homes (before stored_of us j + i) ≡ Some (r.site.bases.function + i)
   home_there_at j r at i below =
-      ap (λ n. world.homes (n + i)) (sequences_same j) ∙ variable_there (length constants) vs j r.written.inventory i (inventory_at constants rs is j r at) below
+      ap (λ n. world.homes (n + i)) (sequences_same j) ∙ variable_there ss ws j r.site r.written i (site_at fs rs is j r at) (unit_written fs rs is j r at) below
 
   -- a sequence is that of a stored name
   pub record IsMemberAt (n : ℕ) : Type 0 where
@@ -128,7 +130,7 @@ module _ (constants : List ℤ) (rs : List Rendering) (is : IsTranslatedFile con
   unfolding member_by
   sized n size at =
       let f = flat_back sizes_in us n size at in
-      let r = of_unit constants rs is f.piece f.whole f.at in
+      let r = of_unit fs rs is f.piece f.whole f.at in
       let m = map_back (λ (k : Member). k.size) f.whole.stored f.place size f.got in
       let same = sizes_same f.piece in
       let there = f.is in
@@ -139,7 +141,7 @@ module _ (constants : List ℤ) (rs : List Rendering) (is : IsTranslatedFile con
       let same = sizes_same m.unit in
       let there = m.there in
       ap (slice_get g.sizes) {x = n} {y = before sizes_in us m.unit + m.place} (omega (arith, same, there))
-      ∙ flat_there sizes_in us m.unit m.rendering.unit m.place m.member.size (unit_at constants rs is m.unit m.rendering m.has) (map_at (λ (k : Member). k.size) m.rendering.unit.stored m.place m.member m.at)
+      ∙ flat_there sizes_in us m.unit m.rendering.unit m.place m.member.size (unit_at fs rs is m.unit m.rendering m.has) (map_at (λ (k : Member). k.size) m.rendering.unit.stored m.place m.member m.at)
 
   pub world_size : (n : ℕ) (m : IsMemberAt n) → world.size n ≡ m.member.size
   world_size n m = ap (λ found. unwrap_or found 0) (size_is n m)
@@ -152,27 +154,26 @@ module _ (constants : List ℤ) (rs : List Rendering) (is : IsTranslatedFile con
 
   -- ## The world is sane
 
-  variables_few : (v : Inventory) (i : ℕ) → i < length v.variables → i < object_count v
-  variables_few v i below = omega (arith, below)
+  variables_few : (w : WrittenUnit) (i : ℕ) → i < length w.inventory.variables → i < object_count w.inventory
+  variables_few w i below = omega (arith, below)
 
   alone_in : (n m object : ℕ) → world.homes n ≡ Some object → world.homes m ≡ Some object → m ≡ n
   alone_in n m object one other =
-      let a = variable_back (length constants) vs n object one in
-      let b = variable_back (length constants) vs m object other in
+      let a = variable_back ss ws n object one in
+      let b = variable_back ss ws m object other in
       let left = a.stands in
       let right = b.stands in
-      let both : first_object (length constants) vs a.piece + a.place ≡ first_object (length constants) vs b.piece + b.place = omega (arith, left, right) in
-      let same = same_piece (length constants) vs a.piece b.piece a.whole b.whole a.place b.place a.at b.at (variables_few a.whole a.place a.below) (variables_few b.whole b.place b.below) both in
-      let bases = ap (first_object (length constants) vs) same in
-      let sequences = ap (before variables_of vs) same in
+      let same = same_unit fs a.piece b.piece a.site b.site a.whole b.whole a.place b.place a.here a.at b.here b.at (variables_few a.whole a.place a.below) (variables_few b.whole b.place b.below) (omega (arith, left, right)) in
+      let bases = ap (λ (s : Site). s.bases.function) (some_same a.site b.site (sym a.here ∙ ap (slice_get ss) same ∙ b.here)) in
+      let sequences = ap (before variables_of ws) same in
       let here = a.is in
       let there = b.is in
       omega (arith, left, right, bases, sequences, here, there)
 
   free_of : (n object : ℕ) → world.homes n ≡ Some object → world.frozen object ≡ None
   free_of n object home =
-      let a = variable_back (length constants) vs n object home in
-      ap (λ k. option_flatten (slice_get (held_objects constants vs) k)) a.stands ∙ not_held constants rs is a.piece a.whole a.place a.at a.below
+      let a = variable_back ss ws n object home in
+      ap (λ k. option_flatten (slice_get (flat_map held_in fs) k)) a.stands ∙ not_held fs a.piece a.site a.whole a.here a.at a.place a.below
 
   small_at : (n : ℕ) → n < length g.sizes → world.size n < 2147483648
   small_at n below =
@@ -199,15 +200,15 @@ module _ (constants : List ℤ) (rs : List Rendering) (is : IsTranslatedFile con
   room_by None size found worth at = let room = room_of None in let fits = room.2 in record { bytes = room.0; is = at ∙ ap Some room.1; room = omega (arith, fits, worth) }
   room_by (Some count) size found worth at = let room = room_of (Some count) in let fits = room.2 in record { bytes = room.0; is = at ∙ ap Some room.1; room = omega (arith, fits, worth) }
 
-  room_at : (n object : ℕ) (m : IsMemberAt n) → world.homes n ≡ Some object → HasRoom (length (undefined_units m.member.size).cells) (slice_get (linking.program (files_of constants ws)).objects object)
+  room_at : (n object : ℕ) (m : IsMemberAt n) → world.homes n ≡ Some object → HasRoom (length (undefined_units m.member.size).cells) (slice_get (linking.program (files_of fs)).objects object)
   room_at n object m home =
       let below = within m.rendering.written.inventory.variables m.place m.one m.variable in
-      let there : (bases_of constants ws m.unit).function + m.place ≡ object =
-      some_same ((bases_of constants ws m.unit).function + m.place) object (sym (ap world.homes m.there ∙ home_there_at m.unit m.rendering m.has m.place below) ∙ home) in
-      room_by m.one.count (length (undefined_units m.member.size).cells) (slice_get (linking.program (files_of constants ws)).objects object) (units_long m.member.size ∙ m.size)
-      (ap (slice_get (linking.program (files_of constants ws)).objects) (sym there) ∙ (function_stands constants rs is m.unit m.rendering m.has).variable m.place m.one m.variable)
+      let there : m.rendering.site.bases.function + m.place ≡ object =
+      some_same (m.rendering.site.bases.function + m.place) object (sym (ap world.homes m.there ∙ home_there_at m.unit m.rendering m.has m.place below) ∙ home) in
+      room_by m.one.count (length (undefined_units m.member.size).cells) (slice_get (linking.program (files_of fs)).objects object) (units_long m.member.size ∙ m.size)
+      (ap (slice_get (linking.program (files_of fs)).objects) (sym there) ∙ (function_stands fs rs is m.unit m.rendering m.has).variable m.place m.one m.variable)
 
-  housed_by : (n : ℕ) (m : IsMemberAt n) → IsHoused world (linking.program (files_of constants ws)).objects n (undefined_units m.member.size)
+  housed_by : (n : ℕ) (m : IsMemberAt n) → IsHoused world (linking.program (files_of fs)).objects n (undefined_units m.member.size)
   housed_by n m = record {
     sized = units_long m.member.size ∙ sym (world_size n m);
     locked = units_open m.member.size;
@@ -215,11 +216,11 @@ module _ (constants : List ℤ) (rs : List Rendering) (is : IsTranslatedFile con
     room = λ object home. room_at n object m home;
   }
 
-  housed : (n : ℕ) (q : Sequence) → slice_get (map undefined_units g.sizes) n ≡ Some q → IsHoused world (linking.program (files_of constants ws)).objects n q
+  housed : (n : ℕ) (q : Sequence) → slice_get (map undefined_units g.sizes) n ≡ Some q → IsHoused world (linking.program (files_of fs)).objects n q
   housed n q at =
       let size = map_back undefined_units g.sizes n q at in
       let m = sized n size.0 size.1 in
-      subst (IsHoused world (linking.program (files_of constants ws)).objects n) (ap undefined_units m.1 ∙ size.2) (housed_by n m.0)
+      subst (IsHoused world (linking.program (files_of fs)).objects n) (ap undefined_units m.1 ∙ size.2) (housed_by n m.0)
 
   no_byte : {A : Type 0} (size place byte : ℕ) (cell : Cell) → slice_get (undefined_units size).cells place ≡ Some cell → byte_for cell ≡ Some byte → A
   unfolding byte_for
@@ -231,7 +232,7 @@ module _ (constants : List ℤ) (rs : List Rendering) (is : IsTranslatedFile con
       let size = map_back undefined_units g.sizes n q at in
       no_byte size.0 place byte cell (ap (λ (s : Sequence). slice_get s.cells place) size.2 ∙ there) gives
 
-  stands_undefined : Stands world (map undefined_units g.sizes) (linking.program (files_of constants ws)).objects
+  stands_undefined : Stands world (map undefined_units g.sizes) (linking.program (files_of fs)).objects
   stands_undefined = record {
     sane = record {
       small = small_at;
@@ -241,17 +242,17 @@ module _ (constants : List ℤ) (rs : List Rendering) (is : IsTranslatedFile con
     as_high = length-map g.sizes undefined_units;
     housed = housed;
     units = λ n number place byte cell home at gives. nothing_stands n place byte cell (slice_get (map undefined_units g.sizes) n) refl at gives;
-    held = held_there constants rs is;
+    held = held_there fs (places fs rs is);
   }
 
   store_is : (units : Units) → (start_world g us units).store ≡ map undefined_units g.sizes
   unfolding start_world world_with image_store undefined_store
   store_is units =
       ap (λ s. (world_with g units s).store)
-      (images_none g 0 (Gives (undefined_store g)) us (λ i u at. let r = of_unit constants rs is i u at in ap (λ (z : ProgramUnit). z.images) (sym r.2) ∙ (is.units i r.0 r.1).storage.images))
+      (images_none g 0 (Gives (undefined_store g)) us (λ i u at. let r = of_unit fs rs is i u at in ap (λ (z : ProgramUnit). z.images) (sym r.2) ∙ (is.units i r.0 r.1).storage.images))
 
-  pub stands : (units : Units) → Stands world (start_world g us units).store (linking.program (files_of constants ws)).objects
-  stands units = subst (λ s. Stands world s (linking.program (files_of constants ws)).objects) (sym (store_is units)) stands_undefined
+  pub stands : (units : Units) → Stands world (start_world g us units).store (linking.program (files_of fs)).objects
+  stands units = subst (λ s. Stands world s (linking.program (files_of fs)).objects) (sym (store_is units)) stands_undefined
 
   -- ## Places of names
 
@@ -260,7 +261,7 @@ module _ (constants : List ℤ) (rs : List Rendering) (is : IsTranslatedFile con
   program_is j r at = ap (λ c. c.program) (is.units j r at).facts
 
   homes_are : (j : ℕ) (r : Rendering) → slice_get rs j ≡ Some r → slice_get g.homes j ≡ Some (homes_from (before stored_of us j) r.unit.stored)
-  homes_are j r at = homes_there 0 us j (before stored_of us j) r.unit (unit_at constants rs is j r at) (omega arith)
+  homes_are j r at = homes_there 0 us j (before stored_of us j) r.unit (unit_at fs rs is j r at) (omega arith)
 
   home_is : (j : ℕ) (r : Rendering) → slice_get rs j ≡ Some r → (x : Bytes) → unit_home g j r.unit x ≡ home_among x r.unit.stored (homes_from (before stored_of us j) r.unit.stored)
   unfolding unit_home
@@ -313,51 +314,56 @@ module _ (constants : List ℤ) (rs : List Rendering) (is : IsTranslatedFile con
       under : (j : ℕ) (r : Rendering) → slice_get rs j ≡ Some r → {x : Bytes} {p : Spot} (pl : IsPlaced j r x p) → before stored_of us j + pl.place < length g.sizes
       under j r at pl = below_height (before stored_of us j + pl.place) (member_by (before stored_of us j + pl.place) j r pl.place pl.member at pl.at refl)
 
-  reached_at : (j : ℕ) (r : Rendering) → slice_get rs j ≡ Some r → (x : Bytes) (p : Spot) → IsPlaced j r x p → Reaches world p (Alone ((bases_of constants ws j).function + place_or_none (place_of_variable r.written.inventory x)))
+  reached_at : (j : ℕ) (r : Rendering) → slice_get rs j ≡ Some r → (x : Bytes) (p : Spot) → IsPlaced j r x p → Reaches world p (Alone (r.site.bases.function + place_or_none (place_of_variable r.written.inventory x)))
   reached_at j r at x p pl =
       let storage = (is.units j r at).storage in
       let place : place_of_variable r.written.inventory x ≡ Some pl.place = subst (λ y. place_of_variable r.written.inventory y ≡ Some pl.place) pl.named (storage.first pl.place pl.member pl.at) in
       let below = within r.unit.stored pl.place pl.member pl.at in
       let many = storage.as_many in
-      subst (λ q. Reaches world q (Alone ((bases_of constants ws j).function + place_or_none (place_of_variable r.written.inventory x)))) pl.spot
-      (home_there_at j r at pl.place (omega (arith, below, many)) ∙ ap (λ found. Some ((bases_of constants ws j).function + place_or_none found)) (sym place), refl)
+      subst (λ q. Reaches world q (Alone (r.site.bases.function + place_or_none (place_of_variable r.written.inventory x)))) pl.spot
+      (home_there_at j r at pl.place (omega (arith, below, many)) ∙ ap (λ found. Some (r.site.bases.function + place_or_none found)) (sym place), refl)
 
   pub sound : (j : ℕ) (r : Rendering) → slice_get rs j ≡ Some r → (f : Frame) (x : Bytes) (p : Spot) → (r.text.facts.program.attribute x).class ≡ class.Stored → whole r.text.facts f x ≡ Gives (IsSpot p) → IsSound world p
   unfolding facts_at
   sound j r at = subst (λ c. (f : Frame) (x : Bytes) (p : Spot) → (c.program.attribute x).class ≡ class.Stored → whole c f x ≡ Gives (IsSpot p) → IsSound world p) (sym (is.units j r at).facts) (λ f x p stored h. sound_at j r at x p (placed j r at f x p stored h))
 
   pub reached : (j : ℕ) (r : Rendering) → slice_get rs j ≡ Some r → (f : Frame) (x : Bytes) (p : Spot) → (r.text.facts.program.attribute x).class ≡ class.Stored → whole r.text.facts f x ≡ Gives (IsSpot p)
-      → Reaches world p (Alone ((bases_of constants ws j).function + place_or_none (place_of_variable r.written.inventory x)))
+      → Reaches world p (Alone (r.site.bases.function + place_or_none (place_of_variable r.written.inventory x)))
   unfolding facts_at
-  reached j r at = subst (λ c. (f : Frame) (x : Bytes) (p : Spot) → (c.program.attribute x).class ≡ class.Stored → whole c f x ≡ Gives (IsSpot p) → Reaches world p (Alone ((bases_of constants ws j).function + place_or_none (place_of_variable r.written.inventory x))))
+  reached j r at = subst (λ c. (f : Frame) (x : Bytes) (p : Spot) → (c.program.attribute x).class ≡ class.Stored → whole c f x ≡ Gives (IsSpot p) → Reaches world p (Alone (r.site.bases.function + place_or_none (place_of_variable r.written.inventory x))))
       (sym (is.units j r at).facts) (λ f x p stored h. reached_at j r at x p (placed j r at f x p stored h))
 
   -- ## Frames
 
-  pub idle : (j : ℕ) (r : Rendering) → slice_get rs j ≡ Some r → IsIdle (first_parameter r.written.inventory (bases_of constants ws j)) (frame_count r.written.inventory) world
-  idle j r at = record {
-    no_home = λ n object below home from before'. no_variable n object home from before';
-    not_held = λ k from before'. frame_blank constants rs is j r.written.inventory (k - first_parameter r.written.inventory (bases_of constants ws j)) k (inventory_at constants rs is j r at) (omega (arith, from)) (omega (arith, from, before'));
-  }
-    where
-      no_variable : (n object : ℕ) → world.homes n ≡ Some object → first_parameter r.written.inventory (bases_of constants ws j) ≤ object → object < first_parameter r.written.inventory (bases_of constants ws j) + frame_count r.written.inventory → ⊥
-      no_variable n object home from before' =
-          let a = variable_back (length constants) vs n object home in
-          let v = r.written.inventory in
-          let there = a.stands in
-          let inside : object - first_object (length constants) vs j < object_count v = omega (arith, from, before') in
-          let both : first_object (length constants) vs a.piece + a.place ≡ first_object (length constants) vs j + (object - first_object (length constants) vs j) = omega (arith, there, from) in
-          let same = same_piece (length constants) vs a.piece j a.whole v a.place (object - first_object (length constants) vs j) a.at (inventory_at constants rs is j r at) (variables_few a.whole a.place a.below) inside both in
-          let bases = ap (first_object (length constants) vs) same in
-          let whole' : length a.whole.variables ≡ length v.variables = ap (λ (z : Inventory). length z.variables) (some_same a.whole v (sym a.at ∙ ap (slice_get vs) same ∙ inventory_at constants rs is j r at)) in
-          let few = a.below in
-          omega (arith, there, bases, whole', few, from)
+  module _ (j : ℕ) (r : Rendering) (at : slice_get rs j ≡ Some r) where
+    abbrev v : Inventory
+    v = r.written.inventory
+
+    abbrev first : ℕ
+    first = first_parameter v r.site.bases
+
+    no_variable : (n object : ℕ) → world.homes n ≡ Some object → first ≤ object → object < first + frame_count v → ⊥
+    no_variable n object home from before' =
+        let a = variable_back ss ws n object home in
+        let there = a.stands in
+        let same = same_unit fs a.piece j a.site r.site a.whole r.written a.place (object - r.site.bases.function) a.here a.at (site_at fs rs is j r at) (unit_written fs rs is j r at) (variables_few a.whole a.place a.below)
+        (omega (arith, from, before')) (omega (arith, there, from)) in
+        let bases = ap (λ (s : Site). s.bases.function) (some_same a.site r.site (sym a.here ∙ ap (slice_get ss) same ∙ site_at fs rs is j r at)) in
+        let whole' = ap (λ (w : WrittenUnit). length w.inventory.variables) (some_same a.whole r.written (sym a.at ∙ ap (slice_get ws) same ∙ unit_written fs rs is j r at)) in
+        let few = a.below in
+        omega (arith, there, bases, whole', few, from)
+
+    pub idle : IsIdle first (frame_count v) world
+    idle = record {
+      no_home = λ n object below home from before'. no_variable n object home from before';
+      not_held = λ k from before'. frame_blank fs j r.site r.written (site_at fs rs is j r at) (unit_written fs rs is j r at) (k - first) k (omega (arith, from)) (omega (arith, from, before'));
+    }
 
   -- ## Names and objects
 
   no_block_at : (sequence : ℕ) → block_of us g sequence ≡ None
   unfolding block_of
-  no_block_at sequence = no_block 0 us g sequence (λ i u at. let r = of_unit constants rs is i u at in ap (λ (z : ProgramUnit). z.blocks) (sym r.2) ∙ (is.units i r.0 r.1).storage.blocks)
+  no_block_at sequence = no_block 0 us g sequence (λ i u at. let r = of_unit fs rs is i u at in ap (λ (z : ProgramUnit). z.blocks) (sym r.2) ∙ (is.units i r.0 r.1).storage.blocks)
 
   no_class_of : (name : Bytes) (home : Option Home) (ties : List Tie) → ties ≡ [] → class_of us g ties name home ≡ None
   unfolding class_of is_tied
@@ -369,37 +375,40 @@ module _ (constants : List ℤ) (rs : List Rendering) (is : IsTranslatedFile con
   no_classes j r at = ap (each_once []) (none_filtered (λ (member : Member). class_of us g r.unit.ties member.name (unit_home g j r.unit member.name)) r.unit.stored
       (λ m. no_class_of m.name (unit_home g j r.unit m.name) r.unit.ties (is.units j r at).storage.ties))
 
-  static_is : (j : ℕ) (r : Rendering) → slice_get rs j ≡ Some r → (i : ℕ) (one : Variable) (name : Bytes) → slice_get r.written.inventory.variables i ≡ Some one → one.name ≡ name
-      → static_object (variable_name name) (unit_function r.written) (linked_unit constants ws j r.written) ≡ Some ((bases_of constants ws j).function + i)
+  -- the function of a unit, as linking makes it
+  abbrev linked : (j : ℕ) (r : Rendering) → slice_get rs j ≡ Some r → linking.Function
+  linked j r at = linked_unit fs (function_stands fs rs is j r at).functions r.site r.written
+
+  static_is : (j : ℕ) (r : Rendering) (at : slice_get rs j ≡ Some r) (i : ℕ) (one : Variable) (name : Bytes) → slice_get r.written.inventory.variables i ≡ Some one → one.name ≡ name
+      → static_object (variable_name name) (unit_function r.written) (linked j r at) ≡ Some (r.site.bases.function + i)
   static_is j r at i one name there same =
       let v = r.written.inventory in
       let d = declared_variable one in
       let called : variable_name one.name ≡ variable_name name = ap variable_name same in
       let place = position_named (declared_statics (unit_locals v)) i d (subst AreDistinct (sym (unit_lasting_names v)) (is.units j r at).built.differ.lasting) (unit_variable v i one there) in
-      let frame = (function_stands constants rs is j r at).frame in
+      let frame = (function_stands fs rs is j r at).frame in
       let statics = unit_statics_count v in
-      let passed = ap length (unit_strings v) in
       let strings = strings_in j r at in
-      ap (λ nm. option_map (λ p. first_lasting (unit_function r.written) (linked_unit constants ws j r.written) + p) (position (λ (e : Declared). bytes_eq e.name nm) (declared_statics (unit_locals v)))) (sym called)
-      ∙ ap (option_map (λ p. first_lasting (unit_function r.written) (linked_unit constants ws j r.written) + p)) place
-      ∙ ap Some {x = first_lasting (unit_function r.written) (linked_unit constants ws j r.written) + i} {y = (bases_of constants ws j).function + i} (omega (arith, frame, statics, strings))
+      ap (λ nm. option_map (λ p. first_lasting (unit_function r.written) (linked j r at) + p) (position (λ (e : Declared). bytes_eq e.name nm) (declared_statics (unit_locals v)))) (sym called)
+      ∙ ap (option_map (λ p. first_lasting (unit_function r.written) (linked j r at) + p)) place
+      ∙ ap Some {x = first_lasting (unit_function r.written) (linked j r at) + i} {y = r.site.bases.function + i} (omega (arith, frame, statics, strings))
     where
       strings_in : (j : ℕ) (r : Rendering) → slice_get rs j ≡ Some r → length (linking.strings_of (declared_statics (unit_locals r.written.inventory)) ++ (whole_body r.written.body).items.strings) ≡ length r.written.inventory.strings
       strings_in j r at = ap (λ ss. length (ss ++ (whole_body r.written.body).items.strings)) (unit_strings r.written.inventory) ∙ (is.units j r at).built.as_many
 
-  local_is : (j : ℕ) (r : Rendering) → slice_get rs j ≡ Some r → (name : Bytes) (object : ℕ) → static_object (variable_name name) (unit_function r.written) (linked_unit constants ws j r.written) ≡ Some object
-      → local_object (files_of constants ws) r.unit (variable_name name) ≡ Some object
+  local_is : (j : ℕ) (r : Rendering) (at : slice_get rs j ≡ Some r) (name : Bytes) (object : ℕ) → static_object (variable_name name) (unit_function r.written) (linked j r at) ≡ Some object
+      → local_object (files_of fs) r.unit (variable_name name) ≡ Some object
   local_is j r at name object static =
-      let stands' = function_stands constants rs is j r at in
-      ap (option_and_then (λ number. static_object_at (variable_name name) (slice_get (linking.all_functions (files_of constants ws)) number) (slice_get (linking.program (files_of constants ws)).functions number))) (unit_named constants rs is j r at)
+      let stands' = function_stands fs rs is j r at in
+      ap (option_and_then (λ number. static_object_at (variable_name name) (slice_get (linking.all_functions (files_of fs)) number) (slice_get (linking.program (files_of fs)).functions number))) (unit_named fs rs is j r at)
       ∙ (λ i. static_object_at (variable_name name) (stands'.written i) (stands'.function_is i)) ∙ static
 
-  object_is : (j : ℕ) (r : Rendering) → slice_get rs j ≡ Some r → (name : Bytes) (home : Home) (object : ℕ) → local_object (files_of constants ws) r.unit (variable_name name) ≡ Some object → object_for us g (files_of constants ws) j r.unit name home ≡ Some object
+  object_is : (j : ℕ) (r : Rendering) → slice_get rs j ≡ Some r → (name : Bytes) (home : Home) (object : ℕ) → local_object (files_of fs) r.unit (variable_name name) ≡ Some object → object_for us g (files_of fs) j r.unit name home ≡ Some object
   unfolding object_for
   object_is j r at name home object here =
-      (λ i. object_of (files_of constants ws) r.unit name (no_block_at home.sequence i) (position (nat_eq home.sequence) (no_classes j r at i))) ∙ here
+      (λ i. object_of (files_of fs) r.unit name (no_block_at home.sequence i) (position (nat_eq home.sequence) (no_classes j r at i))) ∙ here
 
-  in_its_object : (j : ℕ) (r : Rendering) → slice_get rs j ≡ Some r → (member : Member) → IsIn member r.unit.stored → StandsInItsObject us g (files_of constants ws) world.homes j r.unit member.name
+  in_its_object : (j : ℕ) (r : Rendering) → slice_get rs j ≡ Some r → (member : Member) → IsIn member r.unit.stored → StandsInItsObject us g (files_of fs) world.homes j r.unit member.name
   in_its_object j r at member among =
       let h = home_there member (before stored_of us j) r.unit.stored among in
       let f = home_found member.name (before stored_of us j) r.unit.stored h.0 h.1 in
@@ -409,16 +418,16 @@ module _ (constants : List ℤ) (rs : List Rendering) (is : IsTranslatedFile con
         home = h.0;
         is = home_is j r at member.name ∙ h.1;
         object = λ takes. (
-          (bases_of constants ws j).function + f.place,
-          object_is j r at member.name h.0 ((bases_of constants ws j).function + f.place) (local_is j r at member.name ((bases_of constants ws j).function + f.place) (static_is j r at f.place l.0 member.name l.1 (l.2 ∙ f.named))),
-          subst (λ (k : Home). world.homes k.sequence ≡ Some ((bases_of constants ws j).function + f.place)) f.is (home_there_at j r at f.place below),
+          r.site.bases.function + f.place,
+          object_is j r at member.name h.0 (r.site.bases.function + f.place) (local_is j r at member.name (r.site.bases.function + f.place) (static_is j r at f.place l.0 member.name l.1 (l.2 ∙ f.named))),
+          subst (λ (k : Home). world.homes k.sequence ≡ Some (r.site.bases.function + f.place)) f.is (home_there_at j r at f.place below),
         );
       }
 
-  pub names_stand : NamesStand us g (files_of constants ws) world.homes
+  pub names_stand : NamesStand us g (files_of fs) world.homes
   names_stand k unit member has among =
-      let r = of_unit constants rs is k unit has in
-      subst (λ (z : ProgramUnit). StandsInItsObject us g (files_of constants ws) world.homes k z member.name) r.2 (in_its_object k r.0 r.1 member (subst (λ (z : ProgramUnit). IsIn member z.stored) (sym r.2) among))
+      let r = of_unit fs rs is k unit has in
+      subst (λ (z : ProgramUnit). StandsInItsObject us g (files_of fs) world.homes k z member.name) r.2 (in_its_object k r.0 r.1 member (subst (λ (z : ProgramUnit). IsIn member z.stored) (sym r.2) among))
 
   low_at : (j : ℕ) (r : Rendering) → slice_get rs j ≡ Some r → (member : Member) (home : Home) → unit_home g j r.unit member.name ≡ Some home → home.sequence < length g.sizes
   low_at j r at member home h =
@@ -427,5 +436,5 @@ module _ (constants : List ℤ) (rs : List Rendering) (is : IsTranslatedFile con
 
   pub low : (k : ℕ) (unit : ProgramUnit) (member : Member) (home : Home) → HasUnit us k unit → IsIn member unit.stored → unit_home g k unit member.name ≡ Some home → home.sequence < length g.sizes
   low k unit member home has among h =
-      let r = of_unit constants rs is k unit has in
+      let r = of_unit fs rs is k unit has in
       low_at k r.0 r.1 member home (ap (λ (z : ProgramUnit). unit_home g k z member.name) r.2 ∙ h)

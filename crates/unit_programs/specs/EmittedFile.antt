@@ -1,35 +1,36 @@
--- That each function of the file of several units is one of which all is so that is asked. ANSI X3.9-1978, sections 14 and 15; C89, 3.1.2.4.
-use Rattle.std.specs.Prelude.{◌≡◌, ℕ, ℤ, List, length, replicate, Option, Some, None, slice_get}
+-- That each function of the files of several units is one of which all is so that is asked. ANSI X3.9-1978, sections 14 and 15; C89, 3.1.2.4.
+use Rattle.std.specs.Prelude.{◌≡◌, ℕ, List, length, replicate, Option, Some, None, slice_get}
 use Rattle.l_core.specs.Steps.{Text}
 use Rattle.c_tree.specs.Linking as linking
+use Rattle.c_tree.specs.Meaning.{text_of}
 use Rattle.emitted_texts.specs.SecondLayer.{Room, Surroundings, Emission}
 use Rattle.procedure_emission.specs.EmittedUnits.{IsEmittedUnit}
-use Rattle.unit_file.specs.UnitFile.{WrittenUnit, first_parameter, frame_count}
-use Rattle.unit_places.specs.UnitPlaces.{files_of, inventories, bases_of, linked_unit}
+use Rattle.unit_file.specs.UnitFile.{first_parameter, frame_count}
+use Rattle.unit_sites.specs.UnitSites.{UnitsOfFile, files_of}
 use Rattle.unit_file_laws.specs.KnownUnits.{unit_writing}
 use Rattle.unit_programs.specs.OwnStorage.{own_setting, first_world}
-use Rattle.unit_programs.specs.TranslatedUnits.{Rendering, units_of, written_of, numbers_of, IsTranslatedFile}
+use Rattle.unit_programs.specs.TranslatedUnits.{Rendering, units_of, numbers_of, IsTranslatedSet}
 
 -- where the frame of a function stands; what is no unit has none
-abbrev pub room_at : List ℤ → List WrittenUnit → ℕ → Option WrittenUnit → Room
-room_at constants ws j None = record { first = 0; count = 0 }
-room_at constants ws j (Some w) = record { first = first_parameter w.inventory (bases_of constants ws j); count = frame_count w.inventory }
+abbrev pub room_at : Option Rendering → Room
+room_at None = record { first = 0; count = 0 }
+room_at (Some r) = record { first = first_parameter r.written.inventory r.site.bases; count = frame_count r.written.inventory }
 
-abbrev pub surroundings_of : List ℤ → List Rendering → Surroundings
-surroundings_of constants rs = record {
-  objects = length (linking.program (files_of constants (written_of rs))).objects;
-  rooms = λ j. room_at constants (written_of rs) j (slice_get (written_of rs) j);
+abbrev pub surroundings_of : List UnitsOfFile → List Rendering → Surroundings
+surroundings_of fs rs = record {
+  objects = length (linking.program (files_of fs)).objects;
+  rooms = λ j. room_at (slice_get rs j);
   numbers = numbers_of rs;
-  first = first_world constants (inventories (written_of rs)) (own_setting (units_of rs));
+  first = first_world fs (own_setting (units_of rs));
 }
 
--- how the function of a unit goes by its text: an item for each step
-abbrev pub emission_of : List ℤ → List Rendering → ℕ → Rendering → Emission
-emission_of constants rs j r = record {
-  writing = unit_writing constants (written_of rs) j r.written r.text.facts r.kind;
+-- how the function of a unit goes by its text: an item for each step; it is the function of its number in the program
+abbrev pub emission_of : List UnitsOfFile → ℕ → Rendering → Emission
+emission_of fs j r = record {
+  writing = unit_writing r.site r.written r.text.facts r.kind;
   place = λ n. n;
   stage = r.stage;
-  function = linked_unit constants (written_of rs) j r.written;
+  function = text_of (linking.program (files_of fs)).functions j;
   number = j;
 }
 
@@ -38,5 +39,5 @@ costs_of u = replicate (length u.steps) 1
 
 -- LAW
 abbrev pub UnitsAreEmitted : Type 0
-UnitsAreEmitted = (constants : List ℤ) (rs : List Rendering) → IsTranslatedFile constants rs → (j : ℕ) (r : Rendering) → slice_get rs j ≡ Some r →
-    IsEmittedUnit (surroundings_of constants rs) j r.text (costs_of r.text) (emission_of constants rs j r)
+UnitsAreEmitted = (fs : List UnitsOfFile) (rs : List Rendering) → IsTranslatedSet fs rs → (j : ℕ) (r : Rendering) → slice_get rs j ≡ Some r →
+    IsEmittedUnit (surroundings_of fs rs) j r.text (costs_of r.text) (emission_of fs j r)

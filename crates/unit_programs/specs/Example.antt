@@ -1,5 +1,6 @@
--- A main program, a function and a subroutine, with their lowered texts and their functions in C:
+-- A main program in a file of its own, and a function and a subroutine in another one, with their lowered texts and their functions in C:
 --     K = F(2); CALL S(K); WRITE (6, *) K; END
+-- and
 --     INTEGER FUNCTION F(N); F = N; END
 --     SUBROUTINE S(N); N = N + 1; END
 use Rattle.std.specs.Fmt.{digits}
@@ -51,8 +52,9 @@ use Rattle.procedure_emission.specs.ProcedureItems.{procedure_items_opened}
 use Rattle.procedure_emission.specs.Reading.{reading_opened}
 use Rattle.procedure_emission.specs.EmittedUnits.{leads_on, is_return, is_number_pointer, number_result}
 use Rattle.main_file.specs.MainItems.{item_before, stops_from}
-use Rattle.unit_file.specs.UnitFile.{Inventory, bases_at, unit_file_opened}
+use Rattle.unit_file.specs.UnitFile.{Inventory, WrittenUnit, unit_file_opened}
 use Rattle.unit_file.specs.UnitNames.{names_of, unit_names_opened}
+use Rattle.unit_sites.specs.UnitSites.{UnitsOfFile, Site}
 use Rattle.unit_file_laws.specs.BuiltUnits.{built_units_opened}
 use Rattle.unit_programs.specs.OwnStorage.{own_setting}
 use Rattle.unit_programs.specs.TranslatedUnits.{Rendering}
@@ -179,6 +181,7 @@ main_stage n = None
 
 -- ## Their functions
 
+-- those of the first file; the other one has none
 abbrev pub its_constants : List ℤ
 its_constants = pos 1 ∷ pos 2 ∷ pos 3 ∷ []
 
@@ -226,8 +229,17 @@ subroutine_inventory = record function_inventory { name = codes "s_"; result = r
 abbrev pub its_inventories : List Inventory
 its_inventories = main_inventory ∷ function_inventory ∷ subroutine_inventory ∷ []
 
--- the objects are the constants, the variable, the control list and the temporary, the parameter and the result of the function, and the parameter of the
--- subroutine
+-- the objects of the first file are the constants, the variable, the control list and the temporary; those of the other one are the parameter and the result of
+-- the function, and the parameter of the subroutine
+abbrev pub main_site : Site
+main_site = record { constants = its_constants; bases = record { own = 3; file = 0; function = 3 } }
+
+abbrev pub function_site : Site
+function_site = record { constants = []; bases = record { own = 3; file = 6; function = 6 } }
+
+abbrev pub subroutine_site : Site
+subroutine_site = record { constants = []; bases = record { own = 3; file = 6; function = 8 } }
+
 abbrev pub main_items : List Flat
 main_items =
     Invoke (Kept (c.Variable 5 ToNumber)) (Direct 1) (address_of (c.Variable 1 ToNumber) ∷ [])
@@ -274,39 +286,59 @@ function_body = stmt.Set (expr.Name (codes "ret_val")) (pointed (codes "n")) ∷
 abbrev pub subroutine_body : List CStmt
 subroutine_body = stmt.Set (pointed (codes "n")) (expr.Binary op.Add (pointed (codes "n")) (expr.Number (pos 1))) ∷ stmt.Return (Some (expr.Number (pos 0))) ∷ []
 
-abbrev pub outline_for : ℕ → Inventory → Outline
-outline_for j v = record { names = names_of its_constants its_inventories v (bases_at its_constants its_inventories j); label = λ n. None; ends_arm = λ n. false; loop = λ n. None }
+abbrev pub outline_for : Site → Inventory → Outline
+outline_for s v = record { names = names_of s.constants its_inventories v s.bases; label = λ n. None; ends_arm = λ n. false; loop = λ n. None }
+
+abbrev pub main_written : WrittenUnit
+main_written = record { inventory = main_inventory; body = main_body }
+
+abbrev pub function_written : WrittenUnit
+function_written = record { inventory = function_inventory; body = function_body }
+
+abbrev pub subroutine_written : WrittenUnit
+subroutine_written = record { inventory = subroutine_inventory; body = subroutine_body }
+
+abbrev pub its_files : List UnitsOfFile
+its_files = record { constants = its_constants; units = main_written ∷ [] } ∷ record { constants = []; units = function_written ∷ subroutine_written ∷ [] } ∷ []
+
+abbrev pub main_rendering : Rendering
+main_rendering = record {
+  unit = main_unit;
+  text = text_with 0 main_unit main_steps;
+  written = main_written;
+  site = main_site;
+  kind = main_kind;
+  stage = main_stage;
+  outline = outline_for main_site main_inventory;
+  items = main_items;
+}
+
+abbrev pub function_rendering : Rendering
+function_rendering = record {
+  unit = function_unit;
+  text = text_with 1 function_unit function_steps;
+  written = function_written;
+  site = function_site;
+  kind = λ n k. None;
+  stage = λ n. None;
+  outline = outline_for function_site function_inventory;
+  items = function_items;
+}
+
+abbrev pub subroutine_rendering : Rendering
+subroutine_rendering = record {
+  unit = subroutine_unit;
+  text = text_with 2 subroutine_unit subroutine_steps;
+  written = subroutine_written;
+  site = subroutine_site;
+  kind = λ n k. None;
+  stage = λ n. None;
+  outline = outline_for subroutine_site subroutine_inventory;
+  items = subroutine_items;
+}
 
 abbrev pub its_renderings : List Rendering
-its_renderings =
-    record {
-      unit = main_unit;
-      text = text_with 0 main_unit main_steps;
-      written = record { inventory = main_inventory; body = main_body };
-      kind = main_kind;
-      stage = main_stage;
-      outline = outline_for 0 main_inventory;
-      items = main_items;
-    }
-    ∷ record {
-      unit = function_unit;
-      text = text_with 1 function_unit function_steps;
-      written = record { inventory = function_inventory; body = function_body };
-      kind = λ n k. None;
-      stage = λ n. None;
-      outline = outline_for 1 function_inventory;
-      items = function_items;
-    }
-    ∷ record {
-      unit = subroutine_unit;
-      text = text_with 2 subroutine_unit subroutine_steps;
-      written = record { inventory = subroutine_inventory; body = subroutine_body };
-      kind = λ n k. None;
-      stage = λ n. None;
-      outline = outline_for 2 subroutine_inventory;
-      items = subroutine_items;
-    }
-    ∷ []
+its_renderings = main_rendering ∷ function_rendering ∷ subroutine_rendering ∷ []
 
 -- `unfolding example_opened` opens what the example is computed by
 unfoldable pub example_opened : Unit {0}

@@ -1,8 +1,8 @@
--- The storage of units whose names have sequences of their own, and where it stands in the objects of their file. ANSI X3.9-1978, sections 2.11, 5, 8 and
+-- The storage of units whose names have sequences of their own, and where it stands in the objects of their files. ANSI X3.9-1978, sections 2.11, 5, 8 and
 -- 17.1; C89, 3.1.2.4.
 use Rattle.std.specs.List.{flat_map}
 use Rattle.std.specs.Option.{option_flatten}
-use Rattle.std.specs.Prelude.{◌≡◌, ℕ, zero, suc, ◌+◌, ◌*◌, ◌<◌, ◌≤◌, true, false, ℤ, List, [], ◌∷◌, ◌++◌, map, length, replicate, Option, Some, None, unwrap_or, slice_get}
+use Rattle.std.specs.Prelude.{◌≡◌, ℕ, zero, suc, ◌*◌, ◌<◌, ◌≤◌, true, false, ℤ, List, [], ◌∷◌, ◌++◌, map, length, replicate, Option, Some, None, unwrap_or, slice_get}
 use Rattle.f_tree.specs.Facts.{Member, ProgramUnit}
 use Rattle.f_tree.specs.Setting.{Setting}
 use Rattle.f_tree.specs.Valuing.{elements_of, extent_of}
@@ -13,7 +13,8 @@ use Rattle.c_image.specs.Held.{number_object}
 use Rattle.c_emit.specs.Numbers.{is_numeric}
 use Rattle.output_laws.specs.ListedOutputs.{list_object}
 pub use Rattle.unit_forms.specs.OwnSetting.{own_homes, own_setting}
-use Rattle.unit_file.specs.UnitFile.{Variable, Listing, Inventory, object_count, frame_count, place_of_variable}
+use Rattle.unit_file.specs.UnitFile.{Variable, Listing, Inventory, WrittenUnit, frame_count, place_of_variable}
+use Rattle.unit_sites.specs.UnitSites.{UnitsOfFile, all_units, inventories, Site, sites_of}
 
 -- ## The storage of a unit
 
@@ -42,9 +43,9 @@ numbered first zero = []
 numbered first (suc n) = first ∷ numbered (suc first) n
 
 -- the objects of the variables of all functions, in the order of their sequences
-abbrev pub variable_objects : ℕ → List Inventory → List ℕ
-variable_objects first [] = []
-variable_objects first (v ∷ vs) = numbered first (length v.variables) ++ variable_objects (first + object_count v) vs
+abbrev pub variable_objects : List Site → List WrittenUnit → List ℕ
+variable_objects (s ∷ later) (w ∷ ws) = numbered s.bases.function (length w.inventory.variables) ++ variable_objects later ws
+variable_objects ss ws = []
 
 -- what the objects of a function hold that no statement defines: control lists and strings
 abbrev pub held_of : Inventory → List (Option Object)
@@ -52,16 +53,21 @@ held_of v =
     replicate (length v.variables) None
     ++ (map (λ (l : Listing). Some (list_object l.unit)) v.lists ++ (map (λ n. Some (string_object (v.texts n))) v.strings ++ replicate (frame_count v) None))
 
--- and constants
-abbrev pub held_objects : List ℤ → List Inventory → List (Option Object)
-held_objects constants vs = map (λ z. Some (number_object z)) constants ++ flat_map held_of vs
+-- constants of a file, where it has functions
+abbrev pub held_numbers : List ℤ → List WrittenUnit → List (Option Object)
+held_numbers constants [] = replicate (length constants) None
+held_numbers constants ws = map (λ z. Some (number_object z)) constants
+
+-- the objects of a file: its constants, and behind them those of its functions
+abbrev pub held_in : UnitsOfFile → List (Option Object)
+held_in f = held_numbers f.constants f.units ++ flat_map held_of (inventories f.units)
 
 -- the world before the first step
-abbrev pub first_world : List ℤ → List Inventory → Setting → World
-first_world constants vs g = record {
-  homes = slice_get (variable_objects (length constants) vs);
+abbrev pub first_world : List UnitsOfFile → Setting → World
+first_world fs g = record {
+  homes = slice_get (variable_objects (sites_of fs) (all_units fs));
   size = λ n. unwrap_or (slice_get g.sizes n) 0;
   fixed = λ n. false;
   height = length g.sizes;
-  frozen = λ k. option_flatten (slice_get (held_objects constants vs) k);
+  frozen = λ k. option_flatten (slice_get (flat_map held_in fs) k);
 }

@@ -1,4 +1,4 @@
--- Units with their lowered texts, and what their C file has: what each must satisfy, and the file. ANSI X3.9-1978, sections 2.4, 5, 12.8, 14, 15 and 17.1;
+-- Units with their lowered texts, and what their C files have: what each must satisfy, and the files. ANSI X3.9-1978, sections 2.4, 5, 12.8, 14, 15 and 17.1;
 -- C89, 3.1.2.1 and 3.5.4.3.
 use Rattle.std.specs.Prelude.{◌≡◌, ◌≢◌, ℕ, suc, ◌<◌, ◌≤◌, ℤ, true, List, [], ◌∷◌, map, length, Option, Some, None, slice_get}
 use Rattle.f_tree.specs.declared.names.Basic.{Basic}
@@ -32,7 +32,7 @@ use Rattle.procedure_emission.specs.Reading.{kind_after}
 use Rattle.procedure_emission.specs.EmittedUnits.{leads_on, is_return, is_number_pointer, is_function_pointer, number_result}
 use Rattle.unit_file.specs.UnitFile.{Listing, Parameter, Inventory, WrittenUnit, place_of_list}
 use Rattle.unit_file.specs.UnitNames.{own_names}
-use Rattle.unit_places.specs.UnitPlaces.{inventories}
+use Rattle.unit_sites.specs.UnitSites.{UnitsOfFile, all_units, inventories, Site, sites_of}
 use Rattle.unit_file_laws.specs.KnownUnits.{unit_writing}
 use Rattle.unit_file_laws.specs.BuiltUnits.{IsUnitBuilt}
 use Rattle.unit_programs.specs.OwnStorage.{own_setting, HasOwnStorage}
@@ -44,6 +44,8 @@ pub record Rendering : Type 0 where
   pub text : Text
   -- what its function has, and the statements of that
   pub written : WrittenUnit
+  -- where the function stands
+  pub site : Site
   -- of what type a temporary is before a step, and the unit of the output that is in progress
   pub kind : ℕ → ℕ → Option Basic
   pub stage : ℕ → Option ℤ
@@ -56,6 +58,9 @@ units_of rs = map (λ (r : Rendering). r.unit) rs
 
 abbrev pub written_of : List Rendering → List WrittenUnit
 written_of rs = map (λ (r : Rendering). r.written) rs
+
+abbrev pub sites_of_renderings : List Rendering → List Site
+sites_of_renderings rs = map (λ (r : Rendering). r.site) rs
 
 -- the number of each procedure is that of its unit
 abbrev pub numbers_of : List Rendering → Numbers
@@ -110,7 +115,7 @@ pub record Passes (v : Inventory) (u : Text) : Type 0 where
 -- ## One unit
 
 -- the unit is lowered to its text, and its function is built for that
-pub record IsTranslatedUnit (constants : List ℤ) (rs : List Rendering) (j : ℕ) (r : Rendering) : Type 0 where
+pub record IsTranslatedUnit (rs : List Rendering) (j : ℕ) (r : Rendering) : Type 0 where
   pub lowered : lowered_unit (facts_of rs j r) ≡ Some r.text
   pub facts : r.text.facts ≡ facts_of rs j r
   pub direct : are_direct r.unit.lines ≡ true
@@ -131,17 +136,20 @@ pub record IsTranslatedUnit (constants : List ℤ) (rs : List Rendering) (j : �
   -- bounds are constant
   pub fits : (x : Bytes) (k : ℕ) (b : Bounds) → slice_get (r.text.facts.program.attribute x).bounds k ≡ Some b → BoundFits b
   pub closed : (x : Bytes) (k : ℕ) (b : Bounds) → slice_get (r.text.facts.program.attribute x).bounds k ≡ Some b → suc k < length (r.text.facts.program.attribute x).bounds → (last : ℤ) × (b.upper ≡ Some last)
-  pub built : IsUnitBuilt (numbers_of rs) constants (written_of rs) j r.written r.text r.kind r.outline r.items
-  pub flows : Flows (unit_writing constants (written_of rs) j r.written r.text.facts r.kind) r.text r.stage entry
+  pub built : IsUnitBuilt (numbers_of rs) (written_of rs) r.site r.written r.text r.kind r.outline r.items
+  pub flows : Flows (unit_writing r.site r.written r.text.facts r.kind) r.text r.stage entry
   pub passes : Passes r.written.inventory r.text
   pub no_wrapper : wrapped_by r.written.body ≡ None
 
--- ## The file
+-- ## The files
 
--- each unit is translated; the functions are told apart from each other and from those of the library, and constants have 32 bits
-pub record IsTranslatedFile (constants : List ℤ) (rs : List Rendering) : Type 0 where
-  pub units : (j : ℕ) (r : Rendering) → slice_get rs j ≡ Some r → IsTranslatedUnit constants rs j r
+-- each unit is translated, and its function is one of the files; the functions are told apart from each other and from those of the library, and constants
+-- have 32 bits
+pub record IsTranslatedSet (fs : List UnitsOfFile) (rs : List Rendering) : Type 0 where
+  pub units : (j : ℕ) (r : Rendering) → slice_get rs j ≡ Some r → IsTranslatedUnit rs j r
+  pub written : written_of rs ≡ all_units fs
+  pub sited : sites_of_renderings rs ≡ sites_of fs
   pub some : 1 ≤ length rs
   pub differ : AreDistinct (own_names (inventories (written_of rs)))
   pub apart : (k : ℕ) (name : List ℕ) → slice_get builtin_names k ≡ Some name → IsNone name (own_names (inventories (written_of rs)))
-  pub numbers : (i : ℕ) (z : ℤ) → slice_get constants i ≡ Some z → in_range z ≡ true
+  pub numbers : (j : ℕ) (r : Rendering) → slice_get rs j ≡ Some r → (i : ℕ) (z : ℤ) → slice_get r.site.constants i ≡ Some z → in_range z ≡ true

@@ -1,15 +1,15 @@
--- That units that call each other run as their C file does. ANSI X3.9-1978, sections 2.4, 14 and 15; C89, 3.1.2.2.
-use Rattle.std.specs.Prelude.{◌≡◌, ℕ, ℤ, List, Some}
+-- That units that call each other run as their C files do. ANSI X3.9-1978, sections 2.4, 14 and 15; C89, 3.1.2.2.
+use Rattle.std.specs.Prelude.{◌≡◌, ℕ, List, Some}
 use Rattle.run_state.specs.Units.{Units}
 use Rattle.f_tree.specs.Values.{NoMeaning}
 use Rattle.f_tree.specs.Meaning.{ftn, act_of}
 use Rattle.faithful.specs.Faithful.{SameRuns}
-use Rattle.unit_places.specs.UnitPlaces.{files_of}
+use Rattle.unit_sites.specs.UnitSites.{UnitsOfFile, files_of}
 use Rattle.unit_programs.specs.OwnStorage.{own_setting}
-use Rattle.unit_programs.specs.TranslatedUnits.{Rendering, units_of, written_of, IsTranslatedFile}
+use Rattle.unit_programs.specs.TranslatedUnits.{Rendering, units_of, IsTranslatedSet}
 
 -- LAW
--- each run of the units that comes to no form without meaning is the run of the file
+-- each run of the units that comes to no form without meaning is the run of the files
 abbrev pub UnitProgramsRunAlike : Type 0
-UnitProgramsRunAlike = (constants : List ℤ) (rs : List Rendering) → IsTranslatedFile constants rs → (units : Units) (n : ℕ) → (act_of (ftn (own_setting (units_of rs)) (units_of rs) units n) ≡ Some NoMeaning → ⊥) →
-    SameRuns (units_of rs) (own_setting (units_of rs)) (files_of constants (written_of rs)) units n
+UnitProgramsRunAlike = (fs : List UnitsOfFile) (rs : List Rendering) → IsTranslatedSet fs rs → (units : Units) (n : ℕ) → (act_of (ftn (own_setting (units_of rs)) (units_of rs) units n) ≡ Some NoMeaning → ⊥) →
+    SameRuns (units_of rs) (own_setting (units_of rs)) (files_of fs) units n

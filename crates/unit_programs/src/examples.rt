@@ -1,10 +1,10 @@
 //! An instance of what the laws ask for.
 
-ghost use Rattle.unit_programs.specs.Example.{its_constants, its_renderings};
-ghost use Rattle.unit_programs.specs.TranslatedUnits.{IsTranslatedFile};
+ghost use Rattle.unit_programs.specs.Example.{its_files, its_renderings};
+ghost use Rattle.unit_programs.specs.TranslatedUnits.{IsTranslatedSet};
 
-/// What is asked of a file is met by that of a main program, which calls a function and a subroutine and writes its variable, of the function, and of the
-/// subroutine.
+/// What is asked of files is met by two: that of a main program, which calls a function and a subroutine and writes its variable, and that of the function and
+/// the subroutine.
 pub fn example_is_translated()
-    ensures { IsTranslatedFile its_constants its_renderings }
+    ensures { IsTranslatedSet its_files its_renderings }
 {}

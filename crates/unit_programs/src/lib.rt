@@ -1,4 +1,4 @@
-//! From the file of several units to its runs. The functions here do nothing; their contracts are the laws.
+//! From the files of several units to their runs. The functions here do nothing; their contracts are the laws.
 #![tactic(auto)]
 
 pub mod examples;

@@ -1,4 +1,4 @@
--- The constants of the file are told apart, and have 32 bits.
+-- The constants of a file are told apart, and have 32 bits.
 use Rattle.std.specs.List.{flat_map}
 use Rattle.std.specs.Prelude.{◌≡◌, ℕ, suc, ℤ, pos, true, List, [], ◌∷◌, option_and_then}
 use Rattle.f_tree.specs.Values.{in_range}

@@ -20,16 +20,17 @@ use Rattle.main_translation.specs.Flow.{flow_opened}
 use Rattle.main_translation.specs.Contents.{contents_opened, count_by, text_at}
 use Rattle.main_translation.specs.Outlined.{labels_in, outlined_opened}
 use Rattle.unit_file.specs.UnitFile.{WrittenUnit}
+use Rattle.unit_sites.specs.UnitSites.{UnitsOfFile}
 use Rattle.unit_translation.specs.UnitFlow.{unit_flow_opened}
 use Rattle.unit_translation.specs.UnitContents.{program_units, temporaries_kept, constants_passed, unit_contents_opened}
-use Rattle.unit_translation.specs.UnitBodies.{written_units, unit_bodies_opened}
+use Rattle.unit_translation.specs.UnitBodies.{written_files, unit_bodies_opened}
 use Rattle.linking_laws.proofs.Places.{some_same}
 use Rattle.unit_forms.specs.OwnSetting.{own_facts}
 use Rattle.unit_programs.specs.OwnStorage.{bytes_in}
 use Rattle.unit_programs.proofs.ExampleParts.{fixed_by}
 use Rattle.unit_programs.proofs.Told.{distinct_by, each_at}
 use Rattle.unit_programs.specs.Example.{the_variable, the_dummy, the_function, the_subroutine, an_integer, no_name, main_attribute, function_attribute, subroutine_attribute, main_unit, function_unit, subroutine_unit, text_with, its_constants, main_steps, function_steps, subroutine_steps, main_inventory, function_inventory, subroutine_inventory, main_body, function_body, subroutine_body, example_opened}
-use Rattle.unit_translation_laws.specs.Example.{its_use, its_lowered_units, its_calls, its_written_units}
+use Rattle.unit_translation_laws.specs.Example.{lowered_main, lowered_function, lowered_subroutine, its_lowered_units, its_calls, its_lowered_files, its_written_files, its_lowered_apart, its_written_apart}
 use Rattle.unit_translation_laws.specs.PlainUnits.{is_number, IsPlainDummy, HasPlainStorage, HasPlainBounds, IsPlainUnitText, IsPlainUnit, ArePlainUnits}
 
 pub example_constants : constants_passed its_lowered_units ≡ its_constants
@@ -37,16 +38,31 @@ unfolding example_opened flow_opened contents_opened unit_flow_opened unit_conte
 example_constants = refl
 
 -- with the texts of STOP as they are read off the steps
-abbrev written_with : (ℕ → Bytes) → (ℕ → Bytes) → (ℕ → Bytes) → List WrittenUnit
-written_with a b c =
-    record { inventory = record main_inventory { calls = its_calls; texts = a }; body = main_body }
-    ∷ record { inventory = record function_inventory { texts = b }; body = function_body }
-    ∷ record { inventory = record subroutine_inventory { texts = c }; body = subroutine_body }
-    ∷ []
+abbrev Texts : Type 0
+Texts = ℕ → Bytes
 
-made_so : written_units its_lowered_units ≡ Some (written_with (λ n. text_at (slice_get main_steps n)) (λ n. text_at (slice_get function_steps n)) (λ n. text_at (slice_get subroutine_steps n)))
+abbrev main_with : Texts → WrittenUnit
+main_with texts = record { inventory = record main_inventory { calls = its_calls; texts = texts }; body = main_body }
+
+abbrev function_with : Texts → WrittenUnit
+function_with texts = record { inventory = record function_inventory { texts = texts }; body = function_body }
+
+abbrev subroutine_with : Texts → WrittenUnit
+subroutine_with texts = record { inventory = record subroutine_inventory { texts = texts }; body = subroutine_body }
+
+abbrev together_with : Texts → Texts → Texts → List UnitsOfFile
+together_with a b c = record { constants = its_constants; units = main_with a ∷ function_with b ∷ subroutine_with c ∷ [] } ∷ []
+
+abbrev apart_with : Texts → Texts → Texts → List UnitsOfFile
+apart_with a b c = record { constants = its_constants; units = main_with a ∷ [] } ∷ record { constants = []; units = function_with b ∷ subroutine_with c ∷ [] } ∷ []
+
+made_so : written_files its_lowered_files ≡ Some (together_with (λ n. text_at (slice_get main_steps n)) (λ n. text_at (slice_get function_steps n)) (λ n. text_at (slice_get subroutine_steps n)))
 unfolding example_opened flow_opened contents_opened outlined_opened unit_flow_opened unit_contents_opened unit_bodies_opened trees_opened named_formals
 made_so = refl
+
+apart_so : written_files its_lowered_apart ≡ Some (apart_with (λ n. text_at (slice_get main_steps n)) (λ n. text_at (slice_get function_steps n)) (λ n. text_at (slice_get subroutine_steps n)))
+unfolding example_opened flow_opened contents_opened outlined_opened unit_flow_opened unit_contents_opened unit_bodies_opened trees_opened named_formals
+apart_so = refl
 
 -- ## Steps without STOP
 
@@ -81,8 +97,11 @@ main_goes_on = (tt, (tt, (tt, (tt, (tt, (tt, (tt, tt)))))))
 two_go_on : (first second : Step) → IsNoStop first → IsNoStop second → AreNoStops (first ∷ second ∷ [])
 two_go_on first second one other = (one, (other, tt))
 
-pub example_made : written_units its_lowered_units ≡ Some its_written_units
-example_made = made_so ∙ (λ i. Some (written_with (λ n. no_text main_steps main_goes_on n i) (λ n. no_text function_steps (tt, (tt, tt)) n i) (λ n. no_text subroutine_steps (tt, (tt, tt)) n i)))
+pub example_made : written_files its_lowered_files ≡ Some its_written_files
+example_made = made_so ∙ (λ i. Some (together_with (λ n. no_text main_steps main_goes_on n i) (λ n. no_text function_steps (tt, (tt, tt)) n i) (λ n. no_text subroutine_steps (tt, (tt, tt)) n i)))
+
+pub example_made_apart : written_files its_lowered_apart ≡ Some its_written_apart
+example_made_apart = apart_so ∙ (λ i. Some (apart_with (λ n. no_text main_steps main_goes_on n i) (λ n. no_text function_steps (tt, (tt, tt)) n i) (λ n. no_text subroutine_steps (tt, (tt, tt)) n i)))
 
 -- ## Names
 
@@ -200,7 +219,7 @@ main_member x =
 no_members : IsMember the_variable [] → ⊥
 no_members o = elim o [ ]
 
-main_is_plain : IsPlainUnit its_lowered_units 0 (record { unit = main_unit; text = text_with 0 main_unit main_steps; use_of = its_use })
+main_is_plain : IsPlainUnit its_lowered_units 0 lowered_main
 unfolding example_opened contents_opened outlined_opened unit_contents_opened named_formals is_name is_name_byte
 main_is_plain = record {
   lowered = refl;
@@ -242,7 +261,7 @@ main_is_plain = record {
   bounds = bare_bounds main_unit main_bare;
 }
 
-function_is_plain : IsPlainUnit its_lowered_units 1 (record { unit = function_unit; text = text_with 1 function_unit function_steps; use_of = its_use })
+function_is_plain : IsPlainUnit its_lowered_units 1 lowered_function
 unfolding example_opened contents_opened outlined_opened unit_contents_opened named_formals is_name is_name_byte
 function_is_plain = record {
   lowered = refl;
@@ -256,7 +275,7 @@ function_is_plain = record {
   entry = refl;
   main = λ h. absurd (cc);
   dummies = record {
-    plain = only_one (IsPlainDummy its_lowered_units 1 (record { unit = function_unit; text = text_with 1 function_unit function_steps; use_of = its_use })) the_dummy (is_number refl refl refl (fixed_by (own_facts (program_units its_lowered_units) 1 function_unit) the_dummy refl refl) refl);
+    plain = only_one (IsPlainDummy its_lowered_units 1 lowered_function) the_dummy (is_number refl refl refl (fixed_by (own_facts (program_units its_lowered_units) 1 function_unit) the_dummy refl refl) refl);
     named = only_one (λ x. is_name x ≡ true) the_dummy refl;
     distinct = only_name the_dummy;
     variables = λ x own numeric. function_dummy x own;
@@ -271,7 +290,7 @@ function_is_plain = record {
   bounds = bare_bounds function_unit function_bare;
 }
 
-subroutine_is_plain : IsPlainUnit its_lowered_units 2 (record { unit = subroutine_unit; text = text_with 2 subroutine_unit subroutine_steps; use_of = its_use })
+subroutine_is_plain : IsPlainUnit its_lowered_units 2 lowered_subroutine
 unfolding example_opened contents_opened outlined_opened unit_contents_opened named_formals is_name is_name_byte
 subroutine_is_plain = record {
   lowered = refl;
@@ -285,7 +304,7 @@ subroutine_is_plain = record {
   entry = refl;
   main = λ h. absurd (cc);
   dummies = record {
-    plain = only_one (IsPlainDummy its_lowered_units 2 (record { unit = subroutine_unit; text = text_with 2 subroutine_unit subroutine_steps; use_of = its_use })) the_dummy
+    plain = only_one (IsPlainDummy its_lowered_units 2 lowered_subroutine) the_dummy
         (is_number refl refl refl (fixed_by (own_facts (program_units its_lowered_units) 2 subroutine_unit) the_dummy refl refl) refl);
     named = only_one (λ x. is_name x ≡ true) the_dummy refl;
     distinct = only_name the_dummy;

@@ -1,4 +1,4 @@
--- The functions of the file: their names are told apart, each ends in an underscore, and no name of the library does.
+-- The functions of the files: their names are told apart, each ends in an underscore, and no name of the library does.
 use Rattle.std.specs.List.{list_all}
 use Rattle.std.specs.Prelude.{◌≡◌, ℕ, zero, suc, ◌+◌, true, not, List, [], ◌∷◌, map, length, position, reverse, Some, unwrap_or, slice_get, bytes_eq}
 use Rattle.std.proofs.Common.{refl, sym, ap, ◌∙◌, subst, arith}
@@ -19,7 +19,7 @@ use Rattle.main_translation_laws.proofs.Names.{begins, not_begun}
 use Rattle.main_translation_laws.proofs.Contents.{each_of}
 use Rattle.unit_file.specs.UnitFile.{Inventory, WrittenUnit}
 use Rattle.unit_file.specs.UnitNames.{own_names, routine_name}
-use Rattle.unit_places.specs.UnitPlaces.{inventories}
+use Rattle.unit_sites.specs.UnitSites.{inventories}
 use Rattle.unit_file_laws.specs.BuiltUnits.{AreNumbered}
 use Rattle.unit_translation.specs.UnitContents.{LoweredUnit, program_units, unit_numbers, inventory_of, inventories_of}
 use Rattle.unit_programs.proofs.Objects.{found_back}

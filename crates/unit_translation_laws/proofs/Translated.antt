@@ -1,8 +1,9 @@
--- Plain units are translated as the law of units that call each other asks, and so they run as their file does.
-use Rattle.std.specs.Prelude.{◌≡◌, ℕ, suc, ◌<◌, ℤ, true, List, [], ◌∷◌, length, Some, None, unwrap_or, slice_get}
+-- Plain units are translated as the law of units that call each other asks, and so they run as their files do.
+use Rattle.std.specs.Prelude.{◌≡◌, ℕ, suc, ◌<◌, ℤ, true, List, [], ◌∷◌, length, Some, None, slice_get}
 use Rattle.std.proofs.Common.{refl, sym, ap, ◌∙◌, subst, arith}
+use Rattle.std.proofs.lemmas.List.{length-map}
 use Rattle.f_tree.specs.declared.names.Class.TheVariants as class
-use Rattle.f_tree.specs.Values.{Bytes}
+use Rattle.f_tree.specs.Values.{Bytes, in_range}
 use Rattle.f_tree.specs.CNames.{is_name}
 use Rattle.f_tree.specs.Facts.{EntryPoint, ProgramUnit, Facts}
 use Rattle.f_tree.specs.Setting.{IsIn}
@@ -20,30 +21,29 @@ use Rattle.linking_laws.specs.Linked.{IsBuilt}
 use Rattle.linking_laws.proofs.BuiltCode.{built_fit, whole_is}
 use Rattle.unit_forms.specs.OwnSetting.{own_setting, own_facts}
 use Rattle.main_file.specs.MainItems.{stops_from}
-use Rattle.main_translation.specs.Flow.{stage_at}
 use Rattle.main_translation.specs.Contents.{variable_of, text_at}
-use Rattle.main_translation_laws.proofs.Lists.{in_map, in_at}
+use Rattle.main_translation_laws.proofs.Lists.{AreApart, in_map, in_at}
 use Rattle.main_translation_laws.proofs.Storage.{variables_apart, name_is}
 use Rattle.main_translation_laws.proofs.Contents.{listings_count, listed_at, small_magnitude}
 use Rattle.main_translation_laws.proofs.Built.{built_by, no_wrapper}
 use Rattle.main_translation_laws.proofs.Translated.{text_is, first_start, other_body, body_count}
-use Rattle.unit_file.specs.UnitFile.{Variable, Inventory, WrittenUnit, unit_function, bases_at, writing_of}
+use Rattle.unit_file.specs.UnitFile.{Variable, Inventory, WrittenUnit, unit_function, writing_of}
 use Rattle.unit_file.specs.UnitNames.{own_names, names_of}
-use Rattle.unit_file.specs.UnitItems.{unit_items}
-use Rattle.unit_places.specs.UnitPlaces.{inventories, bases_of, files_of}
+use Rattle.unit_sites.specs.UnitSites.{UnitsOfFile, files_of, inventories, Site}
 use Rattle.unit_file_laws.specs.KnownUnits.{NamesAreListed, scope_in}
 use Rattle.unit_file_laws.specs.BuiltUnits.{AreListed, IsUnitBuilt}
 use Rattle.unit_file_laws.proofs.BuiltItems.{AreEmitted, AreNumberedItems, every}
 use Rattle.unit_translation.specs.UnitFlow.{kind_before}
-use Rattle.unit_translation.specs.UnitContents.{LoweredUnit, program_units, unit_numbers, constants_passed, inventory_of, inventories_of}
-use Rattle.unit_translation.specs.UnitBodies.{unit_outline, body_of, written_units}
-use Rattle.unit_programs.specs.TranslatedUnits.{Rendering, units_of, written_of, facts_of, IsDummy, IsResult, Passes, IsTranslatedUnit, IsTranslatedFile}
+use Rattle.unit_translation.specs.UnitContents.{LoweredUnit, program_units, unit_numbers, inventory_of, inventories_of}
+use Rattle.unit_translation.specs.UnitBodies.{all_lowered, unit_outline}
+use Rattle.unit_programs.specs.TranslatedUnits.{Rendering, units_of, written_of, facts_of, IsDummy, IsResult, Passes, IsTranslatedUnit, IsTranslatedSet}
 use Rattle.unit_programs.proofs.Runs.{unit_programs_run_alike}
 use Rattle.unit_translation_laws.specs.PlainUnits.{IsPlainUnit, ArePlainUnits, PlainUnitsRunAlike}
+use Rattle.unit_translation_laws.specs.RenderedUnits.{IsRenderingOf, PlainUnitsAreRendered}
 use Rattle.unit_translation_laws.proofs.OutputParts.{outputs_are_whole}
 use Rattle.unit_translation_laws.proofs.FlowFits.{flows_fit}
 use Rattle.unit_translation_laws.proofs.OutputFlow.{steps_alone}
-use Rattle.unit_translation_laws.proofs.Renderings.{rendering_of, renderings, units_are, inventories_are, as_many, rendered_at, written_are, bodies_are, HasBody, has_body, items_count}
+use Rattle.unit_translation_laws.proofs.Renderings.{HasBody, rendering_of, IsSiteOfUnit, AreEachRendered, units_are, inventories_are, as_many, rendered_at, AreAllRendered, all_rendered, items_count}
 use Rattle.unit_translation_laws.proofs.Names.{HasUnitNames, names_differ}
 use Rattle.unit_translation_laws.proofs.Constants.{constants_fit, constants_apart}
 use Rattle.unit_translation_laws.proofs.Calls.{IsProcedure, no_dummy, no_dummy_procedure, all_listed, callee_sort}
@@ -58,25 +58,26 @@ text_there : (u : Text) (n : ℕ) (text : Bytes) → slice_get u.steps n ≡ Som
 unfolding text_at
 text_there u n text at = ap text_at at
 
-module _ (us : List LoweredUnit) (plain : ArePlainUnits us) where
-  abbrev zs : List ℤ
-  zs = constants_passed us
-
+-- the units of all files, and what becomes of each
+module _ (us : List LoweredUnit) (plain : ArePlainUnits us) (rs : List Rendering) (rendered : AreEachRendered us us rs) where
   abbrev ws : List WrittenUnit
-  ws = written_of (renderings us)
+  ws = written_of rs
 
   same_inventories : inventories ws ≡ inventories_of us
-  same_inventories = inventories_are us 0 us
+  same_inventories = inventories_are us us rs rendered
 
-  same_units : units_of (renderings us) ≡ program_units us
-  same_units = units_are us 0 us
+  same_units : units_of rs ≡ program_units us
+  same_units = units_are us us rs rendered
+
+  own_many : length us ≡ length ws
+  own_many = let many = as_many us us rs rendered in let functions = length-map rs (λ (r : Rendering). r.written) in omega (arith, many, functions)
 
   single : (k : ℕ) (w : LoweredUnit) → slice_get us k ≡ Some w → (entry : EntryPoint) × (w.unit.entries ≡ entry ∷ [])
   single k w at = let p = plain.units k w at in (record { name = p.name; formals = p.formals; start = 0 }, p.entry)
 
   -- ## One unit
 
-  module _ (j : ℕ) (u : LoweredUnit) (at : slice_get us j ≡ Some u) (body : List CStmt) (made : HasBody us j u body) where
+  module _ (j : ℕ) (u : LoweredUnit) (at : slice_get us j ≡ Some u) (s : Site) (sited : IsSiteOfUnit us s) (body : List CStmt) (made : HasBody us s u body) where
     abbrev v : Inventory
     v = inventory_of us u
 
@@ -94,6 +95,12 @@ module _ (us : List LoweredUnit) (plain : ArePlainUnits us) where
 
     -- ### Names
 
+    apart : AreApart s.constants
+    apart = subst AreApart (sym sited.constants) (constants_apart sited.file)
+
+    pub fit : (z : ℤ) → IsIn z s.constants → in_range z ≡ true
+    fit z o = constants_fit sited.file z (subst (IsIn z) sited.constants o)
+
     of_variable : (one : Variable) → IsIn one v.variables → (u.unit.attribute one.name).class ≡ class.Stored
     of_variable one o =
         let found = in_map (variable_of u.unit) u.unit.stored one o in
@@ -104,10 +111,10 @@ module _ (us : List LoweredUnit) (plain : ArePlainUnits us) where
         let found = in_map (variable_of u.unit) u.unit.stored one o in
         ap is_name (ap (λ (x : Variable). x.name) (sym found.is) ∙ name_is u.unit found.from) ∙ its_plain.storage.named found.from found.among
 
-    has_names : HasUnitNames zs v
+    has_names : HasUnitNames s.constants v
     has_names = record {
-      constants = constants_apart us;
-      small = λ z o. small_magnitude z (constants_fit us z o);
+      constants = apart;
+      small = λ z o. small_magnitude z (fit z o);
       variables = variables_apart u.unit its_plain.storage.distinct;
       variables_named = variable_named;
       parameters = parameters_apart us j u its_plain.name its_plain.formals its_plain.entry its_plain.dummies.distinct;
@@ -128,54 +135,60 @@ module _ (us : List LoweredUnit) (plain : ArePlainUnits us) where
     its_listed : AreListed (unit_numbers us) (inventories ws) u.text.facts v 0 u.text.steps
     its_listed =
         subst (λ is. AreListed (unit_numbers us) is u.text.facts v 0 u.text.steps) (sym same_inventories)
-        (all_listed us u (writing_of zs v (bases_at zs (inventories_of us) j) u.text.facts (kind_before u.text)) made.items made.emitted)
+        (all_listed us u (writing_of s.constants v s.bases u.text.facts (kind_before u.text)) made.items made.emitted)
 
     its_names : NamesAreListed v u.text.facts
     its_names =
         subst (NamesAreListed v) (sym facts_are)
         (names_listed us j u its_plain.name its_plain.formals its_plain.entry its_plain.dummies its_plain.storage its_plain.bounds its_plain.result)
 
-    its_items : unit_items (unit_numbers us) (writing_of zs v (bases_of zs ws j) u.text.facts (kind_before u.text)) u.text.position 0 u.text.steps ≡ Some made.items
-    its_items =
-        subst (λ is. unit_items (unit_numbers us) (writing_of zs v (bases_at zs is j) u.text.facts (kind_before u.text)) u.text.position 0 u.text.steps ≡ Some made.items) (sym same_inventories) made.emitted
+    same_names : (unit_outline us s u).names ≡ names_of s.constants (inventories ws) v s.bases
+    same_names = ap (λ is. names_of s.constants is v s.bases) (sym same_inventories)
 
-    same_names : (unit_outline us j u).names ≡ names_of zs (inventories ws) v (bases_of zs ws j)
-    same_names = ap (λ is. names_of zs is v (bases_at zs is j)) (sym same_inventories)
+    owned : s.bases.own ≡ length ws
+    owned = sited.own ∙ own_many
 
     -- with other statements that have as many strings
     abbrev other : WrittenUnit
     other = record { inventory = v; body = other_body u.text }
 
-    emitted : AreEmitted (unit_numbers us) zs ws j other u.text (kind_before u.text) made.items
-    emitted = record { differ = names_differ zs v has_names; names_listed = its_names; listed = its_listed; stops = refl; emitted = its_items; as_many = body_count (length (stops_from 0 u.text.steps)) }
+    emitted : AreEmitted (unit_numbers us) ws s other u.text (kind_before u.text) made.items
+    emitted = record {
+      differ = names_differ s.constants v has_names;
+      names_listed = its_names;
+      listed = its_listed;
+      stops = refl;
+      emitted = made.emitted;
+      as_many = body_count (length (stops_from 0 u.text.steps));
+    }
 
-    known : AreNumberedItems (routines (own_names (inventories ws))) (λ name. None) [] (unit_numbers us) zs ws j other u.text (kind_before u.text) made.items (numbered us ws same_inventories single plain.differ v) emitted [] 0 u.text.steps made.items
-    known = every (routines (own_names (inventories ws))) (λ name. None) [] (unit_numbers us) zs ws j other u.text (kind_before u.text) made.items (numbered us ws same_inventories single plain.differ v) emitted
+    known : AreNumberedItems (routines (own_names (inventories ws))) (λ name. None) [] (unit_numbers us) ws s other u.text (kind_before u.text) made.items owned sited.before (numbered us ws same_inventories single plain.differ v) emitted [] 0 u.text.steps made.items
+    known = every (routines (own_names (inventories ws))) (λ name. None) [] (unit_numbers us) ws s other u.text (kind_before u.text) made.items owned sited.before (numbered us ws same_inventories single plain.differ v) emitted
 
-    built : IsBuilt (unit_outline us j u) made.items (unit_function (record { inventory = v; body = body }))
+    built : IsBuilt (unit_outline us s u) made.items (unit_function (record { inventory = v; body = body }))
     built =
-        built_by (unit_outline us j u).names u.text made.items (unit_function (record { inventory = v; body = body })) (record { marks = its_plain.text.marks; labels = its_plain.text.labels })
-        (items_count (unit_numbers us) (writing_of zs v (bases_of zs ws j) u.text.facts (kind_before u.text)) u.text.position 0 u.text.steps made.items its_items) made.statements made.returned
+        built_by (unit_outline us s u).names u.text made.items (unit_function (record { inventory = v; body = body })) (record { marks = its_plain.text.marks; labels = its_plain.text.labels })
+        (items_count (unit_numbers us) (writing_of s.constants v s.bases u.text.facts (kind_before u.text)) u.text.position 0 u.text.steps made.items made.emitted) made.statements made.returned
 
-    fits : Fits (unit_outline us j u) (scope_in (routines (own_names (inventories ws))) (λ name. None) zs [] ws j other) (position_of (marks_from (unit_outline us j u).label 0 made.items)) 0 made.items (body_of_all body)
+    fits : Fits (unit_outline us s u) (scope_in (routines (own_names (inventories ws))) (λ name. None) [] s other) (position_of (marks_from (unit_outline us s u).label 0 made.items)) 0 made.items (body_of_all body)
     fits =
-        built_fit (scope_in (routines (own_names (inventories ws))) (λ name. None) zs [] ws j other) (unit_outline us j u) made.items (unit_function (record { inventory = v; body = body })) built
-        (subst (λ ns. KnowsItems (scope_in (routines (own_names (inventories ws))) (λ name. None) zs [] ws j other) ns made.items) (sym same_names) known.knows)
+        built_fit (scope_in (routines (own_names (inventories ws))) (λ name. None) [] s other) (unit_outline us s u) made.items (unit_function (record { inventory = v; body = body })) built
+        (subst (λ ns. KnowsItems (scope_in (routines (own_names (inventories ws))) (λ name. None) [] s other) ns made.items) (sym same_names) known.knows)
 
     its_strings : length (whole_body body).items.strings ≡ length v.strings
     its_strings =
-        ap (λ (o : Body). length o.items.strings) (whole_is (unit_outline us j u) made.items (unit_function (record { inventory = v; body = body })) built)
-        ∙ bytes_count (unit_outline us j u).names (body_of_all body).items.strings (strings_of_items (unit_outline us j u).names made.items) fits.strings
+        ap (λ (o : Body). length o.items.strings) (whole_is (unit_outline us s u) made.items (unit_function (record { inventory = v; body = body })) built)
+        ∙ bytes_count (unit_outline us s u).names (body_of_all body).items.strings (strings_of_items (unit_outline us s u).names made.items) fits.strings
         ∙ ap (λ ns. length (strings_of_items ns made.items)) same_names ∙ known.counted
 
-    unit_built : IsUnitBuilt (unit_numbers us) zs ws j (record { inventory = v; body = body }) u.text (kind_before u.text) (unit_outline us j u) made.items
+    unit_built : IsUnitBuilt (unit_numbers us) ws s (record { inventory = v; body = body }) u.text (kind_before u.text) (unit_outline us s u) made.items
     unit_built = record {
       differ = emitted.differ;
       names_listed = its_names;
       listed = its_listed;
       stops = refl;
       names = same_names;
-      emitted = its_items;
+      emitted = made.emitted;
       built = built;
       as_many = its_strings;
     }
@@ -183,17 +196,9 @@ module _ (us : List LoweredUnit) (plain : ArePlainUnits us) where
     -- ### The whole
 
     abbrev made_rendering : Rendering
-    made_rendering = record {
-      unit = u.unit;
-      text = u.text;
-      written = record { inventory = v; body = body };
-      kind = kind_before u.text;
-      stage = stage_at u.text;
-      outline = unit_outline us j u;
-      items = made.items;
-    }
+    made_rendering = rendering_of us s u body made.items
 
-    same_facts : u.text.facts ≡ facts_of (renderings us) j made_rendering
+    same_facts : u.text.facts ≡ facts_of rs j made_rendering
     same_facts = facts_are ∙ ap (λ ps. facts_at (own_setting ps) j (Some u.unit)) (sym same_units)
 
     passes : Passes v u.text
@@ -203,7 +208,7 @@ module _ (us : List LoweredUnit) (plain : ArePlainUnits us) where
       short = its_plain.text.stops;
     }
 
-    translated : IsTranslatedUnit zs (renderings us) j made_rendering
+    pub translated : IsTranslatedUnit rs j made_rendering
     translated = record {
       lowered = ap (λ ps. lowered_unit (facts_at (own_setting ps) j (Some u.unit))) same_units ∙ its_plain.lowered;
       facts = same_facts;
@@ -224,51 +229,60 @@ module _ (us : List LoweredUnit) (plain : ArePlainUnits us) where
       storage = own_storage us j u its_plain.storage;
       fits = λ x k b stands. its_plain.bounds.fits x k b (ap (λ (p : ProgramUnit). slice_get (p.attribute x).bounds k) (sym program_is) ∙ stands);
       closed = λ x k b stands more. its_plain.bounds.closed x k b (ap (λ (p : ProgramUnit). slice_get (p.attribute x).bounds k) (sym program_is) ∙ stands) (subst (λ (p : ProgramUnit). suc k < length (p.attribute x).bounds) program_is more);
-      built = subst (λ numbers. IsUnitBuilt numbers zs ws j (record { inventory = v; body = body }) u.text (kind_before u.text) (unit_outline us j u) made.items) (ap (found_from 0) (sym same_units)) unit_built;
-      flows = flows_fit zs v (bases_of zs ws j) u.text (record { name = its_plain.name; formals = its_plain.formals; start = 0 }) made.in_place
+      built = subst (λ numbers. IsUnitBuilt numbers ws s (record { inventory = v; body = body }) u.text (kind_before u.text) (unit_outline us s u) made.items) (ap (found_from 0) (sym same_units)) unit_built;
+      flows = flows_fit s.constants v s.bases u.text (record { name = its_plain.name; formals = its_plain.formals; start = 0 }) made.in_place
           (steps_alone u.text (outputs_are_whole (own_facts (program_units us) j u.unit) u.text its_plain.lowered) made.in_place) begins;
       passes = passes;
       no_wrapper = no_wrapper body made.returned;
     }
 
-    made_is : body_of us j u ≡ Some body → made_rendering ≡ rendering_of us j u
-    made_is is i = record {
-      unit = u.unit;
-      text = u.text;
-      written = record { inventory = v; body = unwrap_or (sym is i) [] };
-      kind = kind_before u.text;
-      stage = stage_at u.text;
-      outline = unit_outline us j u;
-      items = unwrap_or (sym made.emitted i) [];
+  -- ## Each of them
+
+  each : (j : ℕ) (r : Rendering) → slice_get rs j ≡ Some r → IsTranslatedUnit rs j r
+  each j r at =
+      let found = rendered_at us us rs j r rendered at in
+      let one = found.one in
+      subst (IsTranslatedUnit rs j) one.is (translated j found.unit found.at one.site one.sited one.body one.made)
+
+  numbers : (j : ℕ) (r : Rendering) → slice_get rs j ≡ Some r → (i : ℕ) (z : ℤ) → slice_get r.site.constants i ≡ Some z → in_range z ≡ true
+  numbers j r at =
+      let found = rendered_at us us rs j r rendered at in
+      let one = found.one in
+      subst (λ (q : Rendering). (i : ℕ) (z : ℤ) → slice_get q.site.constants i ≡ Some z → in_range z ≡ true) one.is
+      (λ i z there. fit j found.unit found.at one.site one.sited one.body one.made z (in_at one.site.constants i z there))
+
+  rendering_is : (j : ℕ) (r : Rendering) → slice_get rs j ≡ Some r → IsRenderingOf us j r
+  rendering_is j r at =
+      let found = rendered_at us us rs j r rendered at in
+      let one = found.one in
+      subst (IsRenderingOf us j) one.is (record { unit = found.unit; at = found.at; text = refl; inventory = refl; outline = refl })
+
+-- ## All files
+
+set_translated : (lfs : List (List LoweredUnit)) (fs : List UnitsOfFile) → ArePlainUnits (all_lowered lfs) → (made : AreAllRendered lfs fs) → IsTranslatedSet fs made.renderings
+set_translated lfs fs plain made =
+    let us = all_lowered lfs in
+    let rs = made.renderings in
+    let same = same_inventories us plain rs made.each in
+    let one_entry = single us plain rs made.each in
+    record {
+      units = each us plain rs made.each;
+      written = made.written;
+      sited = made.sited;
+      some = (let many = as_many us us rs made.each in let one = plain.some in omega (arith, many, one));
+      differ = own_distinct us (written_of rs) same one_entry plain.differ;
+      apart = own_apart us (written_of rs) same one_entry plain.differ;
+      numbers = numbers us plain rs made.each;
     }
 
-    pub translated_unit : body_of us j u ≡ Some body → IsTranslatedUnit zs (renderings us) j (rendering_of us j u)
-    translated_unit is = subst (IsTranslatedUnit zs (renderings us) j) (made_is is) translated
-
-  -- ## The file
-
-  module _ (written : List WrittenUnit) (are : written_units us ≡ Some written) where
-    each : (j : ℕ) (r : Rendering) → slice_get (renderings us) j ≡ Some r → IsTranslatedUnit zs (renderings us) j r
-    unfolding written_units
-    each j r at =
-        let found = rendered_at us 0 us j j r (omega arith) at in
-        let body = bodies_are us 0 us written j j found.unit are (omega arith) found.at in
-        subst (IsTranslatedUnit zs (renderings us) j) found.is (translated_unit j found.unit found.at body.0 (has_body us j found.unit body.0 body.1) body.1)
-
-    pub file : IsTranslatedFile zs (renderings us)
-    file = record {
-      units = each;
-      some = (let many = as_many us 0 us in let one = plain.some in omega (arith, many, one));
-      differ = own_distinct us ws same_inventories single plain.differ;
-      apart = own_apart us ws same_inventories single plain.differ;
-      numbers = λ i z at. constants_fit us z (in_at zs i z at);
-    }
+pub plain_units_are_rendered : PlainUnitsAreRendered
+plain_units_are_rendered lfs fs plain are =
+    let made = all_rendered lfs fs are in
+    record { renderings = made.renderings; translated = set_translated lfs fs plain made; each = rendering_is (all_lowered lfs) plain made.renderings made.each }
 
 pub plain_units_run_alike : PlainUnitsRunAlike
-unfolding written_units
-plain_units_run_alike us written plain are units n meant =
-    let rs = renderings us in
-    let same = same_units us plain in
-    subst (λ ps. SameRuns ps (own_setting ps) (files_of (constants_passed us) written) units n) same
-    (subst (λ w. SameRuns (units_of rs) (own_setting (units_of rs)) (files_of (constants_passed us) w) units n) (written_are us 0 us written are)
-    (unit_programs_run_alike (constants_passed us) rs (file us plain written are) units n (λ h. meant (ap (λ ps. act_of (ftn (own_setting ps) ps units n)) (sym same) ∙ h))))
+plain_units_run_alike lfs fs plain are units n meant =
+    let made = all_rendered lfs fs are in
+    let same = same_units (all_lowered lfs) plain made.renderings made.each in
+    subst (λ ps. SameRuns ps (own_setting ps) (files_of fs) units n) same
+    (unit_programs_run_alike fs made.renderings (set_translated lfs fs plain made) units n (λ h. meant (ap (λ ps. act_of (ftn (own_setting ps) ps units n)) (sym same) ∙ h)))

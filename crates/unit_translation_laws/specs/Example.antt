@@ -7,19 +7,25 @@ use Rattle.c_tree.specs.declared.types.ParameterType.TheVariants as parameter
 use Rattle.c_tree.specs.declared.types.ArgumentType.TheVariants as argument
 use Rattle.c_tree.specs.declared.types.ListType.TheVariants as list_type
 use Rattle.unit_file.specs.UnitFile.{Callee, WrittenUnit}
-use Rattle.unit_programs.specs.Example.{main_unit, function_unit, subroutine_unit, text_with, main_steps, function_steps, subroutine_steps, main_inventory, main_body, function_inventory, function_body, subroutine_inventory, subroutine_body}
+use Rattle.unit_sites.specs.UnitSites.{UnitsOfFile}
+use Rattle.unit_programs.specs.Example.{its_constants, main_unit, function_unit, subroutine_unit, text_with, main_steps, function_steps, subroutine_steps, main_inventory, main_body, function_written, subroutine_written}
 use Rattle.unit_translation.specs.UnitContents.{LoweredUnit}
 
 -- each dummy is an integer
 abbrev pub its_use : Bytes → DummyUse
 its_use x = IntegerDummy
 
+abbrev pub lowered_main : LoweredUnit
+lowered_main = record { unit = main_unit; text = text_with 0 main_unit main_steps; use_of = its_use }
+
+abbrev pub lowered_function : LoweredUnit
+lowered_function = record { unit = function_unit; text = text_with 1 function_unit function_steps; use_of = its_use }
+
+abbrev pub lowered_subroutine : LoweredUnit
+lowered_subroutine = record { unit = subroutine_unit; text = text_with 2 subroutine_unit subroutine_steps; use_of = its_use }
+
 abbrev pub its_lowered_units : List LoweredUnit
-its_lowered_units =
-    record { unit = main_unit; text = text_with 0 main_unit main_steps; use_of = its_use }
-    ∷ record { unit = function_unit; text = text_with 1 function_unit function_steps; use_of = its_use }
-    ∷ record { unit = subroutine_unit; text = text_with 2 subroutine_unit subroutine_steps; use_of = its_use }
-    ∷ []
+its_lowered_units = lowered_main ∷ lowered_function ∷ lowered_subroutine ∷ []
 
 -- functions of the library are declared before those of other units
 abbrev pub its_calls : List Callee
@@ -35,9 +41,22 @@ its_calls =
     ∷ record { name = codes "s_"; result = result.Int; arguments = argument.Parameter parameter.Integers ∷ [] }
     ∷ []
 
-abbrev pub its_written_units : List WrittenUnit
-its_written_units =
-    record { inventory = record main_inventory { calls = its_calls }; body = main_body }
-    ∷ record { inventory = function_inventory; body = function_body }
-    ∷ record { inventory = subroutine_inventory; body = subroutine_body }
-    ∷ []
+abbrev pub main_made : WrittenUnit
+main_made = record { inventory = record main_inventory { calls = its_calls }; body = main_body }
+
+-- ## In one file
+
+abbrev pub its_lowered_files : List (List LoweredUnit)
+its_lowered_files = its_lowered_units ∷ []
+
+abbrev pub its_written_files : List UnitsOfFile
+its_written_files = record { constants = its_constants; units = main_made ∷ function_written ∷ subroutine_written ∷ [] } ∷ []
+
+-- ## In two files
+
+-- the main program alone passes constants
+abbrev pub its_lowered_apart : List (List LoweredUnit)
+its_lowered_apart = (lowered_main ∷ []) ∷ (lowered_function ∷ lowered_subroutine ∷ []) ∷ []
+
+abbrev pub its_written_apart : List UnitsOfFile
+its_written_apart = record { constants = its_constants; units = main_made ∷ [] } ∷ record { constants = []; units = function_written ∷ subroutine_written ∷ [] } ∷ []

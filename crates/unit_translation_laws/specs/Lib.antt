@@ -1,2 +1,3 @@
 pub mod PlainUnits
+pub mod RenderedUnits
 pub mod Example

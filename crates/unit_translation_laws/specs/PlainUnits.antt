@@ -1,4 +1,4 @@
--- That units of numbers that call each other run as the C file that is made for them, where each is lowered, and statements are made for its text. What is
+-- That units of numbers that call each other run as the C files that are made for them, where each is lowered, and statements are made for its text. What is
 -- asked of a unit is said of its statements and its names. ANSI X3.9-1978, sections 2.4, 5, 8, 14, 15 and 17.1; C89, 3.6 and 3.7.
 use Rattle.std.specs.Prelude.{◌≡◌, ◌≢◌, ℕ, suc, ◌+◌, ◌<◌, ◌≤◌, ◌^◌, ℤ, true, List, [], ◌∷◌, map, length, Some, slice_get}
 use Rattle.run_state.specs.Units.{Units}
@@ -24,12 +24,11 @@ use Rattle.unit_forms.specs.OwnSetting.{own_setting, own_facts}
 use Rattle.main_translation.specs.Contents.{count_by}
 use Rattle.main_translation.specs.Outlined.{labels_in}
 use Rattle.procedure_emission.specs.EmittedUnits.{is_number_pointer, is_function_pointer}
-use Rattle.unit_file.specs.UnitFile.{WrittenUnit}
-use Rattle.unit_places.specs.UnitPlaces.{files_of}
+use Rattle.unit_sites.specs.UnitSites.{UnitsOfFile, files_of}
 use Rattle.unit_programs.specs.OwnStorage.{bytes_in}
 use Rattle.unit_programs.specs.TranslatedUnits.{AreFixed}
-use Rattle.unit_translation.specs.UnitContents.{LoweredUnit, program_units, parameter_for, temporaries_kept, constants_passed}
-use Rattle.unit_translation.specs.UnitBodies.{written_units}
+use Rattle.unit_translation.specs.UnitContents.{LoweredUnit, program_units, parameter_for, temporaries_kept}
+use Rattle.unit_translation.specs.UnitBodies.{all_lowered, written_files}
 
 -- ## Storage and names
 
@@ -106,13 +105,15 @@ pub record IsPlainUnit (us : List LoweredUnit) (j : ℕ) (u : LoweredUnit) : Typ
   pub storage : HasPlainStorage u.unit
   pub bounds : HasPlainBounds u.unit
 
--- the units of a file, one at least; their functions are told apart
+-- the units of all files, one at least; their functions are told apart
 pub record ArePlainUnits (us : List LoweredUnit) : Type 0 where
   pub units : (j : ℕ) (u : LoweredUnit) → slice_get us j ≡ Some u → IsPlainUnit us j u
   pub some : 1 ≤ length us
   pub differ : names.AreDistinct (map function_name (program_units us))
 
 -- LAW
+-- the units of some files, and the C files that are made for them
 abbrev pub PlainUnitsRunAlike : Type 0
-PlainUnitsRunAlike = (us : List LoweredUnit) (ws : List WrittenUnit) → ArePlainUnits us → written_units us ≡ Some ws → (units : Units) (n : ℕ) →
-    (act_of (ftn (own_setting (program_units us)) (program_units us) units n) ≡ Some NoMeaning → ⊥) → SameRuns (program_units us) (own_setting (program_units us)) (files_of (constants_passed us) ws) units n
+PlainUnitsRunAlike = (lfs : List (List LoweredUnit)) (fs : List UnitsOfFile) → ArePlainUnits (all_lowered lfs) → written_files lfs ≡ Some fs → (units : Units) (n : ℕ) →
+    (act_of (ftn (own_setting (program_units (all_lowered lfs))) (program_units (all_lowered lfs)) units n) ≡ Some NoMeaning → ⊥) →
+    SameRuns (program_units (all_lowered lfs)) (own_setting (program_units (all_lowered lfs))) (files_of fs) units n

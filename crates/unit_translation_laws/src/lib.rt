@@ -1,4 +1,4 @@
-//! That units of numbers that call each other run as the C file that is made for them. The functions here do nothing; their contracts are the laws.
+//! That units of numbers that call each other run as the C files that are made for them. The functions here do nothing; their contracts are the laws.
 #![tactic(auto)]
 
 pub mod units;

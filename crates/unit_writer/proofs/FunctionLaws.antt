@@ -18,7 +18,7 @@ use Rattle.main_file.specs.MainFile.{Called, call_for, lists_from, temporaries_f
 use Rattle.main_translation.specs.Contents.{calls_of, count_by, function_called, functions_of, if_called, number_type_of, start_output, output_item, end_output, stop_run, variable_of}
 use Rattle.unit_file.specs.UnitFile.{Callee, extern_for, parameter_for, result_local, unit_function, unit_locals}
 use Rattle.unit_translation.specs.UnitFlow.{kind_before}
-use Rattle.unit_translation.specs.UnitContents.{LoweredUnit, basic_given, constants_passed, inventory_of, library_callee, procedure_callee, procedures_in, result_by, result_given, returned_by, type_given}
+use Rattle.unit_translation.specs.UnitContents.{LoweredUnit, basic_given, inventory_of, library_callee, procedure_callee, procedures_in, result_by, result_given, returned_by, type_given}
 use Rattle.lowered_text.specs.declared.text.LoweredText.{LoweredText}
 use Rattle.lowered_text.specs.Texts.{IsText}
 use Rattle.name_facts.specs.declared.table.NameFacts.{NameFacts}
@@ -114,7 +114,7 @@ dummies_same (d ∷ ds) = ap (λ later. parameter_told d ∷ later) (dummies_sam
 
 module _ (table : NameFacts) (names : List Bytes) (heading : Heading) (procedures : Bytes → Option Procedure) (constants : List ℤ) (t : LoweredText) (c : Contents) (k : Known) (us : List LoweredUnit)
     (u : LoweredUnit) (tells : Tells table names heading procedures constants t c k) (program : u.text.facts.program ≡ u.unit) (told : IsToldUnit table names heading u) (given : TellsProcedures us procedures)
-    (passed : constants ≡ constants_passed us) (text : IsText t u.text) (contents : AreContents u.text c) where
+    (text : IsText t u.text) (contents : AreContents u.text c) where
   kinds_same : (n : ℕ) → nat_lt n (length u.text.steps) ≡ true → kinds_at c.kinds.items n ≡ kind_before u.text n
   unfolding kinds_at
   kinds_same n within = fun_ext (λ k. contents.kinds n k within)
@@ -122,17 +122,17 @@ module _ (table : NameFacts) (names : List Bytes) (heading : Heading) (procedure
   layout_same : layout_of c.layout ≡ layout_for u.text
   layout_same = λ i. record { label = λ n. contents.labels n i; ends_arm = λ n. contents.arms n i; loop = λ n. contents.loops n i }
 
-  items_agree : items_from (known_of k) (kinds_at c.kinds.items) 0 (steps_of t.steps.items) ≡ items_from (known_for us u) (kind_before u.text) 0 u.text.steps
+  items_agree : items_from (known_of k) (kinds_at c.kinds.items) 0 (steps_of t.steps.items) ≡ items_from (known_for constants us u) (kind_before u.text) 0 u.text.steps
   items_agree =
-      let its_passes : Bytes → Bool = passes table names heading procedures constants t c k us u tells program told given passed text contents in
-      let known : known_of k ≡ with_passed (known_for us u) its_passes = known_agrees table names heading procedures constants t c k us u tells program told given passed text contents in
-      let known_there : items_from (known_of k) (kinds_at c.kinds.items) 0 (steps_of t.steps.items) ≡ items_from (with_passed (known_for us u) its_passes) (kinds_at c.kinds.items) 0 u.text.steps =
+      let its_passes : Bytes → Bool = passes table names heading procedures constants t c k us u tells program told given text contents in
+      let known : known_of k ≡ with_passed (known_for constants us u) its_passes = known_agrees table names heading procedures constants t c k us u tells program told given text contents in
+      let known_there : items_from (known_of k) (kinds_at c.kinds.items) 0 (steps_of t.steps.items) ≡ items_from (with_passed (known_for constants us u) its_passes) (kinds_at c.kinds.items) 0 u.text.steps =
       λ i. items_from (known i) (kinds_at c.kinds.items) 0 (text.steps i) in
       known_there
-      ∙ items_passed_same (known_for us u) its_passes (passes_same table names heading procedures constants t c k us u tells program told given passed text contents) (kinds_at c.kinds.items) 0 u.text.steps
-      ∙ items_same (known_for us u) (kinds_at c.kinds.items) (kind_before u.text) (length u.text.steps) kinds_same 0 u.text.steps (omega arith)
+      ∙ items_passed_same (known_for constants us u) its_passes (passes_same table names heading procedures constants t c k us u tells program told given text contents) (kinds_at c.kinds.items) 0 u.text.steps
+      ∙ items_same (known_for constants us u) (kinds_at c.kinds.items) (kind_before u.text) (length u.text.steps) kinds_same 0 u.text.steps (omega arith)
 
-  pub body_agrees : body_by (known_of k) c (steps_of t.steps.items) ≡ named_body_of us u
+  pub body_agrees : body_by (known_of k) c (steps_of t.steps.items) ≡ named_body_of constants us u
   unfolding body_by named_body_of
   body_agrees = λ i. if contents.outputs i then option_and_then (statements_of (layout_same i)) (items_agree i) else None
 
@@ -185,7 +185,7 @@ pub function_is_written : (table : NameFacts) (names : List Bytes) (heading : He
     (function : Option CFunction) → Tells table names heading procedures constants t c k
     → function ≡ option_map (function_by table names heading procedures c) (body_by (known_of k) c (steps_of t.steps.items)) → IsWrittenUnit table names heading procedures constants t c function
 function_is_written table names heading procedures constants t c k function tells is = record {
-  meant = λ us u program told given passed text contents.
-      is ∙ ap (option_map (function_by table names heading procedures c)) (body_agrees table names heading procedures constants t c k us u tells program told given passed text contents)
-      ∙ ap (λ write. option_map write (named_body_of us u)) (fun_ext (function_agrees table names heading procedures constants t c k us u tells program told given passed text contents));
+  meant = λ us u program told given text contents.
+      is ∙ ap (option_map (function_by table names heading procedures c)) (body_agrees table names heading procedures constants t c k us u tells program told given text contents)
+      ∙ ap (λ write. option_map write (named_body_of constants us u)) (fun_ext (function_agrees table names heading procedures constants t c k us u tells program told given text contents));
 }

@@ -11,7 +11,7 @@ use Rattle.f_tree.specs.Facts.{Attribute, Bounds, EntryPoint, ProgramUnit}
 use Rattle.c_emit.specs.Numbers.{is_variable, is_numeric, has_bounds}
 use Rattle.main_file.specs.MainFile as file
 use Rattle.unit_file.specs.UnitFile.{place_of_constant, place_of_list}
-use Rattle.unit_translation.specs.UnitContents.{LoweredUnit, constants_passed, inventory_of}
+use Rattle.unit_translation.specs.UnitContents.{LoweredUnit, inventory_of}
 use Rattle.lowered_text.specs.declared.text.LoweredText.{LoweredText}
 use Rattle.lowered_text.specs.Texts.{IsText}
 use Rattle.name_facts.specs.declared.fact.Bound.{Bound}
@@ -150,7 +150,7 @@ given_by role.Function entries x h =
 
 module _ (table : NameFacts) (names : List Bytes) (heading : Heading) (procedures : Bytes → Option Procedure) (constants : List ℤ) (t : LoweredText) (c : Contents) (k : Known) (us : List LoweredUnit)
     (u : LoweredUnit) (tells : Tells table names heading procedures constants t c k) (program : u.text.facts.program ≡ u.unit) (told : IsToldUnit table names heading u) (given : TellsProcedures us procedures)
-    (passed : constants ≡ constants_passed us) (text : IsText t u.text) (contents : AreContents u.text c) where
+    (text : IsText t u.text) (contents : AreContents u.text c) where
   fact_there : (x : Bytes) → IsNameFact (u.text.facts.program.attribute x) (fact_in table x)
   fact_there x = subst (λ (p : ProgramUnit). IsNameFact (p.attribute x) (fact_in table x)) (sym program) (told.facts x)
 
@@ -169,8 +169,8 @@ module _ (table : NameFacts) (names : List Bytes) (heading : Heading) (procedure
       (routine_case us x (fact_in table x).class (is_some (procedures x)) (list_any (bytes_eq x) names) (λ none. class_is ∙ (other_there x none).class) (function_found us x procedures given)) in
       subst (λ cl. IsRoutine us x cl (routine_in k x)) class_is among
 
-  has_constant : (z : ℤ) → list_any (int_eq z) k.constants.items ≡ is_some (place_of_constant (constants_passed us) z)
-  has_constant z = ap (list_any (int_eq z)) (tells.constants ∙ passed) ∙ any_position (int_eq z) (constants_passed us)
+  has_constant : (z : ℤ) → list_any (int_eq z) k.constants.items ≡ is_some (place_of_constant constants z)
+  has_constant z = ap (list_any (int_eq z)) tells.constants ∙ any_position (int_eq z) constants
 
   list_place : (n : ℕ) → position (nat_eq n) k.lists.items ≡ place_of_list (inventory_of us u) n
   list_place n = ap (position (nat_eq n)) tells.lists ∙ listed_position n c.lists.items ∙ ap (position (λ (l : file.Listing). nat_eq n l.step)) contents.lists
@@ -189,10 +189,10 @@ module _ (table : NameFacts) (names : List Bytes) (heading : Heading) (procedure
   abbrev pub passes : Bytes → Bool
   passes x = is_passed (routine_in k x)
 
-  pub passes_same : (x : Bytes) → procedure_passed (passes x) ((known_for us u).routine x) ≡ procedure_passed ((known_for us u).is_procedure x) ((known_for us u).routine x)
+  pub passes_same : (x : Bytes) → procedure_passed (passes x) ((known_for constants us u).routine x) ≡ procedure_passed ((known_for constants us u).is_procedure x) ((known_for constants us u).routine x)
   passes_same x = (routine_there x).passed
 
-  pub known_agrees : known_of k ≡ with_passed (known_for us u) passes
+  pub known_agrees : known_of k ≡ with_passed (known_for constants us u) passes
   known_agrees = λ i. record {
     is_scalar = λ x. (seen x).number i;
     is_array = λ x. (seen x).numbers i;

@@ -108,7 +108,7 @@ unfolding number_arguments
 arguments_alike zero = refl
 arguments_alike (suc n) = ap (λ later. argument.Parameter parameter.Integers ∷ later) (arguments_alike n)
 
--- the procedures of some names that the file defines
+-- the procedures of some names that the set defines
 abbrev pub procedures_behind : (Bytes → Option Procedure) → List Bytes → List CLocal
 procedures_behind procedures xs = map extern_for (flat_map (callees_told procedures) xs)
 

@@ -1,4 +1,4 @@
--- What is known of the procedures of a file is what its units say: the function of each name, and which names may be passed.
+-- What is known of the procedures of a set is what its units say: the function of each name, and which names may be passed.
 use Rattle.std.specs.Prelude.{◌≡◌, ℕ, zero, suc, ◌+◌, Bool, true, false, List, [], ◌∷◌, map, length, Option, Some, None, is_some, option_map, option_and_then, slice_get, if◌then◌else◌}
 use Rattle.std.proofs.Common.{◌<◌, refl, sym, ap, ◌∙◌, arith}
 use Rattle.f_tree.specs.declared.names.Class.{Class}

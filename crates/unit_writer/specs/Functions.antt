@@ -1,4 +1,4 @@
--- The C function of a unit as it is written: from the table of its names, its heading, the procedures of its file, its contents and its statements.
+-- The C function of a unit as it is written: from the table of its names, its heading, the procedures of the set, its contents and its statements.
 -- ANSI X3.9-1978, sections 4.1, 5.1, 12.8, 15.5, 15.6 and 15.9; C89, 3.5 and 3.7.1.
 use Rattle.std.specs.List.{flat_map}
 use Rattle.std.specs.Option.{option_flatten}

@@ -1,4 +1,4 @@
--- What a table of names, a heading, the procedures of a file and a text tell those who write the steps of a unit. ANSI X3.9-1978, sections 4.1, 5.1, 5.3, 15
+-- What a table of names, a heading, the procedures of a set and a text tell those who write the steps of a unit. ANSI X3.9-1978, sections 4.1, 5.1, 5.3, 15
 -- and 18.
 use Rattle.std.specs.HashMap.{get_by}
 use Rattle.std.specs.List.{list_any}
@@ -56,7 +56,7 @@ seen_among table names x = if list_any (bytes_eq x) names then Some (seen_by (fa
 
 -- ## Procedures
 
--- a procedure that is called by its own name, where the file defines it, and whether it may be passed; and a dummy procedure
+-- a procedure that is called by its own name, where the set defines it, and whether it may be passed; and a dummy procedure
 unfoldable pub routine_if : Bool → Bool → Bytes → Option Routine
 routine_if true passed x = Some (record { callee = by_name (external_name x); is_passed = passed })
 routine_if false passed x = None
@@ -64,7 +64,7 @@ routine_if false passed x = None
 abbrev pub dummy_routine : Bytes → Routine
 dummy_routine x = record { callee = through (variable_name x); is_passed = true }
 
--- a name of a class, and whether the file defines the procedure of this name
+-- a name of a class, and whether the set defines the procedure of this name
 unfoldable pub routine_by : Class → Bool → Bytes → Option Routine
 routine_by class.DummyProcedure defined x = Some (dummy_routine x)
 routine_by class.Procedure defined x = routine_if defined true x
@@ -80,7 +80,7 @@ unfoldable pub put_over : Bool → Option Routine → Option Routine → Option 
 put_over true (Some routine) old = Some routine
 put_over _ found old = old
 
--- what is known of the names of the unit and of the file's procedures
+-- what is known of the names of the unit and of the procedures of the set
 abbrev pub routine_among : NameFacts → List Bytes → (Bytes → Option Procedure) → Bytes → Option Routine
 routine_among table names procedures x =
     put_over (is_some (procedures x)) (routine_told table procedures x) (put_over (list_any (bytes_eq x) names) (routine_told table procedures x) None)

@@ -15,7 +15,7 @@ use Rattle.lowered_text.specs.Texts.{IsText}
 use Rattle.name_facts.specs.declared.table.NameFacts.{NameFacts}
 use Rattle.name_facts.specs.GivenFacts.{IsNameFact, fact_in}
 use Rattle.unit_file.specs.UnitFile.{Parameter, Callee, unit_function}
-use Rattle.unit_translation.specs.UnitContents.{LoweredUnit, constants_passed, inventory_of, parameters_in, procedure_callee}
+use Rattle.unit_translation.specs.UnitContents.{LoweredUnit, inventory_of, parameters_in, procedure_callee}
 use Rattle.named_units.specs.NamedUnits.{named_body_of}
 use Rattle.unit_contents.specs.declared.contents.Contents.{Contents}
 use Rattle.unit_contents.specs.ContentsOf.{AreContents}
@@ -69,15 +69,15 @@ callees_by x (Some p) = callee_told x p ∷ []
 abbrev pub callees_told : (Bytes → Option Procedure) → Bytes → List Callee
 callees_told procedures x = callees_by x (procedures x)
 
--- the procedures are those of the units
+-- the procedures are those of the units of all files
 pub record TellsProcedures (us : List LoweredUnit) (procedures : Bytes → Option Procedure) : Type 0 where
   pub told : (x : Bytes) → callees_told procedures x ≡ procedure_callee us x
 
--- the function is that of the statements which the unit has, and none where it has none
+-- the function is that of the statements which the unit has, given the constants of its file and the units of all files, and none where it has none
 pub record IsWrittenUnit (table : NameFacts) (names : List Bytes) (heading : Heading) (procedures : Bytes → Option Procedure) (constants : List ℤ) (t : LoweredText) (c : Contents)
     (function : Option CFunction) : Type 0 where
-  pub meant : (us : List LoweredUnit) (u : LoweredUnit) → u.text.facts.program ≡ u.unit → IsToldUnit table names heading u → TellsProcedures us procedures → constants ≡ constants_passed us
-      → IsText t u.text → AreContents u.text c → function ≡ option_map (λ body. unit_function (record { inventory = inventory_of us u; body = body })) (named_body_of us u)
+  pub meant : (us : List LoweredUnit) (u : LoweredUnit) → u.text.facts.program ≡ u.unit → IsToldUnit table names heading u → TellsProcedures us procedures → IsText t u.text
+      → AreContents u.text c → function ≡ option_map (λ body. unit_function (record { inventory = inventory_of us u; body = body })) (named_body_of constants us u)
 
 unfoldable pub told_units_opened : Unit {0}
 unfolding is_stored_class stored_names kind_told callees_by

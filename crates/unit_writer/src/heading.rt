@@ -1,4 +1,4 @@
-//! What is said of a program unit by its head, and of the procedures of its file.
+//! What is said of a program unit by its head, and of the procedures of the set.
 
 use c_tree::types::{ParameterType, ResultType};
 

@@ -33,7 +33,7 @@ fn arguments(alloc: Global, parameters: &[ParameterType]) -> Result<Vec<Argument
         .collect(alloc)
 }
 
-/// Declares a procedure, where the file defines it.
+/// Declares a procedure, where the set defines it.
 #[tactic(auto, unfolding(crate::specs::ToldUnits::callees_by))]
 fn add_procedure(
     alloc: Global,
@@ -53,7 +53,7 @@ fn add_procedure(
     Ok(())
 }
 
-/// Declares the procedures of some names, those that the file defines.
+/// Declares the procedures of some names, those that the set defines.
 pub(crate) fn add_procedures(
     alloc: Global,
     locals: &mut Vec<CLocal>,
@@ -68,7 +68,7 @@ pub(crate) fn add_procedures(
     Ok(())
 }
 
-/// A procedure that is called by its own name, where the file defines it.
+/// A procedure that is called by its own name, where the set defines it.
 #[tactic(auto, unfolding(crate::specs::Told::routine_if))]
 fn named(
     alloc: Global,
@@ -102,7 +102,7 @@ fn dummy(alloc: Global, name: &[u8]) -> Result<Routine, AllocError>
     })
 }
 
-/// What is known of a name of a class where a procedure is called or passed, given whether the file defines the procedure of this name.
+/// What is known of a name of a class where a procedure is called or passed, given whether the set defines the procedure of this name.
 #[tactic(auto, unfolding(crate::specs::Told::routine_by))]
 fn routine(
     alloc: Global,
@@ -160,7 +160,7 @@ fn add_routines<'a>(
     Ok(())
 }
 
-/// What is known of the names by which procedures are called or passed: those of the unit, and those of the file's procedures.
+/// What is known of the names by which procedures are called or passed: those of the unit, and those of the procedures of the set.
 pub(crate) fn routines<'a>(
     alloc: Global,
     table: &NameFacts,

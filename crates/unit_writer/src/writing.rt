@@ -41,8 +41,8 @@ fn written(
     }
 }
 
-/// The C function of a unit among several, given what its names are, the names in their order, its head, the procedures of the file by their names, the
-/// constants that the file passes, its lowered text and the contents of that; none where a step is not emitted, where the steps have no structure, or where
+/// The C function of a unit among several, given what its names are, the names in their order, its head, the procedures of the set by their names, the
+/// constants that its file passes, its lowered text and the contents of that; none where a step is not emitted, where the steps have no structure, or where
 /// an output is not in place.
 ///
 /// # Errors

@@ -1,4 +1,4 @@
-use Rattle.std.proofs.Common.{◌≡◌, ◌-◌, ◌+◌, length, refl, arith, rules}
+use Rattle.std.proofs.Common.{◌≡◌, ◌-◌, length, refl, arith}
 use Rattle.run_bytes.proofs.CellLemmas.{put-inside, put-outside}
 use Rattle.run_bytes.proofs.cells.put_bytes.Goals as goal
 

@@ -1,7 +1,6 @@
-use Rattle.std.proofs.Common.{◌≡◌, ◌-◌, ◌+◌, ap, sym, ◌∙◌, arith}
+use Rattle.std.proofs.Common.{◌-◌, ◌+◌, ap, sym, ◌∙◌, arith}
 use Rattle.c_tree.specs.Objects as objects
-use Rattle.run_bytes.specs.Accesses.{access_of, typed_of}
-use Rattle.run_bytes.specs.Answers.{answered}
+use Rattle.run_bytes.specs.Accesses.{access_of}
 use Rattle.run_bytes.proofs.PlaceLemmas.{bytes-read, value-read}
 use Rattle.run_bytes.proofs.places.read.Goals as goal
 

@@ -1,4 +1,4 @@
-use Rattle.std.proofs.Common.{◌≡◌, ◌-◌, ◌+◌, Some, refl, ap, sym, ◌∙◌, arith, true, if◌then◌else◌}
+use Rattle.std.proofs.Common.{◌-◌, ◌+◌, Some, refl, ap, sym, ◌∙◌, arith, if◌then◌else◌}
 use Rattle.c_tree.specs.declared.outcome.CFault.TheVariants.{Kind}
 use Rattle.c_tree.specs.Faults.{failing}
 use Rattle.c_tree.specs.Objects as objects

@@ -1,4 +1,4 @@
-use Rattle.translated_sets.proofs.SingleSets.{faithful_sets}
+use Rattle.translated_sets.proofs.AcceptedSets.{faithful_sets}
 use Rattle.translated_sets.proofs.sets.accepted_sets_are_faithful.Goals as goal
 
 pub returns : goal.returns

@@ -1,6 +1,6 @@
-use Rattle.std.proofs.Common.{◌≡◌, List, bytes_eq}
+use Rattle.std.proofs.Common.{List, bytes_eq}
 use Rattle.std.specs.HashMap.{get_by}
-use Rattle.unit_translation.specs.UnitContents.{LoweredUnit, constants_passed}
+use Rattle.unit_translation.specs.UnitContents.{LoweredUnit}
 use Rattle.unit_writer.specs.ToldUnits.{TellsProcedures}
 use Rattle.translator.specs.LoweredFiles.{AreTold}
 use Rattle.translator.proofs.ListLemmas.{AreMade}
@@ -8,5 +8,5 @@ use Rattle.translator.proofs.functions.functions_of.Given as goal
 
 abbrev pub invariant-loop-unit : goal.invariant-loop-unit
 invariant-loop-unit l =
-    (us : List LoweredUnit) → AreTold us l.units → TellsProcedures us (λ x. get_by (λ k. bytes_eq x k.now) l.fn.procedures) → l.fn.constants ≡ constants_passed us
-    → AreMade us l.units l.unit-index l.found.items l.refusal
+    (all us : List LoweredUnit) → AreTold us l.units → TellsProcedures all (λ x. get_by (λ k. bytes_eq x k.now) l.fn.procedures)
+    → AreMade l.fn.constants all us l.units l.unit-index l.found.items l.refusal

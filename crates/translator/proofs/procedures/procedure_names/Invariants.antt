@@ -1,7 +1,8 @@
 use Rattle.std.proofs.Common.{◌≡◌, ◌++◌, drop}
 use Rattle.name_table.specs.Named.{names_in, IsNameSet}
+use Rattle.declaration_rows.specs.GlobalRows.{all_units}
 use Rattle.translated_files.specs.TranslatedFiles.{procedure_names}
 use Rattle.translator.proofs.procedures.procedure_names.Given as goal
 
-abbrev pub invariant-loop-unit : goal.invariant-loop-unit
-invariant-loop-unit l = (names_in l.names ++ procedure_names (drop l.unit-index l.units) ≡ procedure_names l.units) × IsNameSet l.names
+abbrev pub invariant-loop-file : goal.invariant-loop-file
+invariant-loop-file l = (names_in l.names ++ procedure_names (all_units (drop l.file-index l.files)) ≡ procedure_names (all_units l.files)) × IsNameSet l.names

@@ -1,29 +1,38 @@
-use Rattle.std.proofs.Common.{◌≡◌, List, Some, None, refl, ap, sym, ◌∙◌}
-use Rattle.std.specs.Prelude.{slice_get, option_map, Ok}
-use Rattle.std.specs.Vec as Vec
-use Rattle.std.proofs.lemmas.List.{with_items_is}
+use Rattle.std.proofs.Common.{length, Some, refl, ap, sym, subst, ◌∙◌}
+use Rattle.std.specs.Prelude.{slice_get, option_map}
 use Rattle.c_tree.specs.Objects as objects
-use Rattle.c_tree.specs.LibraryArguments as arguments
-use Rattle.run_bytes.specs.Accesses.{access_of}
-use Rattle.run_bytes.specs.Layout.{held_type, unset_object}
-use Rattle.run_bytes.proofs.RunLemmas.{Opens, opened, known, unknown, inside, in-bytes, in-values, closes, stores, none-stored, unsets, unset-unknown}
+use Rattle.run_bytes.specs.Cells.{marked}
+use Rattle.run_bytes.specs.Layout.{IsInside, object_in}
+use Rattle.run_bytes.proofs.RunLemmas.{opened, known, unknown, inside}
 use Rattle.run_bytes.proofs.run.RunBytes.extent.Goals as goal
 
-pub returns-in-Some : goal.returns-in-Some
-returns-in-Some c =
-    ap Some (c.extent.ensures c.self.inside.bytes.items c.self.inside.marks.items c.self.inside.values.items c.self.invariant.same
-    (inside c.args.self.now c.self.inside.places.items c.self.inside.bytes.items c.self.inside.marks.items c.self.inside.values.items c.args.object c.in-Some.place
+-- the object stands within all bytes and all values
+pub extent-requires : goal.extent-requires
+extent-requires c =
+    let stands = inside c.args.self.now c.self.inside.places.items c.self.inside.bytes.items c.self.inside.marks.items c.self.inside.values.items c.args.object c.in-Some.place
     (opened c.args.self.now c.self.inside.places.items c.self.inside.places.items c.self.inside.bytes.items c.self.inside.bytes.items c.self.inside.marks.items c.self.inside.marks.items c.self.inside.values.items c.self.inside.values.items
     c.self.invariant c.self.view_is refl refl refl refl)
-    (c.in-Some.ensures ∙ ap (λ all. slice_get all c.args.object) c.deref.ensures.value)))
+    (c.in-Some.ensures ∙ ap (λ all. slice_get all c.args.object) c.deref.ensures.value) in
+    subst (λ bytes. IsInside c.in-Some.place bytes c.deref-in-Some-2.result.now) (sym c.deref-in-Some.ensures.value)
+    (subst (λ values. IsInside c.in-Some.place c.self.inside.bytes.items values) (sym c.deref-in-Some-2.ensures.value) stands)
+
+pub returns-in-Some-clause-value : goal.returns-in-Some-clause-value
+returns-in-Some-clause-value c =
+    ap Some
+    (c.extent.ensures.value c.self.inside.marks.items (c.self.invariant.same ∙ ap length (sym c.deref-in-Some.ensures.value))
+    ∙ ap (λ bytes. objects.extent (object_in (marked bytes c.self.inside.marks.items) c.deref-in-Some-2.result.now c.in-Some.place)) c.deref-in-Some.ensures.value
+    ∙ ap (λ values. objects.extent (object_in (marked c.self.inside.bytes.items c.self.inside.marks.items) values c.in-Some.place)) c.deref-in-Some-2.ensures.value)
     ∙ ap (option_map objects.extent)
     (known c.args.self.now c.self.inside.places.items c.self.inside.bytes.items c.self.inside.marks.items c.self.inside.values.items c.args.object c.in-Some.place
     (opened c.args.self.now c.self.inside.places.items c.self.inside.places.items c.self.inside.bytes.items c.self.inside.bytes.items c.self.inside.marks.items c.self.inside.marks.items c.self.inside.values.items c.self.inside.values.items
     c.self.invariant c.self.view_is refl refl refl refl)
     (c.in-Some.ensures ∙ ap (λ all. slice_get all c.args.object) c.deref.ensures.value))
 
-pub returns-in-None : goal.returns-in-None
-returns-in-None c =
+pub returns-in-Some-clause-small : goal.returns-in-Some-clause-small
+returns-in-Some-clause-small c = c.extent.ensures.small
+
+pub returns-in-None-clause-value : goal.returns-in-None-clause-value
+returns-in-None-clause-value c =
     ap (option_map objects.extent)
     (unknown c.args.self.now c.self.inside.places.items c.self.inside.bytes.items c.self.inside.marks.items c.self.inside.values.items c.args.object
     (opened c.args.self.now c.self.inside.places.items c.self.inside.places.items c.self.inside.bytes.items c.self.inside.bytes.items c.self.inside.marks.items c.self.inside.marks.items c.self.inside.values.items c.self.inside.values.items

@@ -1,7 +1,5 @@
-use Rattle.std.proofs.Common.{◌≡◌, map, take}
+use Rattle.std.proofs.Common.{map, take}
 use Rattle.run_bytes.specs.Accesses.{object_at_first}
-use Rattle.run_bytes.specs.Cells.{marked}
-use Rattle.run_bytes.specs.Layout.{objects_in, IsLaidOut}
 use Rattle.run_bytes.proofs.RunLemmas.{Opens}
 use Rattle.run_bytes.proofs.run.RunBytes.new.Given as goal
 

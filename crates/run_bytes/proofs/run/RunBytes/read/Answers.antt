@@ -1,10 +1,8 @@
-use Rattle.std.proofs.Common.{◌≡◌, List, Some, None, refl, ap, sym, ◌∙◌}
-use Rattle.std.specs.Prelude.{slice_get, option_map}
+use Rattle.std.proofs.Common.{refl, ap, ◌∙◌}
+use Rattle.std.specs.Prelude.{slice_get}
 use Rattle.c_tree.specs.Objects as objects
-use Rattle.c_tree.specs.LibraryArguments as arguments
 use Rattle.run_bytes.specs.Accesses.{access_of}
-use Rattle.run_bytes.specs.Layout.{held_type}
-use Rattle.run_bytes.proofs.RunLemmas.{Opens, opened, known, unknown, inside, in-bytes, in-values, closes, stores, unsets, unset-unknown}
+use Rattle.run_bytes.proofs.RunLemmas.{opened, known, unknown, inside}
 use Rattle.run_bytes.proofs.run.RunBytes.read.Goals as goal
 
 pub read-requires-clause-inside : goal.read-requires-clause-inside

@@ -1,12 +1,7 @@
-use Rattle.std.proofs.Common.{◌≡◌, List, Some, None, refl, ap, sym, ◌∙◌}
-use Rattle.std.specs.Prelude.{slice_get, option_map, Ok}
-use Rattle.std.specs.Vec as Vec
-use Rattle.std.proofs.lemmas.List.{with_items_is}
-use Rattle.c_tree.specs.Objects as objects
+use Rattle.std.proofs.Common.{refl, ap, ◌∙◌}
+use Rattle.std.specs.Prelude.{slice_get}
 use Rattle.c_tree.specs.LibraryArguments as arguments
-use Rattle.run_bytes.specs.Accesses.{access_of}
-use Rattle.run_bytes.specs.Layout.{held_type, unset_object}
-use Rattle.run_bytes.proofs.RunLemmas.{Opens, opened, known, unknown, inside, in-bytes, in-values, closes, stores, none-stored, unsets, unset-unknown}
+use Rattle.run_bytes.proofs.RunLemmas.{opened, known, unknown, in-bytes}
 use Rattle.run_bytes.proofs.run.RunBytes.text_in.Goals as goal
 
 pub text-requires-clause-inside : goal.text-requires-clause-inside

@@ -1,12 +1,10 @@
-use Rattle.std.proofs.Common.{◌≡◌, List, Some, None, refl, ap, sym, ◌∙◌}
-use Rattle.std.specs.Prelude.{slice_get, option_map, Ok}
+use Rattle.std.proofs.Common.{Some, refl, ap, ◌∙◌}
+use Rattle.std.specs.Prelude.{slice_get}
 use Rattle.std.specs.Vec as Vec
 use Rattle.std.proofs.lemmas.List.{with_items_is}
 use Rattle.c_tree.specs.Objects as objects
-use Rattle.c_tree.specs.LibraryArguments as arguments
 use Rattle.run_bytes.specs.Accesses.{access_of}
-use Rattle.run_bytes.specs.Layout.{held_type, unset_object}
-use Rattle.run_bytes.proofs.RunLemmas.{Opens, opened, known, unknown, inside, in-bytes, in-values, closes, stores, none-stored, unsets, unset-unknown}
+use Rattle.run_bytes.proofs.RunLemmas.{opened, unknown, inside, closes, stores, none-stored}
 use Rattle.run_bytes.proofs.run.RunBytes.write.Goals as goal
 
 pub write-requires-clause-inside : goal.write-requires-clause-inside

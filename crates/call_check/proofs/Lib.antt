@@ -1,0 +1,6 @@
+pub mod CallForms
+pub mod CallLaws
+pub mod FindingLaws
+pub mod OrderLemmas
+pub mod ProcedureLaws
+pub mod ReasonLemmas

@@ -1,0 +1,3 @@
+pub mod CallsSeen
+pub mod KnownUnits
+pub mod ProceduresSeen

@@ -1,0 +1,5 @@
+      PROGRAM MAIN
+      INTEGER N, TWICE
+      N = TWICE(21)
+      PRINT *, N
+      END

@@ -1,0 +1,4 @@
+      INTEGER FUNCTION TWICE(K)
+      INTEGER K
+      TWICE = 2*K
+      END

@@ -1,2 +1,0 @@
-      PRINT *, 7
-      END

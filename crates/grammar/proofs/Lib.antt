@@ -1,0 +1,2 @@
+pub mod GoodExact
+pub mod Judging

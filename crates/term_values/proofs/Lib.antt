@@ -1,0 +1,5 @@
+pub mod TermForms
+pub mod NumberLaws
+pub mod PointerLaws
+pub mod ListPlaces
+pub mod ValueLists
