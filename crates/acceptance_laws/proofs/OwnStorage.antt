@@ -4,23 +4,23 @@ use Rattle.std.specs.Prelude.{◌≡◌, ℕ, ◌+◌, ◌<◌, nat_lt, Bool, tr
 use Rattle.std.specs.List.{list_any}
 use Rattle.std.proofs.lemmas.Bool.Decides.{nat_tests}
 use Rattle.std.proofs.Common.{refl, ap, ◌∙◌, arith}
-use Rattle.f_tree.specs.declared.names.Options.{Options}
-use Rattle.f_tree.specs.declared.refusals.Kind.TheVariants.{EquivalenceContradiction, CommonJoinedOrExtended, NumericPlaceNotOnAWord, StorageTooLarge, BadData, CommonInitialised, CommonInitialisedTwice}
-use Rattle.f_tree.specs.declared.statements.Body.{Body}
-use Rattle.f_tree.specs.declared.statements.Stmt.{Stmt}
-use Rattle.f_tree.specs.declared.units.Unit.{Unit as WrittenUnit}
-use Rattle.f_tree.specs.Values.{Bytes, Spot}
-use Rattle.f_tree.specs.Uses.{is_among}
-use Rattle.f_tree.specs.Facts.{Attribute, Member, ProgramUnit, Facts}
-use Rattle.f_tree.specs.Setting.{IsIn, first_in, later_in}
-use Rattle.f_tree.specs.Attributes.{from_all}
-use Rattle.f_tree.specs.Lines.{Naming, is_character, size_of, is_stored, common_in, equivalence_in, data_in, blocks_from, ties_of, apart, unit_read}
-use Rattle.declaration_rows.specs.Judgement.{unless}
-use Rattle.declaration_rows.specs.NameRows.{stood, at_first, mentions}
-use Rattle.declaration_rows.specs.PlacingRows.{Placing, block_equations, tie_equation, placing_by, reached_from, further_times, count, contradicts, first_items, is_joined_or_extended, groups_settled, newly, placing_rows_from, least_of, first_among, start_by, place_in, is_on_word, shares, word_rows, placing_of, is_sound, unit_placing_rows}
-use Rattle.declaration_rows.specs.DataRows.{placed, all_filled, data_rows_from, may_fill_all, blocks_with, names_filled, common_rows_from, unit_data_rows}
-use Rattle.declaration_rows.specs.SharedStorageRows.{Before, most_storage, length_in, furthest, measured_blocks, length_rows, size_rows, filled_blocks, filled_rows, unit_storage_rows}
-use Rattle.declaration_rows.specs.Verdicts.{unit_storage_faults}
+use Rattle.plain_mains.specs.f_tree.declared.names.Options.{Options}
+use Rattle.plain_mains.specs.f_tree.declared.refusals.Kind.TheVariants.{EquivalenceContradiction, CommonJoinedOrExtended, NumericPlaceNotOnAWord, StorageTooLarge, BadData, CommonInitialised, CommonInitialisedTwice}
+use Rattle.plain_mains.specs.f_tree.declared.statements.Body.{Body}
+use Rattle.plain_mains.specs.f_tree.declared.statements.Stmt.{Stmt}
+use Rattle.plain_mains.specs.f_tree.declared.units.Unit.{Unit as WrittenUnit}
+use Rattle.plain_mains.specs.f_tree.Values.{Bytes, Spot}
+use Rattle.plain_mains.specs.f_tree.Uses.{is_among}
+use Rattle.plain_mains.specs.f_tree.Facts.{Attribute, Member, ProgramUnit, Facts}
+use Rattle.plain_mains.specs.f_tree.Setting.{IsIn, first_in, later_in}
+use Rattle.plain_mains.specs.f_tree.Attributes.{from_all}
+use Rattle.plain_mains.specs.f_tree.Lines.{Naming, is_character, size_of, is_stored, common_in, equivalence_in, data_in, blocks_from, ties_of, apart, unit_read}
+use Rattle.source_verdict.specs.declaration_rows.Judgement.{unless}
+use Rattle.source_verdict.specs.declaration_rows.NameRows.{stood, at_first, mentions}
+use Rattle.source_verdict.specs.declaration_rows.PlacingRows.{Placing, block_equations, tie_equation, placing_by, reached_from, further_times, count, contradicts, first_items, is_joined_or_extended, groups_settled, newly, placing_rows_from, least_of, first_among, start_by, place_in, is_on_word, shares, word_rows, placing_of, is_sound, unit_placing_rows}
+use Rattle.source_verdict.specs.declaration_rows.DataRows.{placed, all_filled, data_rows_from, may_fill_all, blocks_with, names_filled, common_rows_from, unit_data_rows}
+use Rattle.source_verdict.specs.declaration_rows.SharedStorageRows.{Before, most_storage, length_in, furthest, measured_blocks, length_rows, size_rows, filled_blocks, filled_rows, unit_storage_rows}
+use Rattle.source_verdict.specs.declaration_rows.Verdicts.{unit_storage_faults}
 
 -- ## Lists
 

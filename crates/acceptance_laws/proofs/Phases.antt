@@ -1,27 +1,27 @@
 -- The phases that the verdict of a translation and the whole table have in common, and that a first refusal of one is a first refusal of the other.
 use Rattle.std.specs.Prelude.{◌≡◌, ◌≢◌, ℕ, suc, ◌<◌, ℤ, Bool, true, false, List, [], ◌∷◌, ◌++◌, Option, Some, None, if◌then◌else◌}
 use Rattle.std.proofs.Common.{refl, sym, subst, arith}
-use Rattle.f_tree.specs.declared.names.Options.{Options}
-use Rattle.f_tree.specs.declared.refusals.Kind.TheVariants.{NotBuiltYet}
-use Rattle.f_tree.specs.declared.refusals.Refusal.{Refusal}
-use Rattle.f_tree.specs.declared.statements.Stmt.{Stmt}
-use Rattle.f_tree.specs.declared.units.File.{File}
-use Rattle.f_tree.specs.declared.units.FileSet.{FileSet}
-use Rattle.f_tree.specs.declared.units.Unit.{Unit as WrittenUnit}
-use Rattle.f_tree.specs.RefusalRows.{IsNotAfter}
-use Rattle.f_tree.specs.Setting.{IsIn, first_in, later_in}
-use Rattle.declaration_rows.specs.GlobalRows.{all_units, units_global_rows}
-use Rattle.declaration_rows.specs.SetRows.{set_faults}
-use Rattle.declaration_rows.specs.SharedStorageRows.{units_storage_rows}
-use Rattle.declaration_rows.specs.Verdicts.{storage_faults, shared_faults}
-use Rattle.source_acceptance.specs.SourceFiles.{Source, SpellsSource}
-use Rattle.source_acceptance.specs.Acceptance as table
-use Rattle.source_acceptance.specs.Acceptance.{tree_faults}
-use Rattle.unit_translation.specs.UnitContents.{LoweredUnit, constants_passed}
-use Rattle.unit_translation.specs.UnitBodies.{all_lowered}
-use Rattle.named_units.specs.NamedUnits.{named_body_of}
-use Rattle.translated_files.specs.TranslatedFiles.{lowered_at, lowered_files, is_translated_form, form_row, row_unless, rows_of_lowering, rows_of_bodies, rows_of_files, rows_behind, units_not_translated, row_of_none, files_without_units, files_not_translated}
-use Rattle.source_verdict.specs.SourceRows.{Phase, Cards, Syntax, Nesting, Declarations, Forms, Sharing, place_of, Fault, of_declarations, of_forms, of_sharing, IsFirstRefusal}
+use Rattle.plain_mains.specs.f_tree.declared.names.Options.{Options}
+use Rattle.plain_mains.specs.f_tree.declared.refusals.Kind.TheVariants.{NotBuiltYet}
+use Rattle.plain_mains.specs.f_tree.declared.refusals.Refusal.{Refusal}
+use Rattle.plain_mains.specs.f_tree.declared.statements.Stmt.{Stmt}
+use Rattle.plain_mains.specs.f_tree.declared.units.File.{File}
+use Rattle.plain_mains.specs.f_tree.declared.units.FileSet.{FileSet}
+use Rattle.plain_mains.specs.f_tree.declared.units.Unit.{Unit as WrittenUnit}
+use Rattle.plain_mains.specs.f_tree.RefusalRows.{IsNotAfter}
+use Rattle.plain_mains.specs.f_tree.Setting.{IsIn, first_in, later_in}
+use Rattle.source_verdict.specs.declaration_rows.GlobalRows.{all_units, units_global_rows}
+use Rattle.source_verdict.specs.declaration_rows.SetRows.{set_faults}
+use Rattle.source_verdict.specs.declaration_rows.SharedStorageRows.{units_storage_rows}
+use Rattle.source_verdict.specs.declaration_rows.Verdicts.{storage_faults, shared_faults}
+use Rattle.source_verdict.specs.source_acceptance.SourceFiles.{Source, SpellsSource}
+use Rattle.source_verdict.specs.source_acceptance.Acceptance as table
+use Rattle.source_verdict.specs.source_acceptance.Acceptance.{tree_faults}
+use Rattle.source_verdict.specs.unit_translation.UnitContents.{LoweredUnit, constants_passed}
+use Rattle.source_verdict.specs.unit_translation.UnitBodies.{all_lowered}
+use Rattle.source_verdict.specs.named_units.NamedUnits.{named_body_of}
+use Rattle.source_verdict.specs.translated_files.TranslatedFiles.{lowered_at, lowered_files, is_translated_form, form_row, row_unless, rows_of_lowering, rows_of_bodies, rows_of_files, rows_behind, units_not_translated, row_of_none, files_without_units, files_not_translated}
+use Rattle.source_verdict.specs.SourceRows.{Translation, Phase, Cards, Syntax, Nesting, Declarations, Forms, Sharing, place_of, Fault, of_declarations, of_forms, of_sharing, IsFirstRefusal}
 use Rattle.source_verdict.proofs.EarlyPhases.{cards_down, syntax_down, nests_down, cards_up, syntax_up, nests_up, is_empty}
 
 -- ## Declarations
@@ -112,7 +112,7 @@ unfolding files_not_translated
 files_are options fs q among = in_either q (files_without_units 0 fs) (units_not_translated options fs) (without_are 0 fs q) (units_are options fs q) among
 
 forms_are : (options : Options) (source : Source) (r : Refusal) → Fault options source Forms r → IsForm r
-forms_are options source r (of_forms set _ spells among) = files_are options set.files r among
+forms_are options source r (of_forms translated set _ spells among) = files_are options set.files r among
 
 -- ## First refusals
 
@@ -159,13 +159,13 @@ module _ (options : Options) (source : Source) (r : Refusal) (first : IsFirstRef
   by_cards is = record {
     phase = table.Cards;
     read = λ earlier q before h. absurd (let below : table.place_of earlier < 0 = before in omega (arith, below));
-    holds = cards_up options source r (holds_at Cards is);
-    least = λ q h. least_at Cards is q (cards_down options source q h);
+    holds = cards_up Translation options source r (holds_at Cards is);
+    least = λ q h. least_at Cards is q (cards_down Translation options source q h);
   }
 
   before_syntax : first.phase ≡ Syntax → table.IsRead options source table.Syntax
   unfolding table.place_of place_of
-  before_syntax is table.Cards q before h = clear_at Syntax Cards is (omega arith) q (cards_down options source q h)
+  before_syntax is table.Cards q before h = clear_at Syntax Cards is (omega arith) q (cards_down Translation options source q h)
   before_syntax is table.Syntax q before h = absurd (omega (arith, before))
   before_syntax is table.Nesting q before h = absurd (omega (arith, before))
   before_syntax is table.Declarations q before h = absurd (omega (arith, before))
@@ -176,14 +176,14 @@ module _ (options : Options) (source : Source) (r : Refusal) (first : IsFirstRef
   by_syntax is = record {
     phase = table.Syntax;
     read = before_syntax is;
-    holds = syntax_up options source r (holds_at Syntax is);
-    least = λ q h. least_at Syntax is q (syntax_down options source q h);
+    holds = syntax_up Translation options source r (holds_at Syntax is);
+    least = λ q h. least_at Syntax is q (syntax_down Translation options source q h);
   }
 
   before_nests : first.phase ≡ Nesting → table.IsRead options source table.Nesting
   unfolding table.place_of place_of
-  before_nests is table.Cards q before h = clear_at Nesting Cards is (omega arith) q (cards_down options source q h)
-  before_nests is table.Syntax q before h = clear_at Nesting Syntax is (omega arith) q (syntax_down options source q h)
+  before_nests is table.Cards q before h = clear_at Nesting Cards is (omega arith) q (cards_down Translation options source q h)
+  before_nests is table.Syntax q before h = clear_at Nesting Syntax is (omega arith) q (syntax_down Translation options source q h)
   before_nests is table.Nesting q before h = absurd (omega (arith, before))
   before_nests is table.Declarations q before h = absurd (omega (arith, before))
   before_nests is table.Storage q before h = absurd (omega (arith, before))
@@ -193,15 +193,15 @@ module _ (options : Options) (source : Source) (r : Refusal) (first : IsFirstRef
   by_nests is = record {
     phase = table.Nesting;
     read = before_nests is;
-    holds = nests_up options source r (holds_at Nesting is);
-    least = λ q h. least_at Nesting is q (nests_down options source q h);
+    holds = nests_up Translation options source r (holds_at Nesting is);
+    least = λ q h. least_at Nesting is q (nests_down Translation options source q h);
   }
 
   before_declarations : first.phase ≡ Declarations → table.IsRead options source table.Declarations
   unfolding table.place_of place_of
-  before_declarations is table.Cards q before h = clear_at Declarations Cards is (omega arith) q (cards_down options source q h)
-  before_declarations is table.Syntax q before h = clear_at Declarations Syntax is (omega arith) q (syntax_down options source q h)
-  before_declarations is table.Nesting q before h = clear_at Declarations Nesting is (omega arith) q (nests_down options source q h)
+  before_declarations is table.Cards q before h = clear_at Declarations Cards is (omega arith) q (cards_down Translation options source q h)
+  before_declarations is table.Syntax q before h = clear_at Declarations Syntax is (omega arith) q (syntax_down Translation options source q h)
+  before_declarations is table.Nesting q before h = clear_at Declarations Nesting is (omega arith) q (nests_down Translation options source q h)
   before_declarations is table.Declarations q before h = absurd (omega (arith, before))
   before_declarations is table.Storage q before h = absurd (omega (arith, before))
   before_declarations is table.Sharing q before h = absurd (omega (arith, before))
@@ -216,16 +216,16 @@ module _ (options : Options) (source : Source) (r : Refusal) (first : IsFirstRef
 
   no_form : first.phase ≡ Sharing → (set : FileSet) → SpellsSource source set → files_not_translated options set.files ≡ []
   unfolding place_of
-  no_form is set spells = is_empty (files_not_translated options set.files) (λ q among. clear_at Sharing Forms is (omega arith) q (of_forms set q spells among))
+  no_form is set spells = is_empty (files_not_translated options set.files) (λ q among. clear_at Sharing Forms is (omega arith) q (of_forms refl set q spells among))
 
   no_stored : first.phase ≡ Sharing → SharesNoStorage options source → (q : Refusal) → table.Fault options source table.Storage q → ⊥
   no_stored is none q (table.of_trees _ set _ spells among) = stored_badly options set q (none set spells (no_form is set spells)).0 among
 
   before_sharing : first.phase ≡ Sharing → SharesNoStorage options source → table.IsRead options source table.Sharing
   unfolding table.place_of place_of
-  before_sharing is none table.Cards q before h = clear_at Sharing Cards is (omega arith) q (cards_down options source q h)
-  before_sharing is none table.Syntax q before h = clear_at Sharing Syntax is (omega arith) q (syntax_down options source q h)
-  before_sharing is none table.Nesting q before h = clear_at Sharing Nesting is (omega arith) q (nests_down options source q h)
+  before_sharing is none table.Cards q before h = clear_at Sharing Cards is (omega arith) q (cards_down Translation options source q h)
+  before_sharing is none table.Syntax q before h = clear_at Sharing Syntax is (omega arith) q (syntax_down Translation options source q h)
+  before_sharing is none table.Nesting q before h = clear_at Sharing Nesting is (omega arith) q (nests_down Translation options source q h)
   before_sharing is none table.Declarations q before h = clear_at Sharing Declarations is (omega arith) q (declarations_down options source q h)
   before_sharing is none table.Storage q before h = no_stored is none q h
   before_sharing is none table.Sharing q before h = absurd (omega (arith, before))

@@ -2,31 +2,31 @@
 use Rattle.std.specs.Prelude.{◌≡◌, ℕ, suc, ◌+◌, ◌<◌, Bool, true, false, ◌&&◌, List, [], ◌∷◌, ◌++◌, length, Option, Some, None, if◌then◌else◌}
 use Rattle.std.proofs.Common.{refl, sym, ap, ◌∙◌, subst}
 use Rattle.std.proofs.lemmas.Bool.{and_parts}
-use Rattle.f_tree.specs.declared.names.Class.{Class}
-use Rattle.f_tree.specs.declared.names.Class.TheVariants as class
-use Rattle.f_tree.specs.declared.names.Options.{Options}
-use Rattle.f_tree.specs.declared.refusals.Refusal.{Refusal}
-use Rattle.f_tree.specs.declared.units.File.{File}
-use Rattle.f_tree.specs.declared.units.FileSet.{FileSet}
-use Rattle.f_tree.specs.declared.units.Unit.{Unit as WrittenUnit}
-use Rattle.f_tree.specs.Facts.{UnitKind, Member}
-use Rattle.f_tree.specs.Setting.{IsIn}
-use Rattle.f_tree.specs.Attributes.{from_all, bare, Described}
-use Rattle.f_tree.specs.Lines.{size_of, is_stored, common_in, equivalence_in, data_in, unit_kind, program_of, with_ties, unit_read}
-use Rattle.declaration_rows.specs.GlobalRows.{all_units}
-use Rattle.declaration_rows.specs.SharedStorageRows.{Before, behind_unit, storage_rows_from, units_storage_rows}
-use Rattle.declaration_rows.specs.PlacingRows.{placing_of}
-use Rattle.declaration_rows.specs.Verdicts.{storage_faults_of, storage_faults, shared_faults}
-use Rattle.source_acceptance.specs.SourceFiles.{Source, SpellsSource}
-use Rattle.source_acceptance.specs.Acceptance as table
-use Rattle.source_acceptance.specs.Acceptance.{tree_faults}
-use Rattle.plain_forms.specs.PlainUnits.{has_none, has_own_storage, has_plain_lines, has_plain_bounds, is_plain_variable}
+use Rattle.plain_mains.specs.f_tree.declared.names.Class.{Class}
+use Rattle.plain_mains.specs.f_tree.declared.names.Class.TheVariants as class
+use Rattle.plain_mains.specs.f_tree.declared.names.Options.{Options}
+use Rattle.plain_mains.specs.f_tree.declared.refusals.Refusal.{Refusal}
+use Rattle.plain_mains.specs.f_tree.declared.units.File.{File}
+use Rattle.plain_mains.specs.f_tree.declared.units.FileSet.{FileSet}
+use Rattle.plain_mains.specs.f_tree.declared.units.Unit.{Unit as WrittenUnit}
+use Rattle.plain_mains.specs.f_tree.Facts.{UnitKind, Member}
+use Rattle.plain_mains.specs.f_tree.Setting.{IsIn}
+use Rattle.plain_mains.specs.f_tree.Attributes.{from_all, bare, Described}
+use Rattle.plain_mains.specs.f_tree.Lines.{size_of, is_stored, common_in, equivalence_in, data_in, unit_kind, program_of, with_ties, unit_read}
+use Rattle.source_verdict.specs.declaration_rows.GlobalRows.{all_units}
+use Rattle.source_verdict.specs.declaration_rows.SharedStorageRows.{Before, behind_unit, storage_rows_from, units_storage_rows}
+use Rattle.source_verdict.specs.declaration_rows.PlacingRows.{placing_of}
+use Rattle.source_verdict.specs.declaration_rows.Verdicts.{storage_faults_of, storage_faults, shared_faults}
+use Rattle.source_verdict.specs.source_acceptance.SourceFiles.{Source, SpellsSource}
+use Rattle.source_verdict.specs.source_acceptance.Acceptance as table
+use Rattle.source_verdict.specs.source_acceptance.Acceptance.{tree_faults}
+use Rattle.plain_mains.specs.plain_forms.PlainUnits.{has_none, has_own_storage, has_plain_lines, has_constant_bounds, is_plain_variable}
 use Rattle.plain_mains.proofs.PlainUnits.{none_is}
 use Rattle.plain_mains.proofs.StoredNames.{TellsStored, told_member}
-use Rattle.unit_forms.specs.PlainProcedures.{may_run, heading_fits, has_no_entries, is_plain_as, is_plain_name, each_name_is_plain, has_plain_heading, is_plain_unit}
-use Rattle.unit_translation.specs.UnitContents.{LoweredUnit}
-use Rattle.translated_files.specs.TranslatedFiles.{passes_tests, lowered_at, lowered_before, lowered_from, files_before, lowered_files, form_row, row_unless, rows_of_lowering, rows_behind, units_not_translated, files_without_units, files_not_translated}
-use Rattle.source_verdict.specs.SourceRows.{Cards, Syntax, Nesting, Declarations, IsAccepted}
+use Rattle.source_verdict.specs.unit_forms.PlainProcedures.{may_run, heading_fits, has_no_entries, is_plain_as, is_plain_name, each_name_is_plain, has_plain_heading, is_plain_unit}
+use Rattle.source_verdict.specs.unit_translation.UnitContents.{LoweredUnit}
+use Rattle.source_verdict.specs.translated_files.TranslatedFiles.{passes_tests, lowered_at, lowered_before, lowered_from, files_before, lowered_files, form_row, row_unless, rows_of_lowering, rows_behind, units_not_translated, files_without_units, files_not_translated}
+use Rattle.source_verdict.specs.SourceRows.{Translation, Cards, Syntax, Nesting, Declarations, IsAccepted}
 use Rattle.source_verdict.proofs.EarlyPhases.{cards_down, syntax_down, nests_down, accepted_forms, accepted_sharing}
 use Rattle.source_verdict.proofs.OneSet.{one_set}
 use Rattle.acceptance_laws.specs.WholeTable.{EachTranslatedSourceIsAccepted, EachEarlierRefusalIsFirst}
@@ -58,9 +58,9 @@ shares_nothing options u is =
       plain = (and_parts (has_plain_lines (unit_read options u)) (each_name_is_plain u) names).1;
     }
 
-variable_as : (kind : UnitKind) (k : Class) (d : Described) → is_stored (bare k None) ≡ true → is_plain_as kind k d ≡ true → is_plain_variable d ≡ true
+variable_as : (kind : UnitKind) (k : Class) (d : Described) → is_stored (bare k None) ≡ true → is_plain_as kind k d ≡ true → (has_constant_bounds d.attribute && is_plain_variable d) ≡ true
 unfolding is_stored bare is_plain_as
-variable_as kind class.Stored d stored plain = (and_parts (has_plain_bounds d.attribute) (is_plain_variable d) plain).1
+variable_as kind class.Stored d stored plain = plain
 variable_as kind class.Dummy d stored plain = absurd (cc)
 variable_as kind class.Result d stored plain = absurd (cc)
 variable_as kind class.Constant d stored plain = absurd (cc)
@@ -193,7 +193,7 @@ further_of : (options : Options) (source : Source) (set : FileSet) → IsAccepte
 unfolding shared_faults
 further_of options source set accepted =
     let rows = no_rows_of_storage options set (accepted_forms options source set accepted) in
-    record { storage = rows.0; shared = (λ i. accepted_sharing options source set accepted i ++ rows.1 i) }
+    record { storage = rows.0; shared = (λ i. accepted_sharing Translation options source set accepted i ++ rows.1 i) }
 
 no_storage : (options : Options) (source : Source) (set : FileSet) (r : Refusal) → SpellsSource source set → HasNoFurtherRow options set → table.Fault options source table.Storage r → ⊥
 unfolding tree_faults
@@ -212,9 +212,9 @@ accepted_by_all options source set accepted = record { whole = accepted.whole; s
     further = further_of options source set accepted
 
     sound : (phase : table.Phase) (r : Refusal) → table.Fault options source phase r → ⊥
-    sound table.Cards r h = accepted.sound Cards r (cards_down options source r h)
-    sound table.Syntax r h = accepted.sound Syntax r (syntax_down options source r h)
-    sound table.Nesting r h = accepted.sound Nesting r (nests_down options source r h)
+    sound table.Cards r h = accepted.sound Cards r (cards_down Translation options source r h)
+    sound table.Syntax r h = accepted.sound Syntax r (syntax_down Translation options source r h)
+    sound table.Nesting r h = accepted.sound Nesting r (nests_down Translation options source r h)
     sound table.Declarations r h = accepted.sound Declarations r (declarations_down options source r h)
     sound table.Storage r h = no_storage options source set r accepted.spelled further h
     sound table.Sharing r h = no_sharing options source set r accepted.spelled further h

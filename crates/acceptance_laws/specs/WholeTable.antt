@@ -1,12 +1,12 @@
 -- What the verdict of a translation says by the whole table of refusals: a source that is accepted for translation breaks no row of it, those of
 -- storage and of what units share included, and a refusal that is no F99 is the first by it. ANSI X3.9-1978, sections 2 to 18.
 use Rattle.std.specs.Prelude.{◌≢◌}
-use Rattle.f_tree.specs.declared.names.Options.{Options}
-use Rattle.f_tree.specs.declared.refusals.Kind.TheVariants.{NotBuiltYet}
-use Rattle.f_tree.specs.declared.refusals.Refusal.{Refusal}
-use Rattle.f_tree.specs.declared.units.FileSet.{FileSet}
-use Rattle.source_acceptance.specs.SourceFiles.{Source}
-use Rattle.source_acceptance.specs.Acceptance as whole
+use Rattle.plain_mains.specs.f_tree.declared.names.Options.{Options}
+use Rattle.plain_mains.specs.f_tree.declared.refusals.Kind.TheVariants.{NotBuiltYet}
+use Rattle.plain_mains.specs.f_tree.declared.refusals.Refusal.{Refusal}
+use Rattle.plain_mains.specs.f_tree.declared.units.FileSet.{FileSet}
+use Rattle.source_verdict.specs.source_acceptance.SourceFiles.{Source}
+use Rattle.source_verdict.specs.source_acceptance.Acceptance as whole
 use Rattle.source_verdict.specs.SourceRows as verdict
 
 -- LAWS

@@ -1,7 +1,7 @@
 -- What stands behind a piece that is wanted, and lists at a fuel that code counts down, for statements that assign, branch and call.
 use Rattle.std.specs.Prelude.{◌≡◌, ℕ, zero, suc, ◌-◌, ◌<◌, Bool, true, false, List, [], ◌∷◌, ◌++◌, Option, Some, None, if◌then◌else◌}
 use Rattle.std.proofs.Common.{refl, sym, subst, arith}
-use Rattle.fortran_lexemes.specs.Lexemes.{Lexemes}
+use Rattle.fortran_grammar.specs.fortran_lexemes.Lexemes.{Lexemes}
 use Rattle.fortran_grammar.specs.Forms.{Sort, sort, behind, Comma}
 use Rattle.grammar_laws.specs.Exactness.{Reader}
 use Rattle.grammar_laws.specs.FormReading.{same, going_on, items, up_to_piece}

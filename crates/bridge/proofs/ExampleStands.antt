@@ -1,46 +1,46 @@
 -- The example is translated.
 use Rattle.std.specs.Prelude.{◌≡◌, ℕ, zero, suc, ◌<◌, ◌≤◌, nat_lt, Bool, true, false, [], ◌∷◌, length, Some, None, slice_get, bytes_eq, if◌then◌else◌, map, ◌||◌, pos, ℤ, List, Option}
 use Rattle.std.proofs.Common.{refl, sym, ap, ◌∙◌, subst, arith}
-use Rattle.simulation.specs.LocalSimulation.{Local}
-use Rattle.run_state.specs.Units.{Units}
-use Rattle.f_tree.specs.declared.names.Basic.TheVariants as basic
-use Rattle.f_tree.specs.Values.{Bytes, Spot, Datum, IsInt, IsSpot, Checked, Gives, in_range}
-use Rattle.f_tree.specs.Store.{Sequence, Cell, Undefined, store_opened}
-use Rattle.f_tree.specs.Facts.{Home, Member, Frame, ProgramUnit, EntryPoint, Direction, Layout, Controls}
-use Rattle.f_tree.specs.Setting.{IsIn, first_in, later_in, HasUnit, unit_home, setting_opened}
-use Rattle.f_tree.specs.Valuing.{whole, named_as, stored_at, extent_of, elements_of}
-use Rattle.f_tree.specs.Images.{images_opened}
-use Rattle.f_tree.specs.World.{Called, TheMain}
-use Rattle.f_tree.specs.Meaning.{found_from, facts_at, start_world, world_with, answers_to}
-use Rattle.l_core.specs.Pures.{Pures}
-use Rattle.l_core.specs.Steps.{Step, Acts, Starts, Halt}
-use Rattle.l_core.specs.Costs.{cost, rest}
-use Rattle.lowering.specs.Units.{lowered_unit}
+use Rattle.lowering_laws.specs.simulation.LocalSimulation.{Local}
+use Rattle.lowering_laws.specs.run_state.Units.{Units}
+use Rattle.lowering_laws.specs.f_tree.declared.names.Basic.TheVariants as basic
+use Rattle.lowering_laws.specs.f_tree.Values.{Bytes, Spot, Datum, IsInt, IsSpot, Checked, Gives, in_range}
+use Rattle.lowering_laws.specs.f_tree.Store.{Sequence, Cell, Undefined, store_opened}
+use Rattle.lowering_laws.specs.f_tree.Facts.{Home, Member, Frame, ProgramUnit, EntryPoint, Direction, Layout, Controls}
+use Rattle.lowering_laws.specs.f_tree.Setting.{IsIn, first_in, later_in, HasUnit, unit_home, setting_opened}
+use Rattle.lowering_laws.specs.f_tree.Valuing.{whole, named_as, stored_at, extent_of, elements_of}
+use Rattle.lowering_laws.specs.f_tree.Images.{images_opened}
+use Rattle.lowering_laws.specs.f_tree.World.{Called, TheMain}
+use Rattle.lowering_laws.specs.f_tree.Meaning.{found_from, facts_at, start_world, world_with, answers_to}
+use Rattle.lowering_laws.specs.l_core.Pures.{Pures}
+use Rattle.lowering_laws.specs.l_core.Steps.{Step, Acts, Starts, Halt}
+use Rattle.lowering_laws.specs.l_core.Costs.{cost, rest}
+use Rattle.lowering_laws.specs.lowering.Units.{lowered_unit}
 use Rattle.lowering_laws.specs.Layer.{IsLaidOut, lower_couple, others_opened}
 use Rattle.lowering_laws.specs.Layout.{LoopsFit, with_loops, layout_opened}
 use Rattle.lowering_laws.specs.Examples.{letter, example_opened}
 use Rattle.lowering_laws.proofs.LayoutLemmas.{laid_out}
 use Rattle.lowering_laws.proofs.LocalLemmas.{simulates}
-use Rattle.c_tree.specs.Objects as objects_of
-use Rattle.c_tree.specs.Objects.{Object, bytes_of_number}
-use Rattle.c_tree.specs.Opened.{trees_opened}
-use Rattle.c_tree.specs.Linking as linking
-use Rattle.c_tree.specs.Linking.{program}
-use Rattle.c_tree.specs.Meaning.{text_of, main_number, step_factor}
-use Rattle.faithful.specs.Opened.{faithful_opened}
-use Rattle.faithful.specs.StorageImage.{NamesStand, StandsInItsObject, function_number, byte_for, cell_of}
-use Rattle.faithful.specs.FrameImage as frames
-use Rattle.faithful.specs.FrameImage.{ProcedureStands}
+use Rattle.emitted_texts.specs.c_tree.Objects as objects_of
+use Rattle.emitted_texts.specs.c_tree.Objects.{Object, bytes_of_number}
+use Rattle.emitted_texts.specs.c_tree.Opened.{trees_opened}
+use Rattle.emitted_texts.specs.c_tree.Linking as linking
+use Rattle.emitted_texts.specs.c_tree.Linking.{program}
+use Rattle.emitted_texts.specs.c_tree.Meaning.{text_of, main_number, step_factor}
+use Rattle.emitted_texts.specs.faithful.Opened.{faithful_opened}
+use Rattle.emitted_texts.specs.faithful.StorageImage.{NamesStand, StandsInItsObject, function_number, byte_for, cell_of}
+use Rattle.emitted_texts.specs.faithful.FrameImage as frames
+use Rattle.emitted_texts.specs.faithful.FrameImage.{ProcedureStands}
 use Rattle.std.specs.Ordering.{int_eq}
 use Rattle.std.proofs.lemmas.Bool.Decides.{Decides-int_eq}
-use Rattle.c_image.specs.Held.{Holds, number_object}
-use Rattle.output_laws.specs.ListedOutputs.{list_object}
-use Rattle.c_image.specs.Standing.{Stands, IsHoused, AreInRange, IsInRange, HasRoom}
-use Rattle.c_image.specs.Addresses.{Reaches, IsSound, Alone}
-use Rattle.c_emit.specs.Numbers.{numbers_opened}
-use Rattle.c_emit.specs.Types.{types_opened}
-use Rattle.c_emit.specs.Calls.{unit_of, calls_opened}
-use Rattle.c_emit.specs.Flats.{flats_opened}
+use Rattle.emitted_texts.specs.c_image.Held.{Holds, number_object}
+use Rattle.emitted_texts.specs.output_laws.ListedOutputs.{list_object}
+use Rattle.emitted_texts.specs.c_image.Standing.{Stands, IsHoused, AreInRange, IsInRange, HasRoom}
+use Rattle.emitted_texts.specs.c_image.Addresses.{Reaches, IsSound, Alone}
+use Rattle.emitted_texts.specs.c_emit.Numbers.{numbers_opened}
+use Rattle.emitted_texts.specs.c_emit.Types.{types_opened}
+use Rattle.emitted_texts.specs.c_emit.Calls.{unit_of, calls_opened}
+use Rattle.emitted_texts.specs.c_emit.Flats.{flats_opened}
 use Rattle.emitted_texts.specs.SecondLayer.{emit_couple}
 use Rattle.emitted_texts.specs.Emitted.{IsItem, leads, stage_behind, is_of_output, CallsFit, IsEmittedMain}
 use Rattle.emitted_texts.proofs.Simulated.{mains_are_simulated}

@@ -1,21 +1,21 @@
 -- The units and their functions are linked: each unit is simulated by its function, through its lowered text.
 use Rattle.std.specs.Prelude.{◌≡◌, ℕ, nat_lt, List, length, Option, Some, None, slice_get, if◌then◌else◌}
 use Rattle.std.proofs.Common.{refl, sym, ap, ◌∙◌, subst}
-use Rattle.simulation.specs.LocalSimulation.{Couple, Local}
-use Rattle.simulation.specs.Law.{couple, Linked}
-use Rattle.simulation.specs.Composition.{composite_kit, composite_pairing, Composable}
-use Rattle.simulation.proofs.Composing.{composite_simulates}
-use Rattle.f_tree.specs.Facts.{ProgramUnit, Facts}
-use Rattle.f_tree.specs.Setting.{Setting}
-use Rattle.f_tree.specs.Meaning as source
-use Rattle.f_tree.specs.Meaning.{found_from, facts_at}
-use Rattle.l_core.specs.Steps.{Text}
-use Rattle.l_core.specs.Costs.{rest}
+use Rattle.lowering_laws.specs.simulation.LocalSimulation.{Couple, Local}
+use Rattle.lowering_laws.specs.simulation.Law.{couple, Linked}
+use Rattle.lowering_laws.specs.simulation.Composition.{composite_kit, composite_pairing, Composable}
+use Rattle.lowering_laws.proofs.simulation.Composing.{composite_simulates}
+use Rattle.lowering_laws.specs.f_tree.Facts.{ProgramUnit, Facts}
+use Rattle.lowering_laws.specs.f_tree.Setting.{Setting}
+use Rattle.lowering_laws.specs.f_tree.Meaning as source
+use Rattle.lowering_laws.specs.f_tree.Meaning.{found_from, facts_at}
+use Rattle.lowering_laws.specs.l_core.Steps.{Text}
+use Rattle.lowering_laws.specs.l_core.Costs.{rest}
 use Rattle.lowering_laws.specs.Layer.{lower_kit, lower_pairing, lower_couple}
-use Rattle.c_tree.specs.declared.file.CFile.{CFile}
-use Rattle.c_tree.specs.Linking as linking
-use Rattle.c_tree.specs.Meaning.{step_factor}
-use Rattle.c_image_laws.proofs.Growing.{extends_through}
+use Rattle.emitted_texts.specs.c_tree.declared.file.CFile.{CFile}
+use Rattle.emitted_texts.specs.c_tree.Linking as linking
+use Rattle.emitted_texts.specs.c_tree.Meaning.{step_factor}
+use Rattle.emitted_texts.proofs.c_image_laws.Growing.{extends_through}
 use Rattle.emitted_texts.specs.SecondLayer.{Surroundings, Emission, emit_kit, emit_pairing, emit_couple}
 use Rattle.bridge.specs.Bridge.{Translation, MayRun, linking_of, IsTranslated}
 

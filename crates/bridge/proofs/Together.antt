@@ -1,38 +1,38 @@
 -- Alike states are the same, and so each run of the units is the run of the texts.
 use Rattle.std.specs.Prelude.{◌≡◌, ℕ, ◌≤◌, ◌*◌, not, cond, Bool, true, false, List, [], ◌∷◌, map, filter, Option, Some, None, option_and_then, slice_get}
 use Rattle.std.proofs.Common.{refl, sym, ap, ◌∙◌, subst}
-use Rattle.simulation.specs.Machine.{State, Broken, Frame, Has, numbers, run, begun, calling}
-use Rattle.simulation.specs.Law.{Alike, running, over, finished, undefined, unchanged, WaitingFrames, none, text, wrapper, unless_so, without}
-use Rattle.simulation.proofs.Runs.{run-broken}
-use Rattle.simulation.proofs.LawProof.{law}
-use Rattle.simulation.proofs.Corollaries.{same_texts}
-use Rattle.simulation.proofs.Waiting.{below_waits}
-use Rattle.run_state.specs.Units.{Units}
-use Rattle.f_tree.specs.Values.{NoMeaning}
-use Rattle.f_tree.specs.Facts.{ProgramUnit}
-use Rattle.f_tree.specs.Setting.{Setting}
-use Rattle.f_tree.specs.World as fortran
-use Rattle.f_tree.specs.World.{TheMain, fortran_sorts}
-use Rattle.f_tree.specs.Step.{fortran}
-use Rattle.f_tree.specs.Meaning as source
-use Rattle.f_tree.specs.Meaning.{RunState, found_from, started, ftn, act_of, call_of_main, start_world}
-use Rattle.l_core.specs.Machine.{View}
+use Rattle.lowering_laws.specs.simulation.Machine.{State, Broken, Frame, Has, numbers, run, begun, calling}
+use Rattle.lowering_laws.specs.simulation.Law.{Alike, running, over, finished, undefined, unchanged, WaitingFrames, none, text, wrapper, unless_so, without}
+use Rattle.lowering_laws.proofs.simulation.Runs.{run-broken}
+use Rattle.lowering_laws.proofs.simulation.LawProof.{law}
+use Rattle.lowering_laws.proofs.simulation.Corollaries.{same_texts}
+use Rattle.lowering_laws.proofs.simulation.Waiting.{below_waits}
+use Rattle.lowering_laws.specs.run_state.Units.{Units}
+use Rattle.lowering_laws.specs.f_tree.Values.{NoMeaning}
+use Rattle.lowering_laws.specs.f_tree.Facts.{ProgramUnit}
+use Rattle.lowering_laws.specs.f_tree.Setting.{Setting}
+use Rattle.lowering_laws.specs.f_tree.World as fortran
+use Rattle.lowering_laws.specs.f_tree.World.{TheMain, fortran_sorts}
+use Rattle.lowering_laws.specs.f_tree.Step.{fortran}
+use Rattle.lowering_laws.specs.f_tree.Meaning as source
+use Rattle.lowering_laws.specs.f_tree.Meaning.{RunState, found_from, started, ftn, act_of, call_of_main, start_world}
+use Rattle.lowering_laws.specs.l_core.Machine.{View}
 use Rattle.lowering_laws.specs.Layer.{lower_kit}
-use Rattle.simulation.specs.Composition.{composite_kit}
-use Rattle.c_tree.specs.declared.file.CFile.{CFile}
-use Rattle.c_tree.specs.declared.file.CFunction.{CFunction}
-use Rattle.c_tree.specs.World as c
-use Rattle.c_tree.specs.Linking as linking
-use Rattle.c_tree.specs.Meaning.{run_of, meaning, step_factor}
-use Rattle.c_tree.specs.Steps.{sorts}
-use Rattle.faithful.specs.StorageImage.{function_number}
-use Rattle.faithful.specs.FrameImage as each
-use Rattle.faithful.specs.FrameImage.{Each, FrameStands}
-use Rattle.faithful.specs.SameState as same
-use Rattle.faithful.specs.SameState.{is_inner, function_of, without_wrappers, SameWorld, SameActive, Same}
-use Rattle.faithful.specs.Faithful.{SameRuns}
-use Rattle.c_image.specs.World.{World, Extends}
-use Rattle.c_image_laws.proofs.Growing.{extends_through}
+use Rattle.lowering_laws.specs.simulation.Composition.{composite_kit}
+use Rattle.emitted_texts.specs.c_tree.declared.file.CFile.{CFile}
+use Rattle.emitted_texts.specs.c_tree.declared.file.CFunction.{CFunction}
+use Rattle.emitted_texts.specs.c_tree.World as c
+use Rattle.emitted_texts.specs.c_tree.Linking as linking
+use Rattle.emitted_texts.specs.c_tree.Meaning.{run_of, meaning, step_factor}
+use Rattle.emitted_texts.specs.c_tree.Steps.{sorts}
+use Rattle.emitted_texts.specs.faithful.StorageImage.{function_number}
+use Rattle.emitted_texts.specs.faithful.FrameImage as each
+use Rattle.emitted_texts.specs.faithful.FrameImage.{Each, FrameStands}
+use Rattle.emitted_texts.specs.faithful.SameState as same
+use Rattle.emitted_texts.specs.faithful.SameState.{is_inner, function_of, without_wrappers, SameWorld, SameActive, Same}
+use Rattle.emitted_texts.specs.faithful.Faithful.{SameRuns}
+use Rattle.emitted_texts.specs.c_image.World.{World, Extends}
+use Rattle.emitted_texts.proofs.c_image_laws.Growing.{extends_through}
 use Rattle.emitted_texts.specs.SecondLayer.{BothStand, emit_kit}
 use Rattle.bridge.specs.Bridge.{Translation, MayRun, is_wrapper, linking_of, IsTranslated, RunsAreTheSame}
 use Rattle.bridge.proofs.LinkedUnits.{linked}

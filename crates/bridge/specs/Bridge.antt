@@ -1,32 +1,32 @@
 -- A set of program units and the linked program of their C texts: what is asked of each unit and its function, of their names, and of the objects
 -- before the first step, and that then each run of the units is the run of the texts. ANSI X3.9-1978, sections 2.4, 14 and 15; C89, 3.1.2.2.
 use Rattle.std.specs.Prelude.{◌≡◌, ℕ, ◌<◌, ◌≤◌, nat_lt, Bool, true, false, not, List, length, Option, Some, None, slice_get}
-use Rattle.simulation.specs.LocalSimulation.{Local}
-use Rattle.simulation.specs.Law.{Linking}
-use Rattle.simulation.specs.Composition.{composite_kit, composite_pairing}
-use Rattle.run_state.specs.Units.{Units}
-use Rattle.f_tree.specs.Values.{NoMeaning}
-use Rattle.f_tree.specs.Facts.{Home, Member, ProgramUnit, Frame}
-use Rattle.f_tree.specs.Setting.{Setting, HasUnit, IsIn, unit_home}
-use Rattle.f_tree.specs.World.{Called, TheMain}
-use Rattle.f_tree.specs.Meaning as source
-use Rattle.f_tree.specs.Meaning.{found_from, facts_at, start_world, ftn, act_of}
-use Rattle.l_core.specs.Pures.{Temporaries}
-use Rattle.l_core.specs.Steps.{Text}
-use Rattle.l_core.specs.Costs.{rest}
+use Rattle.lowering_laws.specs.simulation.LocalSimulation.{Local}
+use Rattle.lowering_laws.specs.simulation.Law.{Linking}
+use Rattle.lowering_laws.specs.simulation.Composition.{composite_kit, composite_pairing}
+use Rattle.lowering_laws.specs.run_state.Units.{Units}
+use Rattle.lowering_laws.specs.f_tree.Values.{NoMeaning}
+use Rattle.lowering_laws.specs.f_tree.Facts.{Home, Member, ProgramUnit, Frame}
+use Rattle.lowering_laws.specs.f_tree.Setting.{Setting, HasUnit, IsIn, unit_home}
+use Rattle.lowering_laws.specs.f_tree.World.{Called, TheMain}
+use Rattle.lowering_laws.specs.f_tree.Meaning as source
+use Rattle.lowering_laws.specs.f_tree.Meaning.{found_from, facts_at, start_world, ftn, act_of}
+use Rattle.lowering_laws.specs.l_core.Pures.{Temporaries}
+use Rattle.lowering_laws.specs.l_core.Steps.{Text}
+use Rattle.lowering_laws.specs.l_core.Costs.{rest}
 use Rattle.lowering_laws.specs.Layer.{lower_kit, lower_pairing, lower_couple}
-use Rattle.c_tree.specs.declared.file.CFile.{CFile}
-use Rattle.c_tree.specs.declared.file.CFunction.{CFunction}
-use Rattle.c_tree.specs.Objects.{Object}
-use Rattle.c_tree.specs.Linking as linking
-use Rattle.c_tree.specs.Meaning.{machine, text_of, main_number, step_factor}
-use Rattle.faithful.specs.StorageImage.{NamesStand, function_number}
-use Rattle.faithful.specs.FrameImage.{ProcedureStands}
-use Rattle.faithful.specs.SameState.{is_inner}
-use Rattle.faithful.specs.Faithful.{SameRuns}
-use Rattle.c_image.specs.World.{World}
-use Rattle.c_image.specs.Standing.{Stands}
-use Rattle.c_emit_laws.specs.EmittedNumbers.{IsKnown}
+use Rattle.emitted_texts.specs.c_tree.declared.file.CFile.{CFile}
+use Rattle.emitted_texts.specs.c_tree.declared.file.CFunction.{CFunction}
+use Rattle.emitted_texts.specs.c_tree.Objects.{Object}
+use Rattle.emitted_texts.specs.c_tree.Linking as linking
+use Rattle.emitted_texts.specs.c_tree.Meaning.{machine, text_of, main_number, step_factor}
+use Rattle.emitted_texts.specs.faithful.StorageImage.{NamesStand, function_number}
+use Rattle.emitted_texts.specs.faithful.FrameImage.{ProcedureStands}
+use Rattle.emitted_texts.specs.faithful.SameState.{is_inner}
+use Rattle.emitted_texts.specs.faithful.Faithful.{SameRuns}
+use Rattle.emitted_texts.specs.c_image.World.{World}
+use Rattle.emitted_texts.specs.c_image.Standing.{Stands}
+use Rattle.emitted_texts.specs.c_emit_laws.EmittedNumbers.{IsKnown}
 use Rattle.emitted_texts.specs.SecondLayer.{Surroundings, Emission, IsFree, IsFrameOf, emit_kit, emit_pairing, emit_couple}
 
 -- of each unit its lowered text, what the steps of that cost, and its function

@@ -1,42 +1,42 @@
 -- A main program with a DO loop and a PRINT, the text that it is lowered to, and its C file:
 --     K = 0; DO 10 I = 1, 3; 10 K = K + I; PRINT *, K; END
 use Rattle.std.specs.Prelude.{ℕ, zero, suc, nat_eq, ℤ, pos, false, ◌||◌, List, [], ◌∷◌, Some, None, option_map, codes, bytes_eq, slice_get, if◌then◌else◌, Option}
-use Rattle.f_tree.specs.Values.{IsInt}
-use Rattle.f_tree.specs.Terms.{Add, IsLessOrEqual, Val, At, Between, NoMore, More}
+use Rattle.lowering_laws.specs.f_tree.Values.{IsInt}
+use Rattle.lowering_laws.specs.f_tree.Terms.{Add, IsLessOrEqual, Val, At, Between, NoMore, More}
 use Rattle.std.specs.Ordering.{int_eq}
-use Rattle.f_tree.specs.Facts.{Output, Listed, Item, Done, Before, MainProgram, ToSet, ToLoop, ToBegin, ToEnd, On, Plain, Line, Facts, ProgramUnit}
-use Rattle.f_tree.specs.Setting.{Setting, unit_home}
-use Rattle.f_tree.specs.Places.{place_of_label}
-use Rattle.l_core.specs.Pures.{Constant, Load, Operated, NoPure, AndPure}
-use Rattle.l_core.specs.Steps.{Starts, Takes, Finishes, Text, Step, Put, Unless, Again, Back, Acts}
-use Rattle.lowering.specs.Units.{start_of, lines_marks}
+use Rattle.lowering_laws.specs.f_tree.Facts.{Output, Listed, Item, Done, Before, MainProgram, ToSet, ToLoop, ToBegin, ToEnd, On, Plain, Line, Facts, ProgramUnit}
+use Rattle.lowering_laws.specs.f_tree.Setting.{Setting, unit_home}
+use Rattle.lowering_laws.specs.f_tree.Places.{place_of_label}
+use Rattle.lowering_laws.specs.l_core.Pures.{Constant, Load, Operated, NoPure, AndPure}
+use Rattle.lowering_laws.specs.l_core.Steps.{Starts, Takes, Finishes, Text, Step, Put, Unless, Again, Back, Acts}
+use Rattle.lowering_laws.specs.lowering.Units.{start_of, lines_marks}
 use Rattle.lowering_laws.specs.Examples.{letter, variable, an_integer, line, name, printing}
-use Rattle.c_tree.specs.declared.types.NumberType.TheVariants as number_type
-use Rattle.c_tree.specs.declared.types.ResultType.TheVariants as result
-use Rattle.c_tree.specs.declared.expression.BinaryOp.TheVariants as op
-use Rattle.c_tree.specs.declared.types.CastType.TheVariants as to
-use Rattle.c_tree.specs.declared.types.ListType.TheVariants as list_type
-use Rattle.c_tree.specs.declared.types.ArgumentType.TheVariants as argument
-use Rattle.c_tree.specs.declared.types.ParameterType.TheVariants as parameter
-use Rattle.c_tree.specs.declared.declaration.CField.TheVariants as field
-use Rattle.c_tree.specs.declared.expression.UnaryOp.TheVariants as prefix
-use Rattle.c_tree.specs.declared.expression.CExpr.{CExpr}
-use Rattle.c_tree.specs.declared.statement.CStmt.{CStmt}
-use Rattle.c_tree.specs.declared.expression.CExpr.TheVariants as expr
-use Rattle.c_tree.specs.declared.statement.CNext.TheVariants as next
-use Rattle.c_tree.specs.declared.statement.CStmt.TheVariants as stmt
-use Rattle.c_tree.specs.declared.declaration.CLocal.TheVariants as local
-use Rattle.c_tree.specs.declared.file.CFile.{CFile}
-use Rattle.c_tree.specs.declared.file.CFunction.{CFunction}
-use Rattle.c_tree.specs.Access.{ToNumber, ToList}
-use Rattle.c_tree.specs.Objects.{Object}
-use Rattle.c_tree.specs.Terms as c
-use Rattle.c_tree.specs.Flat.{Flat, Assign, Branch, Jump, Invoke, Return, Ignored, Direct}
-use Rattle.c_image.specs.Held.{number_object}
-use Rattle.c_emit.specs.Calls.{address_of}
-use Rattle.output_laws.specs.ListedOutputs.{list_object}
-use Rattle.c_image.specs.Addresses.{Alone}
-use Rattle.c_image.specs.Elements.{Written}
+use Rattle.emitted_texts.specs.c_tree.declared.types.NumberType.TheVariants as number_type
+use Rattle.emitted_texts.specs.c_tree.declared.types.ResultType.TheVariants as result
+use Rattle.emitted_texts.specs.c_tree.declared.expression.BinaryOp.TheVariants as op
+use Rattle.emitted_texts.specs.c_tree.declared.types.CastType.TheVariants as to
+use Rattle.emitted_texts.specs.c_tree.declared.types.ListType.TheVariants as list_type
+use Rattle.emitted_texts.specs.c_tree.declared.types.ArgumentType.TheVariants as argument
+use Rattle.emitted_texts.specs.c_tree.declared.types.ParameterType.TheVariants as parameter
+use Rattle.emitted_texts.specs.c_tree.declared.declaration.CField.TheVariants as field
+use Rattle.emitted_texts.specs.c_tree.declared.expression.UnaryOp.TheVariants as prefix
+use Rattle.emitted_texts.specs.c_tree.declared.expression.CExpr.{CExpr}
+use Rattle.emitted_texts.specs.c_tree.declared.statement.CStmt.{CStmt}
+use Rattle.emitted_texts.specs.c_tree.declared.expression.CExpr.TheVariants as expr
+use Rattle.emitted_texts.specs.c_tree.declared.statement.CNext.TheVariants as next
+use Rattle.emitted_texts.specs.c_tree.declared.statement.CStmt.TheVariants as stmt
+use Rattle.emitted_texts.specs.c_tree.declared.declaration.CLocal.TheVariants as local
+use Rattle.emitted_texts.specs.c_tree.declared.file.CFile.{CFile}
+use Rattle.emitted_texts.specs.c_tree.declared.file.CFunction.{CFunction}
+use Rattle.emitted_texts.specs.c_tree.Access.{ToNumber, ToList}
+use Rattle.emitted_texts.specs.c_tree.Objects.{Object}
+use Rattle.emitted_texts.specs.c_tree.Terms as c
+use Rattle.emitted_texts.specs.c_tree.Flat.{Flat, Assign, Branch, Jump, Invoke, Return, Ignored, Direct}
+use Rattle.emitted_texts.specs.c_image.Held.{number_object}
+use Rattle.emitted_texts.specs.c_emit.Calls.{address_of}
+use Rattle.emitted_texts.specs.output_laws.ListedOutputs.{list_object}
+use Rattle.emitted_texts.specs.c_image.Addresses.{Alone}
+use Rattle.emitted_texts.specs.c_image.Elements.{Written}
 use Rattle.emitted_texts.specs.SecondLayer.{Surroundings, Emission}
 use Rattle.bridge.specs.Bridge.{Translation}
 

@@ -1,11 +1,11 @@
 //! An instance of what the law asks for.
 
 ghost use Rattle.std.specs.Prelude.{◌≡◌, ℕ, Some};
-ghost use Rattle.run_state.specs.Units.{Units};
-ghost use Rattle.f_tree.specs.Values.{NoMeaning};
-ghost use Rattle.f_tree.specs.Meaning.{ftn, act_of};
-ghost use Rattle.lowering.specs.Units.{lowered_unit};
-ghost use Rattle.faithful.specs.Faithful.{SameRuns};
+ghost use Rattle.lowering_laws.specs.run_state.Units.{Units};
+ghost use Rattle.lowering_laws.specs.f_tree.Values.{NoMeaning};
+ghost use Rattle.lowering_laws.specs.f_tree.Meaning.{ftn, act_of};
+ghost use Rattle.lowering_laws.specs.lowering.Units.{lowered_unit};
+ghost use Rattle.emitted_texts.specs.faithful.Faithful.{SameRuns};
 ghost use Rattle.bridge.specs.Bridge.{IsTranslated};
 ghost use Rattle.bridge.specs.Example.{its_units, its_setting, its_facts, its_text, its_files, its_translation};
 

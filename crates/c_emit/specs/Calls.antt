@@ -2,19 +2,19 @@
 -- and for a function of numbers that C has in its library. ANSI X3.9-1978, sections 6.1.2.1, 11.12, 12.8, 13.6 and 15.10; MIL-STD-1753; CSTR 149, on the run
 -- time library.
 use Rattle.std.specs.Prelude.{ℕ, ◌+◌, ℤ, pos, Bool, true, false, ◌&&◌, List, [], ◌∷◌, map, length, position, Option, Some, None, is_none, option_and_then, unwrap_or, bytes_eq, codes, if◌then◌else◌}
-use Rattle.f_tree.specs.declared.names.Basic.{Basic}
-use Rattle.f_tree.specs.declared.names.Basic.TheVariants.{Integer, Logical}
-use Rattle.f_tree.specs.Values.{Bytes, Datum, IsInt, IsLog, in_range}
-use Rattle.f_tree.specs.Facts.{Word, UnitWord, Controls}
+use Rattle.l_core.specs.f_tree.declared.names.Basic.{Basic}
+use Rattle.l_core.specs.f_tree.declared.names.Basic.TheVariants.{Integer, Logical}
+use Rattle.l_core.specs.f_tree.Values.{Bytes, Datum, IsInt, IsLog, in_range}
+use Rattle.l_core.specs.f_tree.Facts.{Word, UnitWord, Controls}
 use Rattle.l_core.specs.Pures.{Pure, Constant, Temporary, Load, Pures, NoPure, AndPure}
-use Rattle.c_tree.specs.declared.types.CastType.TheVariants as to
-use Rattle.c_tree.specs.declared.types.ListType.TheVariants as list_type
-use Rattle.c_tree.specs.declared.expression.UnaryOp.TheVariants as prefix
-use Rattle.c_tree.specs.Access.{ToNumber, ToChar, ToList}
-use Rattle.c_tree.specs.Terms as c
-use Rattle.c_tree.specs.Terms.{Term}
-use Rattle.c_tree.specs.Flat.{Flat, Invoke, Ignored, Kept, Direct}
-use Rattle.c_tree.specs.Builtins.{builtin_names}
+use Rattle.c_image.specs.c_tree.declared.types.CastType.TheVariants as to
+use Rattle.c_image.specs.c_tree.declared.types.ListType.TheVariants as list_type
+use Rattle.c_image.specs.c_tree.declared.expression.UnaryOp.TheVariants as prefix
+use Rattle.c_image.specs.c_tree.Access.{ToNumber, ToChar, ToList}
+use Rattle.c_image.specs.c_tree.Terms as c
+use Rattle.c_image.specs.c_tree.Terms.{Term}
+use Rattle.c_image.specs.c_tree.Flat.{Flat, Invoke, Ignored, Kept, Direct}
+use Rattle.c_image.specs.c_tree.Builtins.{builtin_names}
 use Rattle.c_emit.specs.Numbers.{Writing, one_more, place_term, if_number}
 use Rattle.c_emit.specs.LibraryFunctions.{LibraryFunction}
 use Rattle.c_emit.specs.Types.{type_of}

@@ -2,9 +2,9 @@
 -- None of a function that C writes with operators, nor of one over texts. ANSI X3.9-1978, sections 6.1.2.1 and 15.10; MIL-STD-1753 for the bit
 -- functions; CSTR 149, on the run time library.
 use Rattle.std.specs.Prelude.{ℕ, List, [], ◌∷◌, Option, Some, None, option_map, codes}
-use Rattle.f_tree.specs.declared.names.Basic.{Basic}
-use Rattle.f_tree.specs.declared.names.Basic.TheVariants.{Integer, Logical}
-use Rattle.f_tree.specs.Terms as fortran
+use Rattle.l_core.specs.f_tree.declared.names.Basic.{Basic}
+use Rattle.l_core.specs.f_tree.declared.names.Basic.TheVariants.{Integer, Logical}
+use Rattle.l_core.specs.f_tree.Terms as fortran
 
 pub record LibraryFunction : Type 0 where
   pub name : List ℕ

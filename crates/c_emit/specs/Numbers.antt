@@ -1,16 +1,16 @@
 -- The C expression for a lowered value that is a number or a truth value. None where the value is a text, or takes a call of the library.
 -- ANSI X3.9-1978, sections 5.4, 6 and 15.10; C89, 3.3.
 use Rattle.std.specs.Prelude.{ℕ, suc, ℤ, pos, Bool, true, false, not, List, [], ◌∷◌, ◌&&◌, Option, Some, None, option_map, if◌then◌else◌}
-use Rattle.f_tree.specs.declared.names.Basic.{Basic}
-use Rattle.f_tree.specs.declared.names.Basic.TheVariants.{Integer, Logical, Character, Untyped}
-use Rattle.f_tree.specs.declared.names.Class.{Class}
-use Rattle.f_tree.specs.declared.names.Class.TheVariants as class
-use Rattle.f_tree.specs.Values.{Bytes, Datum, IsInt, IsLog, in_range}
-use Rattle.f_tree.specs.Facts.{Bounds, Facts}
+use Rattle.l_core.specs.f_tree.declared.names.Basic.{Basic}
+use Rattle.l_core.specs.f_tree.declared.names.Basic.TheVariants.{Integer, Logical, Character, Untyped}
+use Rattle.l_core.specs.f_tree.declared.names.Class.{Class}
+use Rattle.l_core.specs.f_tree.declared.names.Class.TheVariants as class
+use Rattle.l_core.specs.f_tree.Values.{Bytes, Datum, IsInt, IsLog, in_range}
+use Rattle.l_core.specs.f_tree.Facts.{Bounds, Facts}
 use Rattle.l_core.specs.Pures.{Pure, Constant, Temporary, Load, Name, ElementOf, Prefixed, Operated, Applied, Chosen, Pures, NoPure, AndPure}
-use Rattle.c_tree.specs.Access.{ToNumber}
-use Rattle.c_tree.specs.Terms as c
-use Rattle.c_tree.specs.Terms.{Term}
+use Rattle.c_image.specs.c_tree.Access.{ToNumber}
+use Rattle.c_image.specs.c_tree.Terms as c
+use Rattle.c_image.specs.c_tree.Terms.{Term}
 use Rattle.c_image.specs.Addresses.{number_term, element_term}
 use Rattle.c_image.specs.Elements.{Step, step_for, index_term}
 use Rattle.c_image.specs.Operations.{constant_term, prefix_for, operator_for, function_term}

@@ -1,10 +1,10 @@
 -- The type of a lowered value, where it is an integer or a logical. ANSI X3.9-1978, sections 4, 6.1, 6.3, 6.4 and 15.10.
 use Rattle.std.specs.Prelude.{ℕ, Option, Some, None}
-use Rattle.f_tree.specs.declared.names.Basic.{Basic}
-use Rattle.f_tree.specs.declared.names.Basic.TheVariants.{Integer, Logical}
-use Rattle.f_tree.specs.Values.{Datum, IsInt, IsLog}
-use Rattle.f_tree.specs.Terms.{Prefix, Negate, Complement, Operator, Add, Subtract, Multiply, Divide}
-use Rattle.f_tree.specs.Terms as fortran
+use Rattle.l_core.specs.f_tree.declared.names.Basic.{Basic}
+use Rattle.l_core.specs.f_tree.declared.names.Basic.TheVariants.{Integer, Logical}
+use Rattle.l_core.specs.f_tree.Values.{Datum, IsInt, IsLog}
+use Rattle.l_core.specs.f_tree.Terms.{Prefix, Negate, Complement, Operator, Add, Subtract, Multiply, Divide}
+use Rattle.l_core.specs.f_tree.Terms as fortran
 use Rattle.l_core.specs.Pures.{Pure, Constant, Temporary, Load, Name, ElementOf, Prefixed, Operated, Applied}
 use Rattle.c_emit.specs.Numbers.{Writing}
 

@@ -1,7 +1,7 @@
 -- What is had where a choice of the definitions has been made.
 use Rattle.std.specs.Prelude.{◌≡◌, Option, Some, None, option_map}
 use Rattle.std.proofs.Common.{refl}
-use Rattle.f_tree.specs.Values.{Checked, Gives, Fails, given_that}
+use Rattle.c_emit.specs.f_tree.Values.{Checked, Gives, Fails, given_that}
 
 -- what has a value, if what is done with it has one
 pub record Got {A B : Type 0} (x : Checked A) (go : A → Checked B) (d : B) : Type 0 where

@@ -2,38 +2,38 @@
 use Rattle.std.specs.Prelude.{◌≡◌, ℕ, suc, ◌+◌, ◌-◌, nat_lt, ℤ, Bool, true, false, ◌&&◌, List, [], ◌∷◌, map, length, replicate, position, Option, Some, None, Ok, unwrap_or, bytes_eq, slice_get, slice_set, if◌then◌else◌}
 use Rattle.std.proofs.Common.{refl, sym, ap, ◌∙◌, subst, arith}
 use Rattle.std.proofs.lemmas.Bool.{le-ltb}
-use Rattle.simulation.specs.Machine.{Goes, Calls, Breaks}
-use Rattle.f_tree.specs.Values.{Datum, IsInt, IsLog, IsText, IsSpot, Gives, given_that}
-use Rattle.f_tree.specs.Values as fortran_values
-use Rattle.f_tree.specs.Terms as fortran
-use Rattle.f_tree.specs.Store.{Whole}
-use Rattle.f_tree.specs.Store as store
-use Rattle.f_tree.specs.Valuing.{applied}
-use Rattle.f_tree.specs.World as fortran_world
-use Rattle.l_core.specs.Pures.{all_meant}
-use Rattle.l_core.specs.Machine.{View, done, step, keeping}
-use Rattle.c_tree.specs.declared.outcome.CValue.{CValue}
-use Rattle.c_tree.specs.declared.outcome.CValue.TheVariants.{Number, Pointer, Function}
-use Rattle.c_tree.specs.declared.outcome.CFault.TheVariants.{Disagree}
-use Rattle.c_tree.specs.Faults.{Faults, after}
-use Rattle.c_tree.specs.Access.{ToNumber}
-use Rattle.c_tree.specs.Objects as objects_of
-use Rattle.c_tree.specs.Objects.{Object, Place, stored}
-use Rattle.c_tree.specs.Terms.{Term, Variable}
-use Rattle.c_tree.specs.Values.{seen, value_of, values_of}
-use Rattle.c_tree.specs.Flat.{Flat, Invoke, Kept, Direct}
-use Rattle.c_tree.specs.World as c
-use Rattle.c_tree.specs.Linking as linking
-use Rattle.c_tree.specs.Builtins as builtins
-use Rattle.c_tree.specs.Builtins.{Builtin, Signature, signature, signatures, builtin_names, APointer}
-use Rattle.c_tree.specs.LibraryArguments.{number_through}
-use Rattle.c_tree.specs.Library.{library}
-use Rattle.c_tree.specs.Steps as c_steps
-use Rattle.c_tree.specs.Steps.{Wants, WantsValue, called, library_called, replied, moving, takes_all, may_give, past, deed}
-use Rattle.c_laws.proofs.ValueLaws.{values_of-cons}
-use Rattle.faithful.specs.StorageImage.{number_for}
-use Rattle.c_image.specs.Operations.{library_for}
-use Rattle.c_image.specs.Held.{whole_for}
+use Rattle.c_emit.specs.simulation.Machine.{Goes, Calls, Breaks}
+use Rattle.c_emit.specs.f_tree.Values.{Datum, IsInt, IsLog, IsText, IsSpot, Gives, given_that}
+use Rattle.c_emit.specs.f_tree.Values as fortran_values
+use Rattle.c_emit.specs.f_tree.Terms as fortran
+use Rattle.c_emit.specs.f_tree.Store.{Whole}
+use Rattle.c_emit.specs.f_tree.Store as store
+use Rattle.c_emit.specs.f_tree.Valuing.{applied}
+use Rattle.c_emit.specs.f_tree.World as fortran_world
+use Rattle.c_emit.specs.l_core.Pures.{all_meant}
+use Rattle.c_emit.specs.l_core.Machine.{View, done, step, keeping}
+use Rattle.c_emit.specs.c_tree.declared.outcome.CValue.{CValue}
+use Rattle.c_emit.specs.c_tree.declared.outcome.CValue.TheVariants.{Number, Pointer, Function}
+use Rattle.c_emit.specs.c_tree.declared.outcome.CFault.TheVariants.{Disagree}
+use Rattle.c_emit.specs.c_tree.Faults.{Faults, after}
+use Rattle.c_emit.specs.c_tree.Access.{ToNumber}
+use Rattle.c_emit.specs.c_tree.Objects as objects_of
+use Rattle.c_emit.specs.c_tree.Objects.{Object, Place, stored}
+use Rattle.c_emit.specs.c_tree.Terms.{Term, Variable}
+use Rattle.c_emit.specs.c_tree.Values.{seen, value_of, values_of}
+use Rattle.c_emit.specs.c_tree.Flat.{Flat, Invoke, Kept, Direct}
+use Rattle.c_emit.specs.c_tree.World as c
+use Rattle.c_emit.specs.c_tree.Linking as linking
+use Rattle.c_emit.specs.c_tree.Builtins as builtins
+use Rattle.c_emit.specs.c_tree.Builtins.{Builtin, Signature, signature, signatures, builtin_names, APointer}
+use Rattle.c_emit.specs.c_tree.LibraryArguments.{number_through}
+use Rattle.c_emit.specs.c_tree.Library.{library}
+use Rattle.c_emit.specs.c_tree.Steps as c_steps
+use Rattle.c_emit.specs.c_tree.Steps.{Wants, WantsValue, called, library_called, replied, moving, takes_all, may_give, past, deed}
+use Rattle.c_image_laws.proofs.c_laws.ValueLaws.{values_of-cons}
+use Rattle.c_emit.specs.faithful.StorageImage.{number_for}
+use Rattle.c_emit.specs.c_image.Operations.{library_for}
+use Rattle.c_emit.specs.c_image.Held.{whole_for}
 use Rattle.c_image_laws.proofs.AddressValues.{Address-points}
 use Rattle.c_image_laws.proofs.FunctionValues.{library_meant, complement_meant}
 use Rattle.c_emit.specs.LibraryFunctions.{LibraryFunction, pow_ii, i_sign, i_dim, i_or, i_and, i_eor, i_not, i_shft, b_test, b_set, b_clr, library_function}

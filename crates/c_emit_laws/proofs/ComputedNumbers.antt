@@ -5,11 +5,11 @@ use Rattle.std.specs.Ordering.{int_eq}
 use Rattle.std.specs.Int.{w32, cast_signed, cast_unsigned}
 use Rattle.std.proofs.Common.{refl, sym, ap, ◌∙◌, subst, arith}
 use Rattle.std.proofs.lemmas.Bool.{le-leb, ltb-true, ltb-false}
-use Rattle.run_state.specs.Bits.{inclusive_or, logical_product, exclusive_or, complement, shifted, bit_at, has_bit, with_bit, without_bit}
-use Rattle.f_tree.specs.declared.names.Basic.TheVariants.{Integer, Logical}
-use Rattle.f_tree.specs.Values.{Datum, IsInt, IsLog, Checked, Gives, Fails, ZeroDivide, in_range, checked}
-use Rattle.f_tree.specs.Terms as fortran
-use Rattle.f_tree.specs.Valuing.{applied, raised, inverse_of, divided, power_of, with_sign_of, difference_over, if_bits, if_bit}
+use Rattle.c_emit.specs.run_state.Bits.{inclusive_or, logical_product, exclusive_or, complement, shifted, bit_at, has_bit, with_bit, without_bit}
+use Rattle.c_emit.specs.f_tree.declared.names.Basic.TheVariants.{Integer, Logical}
+use Rattle.c_emit.specs.f_tree.Values.{Datum, IsInt, IsLog, Checked, Gives, Fails, ZeroDivide, in_range, checked}
+use Rattle.c_emit.specs.f_tree.Terms as fortran
+use Rattle.c_emit.specs.f_tree.Valuing.{applied, raised, inverse_of, divided, power_of, with_sign_of, difference_over, if_bits, if_bit}
 use Rattle.c_image_laws.proofs.OperatorValues.{is_checked, same_range}
 use Rattle.c_emit.specs.Types.{HasType}
 use Rattle.c_emit.specs.LibraryFunctions.{LibraryFunction, pow_ii, i_sign, i_dim, i_or, i_and, i_eor, i_not, i_shft, b_test, b_set, b_clr, library_function, library_type}

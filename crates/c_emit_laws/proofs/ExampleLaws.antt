@@ -1,13 +1,13 @@
 -- The example is known, and its values are written as it says.
 use Rattle.std.specs.Prelude.{◌≡◌, ℕ, zero, suc, pos, true, Some, None, slice_get, List, []}
 use Rattle.std.proofs.Common.{refl, sym, ap, ◌∙◌, subst, arith}
-use Rattle.f_tree.specs.declared.names.Basic.TheVariants.{Integer}
-use Rattle.f_tree.specs.Values.{Bytes, Spot, Datum, IsInt, IsSpot, Gives, in_range, values_opened}
-use Rattle.f_tree.specs.Store.{Whole, Number, store_opened}
-use Rattle.f_tree.specs.Valuing.{whole, bounds_of, valuing_opened}
-use Rattle.l_core.specs.Pures.{meant, pures_opened}
-use Rattle.c_image.specs.Addresses.{Reaches, IsSound, Through}
-use Rattle.c_image.specs.Held.{whole_for, Holds}
+use Rattle.c_emit.specs.f_tree.declared.names.Basic.TheVariants.{Integer}
+use Rattle.c_emit.specs.f_tree.Values.{Bytes, Spot, Datum, IsInt, IsSpot, Gives, in_range, values_opened}
+use Rattle.c_emit.specs.f_tree.Store.{Whole, Number, store_opened}
+use Rattle.c_emit.specs.f_tree.Valuing.{whole, bounds_of, valuing_opened}
+use Rattle.c_emit.specs.l_core.Pures.{meant, pures_opened}
+use Rattle.c_emit.specs.c_image.Addresses.{Reaches, IsSound, Through}
+use Rattle.c_emit.specs.c_image.Held.{whole_for, Holds}
 use Rattle.c_image_laws.specs.Example.{two_homes, two_sequences, three_objects}
 use Rattle.c_image_laws.specs.Meanings.{Means}
 use Rattle.c_image_laws.proofs.ExampleStands.{example_stands}

@@ -4,23 +4,23 @@ use Rattle.std.specs.Ordering.{int_eq}
 use Rattle.std.proofs.Common.{refl, sym, ap, ◌∙◌, subst, arith}
 use Rattle.std.proofs.lemmas.Bool.{le-leb, leb-true}
 use Rattle.std.proofs.lemmas.Int.{rem_below}
-use Rattle.f_tree.specs.declared.names.Basic.{Basic}
-use Rattle.f_tree.specs.declared.names.Basic.TheVariants as basic
-use Rattle.f_tree.specs.Values.{Bytes, Spot, Datum, IsInt, IsLog, IsText, IsSpot, Checked, Gives, Fails, ZeroDivide, in_range, checked, given_that}
-use Rattle.f_tree.specs.Values as fortran
-use Rattle.f_tree.specs.Terms.{Prefix, Operator, Function}
-use Rattle.f_tree.specs.Terms as operation
-use Rattle.f_tree.specs.Store.{Store, Whole, Number, Truth, Label, Cell, Part, same_whole, fetch, fetch_as, value_of_type, whole_of, whole_at}
-use Rattle.f_tree.specs.Valuing.{prefixed, operated, on_integers, on_logicals, on_texts, divided, applied, extreme, int_max, int_min, remainder_of}
-use Rattle.c_tree.specs.Access.{ToNumber}
-use Rattle.c_tree.specs.Terms.{Term}
-use Rattle.faithful.specs.StorageImage.{number_for}
-use Rattle.c_image.specs.World.{World}
-use Rattle.c_image.specs.Standing.{Stands}
-use Rattle.c_tree.specs.Objects.{Object}
-use Rattle.c_image.specs.Held.{whole_for}
-use Rattle.c_image.specs.Addresses.{access_to}
-use Rattle.c_image.specs.Operations.{function_term}
+use Rattle.c_emit.specs.f_tree.declared.names.Basic.{Basic}
+use Rattle.c_emit.specs.f_tree.declared.names.Basic.TheVariants as basic
+use Rattle.c_emit.specs.f_tree.Values.{Bytes, Spot, Datum, IsInt, IsLog, IsText, IsSpot, Checked, Gives, Fails, ZeroDivide, in_range, checked, given_that}
+use Rattle.c_emit.specs.f_tree.Values as fortran
+use Rattle.c_emit.specs.f_tree.Terms.{Prefix, Operator, Function}
+use Rattle.c_emit.specs.f_tree.Terms as operation
+use Rattle.c_emit.specs.f_tree.Store.{Store, Whole, Number, Truth, Label, Cell, Part, same_whole, fetch, fetch_as, value_of_type, whole_of, whole_at}
+use Rattle.c_emit.specs.f_tree.Valuing.{prefixed, operated, on_integers, on_logicals, on_texts, divided, applied, extreme, int_max, int_min, remainder_of}
+use Rattle.c_emit.specs.c_tree.Access.{ToNumber}
+use Rattle.c_emit.specs.c_tree.Terms.{Term}
+use Rattle.c_emit.specs.faithful.StorageImage.{number_for}
+use Rattle.c_emit.specs.c_image.World.{World}
+use Rattle.c_emit.specs.c_image.Standing.{Stands}
+use Rattle.c_emit.specs.c_tree.Objects.{Object}
+use Rattle.c_emit.specs.c_image.Held.{whole_for}
+use Rattle.c_emit.specs.c_image.Addresses.{access_to}
+use Rattle.c_emit.specs.c_image.Operations.{function_term}
 use Rattle.c_image_laws.proofs.FetchedPlaces.{is_fetched}
 use Rattle.c_image_laws.proofs.OperatorValues.{is_checked, same_range}
 

@@ -1,23 +1,23 @@
 -- What holds a value that is passed by its address: the object of a constant or of a temporary, or a place. It holds the value there.
 use Rattle.std.specs.Prelude.{◌≡◌, ℕ, ℤ, pos, Bool, true, false, List, [], ◌∷◌, map, Option, Some, None, Ok}
 use Rattle.std.proofs.Common.{refl, sym, ap, ◌∙◌, subst}
-use Rattle.f_tree.specs.Values.{Datum, IsInt, IsLog, IsText, IsSpot, Gives, given_that}
-use Rattle.f_tree.specs.Values as fortran_values
-use Rattle.f_tree.specs.Store.{Store, Whole, Number as ANumber, Truth}
-use Rattle.f_tree.specs.Facts.{Frame}
-use Rattle.f_tree.specs.Valuing.{fetched as fetched_there}
-use Rattle.l_core.specs.Pures.{Pure, Constant, Temporary, Load, Name, AllOf, ElementOf, FirstOf, Substring, Concatenated, Prefixed, Operated, Applied, Chosen, Pures, NoPure, AndPure, Temporaries, if_kept, meant, all_meant}
-use Rattle.c_tree.specs.declared.outcome.CValue.TheVariants.{Number, Pointer}
-use Rattle.c_tree.specs.Faults.{after}
-use Rattle.c_tree.specs.Access.{ToNumber}
-use Rattle.c_tree.specs.Objects.{Object, plain, as_number, fetched}
-use Rattle.c_tree.specs.Terms.{Term, Variable}
-use Rattle.c_tree.specs.Values as c_values
-use Rattle.c_tree.specs.LibraryArguments.{number_through}
-use Rattle.faithful.specs.StorageImage.{number_for}
-use Rattle.c_image.specs.World.{World}
-use Rattle.c_image.specs.Standing.{Stands}
-use Rattle.c_image.specs.Held.{whole_for, Holds}
+use Rattle.c_emit.specs.f_tree.Values.{Datum, IsInt, IsLog, IsText, IsSpot, Gives, given_that}
+use Rattle.c_emit.specs.f_tree.Values as fortran_values
+use Rattle.c_emit.specs.f_tree.Store.{Store, Whole, Number as ANumber, Truth}
+use Rattle.c_emit.specs.f_tree.Facts.{Frame}
+use Rattle.c_emit.specs.f_tree.Valuing.{fetched as fetched_there}
+use Rattle.c_emit.specs.l_core.Pures.{Pure, Constant, Temporary, Load, Name, AllOf, ElementOf, FirstOf, Substring, Concatenated, Prefixed, Operated, Applied, Chosen, Pures, NoPure, AndPure, Temporaries, if_kept, meant, all_meant}
+use Rattle.c_emit.specs.c_tree.declared.outcome.CValue.TheVariants.{Number, Pointer}
+use Rattle.c_emit.specs.c_tree.Faults.{after}
+use Rattle.c_emit.specs.c_tree.Access.{ToNumber}
+use Rattle.c_emit.specs.c_tree.Objects.{Object, plain, as_number, fetched}
+use Rattle.c_emit.specs.c_tree.Terms.{Term, Variable}
+use Rattle.c_emit.specs.c_tree.Values as c_values
+use Rattle.c_emit.specs.c_tree.LibraryArguments.{number_through}
+use Rattle.c_emit.specs.faithful.StorageImage.{number_for}
+use Rattle.c_emit.specs.c_image.World.{World}
+use Rattle.c_emit.specs.c_image.Standing.{Stands}
+use Rattle.c_emit.specs.c_image.Held.{whole_for, Holds}
 use Rattle.c_image_laws.specs.Meanings.{Means, IsPlace}
 use Rattle.c_image_laws.proofs.Keeping.{held_means}
 use Rattle.c_emit.specs.Numbers.{Writing, value_term, place_term, if_number, one_more}

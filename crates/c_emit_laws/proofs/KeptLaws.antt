@@ -1,26 +1,26 @@
 -- The flat C items for steps that keep numbers go on where the steps do, and what is known then is so.
 use Rattle.std.specs.Prelude.{◌≡◌, ℕ, suc, ◌+◌, nat_eq, Bool, true, false, List, map, length, position, Option, Some, None, bytes_eq, slice_set, unwrap_or, if◌then◌else◌}
 use Rattle.std.proofs.Common.{refl, sym, ap, ◌∙◌, subst}
-use Rattle.simulation.specs.Machine.{Goes}
-use Rattle.f_tree.specs.declared.names.Basic.{Basic}
-use Rattle.f_tree.specs.declared.names.Basic.TheVariants.{Integer, Logical}
-use Rattle.f_tree.specs.Values.{Datum, IsInt, IsLog, Checked, Gives, Fails, given_that}
-use Rattle.f_tree.specs.Store.{Whole, Truth, Number as ANumber}
-use Rattle.f_tree.specs.Facts.{Frame}
-use Rattle.f_tree.specs.Valuing.{applied}
-use Rattle.f_tree.specs.World as fortran
-use Rattle.l_core.specs.Pures.{Temporaries, with_kept, meant, all_meant}
-use Rattle.l_core.specs.Machine.{View, onward, keeping, done, step}
-use Rattle.c_tree.specs.Access.{ToNumber}
-use Rattle.c_tree.specs.Objects as objects_of
-use Rattle.c_tree.specs.Flat as flat
-use Rattle.c_tree.specs.Terms.{Term, Variable}
-use Rattle.c_tree.specs.Builtins.{builtin_names}
-use Rattle.c_tree.specs.Steps.{WantsNothing}
-use Rattle.c_image.specs.World.{World, changed, with_held}
-use Rattle.c_image.specs.Standing.{Stands}
-use Rattle.c_image.specs.Held.{whole_for, BeginWith}
-use Rattle.c_image.specs.Knowing.{Knows, IsApart}
+use Rattle.c_emit.specs.simulation.Machine.{Goes}
+use Rattle.c_emit.specs.f_tree.declared.names.Basic.{Basic}
+use Rattle.c_emit.specs.f_tree.declared.names.Basic.TheVariants.{Integer, Logical}
+use Rattle.c_emit.specs.f_tree.Values.{Datum, IsInt, IsLog, Checked, Gives, Fails, given_that}
+use Rattle.c_emit.specs.f_tree.Store.{Whole, Truth, Number as ANumber}
+use Rattle.c_emit.specs.f_tree.Facts.{Frame}
+use Rattle.c_emit.specs.f_tree.Valuing.{applied}
+use Rattle.c_emit.specs.f_tree.World as fortran
+use Rattle.c_emit.specs.l_core.Pures.{Temporaries, with_kept, meant, all_meant}
+use Rattle.c_emit.specs.l_core.Machine.{View, onward, keeping, done, step}
+use Rattle.c_emit.specs.c_tree.Access.{ToNumber}
+use Rattle.c_emit.specs.c_tree.Objects as objects_of
+use Rattle.c_emit.specs.c_tree.Flat as flat
+use Rattle.c_emit.specs.c_tree.Terms.{Term, Variable}
+use Rattle.c_emit.specs.c_tree.Builtins.{builtin_names}
+use Rattle.c_emit.specs.c_tree.Steps.{WantsNothing}
+use Rattle.c_emit.specs.c_image.World.{World, changed, with_held}
+use Rattle.c_emit.specs.c_image.Standing.{Stands}
+use Rattle.c_emit.specs.c_image.Held.{whole_for, BeginWith}
+use Rattle.c_emit.specs.c_image.Knowing.{Knows, IsApart}
 use Rattle.c_image_laws.proofs.Keeping.{number_kept}
 use Rattle.c_image_laws.proofs.Knowledge.{knows_kept}
 use Rattle.c_emit.specs.Numbers.{Writing, if_number, value_term}

@@ -1,6 +1,8 @@
+pub mod CaseLaws
 pub mod Choices
 pub mod ExampleLaws
 pub mod FlatLaws
+pub mod LabelLaws
 pub mod KeptLaws
 pub mod ComputedNumbers
 pub mod ComputedLaws
@@ -10,3 +12,5 @@ pub mod NumberLaws
 pub mod SubscriptLaws
 pub mod StepLaws
 pub mod TypeLaws
+pub use Rattle.c_image_laws.proofs as c_image_laws
+pub use Rattle.c_image_laws.proofs.c_laws

@@ -1,28 +1,28 @@
 -- The C expressions for numbers have their values, and those for their places name them.
 use Rattle.std.specs.Prelude.{◌≡◌, ℕ, pos, Bool, true, false, not, ◌&&◌, List, [], ◌∷◌, Option, Some, None, if◌then◌else◌}
 use Rattle.std.proofs.Common.{refl, sym, ap, ◌∙◌, subst}
-use Rattle.f_tree.specs.declared.names.Basic.{Basic}
-use Rattle.f_tree.specs.declared.names.Basic.TheVariants as basic
-use Rattle.f_tree.specs.Values.{Bytes, Spot, Datum, IsInt, IsLog, IsText, IsSpot, Checked, Gives, Fails, NoMeaning, in_range, given_that}
-use Rattle.f_tree.specs.Values as fortran
-use Rattle.f_tree.specs.Terms.{Operator, Both, Either}
-use Rattle.f_tree.specs.Terms as operation
-use Rattle.f_tree.specs.Store.{Store, Whole, fetch, fetch_as, value_of_type, whole_at, Number, Truth, Label}
-use Rattle.f_tree.specs.Facts.{Bounds, Frame}
-use Rattle.f_tree.specs.Valuing.{Left, Decided, Wants, Wrong, left_of, operated, prefixed, applied, fetched, whole, element, element_at, bounds_of, elements_before, further}
-use Rattle.l_core.specs.Pures.{Pure, Constant, Temporary, Load, Name, AllOf, ElementOf, FirstOf, Substring, Concatenated, Prefixed, Operated, Applied, Chosen, Pures, NoPure, AndPure, Temporaries, if_kept, where_wanted, chosen, meant, all_meant}
-use Rattle.c_tree.specs.Access.{ToNumber}
-use Rattle.c_tree.specs.Objects.{Object}
-use Rattle.c_tree.specs.Terms as c
-use Rattle.c_tree.specs.Terms.{Term}
-use Rattle.c_laws.proofs.ValueLaws.{Constant-counts}
-use Rattle.c_image.specs.World.{World}
-use Rattle.c_image.specs.Standing.{Stands}
-use Rattle.c_image.specs.Held.{whole_for, Holds}
-use Rattle.c_image.specs.Addresses.{access_to, number_term, element_term}
-use Rattle.c_image.specs.Elements.{index_term}
-use Rattle.c_image.specs.Operations.{constant_term, function_term, operator_for, prefix_for}
-use Rattle.c_image.specs.Knowing.{Naming}
+use Rattle.c_emit.specs.f_tree.declared.names.Basic.{Basic}
+use Rattle.c_emit.specs.f_tree.declared.names.Basic.TheVariants as basic
+use Rattle.c_emit.specs.f_tree.Values.{Bytes, Spot, Datum, IsInt, IsLog, IsText, IsSpot, Checked, Gives, Fails, NoMeaning, in_range, given_that}
+use Rattle.c_emit.specs.f_tree.Values as fortran
+use Rattle.c_emit.specs.f_tree.Terms.{Operator, Both, Either}
+use Rattle.c_emit.specs.f_tree.Terms as operation
+use Rattle.c_emit.specs.f_tree.Store.{Store, Whole, fetch, fetch_as, value_of_type, whole_at, Number, Truth, Label}
+use Rattle.c_emit.specs.f_tree.Facts.{Bounds, Frame}
+use Rattle.c_emit.specs.f_tree.Valuing.{Left, Decided, Wants, Wrong, left_of, operated, prefixed, applied, fetched, whole, element, element_at, bounds_of, elements_before, further}
+use Rattle.c_emit.specs.l_core.Pures.{Pure, Constant, Temporary, Load, Name, AllOf, ElementOf, FirstOf, Substring, Concatenated, Prefixed, Operated, Applied, Chosen, Pures, NoPure, AndPure, Temporaries, if_kept, where_wanted, chosen, meant, all_meant}
+use Rattle.c_emit.specs.c_tree.Access.{ToNumber}
+use Rattle.c_emit.specs.c_tree.Objects.{Object}
+use Rattle.c_emit.specs.c_tree.Terms as c
+use Rattle.c_emit.specs.c_tree.Terms.{Term}
+use Rattle.c_image_laws.proofs.c_laws.ValueLaws.{Constant-counts}
+use Rattle.c_emit.specs.c_image.World.{World}
+use Rattle.c_emit.specs.c_image.Standing.{Stands}
+use Rattle.c_emit.specs.c_image.Held.{whole_for, Holds}
+use Rattle.c_emit.specs.c_image.Addresses.{access_to, number_term, element_term}
+use Rattle.c_emit.specs.c_image.Elements.{index_term}
+use Rattle.c_emit.specs.c_image.Operations.{constant_term, function_term, operator_for, prefix_for}
+use Rattle.c_emit.specs.c_image.Knowing.{Naming}
 use Rattle.c_image_laws.specs.DerivedPlaces.{further_place}
 use Rattle.c_image_laws.specs.Meanings.{Means, AllMean, none_mean, more_mean, IsPlace}
 use Rattle.c_image_laws.proofs.Contracts.{constants_are_meant}

@@ -1,9 +1,9 @@
 -- The C statements for lowered steps over numbers.
 use Rattle.std.specs.Prelude.{◌≡◌}
 use Rattle.std.proofs.Common.{sym, ap, ◌∙◌}
-use Rattle.f_tree.specs.Values.{IsLog, Gives}
-use Rattle.f_tree.specs.Store.{define}
-use Rattle.l_core.specs.Machine.{put_at}
+use Rattle.c_emit.specs.f_tree.Values.{IsLog, Gives}
+use Rattle.c_emit.specs.f_tree.Store.{define}
+use Rattle.c_emit.specs.l_core.Machine.{put_at}
 use Rattle.c_image_laws.proofs.Assignments.{assignments_stand, temporaries_are_assigned}
 use Rattle.c_image_laws.proofs.TestedValues.{tests_are_meant}
 use Rattle.c_emit_laws.specs.EmittedSteps.{EmittedNumbersFit, PutsAreEmitted, KeepsAreEmitted, ConditionsAreEmitted}

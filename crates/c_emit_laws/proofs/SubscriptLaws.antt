@@ -1,17 +1,17 @@
 -- The distances of subscripts from their lower bounds, and the sizes of dimensions, as the C expressions have them.
 use Rattle.std.specs.Prelude.{◌≡◌, ℕ, suc, ◌+◌, ◌*◌, ◌<◌, ℤ, ◌-ℤ◌, nat_abs, Bool, true, false, List, [], ◌∷◌, length, Some, slice_get, if◌then◌else◌}
 use Rattle.std.proofs.Common.{refl, ap, ◌∙◌, arith}
-use Rattle.f_tree.specs.Values.{Bytes, Datum, IsInt, Checked, Gives, Fails, OutOfBounds, given_that}
-use Rattle.f_tree.specs.Values as fortran
-use Rattle.f_tree.specs.Store.{Store}
-use Rattle.f_tree.specs.Facts.{Bounds, Frame}
-use Rattle.f_tree.specs.Valuing.{bounds_of, is_within, size_of_dimension, elements_before}
-use Rattle.l_core.specs.Pures.{Temporaries}
-use Rattle.c_tree.specs.Objects.{Object}
-use Rattle.c_tree.specs.Terms.{Term}
-use Rattle.c_image.specs.World.{World}
-use Rattle.c_image.specs.Standing.{Stands}
-use Rattle.c_image.specs.Elements.{quantity_term, step_for}
+use Rattle.c_emit.specs.f_tree.Values.{Bytes, Datum, IsInt, Checked, Gives, Fails, OutOfBounds, given_that}
+use Rattle.c_emit.specs.f_tree.Values as fortran
+use Rattle.c_emit.specs.f_tree.Store.{Store}
+use Rattle.c_emit.specs.f_tree.Facts.{Bounds, Frame}
+use Rattle.c_emit.specs.f_tree.Valuing.{bounds_of, is_within, size_of_dimension, elements_before}
+use Rattle.c_emit.specs.l_core.Pures.{Temporaries}
+use Rattle.c_emit.specs.c_tree.Objects.{Object}
+use Rattle.c_emit.specs.c_tree.Terms.{Term}
+use Rattle.c_emit.specs.c_image.World.{World}
+use Rattle.c_emit.specs.c_image.Standing.{Stands}
+use Rattle.c_emit.specs.c_image.Elements.{quantity_term, step_for}
 use Rattle.c_image_laws.specs.Meanings.{Means, AllMean, none_mean, more_mean, IsDistance, AreSteps, no_steps, last_step, one_step}
 use Rattle.c_image_laws.proofs.FoundElements.{quantities_are_meant, distances_are_meant}
 use Rattle.c_image_laws.proofs.OperatorValues.{counts_integer}

@@ -2,16 +2,16 @@
 use Rattle.std.specs.Prelude.{◌≡◌, ℕ, ℤ, pos, ◌+◌, ◌-◌, ◌*◌, nat_le, ◌+ℤ◌, ◌-ℤ◌, ◌*ℤ◌, nat_abs, int_div, int_rem, Bool, true, false, List, [], ◌∷◌, Option, Some, None, if◌then◌else◌}
 use Rattle.std.specs.Ordering.{int_eq}
 use Rattle.std.proofs.Common.{refl, sym, ap, ◌∙◌, subst}
-use Rattle.f_tree.specs.declared.names.Basic.{Basic}
-use Rattle.f_tree.specs.declared.names.Basic.TheVariants as basic
-use Rattle.f_tree.specs.Values.{Bytes, Spot, Datum, IsInt, IsLog, IsText, IsSpot, Checked, Gives, Fails, ZeroDivide, checked, given_that}
-use Rattle.f_tree.specs.Values as fortran
-use Rattle.f_tree.specs.Terms.{Prefix, Operator, Function}
-use Rattle.f_tree.specs.Terms as operation
-use Rattle.f_tree.specs.Store.{Store, Whole, Number, Truth, Cell, fetch_as, value_of_type, whole_at}
-use Rattle.f_tree.specs.Facts.{Bounds, Frame}
-use Rattle.f_tree.specs.Valuing.{prefixed, operated, on_integers, on_logicals, on_texts, divided, Left, Decided, Wants, Wrong, left_of, applied, extreme, int_max, int_min, remainder_of, fetched, whole, further, element_at, element, bounds_of, elements_before}
-use Rattle.l_core.specs.Pures.{Pure, Constant, Temporary, Load, Name, AllOf, ElementOf, FirstOf, Substring, Concatenated, Prefixed, Operated, Applied, Chosen, Temporaries, where_wanted, if_kept, meant, all_meant}
+use Rattle.c_emit.specs.f_tree.declared.names.Basic.{Basic}
+use Rattle.c_emit.specs.f_tree.declared.names.Basic.TheVariants as basic
+use Rattle.c_emit.specs.f_tree.Values.{Bytes, Spot, Datum, IsInt, IsLog, IsText, IsSpot, Checked, Gives, Fails, ZeroDivide, checked, given_that}
+use Rattle.c_emit.specs.f_tree.Values as fortran
+use Rattle.c_emit.specs.f_tree.Terms.{Prefix, Operator, Function}
+use Rattle.c_emit.specs.f_tree.Terms as operation
+use Rattle.c_emit.specs.f_tree.Store.{Store, Whole, Number, Truth, Cell, fetch_as, value_of_type, whole_at}
+use Rattle.c_emit.specs.f_tree.Facts.{Bounds, Frame}
+use Rattle.c_emit.specs.f_tree.Valuing.{prefixed, operated, on_integers, on_logicals, on_texts, divided, Left, Decided, Wants, Wrong, left_of, applied, extreme, int_max, int_min, remainder_of, fetched, whole, further, element_at, element, bounds_of, elements_before}
+use Rattle.c_emit.specs.l_core.Pures.{Pure, Constant, Temporary, Load, Name, AllOf, ElementOf, FirstOf, Substring, Concatenated, Prefixed, Operated, Applied, Chosen, Temporaries, where_wanted, if_kept, meant, all_meant}
 use Rattle.c_image_laws.proofs.FetchedPlaces.{is_fetched}
 use Rattle.c_image_laws.proofs.OperatorValues.{is_checked}
 use Rattle.c_emit.specs.Numbers.{Writing}

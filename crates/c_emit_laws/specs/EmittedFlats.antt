@@ -1,22 +1,22 @@
 -- What the flat C items for lowered steps do, one for each step. ANSI X3.9-1978, sections 10 and 11; C89, 3.6.
-use Rattle.std.specs.Prelude.{◌≡◌, ℕ, suc, ◌+◌, ◌≤◌, ℤ, true, List, length, Option, Some, slice_get, slice_set}
-use Rattle.simulation.specs.Machine.{Goes}
-use Rattle.f_tree.specs.Values.{IsInt}
-use Rattle.f_tree.specs.Terms.{Function}
-use Rattle.f_tree.specs.World as fortran
-use Rattle.l_core.specs.Pures.{Pure, Pures}
-use Rattle.l_core.specs.Steps.{Step, Put, Keep, Compute, Unless, AgainIf, Skip, Again, Jump, Pass, Text}
-use Rattle.l_core.specs.Machine.{View, step}
-use Rattle.c_tree.specs.Objects as objects_of
-use Rattle.c_tree.specs.Flat.{Flat}
-use Rattle.c_tree.specs.World as c
-use Rattle.c_tree.specs.Linking as linking
-use Rattle.c_tree.specs.Steps as c_steps
-use Rattle.c_tree.specs.Steps.{Wants, deed}
-use Rattle.c_image.specs.World.{World, with_held, IsHomeless}
-use Rattle.c_image.specs.Standing.{Stands}
-use Rattle.c_image.specs.Held.{Holds}
-use Rattle.c_image.specs.Knowing.{IsApart}
+use Rattle.std.specs.Prelude.{◌≡◌, ℕ, suc, ◌+◌, ◌≤◌, ℤ, true, List, ◌∷◌, length, Option, Some, slice_get, slice_set}
+use Rattle.c_emit.specs.simulation.Machine.{Goes}
+use Rattle.c_emit.specs.f_tree.Values.{IsInt}
+use Rattle.c_emit.specs.f_tree.Terms.{Function}
+use Rattle.c_emit.specs.f_tree.World as fortran
+use Rattle.c_emit.specs.l_core.Pures.{Pure, Pures}
+use Rattle.c_emit.specs.l_core.Steps.{Step, Put, PutLabel, Keep, Compute, Unless, AgainIf, Skip, Again, Jump, Select, JumpBy, Pass, Text}
+use Rattle.c_emit.specs.l_core.Machine.{View, step}
+use Rattle.c_emit.specs.c_tree.Objects as objects_of
+use Rattle.c_emit.specs.c_tree.Flat.{Flat}
+use Rattle.c_emit.specs.c_tree.World as c
+use Rattle.c_emit.specs.c_tree.Linking as linking
+use Rattle.c_emit.specs.c_tree.Steps as c_steps
+use Rattle.c_emit.specs.c_tree.Steps.{Wants, deed}
+use Rattle.c_emit.specs.c_image.World.{World, with_held, IsHomeless}
+use Rattle.c_emit.specs.c_image.Standing.{Stands}
+use Rattle.c_emit.specs.c_image.Held.{Holds}
+use Rattle.c_emit.specs.c_image.Knowing.{IsApart}
 use Rattle.c_image_laws.specs.Meanings.{StandsAfter}
 use Rattle.c_emit.specs.Numbers.{Writing, Library}
 use Rattle.c_emit.specs.Flats.{flat_of}
@@ -25,11 +25,14 @@ use Rattle.c_emit_laws.specs.EmittedNumbers.{IsKnown}
 -- a step that changes no temporary, and calls, answers and ends nothing
 pub data Steers : Step → Type 0 where
   by_put : (place p : Pure) → Steers (Put place p)
+  by_label : (place : Pure) (label : ℕ) → Steers (PutLabel place label)
   by_test : (p : Pure) (n : ℕ) → Steers (Unless p n)
   by_test_back : (p : Pure) (n : ℕ) → Steers (AgainIf p n)
   by_skip : (n : ℕ) → Steers (Skip n)
   by_return : (n : ℕ) → Steers (Again n)
   by_jump : (label : ℕ) → Steers (Jump label)
+  by_select : (p : Pure) (count : ℕ) → Steers (Select p count)
+  by_held : (place : Pure) (label : ℕ) (labels : List ℕ) → Steers (JumpBy place (label ∷ labels))
   by_pass : Steers Pass
 
 -- where the lowered text has gone, the C function goes: at the item of the step that is next, over a store that stands; what the procedure knows is as
@@ -40,7 +43,7 @@ pub record GoesAlike (μ : World) (v v' : View) (x' : fortran.World) (place : �
   pub height : v'.height ≡ v.height
   pub after : StandsAfter μ x'.store (λ objects. deed function view world item ≡ Goes (record view { position = place v'.at }) (record world { objects = objects }))
 
--- Each step of a text that puts a number at a place, tests, jumps or does nothing, and goes on, is the one item that is emitted for it.
+-- Each step of a text that puts a number or a label at a place, tests, jumps, chooses by a number or by a label that is held, or does nothing, and goes on, is the one item that is emitted for it.
 abbrev pub FlatsGoOn : Type 0
 FlatsGoOn = (u : Text) (v v' : View) (x x' : fortran.World) (μ : World) (w : Writing) (place : ℕ → ℕ) (function : linking.Function) (view : c_steps.View) (world : c.World) (st : Step) (item : Flat) →
     w.facts ≡ u.facts → slice_get u.steps v.at ≡ Some st → Steers st → flat_of w place u.position v.at st ≡ Some item →

@@ -1,18 +1,18 @@
 -- The C expression for a lowered value has the value. ANSI X3.9-1978, sections 5.4, 6 and 15.10; C89, 3.3.
 use Rattle.std.specs.Prelude.{◌≡◌, ℕ, suc, ◌<◌, ℤ, pos, true, List, length, Some, slice_get}
-use Rattle.f_tree.specs.Values.{Bytes, Spot, Datum, IsSpot, Gives, in_range}
-use Rattle.f_tree.specs.Store.{Store, Whole}
-use Rattle.f_tree.specs.Facts.{Bounds, Frame}
-use Rattle.f_tree.specs.Valuing.{whole, bounds_of, size_of_dimension}
-use Rattle.l_core.specs.Pures.{Pure, Temporaries, meant}
-use Rattle.c_tree.specs.Access.{ToNumber}
-use Rattle.c_tree.specs.Objects.{Object}
-use Rattle.c_tree.specs.Terms.{Term}
-use Rattle.c_image.specs.World.{World}
-use Rattle.c_image.specs.Standing.{Stands}
-use Rattle.c_image.specs.Held.{whole_for}
-use Rattle.c_image.specs.Addresses.{access_to, IsSound}
-use Rattle.c_image.specs.Knowing.{Knows}
+use Rattle.c_emit.specs.f_tree.Values.{Bytes, Spot, Datum, IsSpot, Gives, in_range}
+use Rattle.c_emit.specs.f_tree.Store.{Store, Whole}
+use Rattle.c_emit.specs.f_tree.Facts.{Bounds, Frame}
+use Rattle.c_emit.specs.f_tree.Valuing.{whole, bounds_of, size_of_dimension}
+use Rattle.c_emit.specs.l_core.Pures.{Pure, Temporaries, meant}
+use Rattle.c_emit.specs.c_tree.Access.{ToNumber}
+use Rattle.c_emit.specs.c_tree.Objects.{Object}
+use Rattle.c_emit.specs.c_tree.Terms.{Term}
+use Rattle.c_emit.specs.c_image.World.{World}
+use Rattle.c_emit.specs.c_image.Standing.{Stands}
+use Rattle.c_emit.specs.c_image.Held.{whole_for}
+use Rattle.c_emit.specs.c_image.Addresses.{access_to, IsSound}
+use Rattle.c_emit.specs.c_image.Knowing.{Knows}
 use Rattle.c_image_laws.specs.Meanings.{Means, IsPlace}
 use Rattle.c_image_laws.specs.Statements.{IsAt}
 use Rattle.c_emit.specs.Numbers.{Writing, has_number, value_term, place_term}

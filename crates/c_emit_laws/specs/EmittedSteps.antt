@@ -1,25 +1,25 @@
 -- What the C statements for lowered steps do: an assignment to a place, one of a temporary, and a test. ANSI X3.9-1978, sections 10.1, 10.2
 -- and 11.5; C89, 3.3.16 and 3.6.4.1.
 use Rattle.std.specs.Prelude.{◌≡◌, ℕ, ◌+◌, ◌≤◌, true, Bool, List, length, Option, Some, Ok}
-use Rattle.simulation.specs.Machine.{Goes}
-use Rattle.f_tree.specs.Values.{Datum, IsLog, Gives, in_range}
-use Rattle.f_tree.specs.Store.{Store, Whole}
-use Rattle.f_tree.specs.Facts.{Frame}
-use Rattle.l_core.specs.Pures.{Pure, Temporaries, meant}
-use Rattle.l_core.specs.Machine.{put_at}
-use Rattle.c_tree.specs.Access.{ToNumber}
-use Rattle.c_tree.specs.Objects as objects_of
-use Rattle.c_tree.specs.Objects.{Object}
-use Rattle.c_tree.specs.Terms.{Term, Variable}
-use Rattle.c_tree.specs.Values.{test_of}
-use Rattle.c_tree.specs.World as c
-use Rattle.c_tree.specs.Linking as linking
-use Rattle.c_tree.specs.Flat.{Assign}
-use Rattle.c_tree.specs.Steps.{View, deed}
-use Rattle.faithful.specs.StorageImage.{number_for}
-use Rattle.c_image.specs.World.{World, IsHomeless}
-use Rattle.c_image.specs.Standing.{Stands}
-use Rattle.c_image.specs.Held.{whole_for}
+use Rattle.c_emit.specs.simulation.Machine.{Goes}
+use Rattle.c_emit.specs.f_tree.Values.{Datum, IsLog, Gives, in_range}
+use Rattle.c_emit.specs.f_tree.Store.{Store, Whole}
+use Rattle.c_emit.specs.f_tree.Facts.{Frame}
+use Rattle.c_emit.specs.l_core.Pures.{Pure, Temporaries, meant}
+use Rattle.c_emit.specs.l_core.Machine.{put_at}
+use Rattle.c_emit.specs.c_tree.Access.{ToNumber}
+use Rattle.c_emit.specs.c_tree.Objects as objects_of
+use Rattle.c_emit.specs.c_tree.Objects.{Object}
+use Rattle.c_emit.specs.c_tree.Terms.{Term, Variable}
+use Rattle.c_emit.specs.c_tree.Values.{test_of}
+use Rattle.c_emit.specs.c_tree.World as c
+use Rattle.c_emit.specs.c_tree.Linking as linking
+use Rattle.c_emit.specs.c_tree.Flat.{Assign}
+use Rattle.c_emit.specs.c_tree.Steps.{View, deed}
+use Rattle.c_emit.specs.faithful.StorageImage.{number_for}
+use Rattle.c_emit.specs.c_image.World.{World, IsHomeless}
+use Rattle.c_emit.specs.c_image.Standing.{Stands}
+use Rattle.c_emit.specs.c_image.Held.{whole_for}
 use Rattle.c_image_laws.specs.Meanings.{StandsAfter, Keeps}
 use Rattle.c_emit.specs.Numbers.{Writing, value_term, place_term}
 use Rattle.c_emit_laws.specs.EmittedNumbers.{IsKnown}

@@ -1,12 +1,12 @@
 -- The type that a lowered value is given is the type of its datum. ANSI X3.9-1978, sections 4 and 6.
 use Rattle.std.specs.Prelude.{◌≡◌, ℕ, List, Some}
-use Rattle.f_tree.specs.declared.names.Basic.{Basic}
-use Rattle.f_tree.specs.Values.{Bytes, Spot, Datum, IsSpot, Gives}
-use Rattle.f_tree.specs.Terms.{Function}
-use Rattle.f_tree.specs.Store.{Store}
-use Rattle.f_tree.specs.Facts.{Frame}
-use Rattle.f_tree.specs.Valuing.{whole, applied}
-use Rattle.l_core.specs.Pures.{Pure, Temporaries, meant}
+use Rattle.c_emit.specs.f_tree.declared.names.Basic.{Basic}
+use Rattle.c_emit.specs.f_tree.Values.{Bytes, Spot, Datum, IsSpot, Gives}
+use Rattle.c_emit.specs.f_tree.Terms.{Function}
+use Rattle.c_emit.specs.f_tree.Store.{Store}
+use Rattle.c_emit.specs.f_tree.Facts.{Frame}
+use Rattle.c_emit.specs.f_tree.Valuing.{whole, applied}
+use Rattle.c_emit.specs.l_core.Pures.{Pure, Temporaries, meant}
 use Rattle.c_emit.specs.Numbers.{Writing}
 use Rattle.c_emit.specs.LibraryFunctions.{library_type}
 use Rattle.c_emit.specs.Types.{HasType, type_of}

@@ -1,21 +1,21 @@
 -- A function whose unit has an integer that is 2, and whose first temporary holds 5: what is known of it, and how the values of expressions and
 -- the targets of assignments are written.
 use Rattle.std.specs.Prelude.{ℕ, zero, suc, pos, negsuc, true, false, [], ◌∷◌, Some, None, bytes_eq, if◌then◌else◌}
-use Rattle.f_tree.specs.declared.names.Basic.TheVariants.{Integer}
-use Rattle.f_tree.specs.declared.names.Class.TheVariants as class
-use Rattle.f_tree.specs.Values.{IsInt}
-use Rattle.f_tree.specs.Terms.{Add, IsLess, Negate, Remainder, Power}
-use Rattle.f_tree.specs.Facts.{MainProgram, Attribute, Facts, Frame}
-use Rattle.l_core.specs.Pures.{Pure, Constant, Temporary, Load, Name, ElementOf, Prefixed, Operated, Applied, NoPure, AndPure, Temporaries}
-use Rattle.l_core.specs.Steps.{Step, Compute}
-use Rattle.c_tree.specs.Access.{ToNumber, ToPointer}
-use Rattle.c_tree.specs.declared.expression.BinaryOp.TheVariants as op
-use Rattle.c_tree.specs.declared.expression.UnaryOp.TheVariants as prefix
-use Rattle.c_tree.specs.Terms as c
-use Rattle.c_tree.specs.Terms.{Term}
-use Rattle.c_tree.specs.Flat.{Flat, Invoke, Kept, Direct}
-use Rattle.c_image.specs.Addresses.{Address, Alone, Inside}
-use Rattle.c_image.specs.Elements.{Quantity, Written, Saved}
+use Rattle.c_emit.specs.f_tree.declared.names.Basic.TheVariants.{Integer}
+use Rattle.c_emit.specs.f_tree.declared.names.Class.TheVariants as class
+use Rattle.c_emit.specs.f_tree.Values.{IsInt}
+use Rattle.c_emit.specs.f_tree.Terms.{Add, IsLess, Negate, Remainder, Power}
+use Rattle.c_emit.specs.f_tree.Facts.{MainProgram, Attribute, Facts, Frame}
+use Rattle.c_emit.specs.l_core.Pures.{Pure, Constant, Temporary, Load, Name, ElementOf, Prefixed, Operated, Applied, NoPure, AndPure, Temporaries}
+use Rattle.c_emit.specs.l_core.Steps.{Step, Compute}
+use Rattle.c_emit.specs.c_tree.Access.{ToNumber, ToPointer}
+use Rattle.c_emit.specs.c_tree.declared.expression.BinaryOp.TheVariants as op
+use Rattle.c_emit.specs.c_tree.declared.expression.UnaryOp.TheVariants as prefix
+use Rattle.c_emit.specs.c_tree.Terms as c
+use Rattle.c_emit.specs.c_tree.Terms.{Term}
+use Rattle.c_emit.specs.c_tree.Flat.{Flat, Invoke, Kept, Direct}
+use Rattle.c_emit.specs.c_image.Addresses.{Address, Alone, Inside}
+use Rattle.c_emit.specs.c_image.Elements.{Quantity, Written, Saved}
 use Rattle.c_emit.specs.Numbers.{Writing}
 
 abbrev pub an_integer : Attribute

@@ -1,8 +1,8 @@
 //! An instance of what the laws ask for, and values whose expressions are computed.
 
 ghost use Rattle.std.specs.Prelude.{◌≡◌, Some, None, pos};
-ghost use Rattle.f_tree.specs.Values.{IsInt};
-ghost use Rattle.c_image.specs.Addresses.{Through};
+ghost use Rattle.c_emit.specs.f_tree.Values.{IsInt};
+ghost use Rattle.c_emit.specs.c_image.Addresses.{Through};
 ghost use Rattle.c_image_laws.specs.Example.{two_homes, three_objects};
 ghost use Rattle.c_image_laws.specs.Meanings.{Means};
 ghost use Rattle.c_emit.specs.Numbers.{value_term, place_term};

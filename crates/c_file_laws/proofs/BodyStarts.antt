@@ -1,23 +1,23 @@
 -- No statement begins with a word that begins a declaration, so the declarations of a function end where its statements begin.
 use Rattle.std.proofs.Common.{◌≡◌, refl, sym, ap, ◌∙◌, Bool, true, false, not, ◌&&◌, ◌||◌, List, codes, bytes_eq, ℕ, is_some}
 use Rattle.std.specs.List.{list_all}
-use Rattle.c_tree.specs.declared.expression.CExpr.{CExpr}
-use Rattle.c_tree.specs.declared.expression.CCall.{CCall}
-use Rattle.c_tree.specs.declared.expression.Extreme.TheVariants as extreme
-use Rattle.c_tree.specs.declared.statement.CStmt.{CStmt}
-use Rattle.c_tree.specs.declared.statement.CNext.{CNext}
-use Rattle.c_tree.specs.Tokens.{begins_with, is_letter, is_word_byte}
-use Rattle.c_tree.specs.CWords.{is_among, is_name, words}
-use Rattle.c_tree.specs.CExpressionText as expression
-use Rattle.c_tree.specs.CExpressionText.{Scope, IsKnown, ReadsExpr, ReadsCall}
-use Rattle.c_tree.specs.CStatementText as text
-use Rattle.c_tree.specs.CStatementText.{ReadsStmt, ReadsStmts, ReadsTested, ReadsFor}
-use Rattle.c_readers.specs.Readers.{Tokens, lookup}
-use Rattle.c_readers.specs.DeclarationReader.{local_words}
-use Rattle.c_grammar_laws.specs.ExpressionLaws.{OfNames}
-use Rattle.c_grammar_laws.specs.DeclarationLaws.{begins_local}
-use Rattle.c_grammar_laws.proofs.TokenGood.{equal-texts}
-use Rattle.c_grammar_laws.proofs.ExpressionSteps.{not-found, among-names}
+use Rattle.c_file_readers.specs.c_tree.declared.expression.CExpr.{CExpr}
+use Rattle.c_file_readers.specs.c_tree.declared.expression.CCall.{CCall}
+use Rattle.c_file_readers.specs.c_tree.declared.expression.Extreme.TheVariants as extreme
+use Rattle.c_file_readers.specs.c_tree.declared.statement.CStmt.{CStmt}
+use Rattle.c_file_readers.specs.c_tree.declared.statement.CNext.{CNext}
+use Rattle.c_file_readers.specs.c_tree.Tokens.{begins_with, is_letter, is_word_byte}
+use Rattle.c_file_readers.specs.c_tree.CWords.{is_among, is_name, words}
+use Rattle.c_file_readers.specs.c_tree.CExpressionText as expression
+use Rattle.c_file_readers.specs.c_tree.CExpressionText.{Scope, IsKnown, ReadsExpr, ReadsCall}
+use Rattle.c_file_readers.specs.c_tree.CStatementText as text
+use Rattle.c_file_readers.specs.c_tree.CStatementText.{ReadsStmt, ReadsStmts, ReadsTested, ReadsFor}
+use Rattle.c_file_readers.specs.c_readers.Readers.{Tokens, lookup}
+use Rattle.c_file_readers.specs.c_readers.DeclarationReader.{local_words}
+use Rattle.c_statement_laws.specs.c_grammar_laws.ExpressionLaws.{OfNames}
+use Rattle.c_statement_laws.specs.c_grammar_laws.DeclarationLaws.{begins_local}
+use Rattle.c_statement_laws.proofs.c_grammar_laws.TokenGood.{equal-texts}
+use Rattle.c_statement_laws.proofs.c_grammar_laws.ExpressionSteps.{not-found, among-names}
 
 and-right : (a b : Bool) → (a && b) ≡ true → b ≡ true
 and-right true b h = h

@@ -1,12 +1,12 @@
 -- A file that is found ends where the tokens end.
 use Rattle.std.proofs.Common.{◌≡◌, sym, ap, ℕ, zero, suc, Bool, true, false, List, [], ◌∷◌, Option, Some, None, Ok, Err}
-use Rattle.c_tree.specs.declared.file.CFile.{CFile}
-use Rattle.c_tree.specs.Tokens.{Including}
-use Rattle.c_tree.specs.CExpressionText.{Scope}
-use Rattle.c_tree.specs.CDeclarationText.{with_object, with_array, with_function}
-use Rattle.c_tree.specs.CText.{no_names}
-use Rattle.c_readers.specs.Readers.{Tokens, Outcome, Reader, ◌>>=◌}
-use Rattle.c_readers.specs.DeclarationReader.{is_new}
+use Rattle.c_file_readers.specs.c_tree.declared.file.CFile.{CFile}
+use Rattle.c_file_readers.specs.c_tree.Tokens.{Including}
+use Rattle.c_file_readers.specs.c_tree.CExpressionText.{Scope}
+use Rattle.c_file_readers.specs.c_tree.CDeclarationText.{with_object, with_array, with_function}
+use Rattle.c_file_readers.specs.c_tree.CText.{no_names}
+use Rattle.c_file_readers.specs.c_readers.Readers.{Tokens, Outcome, Reader, ◌>>=◌}
+use Rattle.c_file_readers.specs.c_readers.DeclarationReader.{is_new}
 use Rattle.c_file_readers.specs.ObjectReader.{an_object, a_constant}
 use Rattle.c_file_readers.specs.FileReader as reader
 use Rattle.c_file_readers.specs.FileReader.{a_function, Part, Objects, Constants, Functions, may_be_object, may_be_constant, with_one_object, with_one_constant, with_one_function, no_parts, by_part, parts, a_file}

@@ -1,12 +1,12 @@
 -- The reader of files is exact, where the readers of bodies are.
 use Rattle.std.proofs.Common.{◌≡◌, refl, sym, ap, ◌∙◌, subst, ℕ, suc, ◌≤◌, [], ◌∷◌, ◌++◌, append-nil, Some, Err, arith}
-use Rattle.c_tree.specs.declared.file.CFile.{CFile}
-use Rattle.c_tree.specs.Tokens.{Including}
-use Rattle.c_tree.specs.CText.{Begins, no_names}
-use Rattle.c_readers.specs.Readers.{Tokens, found}
-use Rattle.grammar.specs.Exactness.{Filled, Judged, Good, Eventually, NoneFrom, Exact}
-use Rattle.grammar.proofs.Judging.{refuses, refuses-end, judged-fewer, behind-token}
-use Rattle.grammar.proofs.GoodExact.{good-exact}
+use Rattle.c_file_readers.specs.c_tree.declared.file.CFile.{CFile}
+use Rattle.c_file_readers.specs.c_tree.Tokens.{Including}
+use Rattle.c_file_readers.specs.c_tree.CText.{Begins, no_names}
+use Rattle.c_file_readers.specs.c_readers.Readers.{Tokens, found}
+use Rattle.c_file_readers.specs.grammar.Exactness.{Filled, Judged, Good, Eventually, NoneFrom, Exact}
+use Rattle.c_file_readers.proofs.grammar.Judging.{refuses, refuses-end, judged-fewer, behind-token}
+use Rattle.c_file_readers.proofs.grammar.GoodExact.{good-exact}
 use Rattle.c_statement_laws.specs.StatementLaws.{ScopesInOrder, GoodBodies}
 use Rattle.c_file_readers.specs.FileReader.{Objects, no_parts, parts, a_file}
 use Rattle.c_file_laws.specs.FileLaws.{NoFileFrom, FileRefused, ExactFiles}

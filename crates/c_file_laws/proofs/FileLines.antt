@@ -1,10 +1,10 @@
 -- The line at which a text is refused is that of the token at which the reader stops, or of the end of the text.
 use Rattle.std.proofs.Common.{◌≡◌, refl, sym, ap, ◌∙◌, subst, ℕ, List, [], ◌∷◌, ◌++◌, append-nil}
 use Rattle.std.proofs.lemmas.List.{append_cancel_right}
-use Rattle.c_tree.specs.Tokens.{Token, Placed}
-use Rattle.c_tree.specs.CText as text
-use Rattle.c_tree.specs.CText.{ReadsFile, kinds, Begins, IsRefusedAt}
-use Rattle.c_readers.specs.Readers.{Tokens}
+use Rattle.c_file_readers.specs.c_tree.Tokens.{Token, Placed}
+use Rattle.c_file_readers.specs.c_tree.CText as text
+use Rattle.c_file_readers.specs.c_tree.CText.{ReadsFile, kinds, Begins, IsRefusedAt}
+use Rattle.c_file_readers.specs.c_readers.Readers.{Tokens}
 use Rattle.c_file_laws.specs.FileLaws.{FileRefused, ExactFiles, line_at, CutBefore, RefusedLines, TextsRead}
 
 tail-same : (one other : Token) (p q : Tokens) → one ∷ p ≡ other ∷ q → p ≡ q

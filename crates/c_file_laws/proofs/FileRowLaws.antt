@@ -1,6 +1,6 @@
 -- The rows of files, by computation.
 use Rattle.std.proofs.Common.{refl}
-use Rattle.c_tree.specs.Opened.{trees_opened}
+use Rattle.c_file_readers.specs.c_tree.Opened.{trees_opened}
 use Rattle.c_file_readers.specs.Opened.{files_opened}
 use Rattle.c_file_laws.specs.FileRows.{FileRows}
 

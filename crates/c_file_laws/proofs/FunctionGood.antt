@@ -1,31 +1,31 @@
 -- Functions are read as they stand, where their bodies are.
 use Rattle.std.proofs.Common.{◌≡◌, refl, sym, ap, ◌∙◌, subst, ℕ, ◌≤◌, le_refl, true, List, [], ◌∷◌, codes}
-use Rattle.c_tree.specs.declared.types.ResultType.{ResultType}
-use Rattle.c_tree.specs.declared.types.ResultType.TheVariants as result
-use Rattle.c_tree.specs.declared.types.ParameterType.{ParameterType}
-use Rattle.c_tree.specs.declared.types.ParameterType.TheVariants as parameter
-use Rattle.c_tree.specs.declared.declaration.CParam.{CParam}
-use Rattle.c_tree.specs.declared.declaration.CLocal.{CLocal}
-use Rattle.c_tree.specs.declared.declaration.CLocal.TheVariants as local
-use Rattle.c_tree.specs.declared.file.CFunction.{CFunction}
-use Rattle.c_tree.specs.Tokens.{Word, Sign}
-use Rattle.c_tree.specs.CWords.{AWord, is_name, result_word}
-use Rattle.c_tree.specs.CExpressionText.{Scope}
-use Rattle.c_tree.specs.CDeclarationText as text
-use Rattle.c_tree.specs.CDeclarationText.{ReadsLocals, ReadsParams, IsNew, with_declared, with_parameter, with_function}
-use Rattle.c_tree.specs.CText as file
-use Rattle.c_readers.specs.Readers.{Tokens}
-use Rattle.c_readers.specs.TypeReader.{result_words}
-use Rattle.c_readers.specs.DeclarationReader.{is_new}
-use Rattle.c_readers.specs.HeadReader.{Parameters}
-use Rattle.grammar.specs.Exactness.{Good}
-use Rattle.c_grammar_laws.specs.DeclarationLaws.{ReadsParameters, ReadsDeclarations}
-use Rattle.grammar.proofs.Judging.{in_turn, in_turn_of, good-as, good-fewer, good-found}
-use Rattle.c_grammar_laws.proofs.TokenGood.{OneSign, good-sign, OneName, good-name}
-use Rattle.c_grammar_laws.proofs.ValueGood.{RowWord, good-word-of}
-use Rattle.c_grammar_laws.proofs.DeclarationGood.{row-word}
-use Rattle.c_grammar_laws.proofs.HeadGood.{good_parameters, good_heads}
-use Rattle.c_grammar_laws.proofs.FreshNames.{fresh_name, fresh-new, new-name}
+use Rattle.c_file_readers.specs.c_tree.declared.types.ResultType.{ResultType}
+use Rattle.c_file_readers.specs.c_tree.declared.types.ResultType.TheVariants as result
+use Rattle.c_file_readers.specs.c_tree.declared.types.ParameterType.{ParameterType}
+use Rattle.c_file_readers.specs.c_tree.declared.types.ParameterType.TheVariants as parameter
+use Rattle.c_file_readers.specs.c_tree.declared.declaration.CParam.{CParam}
+use Rattle.c_file_readers.specs.c_tree.declared.declaration.CLocal.{CLocal}
+use Rattle.c_file_readers.specs.c_tree.declared.declaration.CLocal.TheVariants as local
+use Rattle.c_file_readers.specs.c_tree.declared.file.CFunction.{CFunction}
+use Rattle.c_file_readers.specs.c_tree.Tokens.{Word, Sign}
+use Rattle.c_file_readers.specs.c_tree.CWords.{AWord, is_name, result_word}
+use Rattle.c_file_readers.specs.c_tree.CExpressionText.{Scope}
+use Rattle.c_file_readers.specs.c_tree.CDeclarationText as text
+use Rattle.c_file_readers.specs.c_tree.CDeclarationText.{ReadsLocals, ReadsParams, IsNew, with_declared, with_parameter, with_function}
+use Rattle.c_file_readers.specs.c_tree.CText as file
+use Rattle.c_file_readers.specs.c_readers.Readers.{Tokens}
+use Rattle.c_file_readers.specs.c_readers.TypeReader.{result_words}
+use Rattle.c_file_readers.specs.c_readers.DeclarationReader.{is_new}
+use Rattle.c_file_readers.specs.c_readers.HeadReader.{Parameters}
+use Rattle.c_file_readers.specs.grammar.Exactness.{Good}
+use Rattle.c_statement_laws.specs.c_grammar_laws.DeclarationLaws.{ReadsParameters, ReadsDeclarations}
+use Rattle.c_file_readers.proofs.grammar.Judging.{in_turn, in_turn_of, good-as, good-fewer, good-found}
+use Rattle.c_statement_laws.proofs.c_grammar_laws.TokenGood.{OneSign, good-sign, OneName, good-name}
+use Rattle.c_statement_laws.proofs.c_grammar_laws.ValueGood.{RowWord, good-word-of}
+use Rattle.c_statement_laws.proofs.c_grammar_laws.DeclarationGood.{row-word}
+use Rattle.c_statement_laws.proofs.c_grammar_laws.HeadGood.{good_parameters, good_heads}
+use Rattle.c_statement_laws.proofs.c_grammar_laws.FreshNames.{fresh_name, fresh-new, new-name}
 use Rattle.c_statement_laws.specs.StatementLaws.{InOrder, ScopesInOrder, BodyIs, GoodBodies}
 use Rattle.c_file_readers.specs.FileReader as reader
 use Rattle.c_file_readers.specs.FileReader.{function_of, a_function}

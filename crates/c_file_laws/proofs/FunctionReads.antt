@@ -1,23 +1,23 @@
 -- Functions that are spelled are read, where their bodies are.
 use Rattle.std.proofs.Common.{◌≡◌, refl, ℕ, ◌+◌, Bool, true, List, [], codes, Some, Ok, arith}
-use Rattle.c_tree.specs.declared.types.ResultType.{ResultType}
-use Rattle.c_tree.specs.declared.types.ResultType.TheVariants as result
-use Rattle.c_tree.specs.declared.statement.CStmt.{CStmt}
-use Rattle.c_tree.specs.declared.file.CFunction.{CFunction}
-use Rattle.c_tree.specs.CWords.{is_name, result_word}
-use Rattle.c_tree.specs.CExpressionText.{Scope}
-use Rattle.c_tree.specs.CText as file
-use Rattle.c_tree.specs.CText.{ReadsFunction}
-use Rattle.c_readers.specs.Readers.{Tokens, found, lookup}
-use Rattle.c_readers.specs.TypeReader.{result_words}
-use Rattle.c_readers.specs.DeclarationReader.{is_new}
-use Rattle.grammar.specs.Exactness.{Eventually}
-use Rattle.c_grammar_laws.specs.ExpressionLaws.{Anything}
-use Rattle.grammar.proofs.GoodExact.{good-exact}
-use Rattle.c_grammar_laws.proofs.FreshNames.{passes-new}
-use Rattle.c_grammar_laws.proofs.TokenReads.{sign-read, name-read, row-word-read}
-use Rattle.c_grammar_laws.proofs.HeadReads.{parameter-list-read, locals-read}
-use Rattle.c_statement_readers.specs.StatementReader.{body}
+use Rattle.c_file_readers.specs.c_tree.declared.types.ResultType.{ResultType}
+use Rattle.c_file_readers.specs.c_tree.declared.types.ResultType.TheVariants as result
+use Rattle.c_file_readers.specs.c_tree.declared.statement.CStmt.{CStmt}
+use Rattle.c_file_readers.specs.c_tree.declared.file.CFunction.{CFunction}
+use Rattle.c_file_readers.specs.c_tree.CWords.{is_name, result_word}
+use Rattle.c_file_readers.specs.c_tree.CExpressionText.{Scope}
+use Rattle.c_file_readers.specs.c_tree.CText as file
+use Rattle.c_file_readers.specs.c_tree.CText.{ReadsFunction}
+use Rattle.c_file_readers.specs.c_readers.Readers.{Tokens, found, lookup}
+use Rattle.c_file_readers.specs.c_readers.TypeReader.{result_words}
+use Rattle.c_file_readers.specs.c_readers.DeclarationReader.{is_new}
+use Rattle.c_file_readers.specs.grammar.Exactness.{Eventually}
+use Rattle.c_statement_laws.specs.c_grammar_laws.ExpressionLaws.{Anything}
+use Rattle.c_file_readers.proofs.grammar.GoodExact.{good-exact}
+use Rattle.c_statement_laws.proofs.c_grammar_laws.FreshNames.{passes-new}
+use Rattle.c_statement_laws.proofs.c_grammar_laws.TokenReads.{sign-read, name-read, row-word-read}
+use Rattle.c_statement_laws.proofs.c_grammar_laws.HeadReads.{parameter-list-read, locals-read}
+use Rattle.c_file_readers.specs.c_statement_readers.StatementReader.{body}
 use Rattle.c_statement_laws.specs.StatementLaws.{InOrder, ScopesInOrder, BodyIs, GoodBodies}
 use Rattle.c_file_readers.specs.FileReader as reader
 use Rattle.c_file_readers.specs.FileReader.{a_function}

@@ -1,15 +1,15 @@
 -- Behind `integer`, where external objects may stand: an array where a bracket stands behind the name, and else a function. The reader looks for
 -- the bracket before it looks at the name, and refuses a name that is not new either way.
 use Rattle.std.proofs.Common.{◌≡◌, refl, sym, ap, ◌∙◌, ℕ, suc, Bool, true, false, List, [], ◌∷◌, codes, if◌then◌else◌, Option}
-use Rattle.c_tree.specs.declared.types.ResultType.TheVariants as result
-use Rattle.c_tree.specs.declared.file.CFile.{CFile}
-use Rattle.c_tree.specs.Tokens.{Word, Sign}
-use Rattle.c_tree.specs.CExpressionText.{Scope}
-use Rattle.c_tree.specs.CDeclarationText.{with_array, with_function}
-use Rattle.c_readers.specs.Readers.{Tokens, Outcome, Reader, found, refused, ◌>>=◌, a_name}
-use Rattle.c_readers.specs.ValueReader.{a_word_of}
-use Rattle.c_readers.specs.DeclarationReader.{is_new}
-use Rattle.c_statement_readers.specs.PartReader.{starts_with}
+use Rattle.c_file_readers.specs.c_tree.declared.types.ResultType.TheVariants as result
+use Rattle.c_file_readers.specs.c_tree.declared.file.CFile.{CFile}
+use Rattle.c_file_readers.specs.c_tree.Tokens.{Word, Sign}
+use Rattle.c_file_readers.specs.c_tree.CExpressionText.{Scope}
+use Rattle.c_file_readers.specs.c_tree.CDeclarationText.{with_array, with_function}
+use Rattle.c_file_readers.specs.c_readers.Readers.{Tokens, Outcome, Reader, found, refused, ◌>>=◌, a_name}
+use Rattle.c_file_readers.specs.c_readers.ValueReader.{a_word_of}
+use Rattle.c_file_readers.specs.c_readers.DeclarationReader.{is_new}
+use Rattle.c_file_readers.specs.c_statement_readers.PartReader.{starts_with}
 use Rattle.c_file_readers.specs.ObjectReader as object
 use Rattle.c_file_readers.specs.ObjectReader.{integers_behind, an_object}
 use Rattle.c_file_readers.specs.FileReader as reader

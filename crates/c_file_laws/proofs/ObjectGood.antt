@@ -1,20 +1,20 @@
 -- External objects and constants are read as they stand.
 use Rattle.std.proofs.Common.{refl, sym, ap, ◌∙◌, subst, ℕ, ℤ, List, ◌∷◌, codes}
-use Rattle.c_tree.specs.declared.file.CObject.TheVariants as object
-use Rattle.c_tree.specs.declared.file.CConstant.{CConstant}
-use Rattle.c_tree.specs.Tokens.{Word}
-use Rattle.c_tree.specs.CWords.{AWord}
-use Rattle.c_tree.specs.CDeclarationText as text
-use Rattle.c_tree.specs.CDeclarationText.{ReadsValue, ReadsNumbers, ReadsText, IsNew}
-use Rattle.c_tree.specs.CText as file
-use Rattle.c_readers.specs.Readers.{Tokens}
-use Rattle.c_readers.specs.DeclarationReader.{is_new}
-use Rattle.grammar.specs.Exactness.{Good}
-use Rattle.grammar.proofs.Judging.{in_turn, in_turn_of, good-as, good-found}
-use Rattle.c_grammar_laws.proofs.TokenGood.{OneSign, good-sign, OneWord, good-word, OneName, good-name}
-use Rattle.c_grammar_laws.proofs.ValueGood.{RowWord, good-word-of, good-value}
-use Rattle.c_grammar_laws.proofs.DeclarationGood.{row-word, Bracketed, good-bracketed, array-of, good-numbers, good-text}
-use Rattle.c_grammar_laws.proofs.FreshNames.{fresh_name, fresh-new, new-name}
+use Rattle.c_file_readers.specs.c_tree.declared.file.CObject.TheVariants as object
+use Rattle.c_file_readers.specs.c_tree.declared.file.CConstant.{CConstant}
+use Rattle.c_file_readers.specs.c_tree.Tokens.{Word}
+use Rattle.c_file_readers.specs.c_tree.CWords.{AWord}
+use Rattle.c_file_readers.specs.c_tree.CDeclarationText as text
+use Rattle.c_file_readers.specs.c_tree.CDeclarationText.{ReadsValue, ReadsNumbers, ReadsText, IsNew}
+use Rattle.c_file_readers.specs.c_tree.CText as file
+use Rattle.c_file_readers.specs.c_readers.Readers.{Tokens}
+use Rattle.c_file_readers.specs.c_readers.DeclarationReader.{is_new}
+use Rattle.c_file_readers.specs.grammar.Exactness.{Good}
+use Rattle.c_file_readers.proofs.grammar.Judging.{in_turn, in_turn_of, good-as, good-found}
+use Rattle.c_statement_laws.proofs.c_grammar_laws.TokenGood.{OneSign, good-sign, OneWord, good-word, OneName, good-name}
+use Rattle.c_statement_laws.proofs.c_grammar_laws.ValueGood.{RowWord, good-word-of, good-value}
+use Rattle.c_statement_laws.proofs.c_grammar_laws.DeclarationGood.{row-word, Bracketed, good-bracketed, array-of, good-numbers, good-text}
+use Rattle.c_statement_laws.proofs.c_grammar_laws.FreshNames.{fresh_name, fresh-new, new-name}
 use Rattle.c_file_readers.specs.ObjectReader as reader
 use Rattle.c_file_readers.specs.ObjectReader.{Named, ObjectLead, OfIntegers, OfCharacters, object_words, an_object, a_constant}
 use Rattle.c_file_laws.specs.FileLaws.{ObjectNew, ConstantNew, GoodObjects, GoodConstants}

@@ -1,22 +1,22 @@
 -- External objects and constants that are spelled are read, and their readers are exact.
 use Rattle.std.proofs.Common.{◌≡◌, refl, ℕ, Bool, true, List, codes}
-use Rattle.c_tree.specs.declared.file.CObject.{CObject}
-use Rattle.c_tree.specs.declared.file.CConstant.{CConstant}
-use Rattle.c_tree.specs.CWords.{AWord}
-use Rattle.c_tree.specs.CDeclarationText as text
-use Rattle.c_tree.specs.CDeclarationText.{ReadsArray, ReadsObject}
-use Rattle.c_tree.specs.CText as file
-use Rattle.c_tree.specs.CText.{ReadsConstant}
-use Rattle.c_readers.specs.Readers.{Tokens, found}
-use Rattle.c_readers.specs.ValueReader.{is_length}
-use Rattle.c_readers.specs.DeclarationReader.{is_new, bracketed}
-use Rattle.c_grammar_laws.specs.ExpressionLaws.{Anything}
-use Rattle.grammar.proofs.GoodExact.{good-exact}
-use Rattle.c_grammar_laws.proofs.ExpressionComplete.{always}
-use Rattle.c_grammar_laws.proofs.FreshNames.{passes-new}
-use Rattle.c_grammar_laws.proofs.ValueGood.{number-read}
-use Rattle.c_grammar_laws.proofs.TokenReads.{sign-read, word-read, name-read, row-word-read, passes-length, value-read}
-use Rattle.c_grammar_laws.proofs.LocalReads.{numbers-read, text-read}
+use Rattle.c_file_readers.specs.c_tree.declared.file.CObject.{CObject}
+use Rattle.c_file_readers.specs.c_tree.declared.file.CConstant.{CConstant}
+use Rattle.c_file_readers.specs.c_tree.CWords.{AWord}
+use Rattle.c_file_readers.specs.c_tree.CDeclarationText as text
+use Rattle.c_file_readers.specs.c_tree.CDeclarationText.{ReadsArray, ReadsObject}
+use Rattle.c_file_readers.specs.c_tree.CText as file
+use Rattle.c_file_readers.specs.c_tree.CText.{ReadsConstant}
+use Rattle.c_file_readers.specs.c_readers.Readers.{Tokens, found}
+use Rattle.c_file_readers.specs.c_readers.ValueReader.{is_length}
+use Rattle.c_file_readers.specs.c_readers.DeclarationReader.{is_new, bracketed}
+use Rattle.c_statement_laws.specs.c_grammar_laws.ExpressionLaws.{Anything}
+use Rattle.c_file_readers.proofs.grammar.GoodExact.{good-exact}
+use Rattle.c_statement_laws.proofs.c_grammar_laws.ExpressionComplete.{always}
+use Rattle.c_statement_laws.proofs.c_grammar_laws.FreshNames.{passes-new}
+use Rattle.c_statement_laws.proofs.c_grammar_laws.ValueGood.{number-read}
+use Rattle.c_statement_laws.proofs.c_grammar_laws.TokenReads.{sign-read, word-read, name-read, row-word-read, passes-length, value-read}
+use Rattle.c_statement_laws.proofs.c_grammar_laws.LocalReads.{numbers-read, text-read}
 use Rattle.c_file_readers.specs.ObjectReader as reader
 use Rattle.c_file_readers.specs.ObjectReader.{OfIntegers, OfCharacters, object_words, an_object, a_constant}
 use Rattle.c_file_laws.specs.FileLaws.{ObjectNew, ConstantNew, ExactObjects, ExactConstants}

@@ -1,15 +1,15 @@
 -- The parts of a file behind those that were read.
 use Rattle.std.proofs.Common.{◌≡◌, refl, sym, ap, ◌∙◌, subst, ℕ, ◌≤◌, List, [], ◌∷◌, ◌++◌, append_assoc, append-nil, length, arith}
-use Rattle.c_tree.specs.declared.file.CObject.{CObject}
-use Rattle.c_tree.specs.declared.file.CConstant.{CConstant}
-use Rattle.c_tree.specs.declared.file.CFunction.{CFunction}
-use Rattle.c_tree.specs.declared.file.CFile.{CFile}
-use Rattle.c_tree.specs.CExpressionText.{Scope}
-use Rattle.c_tree.specs.CDeclarationText as text
-use Rattle.c_tree.specs.CDeclarationText.{ReadsArray, ReadsObject, with_object, with_array, with_function}
-use Rattle.c_tree.specs.CText as grammar
-use Rattle.c_tree.specs.CText.{ReadsFunction, ReadsConstant}
-use Rattle.c_readers.specs.Readers.{Tokens}
+use Rattle.c_file_readers.specs.c_tree.declared.file.CObject.{CObject}
+use Rattle.c_file_readers.specs.c_tree.declared.file.CConstant.{CConstant}
+use Rattle.c_file_readers.specs.c_tree.declared.file.CFunction.{CFunction}
+use Rattle.c_file_readers.specs.c_tree.declared.file.CFile.{CFile}
+use Rattle.c_file_readers.specs.c_tree.CExpressionText.{Scope}
+use Rattle.c_file_readers.specs.c_tree.CDeclarationText as text
+use Rattle.c_file_readers.specs.c_tree.CDeclarationText.{ReadsArray, ReadsObject, with_object, with_array, with_function}
+use Rattle.c_file_readers.specs.c_tree.CText as grammar
+use Rattle.c_file_readers.specs.c_tree.CText.{ReadsFunction, ReadsConstant}
+use Rattle.c_file_readers.specs.c_readers.Readers.{Tokens}
 use Rattle.c_file_readers.specs.ObjectReader.{Named}
 use Rattle.c_file_readers.specs.FileReader.{Part, Objects, Constants, Functions, with_one_object, with_one_constant, with_one_function}
 use Rattle.c_file_laws.specs.FileLaws.{ObjectNew, ConstantNew, FunctionNew}

@@ -1,19 +1,19 @@
 -- The parts of a file are read as they stand, where functions are.
 use Rattle.std.proofs.Common.{◌≡◌, refl, sym, ap, subst, ℕ, zero, suc, ◌≤◌, le_refl, Bool, true, false, ◌&&◌, List, [], ◌∷◌, ◌++◌, codes, bytes_eq, if◌then◌else◌, Option, arith}
-use Rattle.c_tree.specs.declared.types.ResultType.TheVariants as result
-use Rattle.c_tree.specs.declared.file.CConstant.{CConstant}
-use Rattle.c_tree.specs.declared.file.CFunction.{CFunction}
-use Rattle.c_tree.specs.declared.file.CFile.{CFile}
-use Rattle.c_tree.specs.Tokens.{Token, Word, Sign}
-use Rattle.c_tree.specs.CExpressionText.{Scope}
-use Rattle.c_tree.specs.CDeclarationText.{IsNew, with_object, with_array, with_function}
-use Rattle.c_readers.specs.Readers.{Tokens, Outcome, Reader, ◌>>=◌}
-use Rattle.c_readers.specs.DeclarationReader.{is_new}
-use Rattle.grammar.specs.Exactness.{head, Judged, Good}
-use Rattle.grammar.proofs.Judging.{Onto, filled-then, judged-then-some, in_turn_of, good-as, judged-also, judged-fewer, behind-token, stays-end, at-the-token, at-the-end}
-use Rattle.c_grammar_laws.proofs.TokenGood.{equal-texts, OneName, good-name}
-use Rattle.c_grammar_laws.proofs.FreshNames.{fresh_name, fresh-new, new-name}
-use Rattle.c_statement_readers.specs.PartReader.{starts_with}
+use Rattle.c_file_readers.specs.c_tree.declared.types.ResultType.TheVariants as result
+use Rattle.c_file_readers.specs.c_tree.declared.file.CConstant.{CConstant}
+use Rattle.c_file_readers.specs.c_tree.declared.file.CFunction.{CFunction}
+use Rattle.c_file_readers.specs.c_tree.declared.file.CFile.{CFile}
+use Rattle.c_file_readers.specs.c_tree.Tokens.{Token, Word, Sign}
+use Rattle.c_file_readers.specs.c_tree.CExpressionText.{Scope}
+use Rattle.c_file_readers.specs.c_tree.CDeclarationText.{IsNew, with_object, with_array, with_function}
+use Rattle.c_file_readers.specs.c_readers.Readers.{Tokens, Outcome, Reader, ◌>>=◌}
+use Rattle.c_file_readers.specs.c_readers.DeclarationReader.{is_new}
+use Rattle.c_file_readers.specs.grammar.Exactness.{head, Judged, Good}
+use Rattle.c_file_readers.proofs.grammar.Judging.{Onto, filled-then, judged-then-some, in_turn_of, good-as, judged-also, judged-fewer, behind-token, stays-end, at-the-token, at-the-end}
+use Rattle.c_statement_laws.proofs.c_grammar_laws.TokenGood.{equal-texts, OneName, good-name}
+use Rattle.c_statement_laws.proofs.c_grammar_laws.FreshNames.{fresh_name, fresh-new, new-name}
+use Rattle.c_file_readers.specs.c_statement_readers.PartReader.{starts_with}
 use Rattle.c_statement_laws.specs.StatementLaws.{InOrder, ScopesInOrder, GoodBodies}
 use Rattle.c_file_readers.specs.ObjectReader.{Named}
 use Rattle.c_file_readers.specs.FileReader as reader

@@ -1,22 +1,22 @@
 -- The parts of a file that are spelled are read, where bodies are.
 use Rattle.std.proofs.Common.{◌≡◌, refl, sym, ap, ◌∙◌, subst, ℕ, zero, suc, ◌+◌, ◌≤◌, true, false, List, [], ◌∷◌, codes, arith}
-use Rattle.c_tree.specs.declared.types.ResultType.{ResultType}
-use Rattle.c_tree.specs.declared.types.ResultType.TheVariants as result
-use Rattle.c_tree.specs.declared.file.CObject.{CObject}
-use Rattle.c_tree.specs.declared.file.CConstant.{CConstant}
-use Rattle.c_tree.specs.declared.file.CFunction.{CFunction}
-use Rattle.c_tree.specs.declared.file.CFile.{CFile}
-use Rattle.c_tree.specs.Tokens.{Word, Sign}
-use Rattle.c_tree.specs.CWords.{AWord, result_word}
-use Rattle.c_tree.specs.CExpressionText.{Scope}
-use Rattle.c_tree.specs.CDeclarationText as text
-use Rattle.c_tree.specs.CDeclarationText.{ReadsArray, ReadsObject, with_object, with_array, with_function}
-use Rattle.c_tree.specs.CText as grammar
-use Rattle.c_tree.specs.CText.{ReadsFunction, ReadsConstant}
-use Rattle.c_readers.specs.Readers.{Tokens, found, ◌>>=◌}
-use Rattle.c_readers.specs.DeclarationReader.{is_new}
-use Rattle.c_grammar_laws.proofs.CallComplete.{Soon}
-use Rattle.c_grammar_laws.proofs.FreshNames.{passes-new}
+use Rattle.c_file_readers.specs.c_tree.declared.types.ResultType.{ResultType}
+use Rattle.c_file_readers.specs.c_tree.declared.types.ResultType.TheVariants as result
+use Rattle.c_file_readers.specs.c_tree.declared.file.CObject.{CObject}
+use Rattle.c_file_readers.specs.c_tree.declared.file.CConstant.{CConstant}
+use Rattle.c_file_readers.specs.c_tree.declared.file.CFunction.{CFunction}
+use Rattle.c_file_readers.specs.c_tree.declared.file.CFile.{CFile}
+use Rattle.c_file_readers.specs.c_tree.Tokens.{Word, Sign}
+use Rattle.c_file_readers.specs.c_tree.CWords.{AWord, result_word}
+use Rattle.c_file_readers.specs.c_tree.CExpressionText.{Scope}
+use Rattle.c_file_readers.specs.c_tree.CDeclarationText as text
+use Rattle.c_file_readers.specs.c_tree.CDeclarationText.{ReadsArray, ReadsObject, with_object, with_array, with_function}
+use Rattle.c_file_readers.specs.c_tree.CText as grammar
+use Rattle.c_file_readers.specs.c_tree.CText.{ReadsFunction, ReadsConstant}
+use Rattle.c_file_readers.specs.c_readers.Readers.{Tokens, found, ◌>>=◌}
+use Rattle.c_file_readers.specs.c_readers.DeclarationReader.{is_new}
+use Rattle.c_statement_laws.proofs.c_grammar_laws.CallComplete.{Soon}
+use Rattle.c_statement_laws.proofs.c_grammar_laws.FreshNames.{passes-new}
 use Rattle.c_statement_laws.specs.StatementLaws.{InOrder, ScopesInOrder}
 use Rattle.c_file_readers.specs.ObjectReader.{Named, an_object, a_constant}
 use Rattle.c_file_readers.specs.FileReader as reader

@@ -1,16 +1,16 @@
 -- The parts of a file from one place to another, and up to the end of the tokens those of the grammar.
 use Rattle.std.proofs.Common.{◌≡◌, refl, sym, subst, ℕ, List, [], ◌∷◌}
-use Rattle.c_tree.specs.declared.file.CObject.{CObject}
-use Rattle.c_tree.specs.declared.file.CConstant.{CConstant}
-use Rattle.c_tree.specs.declared.file.CFunction.{CFunction}
-use Rattle.c_tree.specs.declared.file.CFile.{CFile}
-use Rattle.c_tree.specs.Tokens.{Including}
-use Rattle.c_tree.specs.CWords.{Next}
-use Rattle.c_tree.specs.CExpressionText.{Scope}
-use Rattle.c_tree.specs.CDeclarationText.{ReadsObject, IsNew, with_object, with_array, with_function}
-use Rattle.c_tree.specs.CText as grammar
-use Rattle.c_tree.specs.CText.{ReadsFunction, ReadsFunctions, ReadsConstant, ReadsParts, ReadsFile, no_names}
-use Rattle.c_readers.specs.Readers.{Tokens}
+use Rattle.c_file_readers.specs.c_tree.declared.file.CObject.{CObject}
+use Rattle.c_file_readers.specs.c_tree.declared.file.CConstant.{CConstant}
+use Rattle.c_file_readers.specs.c_tree.declared.file.CFunction.{CFunction}
+use Rattle.c_file_readers.specs.c_tree.declared.file.CFile.{CFile}
+use Rattle.c_file_readers.specs.c_tree.Tokens.{Including}
+use Rattle.c_file_readers.specs.c_tree.CWords.{Next}
+use Rattle.c_file_readers.specs.c_tree.CExpressionText.{Scope}
+use Rattle.c_file_readers.specs.c_tree.CDeclarationText.{ReadsObject, IsNew, with_object, with_array, with_function}
+use Rattle.c_file_readers.specs.c_tree.CText as grammar
+use Rattle.c_file_readers.specs.c_tree.CText.{ReadsFunction, ReadsFunctions, ReadsConstant, ReadsParts, ReadsFile, no_names}
+use Rattle.c_file_readers.specs.c_readers.Readers.{Tokens}
 
 -- The external objects, then the constants, then the functions between two places.
 pub data PartsTo : Scope → List (List ℕ) → List CObject → List CConstant → List CFunction → Tokens → Tokens → Type 0 where

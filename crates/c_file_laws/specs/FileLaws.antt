@@ -1,16 +1,16 @@
 -- The laws of the readers of external objects, of constants, of functions and of files (C89, 3.7).
 use Rattle.std.specs.Prelude.{◌≡◌, ◌≤◌, ℕ, List, [], ◌∷◌, ◌++◌, length, Some, None, Ok, Err}
-use Rattle.c_tree.specs.declared.file.CConstant.{CConstant}
-use Rattle.c_tree.specs.declared.file.CFunction.{CFunction}
-use Rattle.c_tree.specs.declared.file.CFile.{CFile}
-use Rattle.c_tree.specs.Tokens.{Placed, AreTokensOf, last_line}
-use Rattle.c_tree.specs.CExpressionText.{Scope}
-use Rattle.c_tree.specs.CDeclarationText.{ReadsObject, IsNew}
-use Rattle.c_tree.specs.CText.{ReadsFunction, ReadsConstant, ReadsFile, kinds, CText, Begins, IsRefusedAt, RefusedLine}
-use Rattle.c_readers.specs.Readers.{Tokens, Outcome}
-use Rattle.c_readers.specs.DeclarationReader.{is_new}
-use Rattle.grammar.specs.Exactness.{Good, Exact, Eventually}
-use Rattle.c_grammar_laws.specs.ExpressionLaws.{Anything}
+use Rattle.c_file_readers.specs.c_tree.declared.file.CConstant.{CConstant}
+use Rattle.c_file_readers.specs.c_tree.declared.file.CFunction.{CFunction}
+use Rattle.c_file_readers.specs.c_tree.declared.file.CFile.{CFile}
+use Rattle.c_file_readers.specs.c_tree.Tokens.{Placed, AreTokensOf, last_line}
+use Rattle.c_file_readers.specs.c_tree.CExpressionText.{Scope}
+use Rattle.c_file_readers.specs.c_tree.CDeclarationText.{ReadsObject, IsNew}
+use Rattle.c_file_readers.specs.c_tree.CText.{ReadsFunction, ReadsConstant, ReadsFile, kinds, CText, Begins, IsRefusedAt, RefusedLine}
+use Rattle.c_file_readers.specs.c_readers.Readers.{Tokens, Outcome}
+use Rattle.c_file_readers.specs.c_readers.DeclarationReader.{is_new}
+use Rattle.c_file_readers.specs.grammar.Exactness.{Good, Exact, Eventually}
+use Rattle.c_statement_laws.specs.c_grammar_laws.ExpressionLaws.{Anything}
 use Rattle.c_statement_laws.specs.StatementLaws.{InOrder}
 use Rattle.c_file_readers.specs.ObjectReader.{Named, an_object, a_constant}
 use Rattle.c_file_readers.specs.FileReader.{a_function, a_file}

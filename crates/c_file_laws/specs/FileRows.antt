@@ -1,18 +1,18 @@
 -- Tokens behind the include line with the files that the reader gives, or with the tokens from the offending one on.
 use Rattle.std.specs.Prelude.{◌≡◌, ℕ, pos, false, List, [], ◌∷◌, codes, Some, None, Ok, Err}
-use Rattle.c_tree.specs.declared.types.NumberType.TheVariants as number
-use Rattle.c_tree.specs.declared.types.ResultType.TheVariants as result
-use Rattle.c_tree.specs.declared.types.ParameterType.TheVariants as parameter
-use Rattle.c_tree.specs.declared.expression.CExpr.TheVariants as expr
-use Rattle.c_tree.specs.declared.declaration.CLocal.TheVariants as local
-use Rattle.c_tree.specs.declared.statement.CStmt.{CStmt}
-use Rattle.c_tree.specs.declared.statement.CStmt.TheVariants as stmt
-use Rattle.c_tree.specs.declared.file.CObject.TheVariants as object
-use Rattle.c_tree.specs.declared.file.CConstant.{CConstant}
-use Rattle.c_tree.specs.declared.file.CFunction.{CFunction}
-use Rattle.c_tree.specs.declared.file.CFile.{CFile}
-use Rattle.c_tree.specs.Tokens.{Token, Word, Digits, Quoted, Sign, Including}
-use Rattle.c_readers.specs.Readers.{Tokens}
+use Rattle.c_file_readers.specs.c_tree.declared.types.NumberType.TheVariants as number
+use Rattle.c_file_readers.specs.c_tree.declared.types.ResultType.TheVariants as result
+use Rattle.c_file_readers.specs.c_tree.declared.types.ParameterType.TheVariants as parameter
+use Rattle.c_file_readers.specs.c_tree.declared.expression.CExpr.TheVariants as expr
+use Rattle.c_file_readers.specs.c_tree.declared.declaration.CLocal.TheVariants as local
+use Rattle.c_file_readers.specs.c_tree.declared.statement.CStmt.{CStmt}
+use Rattle.c_file_readers.specs.c_tree.declared.statement.CStmt.TheVariants as stmt
+use Rattle.c_file_readers.specs.c_tree.declared.file.CObject.TheVariants as object
+use Rattle.c_file_readers.specs.c_tree.declared.file.CConstant.{CConstant}
+use Rattle.c_file_readers.specs.c_tree.declared.file.CFunction.{CFunction}
+use Rattle.c_file_readers.specs.c_tree.declared.file.CFile.{CFile}
+use Rattle.c_file_readers.specs.c_tree.Tokens.{Token, Word, Digits, Quoted, Sign, Including}
+use Rattle.c_file_readers.specs.c_readers.Readers.{Tokens}
 use Rattle.c_file_readers.specs.FileReader.{no_parts, a_file}
 
 abbrev word : List ℕ → Token

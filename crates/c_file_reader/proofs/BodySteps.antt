@@ -5,10 +5,10 @@ use Rattle.c_tree.specs.declared.statement.CStmt.{CStmt}
 use Rattle.c_tree.specs.Tokens.{Word, Digits, Quoted, Sign, Including, Bad}
 use Rattle.c_tree.specs.CLabels.{LabelsOf, no_label, both, labels_of, labels_of_all}
 use Rattle.c_tree.specs.CExpressionText.{Scope}
-use Rattle.c_readers.specs.Readers.{Tokens, Outcome, Reader, ◌>>=◌, lookup, a_sign, a_word}
-use Rattle.c_statement_readers.specs.LabelTests.{meet, with_label}
-use Rattle.c_statement_readers.specs.PartReader.{tested, for_head}
-use Rattle.c_statement_readers.specs.StatementReader.{Inner, first_and_more, by_brace, statements, closes_anywhere, block, braced, else_by, otherwise, conditional, counted, repeated, StatementLead, Jumps, Returns, Tests, Switches, Counts, Repeats, statement_words, led, labelled, is_label, by_label, by_word, SignLead, Nothing, Opening, statement_signs, by_sign, a_statement, statement, body}
+use Rattle.c_file_readers.specs.c_readers.Readers.{Tokens, Outcome, Reader, ◌>>=◌, lookup, a_sign, a_word}
+use Rattle.c_file_readers.specs.c_statement_readers.LabelTests.{meet, with_label}
+use Rattle.c_file_readers.specs.c_statement_readers.PartReader.{tested, for_head}
+use Rattle.c_file_readers.specs.c_statement_readers.StatementReader.{Inner, first_and_more, by_brace, statements, closes_anywhere, block, braced, else_by, otherwise, conditional, counted, repeated, StatementLead, Jumps, Returns, Tests, Switches, Counts, Repeats, statement_words, led, labelled, is_label, by_label, by_word, SignLead, Nothing, Opening, statement_signs, by_sign, a_statement, statement, body}
 use Rattle.c_statement_reader.proofs.WithinSteps.{Lasts, none-lasts, same-lasts, then-lasts, first-lasts, both-last, gives-lasts}
 use Rattle.c_expression_reader.specs.declared.failure.Failure.{Failure}
 use Rattle.c_expression_reader.specs.Readings.{Gives}

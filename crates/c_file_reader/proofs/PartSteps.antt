@@ -7,9 +7,9 @@ use Rattle.c_tree.specs.declared.file.CFile.{CFile}
 use Rattle.c_tree.specs.Tokens.{Word, Digits, Quoted, Sign, Including, Bad}
 use Rattle.c_tree.specs.CExpressionText.{Scope}
 use Rattle.c_tree.specs.CDeclarationText.{with_object, with_array, with_function}
-use Rattle.c_readers.specs.Readers.{Tokens, Outcome, Reader, found, ◌>>=◌}
-use Rattle.c_readers.specs.DeclarationReader.{is_new}
-use Rattle.c_statement_readers.specs.PartReader.{starts_with}
+use Rattle.c_file_readers.specs.c_readers.Readers.{Tokens, Outcome, Reader, found, ◌>>=◌}
+use Rattle.c_file_readers.specs.c_readers.DeclarationReader.{is_new}
+use Rattle.c_file_readers.specs.c_statement_readers.PartReader.{starts_with}
 use Rattle.c_file_readers.specs.ObjectReader.{Named, an_object, a_constant}
 use Rattle.c_file_readers.specs.FileReader as reader
 use Rattle.c_file_readers.specs.FileReader.{Further, names_array, a_function, an_object_and_more, a_constant_and_more, a_function_and_more, by_part, parts, may_be_object, may_be_constant, with_one_object, with_one_constant, with_one_function}

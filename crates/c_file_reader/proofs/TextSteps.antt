@@ -7,7 +7,7 @@ use Rattle.c_lexer.specs.SeenTokens.{seen, placed, all_placed}
 use Rattle.c_tree.specs.declared.file.CFile.{CFile}
 use Rattle.c_tree.specs.Tokens.{Placed, AreTokensOf}
 use Rattle.c_tree.specs.CText.{kinds, CText, RefusedLine}
-use Rattle.c_readers.specs.Readers.{Tokens}
+use Rattle.c_file_readers.specs.c_readers.Readers.{Tokens}
 use Rattle.c_file_readers.specs.FileReader.{a_file}
 use Rattle.c_file_laws.specs.FileLaws.{line_at, CutBefore}
 use Rattle.c_file_laws.proofs.FileLaws.{refused_c_lines, c_texts_read}

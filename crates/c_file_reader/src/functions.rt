@@ -3,8 +3,8 @@
 ghost use Rattle.std.specs.Prelude.{◌≡◌, ◌≤◌, ◌∷◌, [], false, IfOk, OnOk};
 ghost use Rattle.c_tree.specs.CWords.{is_among};
 ghost use Rattle.c_tree.specs.CDeclarationText.{with_function};
-ghost use Rattle.c_readers.specs.DeclarationReader.{is_new};
-ghost use Rattle.c_statement_readers.specs.StatementReader.{body};
+ghost use Rattle.c_file_readers.specs.c_readers.DeclarationReader.{is_new};
+ghost use Rattle.c_file_readers.specs.c_statement_readers.StatementReader.{body};
 ghost use Rattle.c_file_readers.specs.FileReader as reader;
 ghost use Rattle.c_scope.specs.ScopeSeen.{scope_of, here_of, file_scope_of, file_here_of};
 ghost use Rattle.c_expression_reader.specs.Readings.{shown, Gives};

@@ -2,7 +2,7 @@
 
 ghost use Rattle.std.specs.Prelude.{◌≡◌, [], codes, bytes_eq, IfOk, OnOk};
 ghost use Rattle.c_lexer.specs.SeenTokens.{sign_codes};
-ghost use Rattle.c_statement_readers.specs.PartReader.{starts_with};
+ghost use Rattle.c_file_readers.specs.c_statement_readers.PartReader.{starts_with};
 ghost use Rattle.c_file_readers.specs.FileReader as reader;
 ghost use Rattle.c_scope.specs.ScopeSeen.{here_of, file_scope_of, file_here_of};
 ghost use Rattle.c_expression_reader.specs.Readings.{shown, Gives};

@@ -1,20 +1,20 @@
 -- The readers of the functions of a C file, and of a whole file (C89, 3.7): the include line, the external objects, the constants, the functions.
 use Rattle.std.specs.Prelude.{ℕ, zero, suc, Bool, true, false, ◌&&◌, List, [], ◌∷◌, ◌++◌, codes, bytes_eq, Option, None, if◌then◌else◌}
-use Rattle.c_tree.specs.declared.types.ResultType.{ResultType}
-use Rattle.c_tree.specs.declared.statement.CStmt.{CStmt}
-use Rattle.c_tree.specs.declared.file.CObject.{CObject}
-use Rattle.c_tree.specs.declared.file.CConstant.{CConstant}
-use Rattle.c_tree.specs.declared.file.CFunction.{CFunction}
-use Rattle.c_tree.specs.declared.file.CFile.{CFile}
-use Rattle.c_tree.specs.Tokens.{Word, Sign, Including}
-use Rattle.c_tree.specs.CExpressionText.{Scope}
-use Rattle.c_tree.specs.CDeclarationText.{with_object, with_array, with_function}
-use Rattle.c_tree.specs.CText.{no_names}
-use Rattle.c_readers.specs.Readers.{Tokens, Outcome, Reader, found, refused, ◌>>=◌, a_sign, a_name}
-use Rattle.c_readers.specs.ValueReader.{a_word_of}
-use Rattle.c_readers.specs.TypeReader.{result_words}
-use Rattle.c_readers.specs.DeclarationReader.{is_new}
-use Rattle.c_readers.specs.HeadReader.{Parameters, parameter_list, Locals, locals}
+use Rattle.c_statement_readers.specs.c_tree.declared.types.ResultType.{ResultType}
+use Rattle.c_statement_readers.specs.c_tree.declared.statement.CStmt.{CStmt}
+use Rattle.c_statement_readers.specs.c_tree.declared.file.CObject.{CObject}
+use Rattle.c_statement_readers.specs.c_tree.declared.file.CConstant.{CConstant}
+use Rattle.c_statement_readers.specs.c_tree.declared.file.CFunction.{CFunction}
+use Rattle.c_statement_readers.specs.c_tree.declared.file.CFile.{CFile}
+use Rattle.c_statement_readers.specs.c_tree.Tokens.{Word, Sign, Including}
+use Rattle.c_statement_readers.specs.c_tree.CExpressionText.{Scope}
+use Rattle.c_statement_readers.specs.c_tree.CDeclarationText.{with_object, with_array, with_function}
+use Rattle.c_statement_readers.specs.c_tree.CText.{no_names}
+use Rattle.c_statement_readers.specs.c_readers.Readers.{Tokens, Outcome, Reader, found, refused, ◌>>=◌, a_sign, a_name}
+use Rattle.c_statement_readers.specs.c_readers.ValueReader.{a_word_of}
+use Rattle.c_statement_readers.specs.c_readers.TypeReader.{result_words}
+use Rattle.c_statement_readers.specs.c_readers.DeclarationReader.{is_new}
+use Rattle.c_statement_readers.specs.c_readers.HeadReader.{Parameters, parameter_list, Locals, locals}
 use Rattle.c_statement_readers.specs.StatementReader.{body}
 use Rattle.c_file_readers.specs.ObjectReader.{an_object, a_constant}
 

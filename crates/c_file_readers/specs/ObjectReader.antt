@@ -1,11 +1,11 @@
 -- The readers of external objects and of constants (C89, 3.5.7 and 3.7.2). A name that is declared is new.
 use Rattle.std.specs.Prelude.{ℕ, Bool, List, [], ◌∷◌, codes, Option}
-use Rattle.c_tree.specs.declared.file.CObject.{CObject}
-use Rattle.c_tree.specs.declared.file.CObject.TheVariants as object
-use Rattle.c_tree.specs.declared.file.CConstant.{CConstant}
-use Rattle.c_readers.specs.Readers.{Tokens, Outcome, Reader, found, ◌>>=◌, a_sign, a_word, a_name}
-use Rattle.c_readers.specs.ValueReader.{a_word_of, value}
-use Rattle.c_readers.specs.DeclarationReader.{bracketed, numbers, text}
+use Rattle.c_statement_readers.specs.c_tree.declared.file.CObject.{CObject}
+use Rattle.c_statement_readers.specs.c_tree.declared.file.CObject.TheVariants as object
+use Rattle.c_statement_readers.specs.c_tree.declared.file.CConstant.{CConstant}
+use Rattle.c_statement_readers.specs.c_readers.Readers.{Tokens, Outcome, Reader, found, ◌>>=◌, a_sign, a_word, a_name}
+use Rattle.c_statement_readers.specs.c_readers.ValueReader.{a_word_of, value}
+use Rattle.c_statement_readers.specs.c_readers.DeclarationReader.{bracketed, numbers, text}
 
 -- ## External objects
 

@@ -1,12 +1,12 @@
 -- Items of which there are so many at most are read as they stand, where each item is.
 use Rattle.std.proofs.Common.{◌≡◌, refl, sym, ap, ◌∙◌, subst, ℕ, zero, suc, ◌+◌, ◌≤◌, Bool, true, false, List, [], ◌∷◌, ◌++◌, append_assoc, length, codes, bytes_eq, if◌then◌else◌, arith}
-use Rattle.c_tree.specs.Tokens.{Sign}
-use Rattle.c_tree.specs.CWords.{Separated, last_item, one_item}
+use Rattle.c_readers.specs.c_tree.Tokens.{Sign}
+use Rattle.c_readers.specs.c_tree.CWords.{Separated, last_item, one_item}
 use Rattle.c_readers.specs.Readers.{Tokens, Reader}
 use Rattle.c_readers.specs.ListReader.{Separator, Closes, Goes, Neither, by_separator}
 use Rattle.c_readers.specs.ValueReader.{bounded_separator, behind_bounded, bounded}
-use Rattle.grammar.specs.Exactness.{Filled, Judged, Good}
-use Rattle.grammar.proofs.Judging.{Onto, in_turn, refuses, refuses-end, takes-one, behind-token, judged-fewer}
+use Rattle.c_readers.specs.grammar.Exactness.{Filled, Judged, Good}
+use Rattle.c_readers.proofs.grammar.Judging.{Onto, in_turn, refuses, refuses-end, takes-one, behind-token, judged-fewer}
 use Rattle.c_grammar_laws.proofs.TokenGood.{equal-texts}
 use Rattle.c_grammar_laws.proofs.ListGood.{IsSeparator, separator-is}
 

@@ -1,18 +1,18 @@
 -- Arguments and calls that are spelled are read.
 use Rattle.std.proofs.Common.{◌≡◌, refl, ap, ◌∙◌, subst, ℕ, zero, suc, ◌+◌, ◌≤◌, Bool, true, false, List, [], ◌∷◌, ◌++◌, append_assoc, codes, bytes_eq, if◌then◌else◌, arith}
-use Rattle.c_tree.specs.declared.expression.UnaryOp.TheVariants as prefix
-use Rattle.c_tree.specs.declared.expression.CExpr.{CExpr}
-use Rattle.c_tree.specs.declared.expression.CCall.{CCall}
-use Rattle.c_tree.specs.Tokens.{Word, Digits, Quoted, Sign, Including, Bad}
-use Rattle.c_tree.specs.CWords.{is_among, ASign, Separated, last_item, one_item}
-use Rattle.c_tree.specs.CExpressionText as text
-use Rattle.c_tree.specs.CExpressionText.{Scope, ReadsExpr, ReadsArguments, ReadsCall}
+use Rattle.c_readers.specs.c_tree.declared.expression.UnaryOp.TheVariants as prefix
+use Rattle.c_readers.specs.c_tree.declared.expression.CExpr.{CExpr}
+use Rattle.c_readers.specs.c_tree.declared.expression.CCall.{CCall}
+use Rattle.c_readers.specs.c_tree.Tokens.{Word, Digits, Quoted, Sign, Including, Bad}
+use Rattle.c_readers.specs.c_tree.CWords.{is_among, ASign, Separated, last_item, one_item}
+use Rattle.c_readers.specs.c_tree.CExpressionText as text
+use Rattle.c_readers.specs.c_tree.CExpressionText.{Scope, ReadsExpr, ReadsArguments, ReadsCall}
 use Rattle.c_readers.specs.Readers.{Tokens, Reader, found, refused, ◌>>=◌, a_sign, a_name}
 use Rattle.c_readers.specs.ListReader.{Closes, Goes, Neither, by_separator, behind_item, separated}
 use Rattle.c_readers.specs.ExpressionReader.{expression}
 use Rattle.c_readers.specs.CallReader as reader
 use Rattle.c_readers.specs.CallReader.{has_some}
-use Rattle.grammar.specs.Exactness.{Eventually}
+use Rattle.c_readers.specs.grammar.Exactness.{Eventually}
 use Rattle.c_grammar_laws.specs.ExpressionLaws.{OfNames}
 use Rattle.c_grammar_laws.proofs.TokenGood.{equal-self}
 use Rattle.c_grammar_laws.proofs.ExpressionComplete.{reads-whole}

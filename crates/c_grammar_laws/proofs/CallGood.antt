@@ -1,19 +1,19 @@
 -- What the readers of arguments and of calls take is spelled, and where they refuse what stands before can be completed.
 use Rattle.std.proofs.Common.{◌≡◌, refl, sym, ap, subst, ℕ, suc, ◌≤◌, Bool, true, false, ◌&&◌, ◌||◌, List, [], ◌∷◌, codes, bytes_eq, arith}
-use Rattle.c_tree.specs.declared.expression.CExpr.{CExpr}
-use Rattle.c_tree.specs.declared.expression.CCall.{CCall}
-use Rattle.c_tree.specs.Tokens.{Word, Sign}
-use Rattle.c_tree.specs.CWords.{is_among, ASign}
-use Rattle.c_tree.specs.CExpressionText as text
-use Rattle.c_tree.specs.CExpressionText.{Scope, ReadsExpr, ReadsArguments, ReadsCall}
+use Rattle.c_readers.specs.c_tree.declared.expression.CExpr.{CExpr}
+use Rattle.c_readers.specs.c_tree.declared.expression.CCall.{CCall}
+use Rattle.c_readers.specs.c_tree.Tokens.{Word, Sign}
+use Rattle.c_readers.specs.c_tree.CWords.{is_among, ASign}
+use Rattle.c_readers.specs.c_tree.CExpressionText as text
+use Rattle.c_readers.specs.c_tree.CExpressionText.{Scope, ReadsExpr, ReadsArguments, ReadsCall}
 use Rattle.c_readers.specs.Readers.{Tokens}
 use Rattle.c_readers.specs.ListReader.{separated}
 use Rattle.c_readers.specs.ExpressionReader.{expression}
 use Rattle.c_readers.specs.CallReader as reader
 use Rattle.c_readers.specs.CallReader.{has_some}
-use Rattle.grammar.specs.Exactness.{head, Filled, Judged, Good}
+use Rattle.c_readers.specs.grammar.Exactness.{head, Filled, Judged, Good}
 use Rattle.c_grammar_laws.specs.ExpressionLaws.{GoodArguments, GoodCalls}
-use Rattle.grammar.proofs.Judging.{in_turn, good-as, judged-as, judged-also, judged-fewer, refuses, refuses-end, takes-one, good-found, behind-token, at-the-token, at-the-end}
+use Rattle.c_readers.proofs.grammar.Judging.{in_turn, good-as, judged-as, judged-also, judged-fewer, refuses, refuses-end, takes-one, good-found, behind-token, at-the-token, at-the-end}
 use Rattle.c_grammar_laws.proofs.TokenGood.{equal-texts, equal-self, OneSign, good-sign, OneName, good-name}
 use Rattle.c_grammar_laws.proofs.ListGood.{ItemsBehind, good-separated}
 use Rattle.c_grammar_laws.proofs.ExpressionGood.{good-expression}

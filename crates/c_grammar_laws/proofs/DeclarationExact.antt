@@ -1,16 +1,16 @@
 -- The readers of values, of types and of declarations are exact.
 use Rattle.std.proofs.Common.{◌≡◌, refl, ℕ, List, [], arith}
-use Rattle.c_tree.specs.CExpressionText.{Scope}
-use Rattle.c_tree.specs.CDeclarationText.{ReadsValue, ReadsTypes}
+use Rattle.c_readers.specs.c_tree.CExpressionText.{Scope}
+use Rattle.c_readers.specs.c_tree.CDeclarationText.{ReadsValue, ReadsTypes}
 use Rattle.c_readers.specs.ValueReader.{value}
 use Rattle.c_readers.specs.TypeReader.{argument_types}
 use Rattle.c_readers.specs.DeclarationReader.{is_new, a_local}
 use Rattle.c_readers.specs.HeadReader.{parameter_list, locals}
-use Rattle.grammar.specs.Exactness.{Good, Eventually}
+use Rattle.c_readers.specs.grammar.Exactness.{Good, Eventually}
 use Rattle.c_grammar_laws.specs.ExpressionLaws.{Anything}
 use Rattle.c_grammar_laws.specs.DeclarationLaws.{DeclaresNew, ReadsParameters, ReadsDeclarations, EndsDeclarations, GoodDeclarations, ExactValues, ExactTypes, ExactDeclarations, ExactParameters, ExactHeads}
-use Rattle.grammar.proofs.Judging.{good-as}
-use Rattle.grammar.proofs.GoodExact.{good-exact}
+use Rattle.c_readers.proofs.grammar.Judging.{good-as}
+use Rattle.c_readers.proofs.grammar.GoodExact.{good-exact}
 use Rattle.c_grammar_laws.proofs.ExpressionComplete.{always}
 use Rattle.c_grammar_laws.proofs.FreshNames.{fresh_name, fresh-new, new-name, passes-new}
 use Rattle.c_grammar_laws.proofs.ValueGood.{good-value}

@@ -1,29 +1,29 @@
 -- Declarations are read as they stand, where a name may be declared.
 use Rattle.std.proofs.Common.{◌≡◌, refl, sym, ap, ◌∙◌, subst, ℕ, zero, suc, ◌≤◌, nat_le, leb-true, ℤ, Bool, true, false, ◌&&◌, List, [], ◌∷◌, ◌++◌, length, codes, bytes_eq, if◌then◌else◌, Option, Some, None, arith}
 use Rattle.std.proofs.lemmas.Bool.Decides.{nat_tests}
-use Rattle.c_tree.specs.declared.types.NumberType.{NumberType}
-use Rattle.c_tree.specs.declared.types.NumberType.TheVariants as number
-use Rattle.c_tree.specs.declared.types.ResultType.{ResultType}
-use Rattle.c_tree.specs.declared.types.ResultType.TheVariants as result
-use Rattle.c_tree.specs.declared.types.ListType.{ListType}
-use Rattle.c_tree.specs.declared.types.ListType.TheVariants as list
-use Rattle.c_tree.specs.declared.declaration.CField.{CField}
-use Rattle.c_tree.specs.declared.declaration.CField.TheVariants as field
-use Rattle.c_tree.specs.declared.declaration.CLocal.{CLocal}
-use Rattle.c_tree.specs.declared.declaration.CLocal.TheVariants as local
-use Rattle.c_tree.specs.Tokens.{Word, Digits, Quoted, Sign, Including, Bad}
-use Rattle.c_tree.specs.CWords.{is_among, Next, AWord, ASign, result_word, number_word, list_word}
-use Rattle.c_tree.specs.Access.{fields_of}
-use Rattle.c_tree.specs.CExpressionText.{Scope}
-use Rattle.c_tree.specs.CDeclarationText as text
-use Rattle.c_tree.specs.CDeclarationText.{IsLength, ReadsValue, ReadsArray, ReadsNumbers, ReadsText, ReadsTypes, ReadsField, ReadsStatic, ReadsLocal}
+use Rattle.c_readers.specs.c_tree.declared.types.NumberType.{NumberType}
+use Rattle.c_readers.specs.c_tree.declared.types.NumberType.TheVariants as number
+use Rattle.c_readers.specs.c_tree.declared.types.ResultType.{ResultType}
+use Rattle.c_readers.specs.c_tree.declared.types.ResultType.TheVariants as result
+use Rattle.c_readers.specs.c_tree.declared.types.ListType.{ListType}
+use Rattle.c_readers.specs.c_tree.declared.types.ListType.TheVariants as list
+use Rattle.c_readers.specs.c_tree.declared.declaration.CField.{CField}
+use Rattle.c_readers.specs.c_tree.declared.declaration.CField.TheVariants as field
+use Rattle.c_readers.specs.c_tree.declared.declaration.CLocal.{CLocal}
+use Rattle.c_readers.specs.c_tree.declared.declaration.CLocal.TheVariants as local
+use Rattle.c_readers.specs.c_tree.Tokens.{Word, Digits, Quoted, Sign, Including, Bad}
+use Rattle.c_readers.specs.c_tree.CWords.{is_among, Next, AWord, ASign, result_word, number_word, list_word}
+use Rattle.c_readers.specs.c_tree.Access.{fields_of}
+use Rattle.c_readers.specs.c_tree.CExpressionText.{Scope}
+use Rattle.c_readers.specs.c_tree.CDeclarationText as text
+use Rattle.c_readers.specs.c_tree.CDeclarationText.{IsLength, ReadsValue, ReadsArray, ReadsNumbers, ReadsText, ReadsTypes, ReadsField, ReadsStatic, ReadsLocal}
 use Rattle.c_readers.specs.Readers.{Tokens, found, refused, lookup, ◌>>=◌}
 use Rattle.c_readers.specs.ValueReader.{is_within, is_length, value, bounded}
 use Rattle.c_readers.specs.TypeReader.{result_words, argument_types}
 use Rattle.c_readers.specs.DeclarationReader as reader
 use Rattle.c_readers.specs.DeclarationReader.{ArrayEnd, Ends, Starts, array_ends, NumberEnd, Bare, Valued, Many, number_ends, Declared, StaticLead, OfNumbers, OfChars, OfList, static_words, PlainEnd, Alone, Several, plain_ends, LocalLead, External, Lasting, Numbers, Chars, Addresses, local_words}
-use Rattle.grammar.specs.Exactness.{head, Filled, Judged, Good}
-use Rattle.grammar.proofs.Judging.{in_turn, refuses, refuses-end, takes-one, good-found, good-as, behind-token, judged-fewer, judged-also, at-the-token}
+use Rattle.c_readers.specs.grammar.Exactness.{head, Filled, Judged, Good}
+use Rattle.c_readers.proofs.grammar.Judging.{in_turn, refuses, refuses-end, takes-one, good-found, good-as, behind-token, judged-fewer, judged-also, at-the-token}
 use Rattle.c_grammar_laws.proofs.TokenGood.{equal-texts, OneSign, good-sign, OneName, good-name}
 use Rattle.c_grammar_laws.proofs.ValueGood.{OneNumber, good-number, OneQuoted, good-quoted, RowWord, RowSign, good-word-of, good-sign-of, good-value, is-within}
 use Rattle.c_grammar_laws.proofs.BoundedGood.{BoundedBehind, good-bounded}

@@ -1,15 +1,15 @@
 -- What is spelled is read, where what follows does not go on.
 use Rattle.std.proofs.Common.{◌≡◌, sym, ap, ◌∙◌, subst, ℕ, zero, suc, pred, ◌+◌, ◌≤◌, pos, le_trans, le_refl, [], ◌∷◌, ◌++◌, codes, Option, Some, None, arith}
-use Rattle.c_tree.specs.declared.expression.CExpr.{CExpr}
-use Rattle.c_tree.specs.declared.expression.CExpr.TheVariants as expr
-use Rattle.c_tree.specs.Tokens.{Word, Digits, Quoted, Sign, Including, Bad}
-use Rattle.c_tree.specs.CWords.{prefix_sign, infix_sign, infix_level, cast_tokens, extreme_word}
-use Rattle.c_tree.specs.CExpressionText as text
-use Rattle.c_tree.specs.CExpressionText.{Scope, ReadsExpr}
+use Rattle.c_readers.specs.c_tree.declared.expression.CExpr.{CExpr}
+use Rattle.c_readers.specs.c_tree.declared.expression.CExpr.TheVariants as expr
+use Rattle.c_readers.specs.c_tree.Tokens.{Word, Digits, Quoted, Sign, Including, Bad}
+use Rattle.c_readers.specs.c_tree.CWords.{prefix_sign, infix_sign, infix_level, cast_tokens, extreme_word}
+use Rattle.c_readers.specs.c_tree.CExpressionText as text
+use Rattle.c_readers.specs.c_tree.CExpressionText.{Scope, ReadsExpr}
 use Rattle.c_readers.specs.Readers.{Tokens, Outcome, found, lookup, ◌>>=◌}
 use Rattle.c_readers.specs.ExpressionReader as reader
 use Rattle.c_readers.specs.ExpressionReader.{Operand, operand_of, Operator, Infix, Subscript, Member, Choice, operators, binding, follow, expression, expression_behind}
-use Rattle.grammar.specs.Exactness.{Eventually}
+use Rattle.c_readers.specs.grammar.Exactness.{Eventually}
 use Rattle.c_grammar_laws.specs.ExpressionLaws.{OfNames, EndsAt}
 use Rattle.c_grammar_laws.proofs.ExpressionTables.{level-most}
 use Rattle.c_grammar_laws.proofs.ExpressionSteps.{stays, infix-read, index-read, field-read, choice-read, number-read, string-read, name-read, paren-read, prefix-read, cast-read, size-read, extreme-read, absolute-read, expression-opens, known-free, follow-infix}

@@ -1,10 +1,10 @@
 -- The readers of expressions, of arguments and of calls are exact.
 use Rattle.std.proofs.Common.{arith}
-use Rattle.c_tree.specs.CExpressionText.{ReadsExpr, ReadsArguments, ReadsCall}
+use Rattle.c_readers.specs.c_tree.CExpressionText.{ReadsExpr, ReadsArguments, ReadsCall}
 use Rattle.c_readers.specs.ExpressionReader.{expression}
 use Rattle.c_readers.specs.CallReader.{arguments, call}
 use Rattle.c_grammar_laws.specs.ExpressionLaws.{EndsAt, Anything, ExactExpressions, ExactArguments, ExactCalls}
-use Rattle.grammar.proofs.GoodExact.{good-exact}
+use Rattle.c_readers.proofs.grammar.GoodExact.{good-exact}
 use Rattle.c_grammar_laws.proofs.ExpressionGood.{good-expression}
 use Rattle.c_grammar_laws.proofs.ExpressionComplete.{reads-whole}
 use Rattle.c_grammar_laws.proofs.CallGood.{good-arguments, good-call}

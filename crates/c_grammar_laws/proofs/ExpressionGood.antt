@@ -1,21 +1,21 @@
 -- What the readers of expressions take is spelled, and where they refuse what stands before can be completed.
 use Rattle.std.proofs.Common.{◌≡◌, refl, sym, ap, ◌∙◌, subst, ℕ, zero, suc, ◌+◌, ◌≤◌, nat_le, leb-true, pos, le_refl, Bool, true, false, List, [], ◌∷◌, ◌++◌, codes, drop, if◌then◌else◌, Option, Some, None, arith}
-use Rattle.c_tree.specs.declared.types.CastType.{CastType}
-use Rattle.c_tree.specs.declared.expression.UnaryOp.{UnaryOp}
-use Rattle.c_tree.specs.declared.expression.BinaryOp.{BinaryOp}
-use Rattle.c_tree.specs.declared.expression.Extreme.{Extreme}
-use Rattle.c_tree.specs.declared.expression.CExpr.{CExpr}
-use Rattle.c_tree.specs.declared.expression.CExpr.TheVariants as expr
-use Rattle.c_tree.specs.Tokens.{Token, Word, Digits, Quoted, Sign, Including, Bad}
-use Rattle.c_tree.specs.CWords.{is_name, prefix_sign, infix_sign, infix_level, cast_tokens, extreme_word}
-use Rattle.c_tree.specs.CExpressionText as text
-use Rattle.c_tree.specs.CExpressionText.{Scope, ReadsExpr}
+use Rattle.c_readers.specs.c_tree.declared.types.CastType.{CastType}
+use Rattle.c_readers.specs.c_tree.declared.expression.UnaryOp.{UnaryOp}
+use Rattle.c_readers.specs.c_tree.declared.expression.BinaryOp.{BinaryOp}
+use Rattle.c_readers.specs.c_tree.declared.expression.Extreme.{Extreme}
+use Rattle.c_readers.specs.c_tree.declared.expression.CExpr.{CExpr}
+use Rattle.c_readers.specs.c_tree.declared.expression.CExpr.TheVariants as expr
+use Rattle.c_readers.specs.c_tree.Tokens.{Token, Word, Digits, Quoted, Sign, Including, Bad}
+use Rattle.c_readers.specs.c_tree.CWords.{is_name, prefix_sign, infix_sign, infix_level, cast_tokens, extreme_word}
+use Rattle.c_readers.specs.c_tree.CExpressionText as text
+use Rattle.c_readers.specs.c_tree.CExpressionText.{Scope, ReadsExpr}
 use Rattle.c_readers.specs.Readers.{Tokens, found, refused, ◌>>=◌, a_name}
 use Rattle.c_readers.specs.ExpressionReader as reader
 use Rattle.c_readers.specs.ExpressionReader.{Places, Going, Operand, operand_of, Operator, Infix, Subscript, Member, Choice, operator_of, cast_of, SignLead, Opening, Before, sign_lead, WordLead, Sized, Extremal, Absolute, Named, word_lead, expression, expression_behind}
-use Rattle.grammar.specs.Exactness.{Filled, Judged, Good}
+use Rattle.c_readers.specs.grammar.Exactness.{Filled, Judged, Good}
 use Rattle.c_grammar_laws.specs.ExpressionLaws.{GoodExpressions}
-use Rattle.grammar.proofs.Judging.{in_turn, judged-then-by, good-as, refuses, refuses-end, stays, stays-end, takes-one, good-found, behind-token, judged-fewer, judged-also, at-the-token, at-the-end}
+use Rattle.c_readers.proofs.grammar.Judging.{in_turn, judged-then-by, good-as, refuses, refuses-end, stays, stays-end, takes-one, good-found, behind-token, judged-fewer, judged-also, at-the-token, at-the-end}
 use Rattle.c_grammar_laws.proofs.TokenGood.{OneSign, good-sign, OneName, good-name, AllStand, good-stand}
 use Rattle.c_grammar_laws.proofs.ExpressionTables.{Within, operator-taken, BeginsCast, cast-taken, sign-taken, IsWord, word-taken, expression-shorter, level-most}
 

@@ -2,21 +2,21 @@
 use Rattle.std.proofs.Common.{◌≡◌, refl, sym, ap, ap₂, ◌∙◌, subst, ℕ, zero, suc, pred, ◌+◌, ◌≤◌, ◌<◌, nat_le, le-leb, pos, Bool, true, false, not, ◌&&◌, ◌||◌, List, [], ◌∷◌, ◌++◌, codes, bytes_eq, drop, if◌then◌else◌, Option, Some, None, arith}
 use Rattle.std.proofs.lemmas.Bool.{lt-leb}
 use Rattle.std.specs.List.{list_all}
-use Rattle.c_tree.specs.declared.types.CastType.{CastType}
-use Rattle.c_tree.specs.declared.types.CastType.TheVariants as cast
-use Rattle.c_tree.specs.declared.types.FunctionType.TheVariants as pointer
-use Rattle.c_tree.specs.declared.expression.UnaryOp.{UnaryOp}
-use Rattle.c_tree.specs.declared.expression.UnaryOp.TheVariants as prefix
-use Rattle.c_tree.specs.declared.expression.BinaryOp.{BinaryOp}
-use Rattle.c_tree.specs.declared.expression.BinaryOp.TheVariants as op
-use Rattle.c_tree.specs.declared.expression.Extreme.{Extreme}
-use Rattle.c_tree.specs.declared.expression.Extreme.TheVariants as extreme
-use Rattle.c_tree.specs.declared.expression.CExpr.{CExpr}
-use Rattle.c_tree.specs.declared.expression.CExpr.TheVariants as expr
-use Rattle.c_tree.specs.Tokens.{Word, Digits, Quoted, Sign, Including, Bad, begins_with, is_letter, is_word_byte}
-use Rattle.c_tree.specs.CWords.{is_among, is_name, words, prefix_sign, infix_sign, infix_level, cast_tokens, extreme_word}
-use Rattle.c_tree.specs.CExpressionText as text
-use Rattle.c_tree.specs.CExpressionText.{Scope, IsKnown, ReadsExpr}
+use Rattle.c_readers.specs.c_tree.declared.types.CastType.{CastType}
+use Rattle.c_readers.specs.c_tree.declared.types.CastType.TheVariants as cast
+use Rattle.c_readers.specs.c_tree.declared.types.FunctionType.TheVariants as pointer
+use Rattle.c_readers.specs.c_tree.declared.expression.UnaryOp.{UnaryOp}
+use Rattle.c_readers.specs.c_tree.declared.expression.UnaryOp.TheVariants as prefix
+use Rattle.c_readers.specs.c_tree.declared.expression.BinaryOp.{BinaryOp}
+use Rattle.c_readers.specs.c_tree.declared.expression.BinaryOp.TheVariants as op
+use Rattle.c_readers.specs.c_tree.declared.expression.Extreme.{Extreme}
+use Rattle.c_readers.specs.c_tree.declared.expression.Extreme.TheVariants as extreme
+use Rattle.c_readers.specs.c_tree.declared.expression.CExpr.{CExpr}
+use Rattle.c_readers.specs.c_tree.declared.expression.CExpr.TheVariants as expr
+use Rattle.c_readers.specs.c_tree.Tokens.{Word, Digits, Quoted, Sign, Including, Bad, begins_with, is_letter, is_word_byte}
+use Rattle.c_readers.specs.c_tree.CWords.{is_among, is_name, words, prefix_sign, infix_sign, infix_level, cast_tokens, extreme_word}
+use Rattle.c_readers.specs.c_tree.CExpressionText as text
+use Rattle.c_readers.specs.c_tree.CExpressionText.{Scope, IsKnown, ReadsExpr}
 use Rattle.c_readers.specs.Readers.{Tokens, found, refused, ◌>>=◌, lookup, a_sign, a_word, a_name, all_stand}
 use Rattle.c_readers.specs.ExpressionReader as reader
 use Rattle.c_readers.specs.ExpressionReader.{Places, Going, operand_of, Operator, Infix, Subscript, Member, Choice, operators, taken, operator_of, casts, cast_of, Before, leading_signs, leads, sign_lead, Extremal, Named, leading_words, is_known, or_name, word_lead, binding, follow}

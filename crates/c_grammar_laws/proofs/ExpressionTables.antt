@@ -1,19 +1,19 @@
 -- What stands in the tables of the readers of expressions, and how long what is spelled is.
 use Rattle.std.proofs.Common.{◌≡◌, refl, sym, ap, ◌∙◌, subst, ℕ, suc, ◌+◌, ◌≤◌, nat_le, leb-true, Bool, true, false, ◌&&◌, ◌||◌, List, [], ◌∷◌, ◌++◌, length, codes, bytes_eq, drop, if◌then◌else◌, Option, Some, None, arith}
-use Rattle.c_tree.specs.declared.types.CastType.{CastType}
-use Rattle.c_tree.specs.declared.types.CastType.TheVariants as cast
-use Rattle.c_tree.specs.declared.types.FunctionType.TheVariants as pointer
-use Rattle.c_tree.specs.declared.expression.UnaryOp.{UnaryOp}
-use Rattle.c_tree.specs.declared.expression.BinaryOp.{BinaryOp}
-use Rattle.c_tree.specs.declared.expression.BinaryOp.TheVariants as op
-use Rattle.c_tree.specs.declared.expression.CExpr.{CExpr}
-use Rattle.c_tree.specs.Tokens.{Token, Word}
-use Rattle.c_tree.specs.CWords.{is_among, prefix_sign, infix_sign, infix_level, cast_tokens, extreme_word}
-use Rattle.c_tree.specs.CExpressionText as text
-use Rattle.c_tree.specs.CExpressionText.{Scope, IsKnown, ReadsExpr}
+use Rattle.c_readers.specs.c_tree.declared.types.CastType.{CastType}
+use Rattle.c_readers.specs.c_tree.declared.types.CastType.TheVariants as cast
+use Rattle.c_readers.specs.c_tree.declared.types.FunctionType.TheVariants as pointer
+use Rattle.c_readers.specs.c_tree.declared.expression.UnaryOp.{UnaryOp}
+use Rattle.c_readers.specs.c_tree.declared.expression.BinaryOp.{BinaryOp}
+use Rattle.c_readers.specs.c_tree.declared.expression.BinaryOp.TheVariants as op
+use Rattle.c_readers.specs.c_tree.declared.expression.CExpr.{CExpr}
+use Rattle.c_readers.specs.c_tree.Tokens.{Token, Word}
+use Rattle.c_readers.specs.c_tree.CWords.{is_among, prefix_sign, infix_sign, infix_level, cast_tokens, extreme_word}
+use Rattle.c_readers.specs.c_tree.CExpressionText as text
+use Rattle.c_readers.specs.c_tree.CExpressionText.{Scope, IsKnown, ReadsExpr}
 use Rattle.c_readers.specs.Readers.{Tokens, lookup}
 use Rattle.c_readers.specs.ExpressionReader.{Operator, Infix, Subscript, Member, Choice, operators, takes, taken, operator_of, casts, cast_of, SignLead, Opening, Before, leading_signs, leads, sign_lead, WordLead, Sized, Extremal, Absolute, Named, leading_words, is_known, or_name, word_lead}
-use Rattle.grammar.proofs.Judging.{length-front}
+use Rattle.c_readers.proofs.grammar.Judging.{length-front}
 use Rattle.c_grammar_laws.proofs.TokenGood.{equal-texts, plain}
 
 -- ## Tables

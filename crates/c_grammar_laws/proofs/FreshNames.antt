@@ -1,9 +1,9 @@
 -- There is always a name that is not declared yet.
 use Rattle.std.proofs.Common.{◌≡◌, refl, sym, ap, ◌∙◌, ℕ, zero, suc, ◌+◌, ◌<◌, ◌≤◌, Bool, true, false, not, ◌&&◌, ◌||◌, List, [], ◌∷◌, length, bytes_eq, arith}
 use Rattle.std.specs.List.{list_all}
-use Rattle.c_tree.specs.Tokens.{is_word_byte}
-use Rattle.c_tree.specs.CWords.{is_among, is_name}
-use Rattle.c_tree.specs.CDeclarationText.{IsNew}
+use Rattle.c_readers.specs.c_tree.Tokens.{is_word_byte}
+use Rattle.c_readers.specs.c_tree.CWords.{is_among, is_name}
+use Rattle.c_readers.specs.c_tree.CDeclarationText.{IsNew}
 use Rattle.c_readers.specs.DeclarationReader.{is_new}
 use Rattle.c_grammar_laws.proofs.TokenGood.{equal-texts}
 

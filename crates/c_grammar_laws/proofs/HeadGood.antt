@@ -1,22 +1,22 @@
 -- The parameters and the declarations of a function are read as they stand.
 use Rattle.std.proofs.Common.{◌≡◌, refl, sym, ap, ◌∙◌, subst, ℕ, zero, suc, ◌+◌, ◌≤◌, le_refl, Bool, true, false, List, [], ◌∷◌, ◌++◌, append_assoc, append-nil, codes, bytes_eq, if◌then◌else◌, Option, Some, None, arith}
-use Rattle.c_tree.specs.declared.types.ParameterType.{ParameterType}
-use Rattle.c_tree.specs.declared.types.ParameterType.TheVariants as parameter
-use Rattle.c_tree.specs.declared.declaration.CParam.{CParam}
-use Rattle.c_tree.specs.declared.declaration.CLocal.{CLocal}
-use Rattle.c_tree.specs.Tokens.{Word, Sign}
-use Rattle.c_tree.specs.CWords.{ASign, Stand, parameter_tokens}
-use Rattle.c_tree.specs.CExpressionText.{Scope}
-use Rattle.c_tree.specs.CDeclarationText as text
-use Rattle.c_tree.specs.CDeclarationText.{ReadsLocals, ReadsParams, with_declared, with_parameter}
+use Rattle.c_readers.specs.c_tree.declared.types.ParameterType.{ParameterType}
+use Rattle.c_readers.specs.c_tree.declared.types.ParameterType.TheVariants as parameter
+use Rattle.c_readers.specs.c_tree.declared.declaration.CParam.{CParam}
+use Rattle.c_readers.specs.c_tree.declared.declaration.CLocal.{CLocal}
+use Rattle.c_readers.specs.c_tree.Tokens.{Word, Sign}
+use Rattle.c_readers.specs.c_tree.CWords.{ASign, Stand, parameter_tokens}
+use Rattle.c_readers.specs.c_tree.CExpressionText.{Scope}
+use Rattle.c_readers.specs.c_tree.CDeclarationText as text
+use Rattle.c_readers.specs.c_tree.CDeclarationText.{ReadsLocals, ReadsParams, with_declared, with_parameter}
 use Rattle.c_readers.specs.Readers.{Tokens, Reader, found, lookup, ◌>>=◌}
 use Rattle.c_readers.specs.ListReader.{Separator, Closes, Goes, Neither, separator}
 use Rattle.c_readers.specs.DeclarationReader.{is_new, Declared, LocalLead, local_words, local_by}
 use Rattle.c_readers.specs.HeadReader as reader
 use Rattle.c_readers.specs.HeadReader.{Parameters, a_parameter, parameters_by, behind_parameter, parameters, parameter_list, Locals, locals_by, locals}
-use Rattle.grammar.specs.Exactness.{head, Filled, Judged, Good}
+use Rattle.c_readers.specs.grammar.Exactness.{head, Filled, Judged, Good}
 use Rattle.c_grammar_laws.specs.DeclarationLaws.{ReadsParameters, GoodParameters, ReadsDeclarations, GoodHeads}
-use Rattle.grammar.proofs.Judging.{in_turn, in_turn_of, good-as, good-fewer, judged-as, judged-also, judged-fewer, behind-token, refuses, refuses-end, stays, stays-end, takes-one, good-found, at-the-token, at-the-end}
+use Rattle.c_readers.proofs.grammar.Judging.{in_turn, in_turn_of, good-as, good-fewer, judged-as, judged-also, judged-fewer, behind-token, refuses, refuses-end, stays, stays-end, takes-one, good-found, at-the-token, at-the-end}
 use Rattle.c_grammar_laws.proofs.TokenGood.{equal-texts, OneSign, good-sign, OneName, good-name}
 use Rattle.c_grammar_laws.proofs.ListGood.{IsSeparator, separator-is}
 use Rattle.c_grammar_laws.proofs.TypeGood.{ParameterStands, good-parameter-type}

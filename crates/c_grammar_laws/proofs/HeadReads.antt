@@ -1,18 +1,18 @@
 -- The parameters and the declarations of a function that are spelled are read.
 use Rattle.std.proofs.Common.{◌≡◌, refl, sym, ap, ◌∙◌, subst, ℕ, zero, suc, ◌+◌, ◌≤◌, Bool, true, false, List, [], ◌∷◌, ◌++◌, append_assoc, append-nil, length, codes, bytes_eq, Option, Some, None, is_some, Ok, Err, arith}
-use Rattle.c_tree.specs.declared.types.ParameterType.{ParameterType}
-use Rattle.c_tree.specs.declared.declaration.CParam.{CParam}
-use Rattle.c_tree.specs.declared.declaration.CLocal.{CLocal}
-use Rattle.c_tree.specs.Tokens.{Word, Digits, Quoted, Sign, Including, Bad}
-use Rattle.c_tree.specs.CWords.{AWord, ASign, Stand, parameter_tokens}
-use Rattle.c_tree.specs.CExpressionText.{Scope}
-use Rattle.c_tree.specs.CDeclarationText as text
-use Rattle.c_tree.specs.CDeclarationText.{IsNew, ReadsLocal, ReadsLocals, ReadsParams, with_parameter}
+use Rattle.c_readers.specs.c_tree.declared.types.ParameterType.{ParameterType}
+use Rattle.c_readers.specs.c_tree.declared.declaration.CParam.{CParam}
+use Rattle.c_readers.specs.c_tree.declared.declaration.CLocal.{CLocal}
+use Rattle.c_readers.specs.c_tree.Tokens.{Word, Digits, Quoted, Sign, Including, Bad}
+use Rattle.c_readers.specs.c_tree.CWords.{AWord, ASign, Stand, parameter_tokens}
+use Rattle.c_readers.specs.c_tree.CExpressionText.{Scope}
+use Rattle.c_readers.specs.c_tree.CDeclarationText as text
+use Rattle.c_readers.specs.c_tree.CDeclarationText.{IsNew, ReadsLocal, ReadsLocals, ReadsParams, with_parameter}
 use Rattle.c_readers.specs.Readers.{Tokens, Reader, Outcome, found, refused, lookup, ◌>>=◌}
 use Rattle.c_readers.specs.ValueReader.{a_word_of, by_row}
 use Rattle.c_readers.specs.DeclarationReader.{is_new, Declared, LocalLead, local_words, local_by, a_local}
 use Rattle.c_readers.specs.HeadReader.{Parameters, a_parameter, behind_parameter, parameters, parameters_or_none, parameter_list, Locals, locals_by, locals}
-use Rattle.grammar.specs.Exactness.{Eventually}
+use Rattle.c_readers.specs.grammar.Exactness.{Eventually}
 use Rattle.c_grammar_laws.specs.DeclarationLaws.{begins_local}
 use Rattle.c_grammar_laws.proofs.CallComplete.{Soon}
 use Rattle.c_grammar_laws.proofs.TokenReads.{sign-read, name-read, parameter-type-read, begins_void, parameter-no-void}

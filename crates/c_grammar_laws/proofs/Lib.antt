@@ -20,3 +20,4 @@ pub mod TokenGood
 pub mod TokenReads
 pub mod TypeGood
 pub mod ValueGood
+pub use Rattle.c_readers.proofs.grammar

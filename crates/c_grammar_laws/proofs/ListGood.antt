@@ -1,11 +1,11 @@
 -- Items with a comma between each two are read as they stand, where each item is.
 use Rattle.std.proofs.Common.{◌≡◌, refl, sym, ap, ◌∙◌, subst, ℕ, zero, suc, ◌+◌, ◌≤◌, le_refl, Bool, true, false, List, [], ◌∷◌, ◌++◌, append_assoc, codes, bytes_eq, if◌then◌else◌, arith}
-use Rattle.c_tree.specs.Tokens.{Sign}
-use Rattle.c_tree.specs.CWords.{Separated, last_item, one_item}
+use Rattle.c_readers.specs.c_tree.Tokens.{Sign}
+use Rattle.c_readers.specs.c_tree.CWords.{Separated, last_item, one_item}
 use Rattle.c_readers.specs.Readers.{Tokens, Reader}
 use Rattle.c_readers.specs.ListReader.{Separator, Closes, Goes, Neither, separator, by_separator, behind_item, separated}
-use Rattle.grammar.specs.Exactness.{Filled, Judged, Good}
-use Rattle.grammar.proofs.Judging.{Onto, in_turn, good-fewer, refuses, refuses-end, takes-one, behind-token, judged-fewer}
+use Rattle.c_readers.specs.grammar.Exactness.{Filled, Judged, Good}
+use Rattle.c_readers.proofs.grammar.Judging.{Onto, in_turn, good-fewer, refuses, refuses-end, takes-one, behind-token, judged-fewer}
 use Rattle.c_grammar_laws.proofs.TokenGood.{equal-texts}
 
 -- what a sign behind an item is

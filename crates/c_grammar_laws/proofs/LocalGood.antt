@@ -1,26 +1,26 @@
 -- Declarations at the head of a function are read as they stand, where a name may be declared.
 use Rattle.std.proofs.Common.{◌≡◌, refl, sym, ap, ◌∙◌, subst, ℕ, zero, suc, ◌≤◌, ℤ, Bool, true, false, List, [], ◌∷◌, length, codes, bytes_eq, if◌then◌else◌, Option, Some, None, arith}
-use Rattle.c_tree.specs.declared.types.NumberType.{NumberType}
-use Rattle.c_tree.specs.declared.types.NumberType.TheVariants as number
-use Rattle.c_tree.specs.declared.types.ResultType.{ResultType}
-use Rattle.c_tree.specs.declared.types.ResultType.TheVariants as result
-use Rattle.c_tree.specs.declared.types.ListType.{ListType}
-use Rattle.c_tree.specs.declared.types.ListType.TheVariants as list
-use Rattle.c_tree.specs.declared.declaration.CLocal.{CLocal}
-use Rattle.c_tree.specs.declared.declaration.CLocal.TheVariants as local
-use Rattle.c_tree.specs.Tokens.{Word, Digits, Quoted, Sign}
-use Rattle.c_tree.specs.CWords.{AWord, ASign, result_word, number_word, list_word}
-use Rattle.c_tree.specs.Access.{fields_of}
-use Rattle.c_tree.specs.CExpressionText.{Scope}
-use Rattle.c_tree.specs.CDeclarationText as text
-use Rattle.c_tree.specs.CDeclarationText.{ReadsValue, ReadsArray, ReadsNumbers, ReadsText, ReadsTypes, ReadsField, ReadsStatic, ReadsLocal}
+use Rattle.c_readers.specs.c_tree.declared.types.NumberType.{NumberType}
+use Rattle.c_readers.specs.c_tree.declared.types.NumberType.TheVariants as number
+use Rattle.c_readers.specs.c_tree.declared.types.ResultType.{ResultType}
+use Rattle.c_readers.specs.c_tree.declared.types.ResultType.TheVariants as result
+use Rattle.c_readers.specs.c_tree.declared.types.ListType.{ListType}
+use Rattle.c_readers.specs.c_tree.declared.types.ListType.TheVariants as list
+use Rattle.c_readers.specs.c_tree.declared.declaration.CLocal.{CLocal}
+use Rattle.c_readers.specs.c_tree.declared.declaration.CLocal.TheVariants as local
+use Rattle.c_readers.specs.c_tree.Tokens.{Word, Digits, Quoted, Sign}
+use Rattle.c_readers.specs.c_tree.CWords.{AWord, ASign, result_word, number_word, list_word}
+use Rattle.c_readers.specs.c_tree.Access.{fields_of}
+use Rattle.c_readers.specs.c_tree.CExpressionText.{Scope}
+use Rattle.c_readers.specs.c_tree.CDeclarationText as text
+use Rattle.c_readers.specs.c_tree.CDeclarationText.{ReadsValue, ReadsArray, ReadsNumbers, ReadsText, ReadsTypes, ReadsField, ReadsStatic, ReadsLocal}
 use Rattle.c_readers.specs.Readers.{Tokens, found, refused}
 use Rattle.c_readers.specs.ValueReader.{is_length}
 use Rattle.c_readers.specs.TypeReader.{result_words, argument_types}
 use Rattle.c_readers.specs.DeclarationReader as reader
 use Rattle.c_readers.specs.DeclarationReader.{NumberEnd, Bare, Valued, Many, number_ends, Declared, StaticLead, OfNumbers, OfChars, OfList, static_words, PlainEnd, Alone, Several, plain_ends, LocalLead, External, Lasting, Numbers, Chars, Addresses, local_words}
-use Rattle.grammar.specs.Exactness.{Filled, Judged, Good}
-use Rattle.grammar.proofs.Judging.{in_turn, in_turn_of, refuses, refuses-end, good-found, good-as, behind-token, judged-fewer}
+use Rattle.c_readers.specs.grammar.Exactness.{Filled, Judged, Good}
+use Rattle.c_readers.proofs.grammar.Judging.{in_turn, in_turn_of, refuses, refuses-end, good-found, good-as, behind-token, judged-fewer}
 use Rattle.c_grammar_laws.proofs.TokenGood.{equal-texts, OneSign, good-sign, OneName, good-name}
 use Rattle.c_grammar_laws.proofs.ValueGood.{OneNumber, good-number, OneQuoted, good-quoted, RowWord, RowSign, good-word-of, good-sign-of, good-value}
 use Rattle.c_grammar_laws.proofs.BoundedGood.{BoundedBehind, good-bounded}

@@ -1,27 +1,27 @@
 -- Declarations that are spelled are read.
 use Rattle.std.proofs.Common.{◌≡◌, refl, sym, ap, ◌∙◌, ℕ, ◌+◌, ◌≤◌, nat_le, le-leb, ℤ, Bool, true, false, List, [], ◌∷◌, ◌++◌, length, codes, bytes_eq, if◌then◌else◌, Option, Some, None, arith}
-use Rattle.c_tree.specs.declared.types.NumberType.{NumberType}
-use Rattle.c_tree.specs.declared.types.NumberType.TheVariants as number
-use Rattle.c_tree.specs.declared.types.ResultType.{ResultType}
-use Rattle.c_tree.specs.declared.types.ResultType.TheVariants as result
-use Rattle.c_tree.specs.declared.types.ListType.{ListType}
-use Rattle.c_tree.specs.declared.types.ListType.TheVariants as list
-use Rattle.c_tree.specs.declared.declaration.CField.{CField}
-use Rattle.c_tree.specs.declared.declaration.CField.TheVariants as field
-use Rattle.c_tree.specs.declared.declaration.CLocal.{CLocal}
-use Rattle.c_tree.specs.declared.declaration.CLocal.TheVariants as local
-use Rattle.c_tree.specs.Tokens.{Word, Digits, Quoted, Sign, Including, Bad}
-use Rattle.c_tree.specs.CWords.{is_among, AWord, ASign, result_word, number_word, list_word}
-use Rattle.c_tree.specs.Access.{fields_of}
-use Rattle.c_tree.specs.CExpressionText.{Scope}
-use Rattle.c_tree.specs.CDeclarationText as text
-use Rattle.c_tree.specs.CDeclarationText.{ReadsValue, ReadsArray, ReadsNumbers, ReadsText, ReadsTypes, ReadsField, ReadsStatic, ReadsLocal}
+use Rattle.c_readers.specs.c_tree.declared.types.NumberType.{NumberType}
+use Rattle.c_readers.specs.c_tree.declared.types.NumberType.TheVariants as number
+use Rattle.c_readers.specs.c_tree.declared.types.ResultType.{ResultType}
+use Rattle.c_readers.specs.c_tree.declared.types.ResultType.TheVariants as result
+use Rattle.c_readers.specs.c_tree.declared.types.ListType.{ListType}
+use Rattle.c_readers.specs.c_tree.declared.types.ListType.TheVariants as list
+use Rattle.c_readers.specs.c_tree.declared.declaration.CField.{CField}
+use Rattle.c_readers.specs.c_tree.declared.declaration.CField.TheVariants as field
+use Rattle.c_readers.specs.c_tree.declared.declaration.CLocal.{CLocal}
+use Rattle.c_readers.specs.c_tree.declared.declaration.CLocal.TheVariants as local
+use Rattle.c_readers.specs.c_tree.Tokens.{Word, Digits, Quoted, Sign, Including, Bad}
+use Rattle.c_readers.specs.c_tree.CWords.{is_among, AWord, ASign, result_word, number_word, list_word}
+use Rattle.c_readers.specs.c_tree.Access.{fields_of}
+use Rattle.c_readers.specs.c_tree.CExpressionText.{Scope}
+use Rattle.c_readers.specs.c_tree.CDeclarationText as text
+use Rattle.c_readers.specs.c_tree.CDeclarationText.{ReadsValue, ReadsArray, ReadsNumbers, ReadsText, ReadsTypes, ReadsField, ReadsStatic, ReadsLocal}
 use Rattle.c_readers.specs.Readers.{Tokens, Reader, found, refused, ◌>>=◌, lookup, a_name}
 use Rattle.c_readers.specs.ValueReader.{a_number, is_length, value}
 use Rattle.c_readers.specs.TypeReader.{result_words}
 use Rattle.c_readers.specs.DeclarationReader as reader
 use Rattle.c_readers.specs.DeclarationReader.{Ends, Starts, array_ends, Bare, Valued, Many, number_ends, OfNumbers, OfChars, OfList, static_words, Alone, Several, plain_ends, External, Lasting, Numbers, Chars, Addresses, local_words}
-use Rattle.grammar.specs.Exactness.{Eventually}
+use Rattle.c_readers.specs.grammar.Exactness.{Eventually}
 use Rattle.c_grammar_laws.proofs.ValueGood.{number-read, quoted-read}
 use Rattle.c_grammar_laws.proofs.ExpressionComplete.{always}
 use Rattle.c_grammar_laws.proofs.TokenReads.{sign-read, name-read, row-word-read, row-sign-read, passes-length, value-read, bounded-read, argument-types-read}

@@ -1,11 +1,11 @@
 -- Words, signs and names are read as they stand.
 use Rattle.std.proofs.Common.{◌≡◌, refl, ap, ◌∙◌, ℕ, Bool, true, false, List, [], ◌∷◌, bytes_eq, if◌then◌else◌}
 use Rattle.std.proofs.lemmas.Slice.Eq.{bytes_eq-Decides}
-use Rattle.c_tree.specs.Tokens.{Word, Digits, Quoted, Sign, Including, Bad}
-use Rattle.c_tree.specs.CWords.{AWord, ASign, Stand}
+use Rattle.c_readers.specs.c_tree.Tokens.{Word, Digits, Quoted, Sign, Including, Bad}
+use Rattle.c_readers.specs.c_tree.CWords.{AWord, ASign, Stand}
 use Rattle.c_readers.specs.Readers.{Tokens, found, refused, a_sign, a_word, a_name, all_stand}
-use Rattle.grammar.specs.Exactness.{Filled, Judged, Good}
-use Rattle.grammar.proofs.Judging.{in_turn, refuses, refuses-end, takes-one, good-found, good-as}
+use Rattle.c_readers.specs.grammar.Exactness.{Filled, Judged, Good}
+use Rattle.c_readers.proofs.grammar.Judging.{in_turn, refuses, refuses-end, takes-one, good-found, good-as}
 
 pub equal-texts : (one other : List ℕ) → bytes_eq one other ≡ true → one ≡ other
 equal-texts one other h = (bytes_eq-Decides one other).0 h

@@ -1,21 +1,21 @@
 -- Tokens, values and types that are spelled are read.
 use Rattle.std.proofs.Common.{◌≡◌, refl, sym, ap, ◌∙◌, subst, ℕ, zero, suc, ◌+◌, ◌≤◌, nat_le, nat_eq, le-leb, ℤ, pos, negsuc, Bool, true, false, ◌&&◌, List, [], ◌∷◌, ◌++◌, append_assoc, length, codes, bytes_eq, drop, if◌then◌else◌, Option, Some, None, arith}
-use Rattle.c_tree.specs.declared.types.FunctionType.TheVariants as pointer
-use Rattle.c_tree.specs.declared.types.ListType.TheVariants as list
-use Rattle.c_tree.specs.declared.types.ParameterType.{ParameterType}
-use Rattle.c_tree.specs.declared.types.ParameterType.TheVariants as parameter
-use Rattle.c_tree.specs.declared.types.ArgumentType.{ArgumentType}
-use Rattle.c_tree.specs.declared.types.ArgumentType.TheVariants as argument
-use Rattle.c_tree.specs.Tokens.{Word, Digits, Quoted, Sign, Including, Bad}
-use Rattle.c_tree.specs.CWords.{AWord, ASign, Next, Stand, Separated, last_item, one_item, function_word, list_word, parameter_tokens, argument_tokens}
-use Rattle.c_tree.specs.CDeclarationText as text
-use Rattle.c_tree.specs.CDeclarationText.{IsLength, ReadsValue, ReadsType, ReadsTypes}
+use Rattle.c_readers.specs.c_tree.declared.types.FunctionType.TheVariants as pointer
+use Rattle.c_readers.specs.c_tree.declared.types.ListType.TheVariants as list
+use Rattle.c_readers.specs.c_tree.declared.types.ParameterType.{ParameterType}
+use Rattle.c_readers.specs.c_tree.declared.types.ParameterType.TheVariants as parameter
+use Rattle.c_readers.specs.c_tree.declared.types.ArgumentType.{ArgumentType}
+use Rattle.c_readers.specs.c_tree.declared.types.ArgumentType.TheVariants as argument
+use Rattle.c_readers.specs.c_tree.Tokens.{Word, Digits, Quoted, Sign, Including, Bad}
+use Rattle.c_readers.specs.c_tree.CWords.{AWord, ASign, Next, Stand, Separated, last_item, one_item, function_word, list_word, parameter_tokens, argument_tokens}
+use Rattle.c_readers.specs.c_tree.CDeclarationText as text
+use Rattle.c_readers.specs.c_tree.CDeclarationText.{IsLength, ReadsValue, ReadsType, ReadsTypes}
 use Rattle.c_readers.specs.Readers.{Tokens, Reader, found, refused, ◌>>=◌, lookup, a_sign, a_word, a_name, all_stand}
 use Rattle.c_readers.specs.ListReader.{Closes, Goes, Neither, by_separator, separated}
 use Rattle.c_readers.specs.ValueReader as reader
 use Rattle.c_readers.specs.ValueReader.{by_row, a_number, a_word_of, a_sign_of, is_within, is_length, negative, value, bounded_separator, behind_bounded, bounded}
 use Rattle.c_readers.specs.TypeReader.{parameter_words, parameter_type, argument_words, argument_type, argument_types, by_void}
-use Rattle.grammar.specs.Exactness.{Eventually}
+use Rattle.c_readers.specs.grammar.Exactness.{Eventually}
 use Rattle.c_grammar_laws.proofs.TokenGood.{equal-self, plain}
 use Rattle.c_grammar_laws.proofs.ValueGood.{number-read}
 use Rattle.c_grammar_laws.proofs.CallComplete.{Soon, end, items-read}

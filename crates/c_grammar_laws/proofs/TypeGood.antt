@@ -1,19 +1,19 @@
 -- The types of parameters and of arguments are read as they stand.
 use Rattle.std.proofs.Common.{◌≡◌, refl, sym, ap, ◌∙◌, subst, ℕ, suc, ◌≤◌, Bool, true, false, List, [], ◌∷◌, ◌++◌, codes, bytes_eq, drop, Some, arith}
-use Rattle.c_tree.specs.declared.types.ParameterType.{ParameterType}
-use Rattle.c_tree.specs.declared.types.ParameterType.TheVariants as parameter
-use Rattle.c_tree.specs.declared.types.ArgumentType.{ArgumentType}
-use Rattle.c_tree.specs.declared.types.ArgumentType.TheVariants as argument
-use Rattle.c_tree.specs.Tokens.{Token, Word, Sign}
-use Rattle.c_tree.specs.CWords.{ASign, Stand, parameter_tokens, argument_tokens}
-use Rattle.c_tree.specs.CDeclarationText as text
-use Rattle.c_tree.specs.CDeclarationText.{ReadsType, ReadsTypes}
+use Rattle.c_readers.specs.c_tree.declared.types.ParameterType.{ParameterType}
+use Rattle.c_readers.specs.c_tree.declared.types.ParameterType.TheVariants as parameter
+use Rattle.c_readers.specs.c_tree.declared.types.ArgumentType.{ArgumentType}
+use Rattle.c_readers.specs.c_tree.declared.types.ArgumentType.TheVariants as argument
+use Rattle.c_readers.specs.c_tree.Tokens.{Token, Word, Sign}
+use Rattle.c_readers.specs.c_tree.CWords.{ASign, Stand, parameter_tokens, argument_tokens}
+use Rattle.c_readers.specs.c_tree.CDeclarationText as text
+use Rattle.c_readers.specs.c_tree.CDeclarationText.{ReadsType, ReadsTypes}
 use Rattle.c_readers.specs.Readers.{Tokens, all_stand}
 use Rattle.c_readers.specs.ListReader.{separated}
 use Rattle.c_readers.specs.TypeReader as reader
 use Rattle.c_readers.specs.TypeReader.{parameter_words, parameter_type, argument_words, argument_type, argument_types}
-use Rattle.grammar.specs.Exactness.{head, Filled, Judged, Good}
-use Rattle.grammar.proofs.Judging.{in_turn, good-as, judged-as, judged-also, judged-fewer, behind-token, good-found, at-the-token, at-the-end}
+use Rattle.c_readers.specs.grammar.Exactness.{head, Filled, Judged, Good}
+use Rattle.c_readers.proofs.grammar.Judging.{in_turn, good-as, judged-as, judged-also, judged-fewer, behind-token, good-found, at-the-token, at-the-end}
 use Rattle.c_grammar_laws.proofs.TokenGood.{equal-texts, OneSign, good-sign, AllStand, plain, good-stand}
 use Rattle.c_grammar_laws.proofs.ListGood.{ItemsBehind, good-separated}
 use Rattle.c_grammar_laws.proofs.ValueGood.{RowWord, good-word-of}

@@ -1,15 +1,15 @@
 -- Numbers, strings, rows of tables and values are read as they stand.
 use Rattle.std.proofs.Common.{◌≡◌, refl, sym, ap, ◌∙◌, subst, ℕ, zero, suc, ◌≤◌, nat_le, nat_eq, leb-true, ℤ, pos, negsuc, Bool, true, false, ◌&&◌, List, [], ◌∷◌, codes, if◌then◌else◌, Option, Some, None, arith}
 use Rattle.std.proofs.lemmas.Bool.Decides.{nat_tests}
-use Rattle.c_tree.specs.Tokens.{Word, Digits, Quoted, Sign}
-use Rattle.c_tree.specs.CWords.{Next, AWord, ASign}
-use Rattle.c_tree.specs.CDeclarationText as text
-use Rattle.c_tree.specs.CDeclarationText.{ReadsValue}
+use Rattle.c_readers.specs.c_tree.Tokens.{Word, Digits, Quoted, Sign}
+use Rattle.c_readers.specs.c_tree.CWords.{Next, AWord, ASign}
+use Rattle.c_readers.specs.c_tree.CDeclarationText as text
+use Rattle.c_readers.specs.c_tree.CDeclarationText.{ReadsValue}
 use Rattle.c_readers.specs.Readers.{Tokens, found, refused, lookup}
 use Rattle.c_readers.specs.ValueReader as reader
 use Rattle.c_readers.specs.ValueReader.{a_number, a_quoted, by_row, a_word_of, a_sign_of, is_within, negative, ValueLead, Negation, Least, value_leads, value}
-use Rattle.grammar.specs.Exactness.{Filled, Judged, Good}
-use Rattle.grammar.proofs.Judging.{in_turn, refuses, refuses-end, takes-one, good-found, good-as, behind-token, judged-fewer}
+use Rattle.c_readers.specs.grammar.Exactness.{Filled, Judged, Good}
+use Rattle.c_readers.proofs.grammar.Judging.{in_turn, refuses, refuses-end, takes-one, good-found, good-as, behind-token, judged-fewer}
 use Rattle.c_grammar_laws.proofs.TokenGood.{OneSign, good-sign}
 use Rattle.c_grammar_laws.proofs.ExpressionTables.{AllRows, row-found}
 

@@ -1,15 +1,15 @@
 -- The laws of the readers of declarations.
 use Rattle.std.specs.Prelude.{◌≡◌, ◌≤◌, ℕ, Bool, false, List, [], ◌∷◌, codes, is_some}
-use Rattle.c_tree.specs.Tokens.{Word}
-use Rattle.c_tree.specs.CWords.{ASign}
-use Rattle.c_tree.specs.CExpressionText.{Scope}
-use Rattle.c_tree.specs.CDeclarationText.{ReadsValue, ReadsTypes, ReadsLocal, ReadsLocals, ReadsParams, IsNew}
+use Rattle.c_readers.specs.c_tree.Tokens.{Word}
+use Rattle.c_readers.specs.c_tree.CWords.{ASign}
+use Rattle.c_readers.specs.c_tree.CExpressionText.{Scope}
+use Rattle.c_readers.specs.c_tree.CDeclarationText.{ReadsValue, ReadsTypes, ReadsLocal, ReadsLocals, ReadsParams, IsNew}
 use Rattle.c_readers.specs.Readers.{Tokens, lookup}
 use Rattle.c_readers.specs.ValueReader.{value}
 use Rattle.c_readers.specs.TypeReader.{argument_types}
 use Rattle.c_readers.specs.DeclarationReader.{is_new, Declared, local_words, a_local}
 use Rattle.c_readers.specs.HeadReader.{Parameters, parameter_list, Locals, locals}
-use Rattle.grammar.specs.Exactness.{Good, Exact}
+use Rattle.c_readers.specs.grammar.Exactness.{Good, Exact}
 use Rattle.c_grammar_laws.specs.ExpressionLaws.{Anything}
 
 -- A declaration of a name that is new.

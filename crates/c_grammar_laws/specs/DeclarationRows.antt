@@ -1,15 +1,15 @@
 -- Tokens with the declarations that the readers give, or with the tokens from the offending one on. The array g lasts, and x is declared.
 use Rattle.std.specs.Prelude.{◌≡◌, ℕ, ℤ, pos, negsuc, List, [], ◌∷◌, codes, Option, Some, None, Ok, Err}
-use Rattle.c_tree.specs.declared.types.NumberType.TheVariants as number
-use Rattle.c_tree.specs.declared.types.ResultType.TheVariants as result
-use Rattle.c_tree.specs.declared.types.ListType.TheVariants as list
-use Rattle.c_tree.specs.declared.types.ParameterType.TheVariants as parameter
-use Rattle.c_tree.specs.declared.types.ArgumentType.TheVariants as argument
-use Rattle.c_tree.specs.declared.declaration.CField.TheVariants as field
-use Rattle.c_tree.specs.declared.declaration.CLocal.{CLocal}
-use Rattle.c_tree.specs.declared.declaration.CLocal.TheVariants as local
-use Rattle.c_tree.specs.Tokens.{Token, Word, Digits, Quoted, Sign}
-use Rattle.c_tree.specs.CExpressionText.{Scope}
+use Rattle.c_readers.specs.c_tree.declared.types.NumberType.TheVariants as number
+use Rattle.c_readers.specs.c_tree.declared.types.ResultType.TheVariants as result
+use Rattle.c_readers.specs.c_tree.declared.types.ListType.TheVariants as list
+use Rattle.c_readers.specs.c_tree.declared.types.ParameterType.TheVariants as parameter
+use Rattle.c_readers.specs.c_tree.declared.types.ArgumentType.TheVariants as argument
+use Rattle.c_readers.specs.c_tree.declared.declaration.CField.TheVariants as field
+use Rattle.c_readers.specs.c_tree.declared.declaration.CLocal.{CLocal}
+use Rattle.c_readers.specs.c_tree.declared.declaration.CLocal.TheVariants as local
+use Rattle.c_readers.specs.c_tree.Tokens.{Token, Word, Digits, Quoted, Sign}
+use Rattle.c_readers.specs.c_tree.CExpressionText.{Scope}
 use Rattle.c_readers.specs.Readers.{Tokens}
 use Rattle.c_readers.specs.DeclarationReader.{is_new, a_local}
 

@@ -1,12 +1,12 @@
 -- The laws of the readers of expressions, of arguments and of calls.
 use Rattle.std.specs.Prelude.{◌≡◌, ◌≤◌, ℕ, pred, true, []}
 use Rattle.std.specs.List.{list_all}
-use Rattle.c_tree.specs.CWords.{is_name}
-use Rattle.c_tree.specs.CExpressionText.{Scope, ReadsExpr, ReadsArguments, ReadsCall}
+use Rattle.c_readers.specs.c_tree.CWords.{is_name}
+use Rattle.c_readers.specs.c_tree.CExpressionText.{Scope, ReadsExpr, ReadsArguments, ReadsCall}
 use Rattle.c_readers.specs.Readers.{Tokens}
 use Rattle.c_readers.specs.ExpressionReader.{expression, follow}
 use Rattle.c_readers.specs.CallReader.{arguments, call}
-use Rattle.grammar.specs.Exactness.{Filled, Good, Exact}
+use Rattle.c_readers.specs.grammar.Exactness.{Filled, Good, Exact}
 
 -- The names in scope are names.
 pub record OfNames (scope : Scope) : Type 0 where

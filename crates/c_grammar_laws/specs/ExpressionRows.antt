@@ -1,14 +1,14 @@
 -- Tokens with what the readers of expressions and calls give, or with the tokens from the offending one on. The object is x, the function f, and the
 -- parameter that points to a function g.
 use Rattle.std.specs.Prelude.{◌≡◌, ℕ, pos, false, true, List, [], ◌∷◌, codes, Some, Ok, Err}
-use Rattle.c_tree.specs.declared.types.CastType.TheVariants as cast
-use Rattle.c_tree.specs.declared.expression.UnaryOp.TheVariants as prefix
-use Rattle.c_tree.specs.declared.expression.BinaryOp.TheVariants as op
-use Rattle.c_tree.specs.declared.expression.CExpr.{CExpr}
-use Rattle.c_tree.specs.declared.expression.CExpr.TheVariants as expr
-use Rattle.c_tree.specs.declared.expression.CCall.{CCall}
-use Rattle.c_tree.specs.Tokens.{Token, Word, Digits, Sign}
-use Rattle.c_tree.specs.CExpressionText.{Scope}
+use Rattle.c_readers.specs.c_tree.declared.types.CastType.TheVariants as cast
+use Rattle.c_readers.specs.c_tree.declared.expression.UnaryOp.TheVariants as prefix
+use Rattle.c_readers.specs.c_tree.declared.expression.BinaryOp.TheVariants as op
+use Rattle.c_readers.specs.c_tree.declared.expression.CExpr.{CExpr}
+use Rattle.c_readers.specs.c_tree.declared.expression.CExpr.TheVariants as expr
+use Rattle.c_readers.specs.c_tree.declared.expression.CCall.{CCall}
+use Rattle.c_readers.specs.c_tree.Tokens.{Token, Word, Digits, Sign}
+use Rattle.c_readers.specs.c_tree.CExpressionText.{Scope}
 use Rattle.c_readers.specs.Readers.{Tokens}
 use Rattle.c_readers.specs.ExpressionReader.{expression}
 use Rattle.c_readers.specs.CallReader.{call}

@@ -1,17 +1,17 @@
 -- How a C function reaches the place of a FORTRAN name: its object, a place in an object, or where a parameter points; and the C
 -- expressions for them. ANSI X3.9-1978, sections 2.11, 8.2, 8.3 and 15.9; C89, 3.3.2.1 and 3.3.3.2.
 use Rattle.std.specs.Prelude.{◌≡◌, ℕ, ◌+◌, ◌/◌, ◌%◌, ◌<◌, ◌≤◌, pos, List, [], ◌∷◌, map, Option, Some}
-use Rattle.f_tree.specs.declared.names.Basic.{Basic}
-use Rattle.f_tree.specs.declared.names.Basic.TheVariants.{Integer, Logical, Character, Untyped}
-use Rattle.f_tree.specs.Values.{Spot}
-use Rattle.c_tree.specs.declared.outcome.CValue.{CValue}
-use Rattle.c_tree.specs.declared.outcome.CValue.TheVariants.{Pointer}
-use Rattle.c_tree.specs.declared.types.CastType.TheVariants as to
-use Rattle.c_tree.specs.declared.expression.UnaryOp.TheVariants as prefix
-use Rattle.c_tree.specs.Faults.{Or}
-use Rattle.c_tree.specs.Access.{Access, ToNumber, ToChar, ToPointer}
-use Rattle.c_tree.specs.Objects.{Object, Values}
-use Rattle.c_tree.specs.Terms.{Term, Constant, Variable, Array, Unknown, Prefixed, Cast, Element}
+use Rattle.faithful.specs.f_tree.declared.names.Basic.{Basic}
+use Rattle.faithful.specs.f_tree.declared.names.Basic.TheVariants.{Integer, Logical, Character, Untyped}
+use Rattle.faithful.specs.f_tree.Values.{Spot}
+use Rattle.faithful.specs.c_tree.declared.outcome.CValue.{CValue}
+use Rattle.faithful.specs.c_tree.declared.outcome.CValue.TheVariants.{Pointer}
+use Rattle.faithful.specs.c_tree.declared.types.CastType.TheVariants as to
+use Rattle.faithful.specs.c_tree.declared.expression.UnaryOp.TheVariants as prefix
+use Rattle.faithful.specs.c_tree.Faults.{Or}
+use Rattle.faithful.specs.c_tree.Access.{Access, ToNumber, ToChar, ToPointer}
+use Rattle.faithful.specs.c_tree.Objects.{Object, Values}
+use Rattle.faithful.specs.c_tree.Terms.{Term, Constant, Variable, Array, Unknown, Prefixed, Cast, Element}
 use Rattle.c_image.specs.World.{World}
 use Rattle.c_image.specs.Elements.{sum_term}
 

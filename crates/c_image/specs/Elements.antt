@@ -2,9 +2,9 @@
 -- ((k - lower) * size + (j - lower)) * size + (i - lower), the first subscript going fastest. What adds nothing is left out.
 -- ANSI X3.9-1978, section 5.4.
 use Rattle.std.specs.Prelude.{ℕ, zero, suc, ◌+◌, ℤ, pos, List, [], ◌∷◌}
-use Rattle.c_tree.specs.declared.expression.BinaryOp.TheVariants as op
-use Rattle.c_tree.specs.Access.{ToNumber}
-use Rattle.c_tree.specs.Terms.{Term, Constant, Variable, Between}
+use Rattle.faithful.specs.c_tree.declared.expression.BinaryOp.TheVariants as op
+use Rattle.faithful.specs.c_tree.Access.{ToNumber}
+use Rattle.faithful.specs.c_tree.Terms.{Term, Constant, Variable, Between}
 use Rattle.c_image.specs.Operations.{constant_term}
 
 -- two constants are one, and 0 is left out

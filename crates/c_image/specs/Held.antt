@@ -1,9 +1,9 @@
 -- Values that C objects hold: a number or a truth value in four bytes, a text in as many as it has characters.
 -- ANSI X3.9-1978, sections 4 and 2.13; C89, 3.1.2.5.
 use Rattle.std.specs.Prelude.{◌≡◌, ℕ, ◌<◌, ℤ, true, List, map, length, take, Option, Some, None}
-use Rattle.f_tree.specs.Values.{Datum, IsInt, IsLog, IsText, in_range}
-use Rattle.f_tree.specs.Store.{Whole, Number, Truth}
-use Rattle.c_tree.specs.Objects.{Object, Bytes, bytes_of_number}
+use Rattle.faithful.specs.f_tree.Values.{Datum, IsInt, IsLog, IsText, in_range}
+use Rattle.faithful.specs.f_tree.Store.{Whole, Number, Truth}
+use Rattle.faithful.specs.c_tree.Objects.{Object, Bytes, bytes_of_number}
 use Rattle.faithful.specs.StorageImage.{number_for}
 use Rattle.faithful.specs.UnitsAtStart.{AreBytes}
 

@@ -2,9 +2,9 @@
 -- what its temporaries keep. It speaks of no store and of no objects, so that no statement changes it.
 -- ANSI X3.9-1978, sections 5.1, 8.3, 15.9 and 18.
 use Rattle.std.specs.Prelude.{◌≡◌, ◌≢◌, ℕ, ℤ, pos, true, Option, Some, slice_get}
-use Rattle.f_tree.specs.Values.{Bytes, Spot, Datum, IsInt, IsSpot, Gives}
-use Rattle.f_tree.specs.Facts.{Bounds, Facts, Frame}
-use Rattle.f_tree.specs.Valuing.{whole, bounds_of, size_of_dimension}
+use Rattle.faithful.specs.f_tree.Values.{Bytes, Spot, Datum, IsInt, IsSpot, Gives}
+use Rattle.faithful.specs.f_tree.Facts.{Bounds, Facts, Frame}
+use Rattle.faithful.specs.f_tree.Valuing.{whole, bounds_of, size_of_dimension}
 use Rattle.faithful.specs.FrameImage.{HasLength}
 use Rattle.c_image.specs.World.{World}
 use Rattle.c_image.specs.Held.{Holds}

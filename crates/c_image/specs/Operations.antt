@@ -1,16 +1,16 @@
 -- The C expressions for the operators of FORTRAN and for those of its functions that are no calls of the library.
 -- ANSI X3.9-1978, sections 6.1, 6.3, 6.4 and 15.10; C89, 3.3.
 use Rattle.std.specs.Prelude.{ℕ, suc, ℤ, pos, negsuc, nat_eq, List, [], ◌∷◌, Option, Some, None, if◌then◌else◌}
-use Rattle.f_tree.specs.Terms.{Prefix, Negate, Complement, Operator, Add, Subtract, Multiply, Divide, IsLess, IsLessOrEqual, IsEqual, IsNotEqual, IsGreater, IsGreaterOrEqual, Both, Either, Same, Different}
-use Rattle.f_tree.specs.Terms as fortran
-use Rattle.c_tree.specs.declared.expression.UnaryOp.{UnaryOp}
-use Rattle.c_tree.specs.declared.expression.UnaryOp.TheVariants as prefix
-use Rattle.c_tree.specs.declared.expression.BinaryOp.{BinaryOp}
-use Rattle.c_tree.specs.declared.expression.BinaryOp.TheVariants as op
-use Rattle.c_tree.specs.declared.expression.Extreme.{Extreme}
-use Rattle.c_tree.specs.declared.expression.Extreme.TheVariants as extreme
-use Rattle.c_tree.specs.Builtins.{Builtin, i_indx, l_ge, l_gt, l_le, l_lt, pow_ii, i_sign, i_dim, i_or, i_and, i_eor, i_not, i_shft, b_test, b_set, b_clr}
-use Rattle.c_tree.specs.Terms.{Term, Constant, Prefixed, Between, Most, Magnitude}
+use Rattle.faithful.specs.f_tree.Terms.{Prefix, Negate, Complement, Operator, Add, Subtract, Multiply, Divide, IsLess, IsLessOrEqual, IsEqual, IsNotEqual, IsGreater, IsGreaterOrEqual, Both, Either, Same, Different}
+use Rattle.faithful.specs.f_tree.Terms as fortran
+use Rattle.faithful.specs.c_tree.declared.expression.UnaryOp.{UnaryOp}
+use Rattle.faithful.specs.c_tree.declared.expression.UnaryOp.TheVariants as prefix
+use Rattle.faithful.specs.c_tree.declared.expression.BinaryOp.{BinaryOp}
+use Rattle.faithful.specs.c_tree.declared.expression.BinaryOp.TheVariants as op
+use Rattle.faithful.specs.c_tree.declared.expression.Extreme.{Extreme}
+use Rattle.faithful.specs.c_tree.declared.expression.Extreme.TheVariants as extreme
+use Rattle.faithful.specs.c_tree.Builtins.{Builtin, i_indx, l_ge, l_gt, l_le, l_lt, pow_ii, i_sign, i_dim, i_or, i_and, i_eor, i_not, i_shft, b_test, b_set, b_clr}
+use Rattle.faithful.specs.c_tree.Terms.{Term, Constant, Prefixed, Between, Most, Magnitude}
 
 -- the least number is written as a difference, since its magnitude has no constant
 abbrev pub negative_term : ℕ → Term

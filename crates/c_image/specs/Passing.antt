@@ -1,10 +1,10 @@
 -- What a call passes in C: for a place a pointer to it, for a value a pointer to an object that holds it, a temporary or a constant.
 -- ANSI X3.9-1978, section 15.9; C89, 3.3.2.2.
 use Rattle.std.specs.Prelude.{◌≡◌, ℕ, List, [], ◌∷◌, Option, Some, None}
-use Rattle.f_tree.specs.Values.{Datum}
-use Rattle.f_tree.specs.Store.{Sequence}
-use Rattle.f_tree.specs.Association.{sequence_of}
-use Rattle.c_tree.specs.Objects.{Object}
+use Rattle.faithful.specs.f_tree.Values.{Datum}
+use Rattle.faithful.specs.f_tree.Store.{Sequence}
+use Rattle.faithful.specs.f_tree.Association.{sequence_of}
+use Rattle.faithful.specs.c_tree.Objects.{Object}
 use Rattle.c_image.specs.World.{World, with_sequence}
 use Rattle.c_image.specs.Held.{Holds}
 

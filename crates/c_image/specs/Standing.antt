@@ -1,9 +1,9 @@
 -- When the store of a FORTRAN run stands in the objects of a C run: each defined unit by its byte, each object with room for its
 -- sequence, and all else that is held. An undefined unit owes nothing. ANSI X3.9-1978, sections 2.13 and 17.1.
 use Rattle.std.specs.Prelude.{◌≡◌, ℕ, ◌<◌, ◌≤◌, true, List, length, Option, Some, slice_get}
-use Rattle.f_tree.specs.Values.{in_range}
-use Rattle.f_tree.specs.Store.{Store, Sequence, Cell, Undefined, Chr, Part}
-use Rattle.c_tree.specs.Objects.{Object, Bytes}
+use Rattle.faithful.specs.f_tree.Values.{in_range}
+use Rattle.faithful.specs.f_tree.Store.{Store, Sequence, Cell, Undefined, Chr, Part}
+use Rattle.faithful.specs.c_tree.Objects.{Object, Bytes}
 use Rattle.faithful.specs.StorageImage.{number_for, UnitsStand}
 use Rattle.c_image.specs.World.{World, Sane}
 

@@ -2,9 +2,9 @@
 -- layer of the simulation. It is made anew at calls and grows with them; no assignment changes it.
 -- ANSI X3.9-1978, sections 2.13 (storage), 15.9 (arguments) and 17.1; C89, 3.1.2.4 and 3.1.2.5.
 use Rattle.std.specs.Prelude.{◌≡◌, ℕ, suc, ◌+◌, ◌-◌, ◌<◌, ◌≤◌, nat_eq, nat_lt, Bool, false, List, length, Option, Some, None, slice_get, if◌then◌else◌}
-use Rattle.f_tree.specs.Store.{Sequence}
-use Rattle.c_tree.specs.Objects.{Object}
-use Rattle.c_tree.specs.Linking.{or_else}
+use Rattle.faithful.specs.f_tree.Store.{Sequence}
+use Rattle.faithful.specs.c_tree.Objects.{Object}
+use Rattle.faithful.specs.c_tree.Linking.{or_else}
 use Rattle.faithful.specs.StorageImage.{Homes}
 
 pub record World : Type 0 where

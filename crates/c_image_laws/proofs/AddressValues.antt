@@ -2,18 +2,18 @@
 use Rattle.std.specs.Prelude.{◌≡◌, ℕ, ◌+◌, ◌*◌, ◌≤◌, pos, int_le, ◌&&◌, List, Some, Ok, slice_get, if◌then◌else◌}
 use Rattle.std.proofs.Common.{refl, ap, ◌∙◌, arith}
 use Rattle.std.proofs.lemmas.Bool.{le-leb}
-use Rattle.f_tree.specs.declared.names.Basic.{Basic}
-use Rattle.f_tree.specs.declared.names.Basic.TheVariants.{Integer, Logical, Character, Untyped}
-use Rattle.c_tree.specs.declared.outcome.CValue.TheVariants.{Pointer}
-use Rattle.c_tree.specs.declared.outcome.CFault.TheVariants.{Outside}
-use Rattle.c_tree.specs.declared.types.CastType.TheVariants as to
-use Rattle.c_tree.specs.declared.expression.UnaryOp.TheVariants as prefix
-use Rattle.c_tree.specs.declared.expression.BinaryOp.TheVariants as op
-use Rattle.c_tree.specs.Faults.{after, failing}
-use Rattle.c_tree.specs.Access.{Access, ToNumber, ToChar, ToPointer, stride}
-use Rattle.c_tree.specs.Objects.{Object, extent, read_object, fetched}
-use Rattle.c_tree.specs.Terms.{Term, Variable, Array, Prefixed, Between, Cast, Element}
-use Rattle.c_tree.specs.Values.{seen, pointer_at, moved_by, moved, place_of, address_of, element, cast, operation}
+use Rattle.c_image.specs.f_tree.declared.names.Basic.{Basic}
+use Rattle.c_image.specs.f_tree.declared.names.Basic.TheVariants.{Integer, Logical, Character, Untyped}
+use Rattle.c_laws.specs.c_tree.declared.outcome.CValue.TheVariants.{Pointer}
+use Rattle.c_laws.specs.c_tree.declared.outcome.CFault.TheVariants.{Outside}
+use Rattle.c_laws.specs.c_tree.declared.types.CastType.TheVariants as to
+use Rattle.c_laws.specs.c_tree.declared.expression.UnaryOp.TheVariants as prefix
+use Rattle.c_laws.specs.c_tree.declared.expression.BinaryOp.TheVariants as op
+use Rattle.c_laws.specs.c_tree.Faults.{after, failing}
+use Rattle.c_laws.specs.c_tree.Access.{Access, ToNumber, ToChar, ToPointer, stride}
+use Rattle.c_laws.specs.c_tree.Objects.{Object, extent, read_object, fetched}
+use Rattle.c_laws.specs.c_tree.Terms.{Term, Variable, Array, Prefixed, Between, Cast, Element}
+use Rattle.c_laws.specs.c_tree.Values.{seen, pointer_at, moved_by, moved, place_of, address_of, element, cast, operation}
 use Rattle.c_laws.proofs.ValueLaws.{Counts}
 use Rattle.c_image.specs.Addresses.{access_to, pointer_object}
 use Rattle.c_image_laws.specs.Meanings.{Points, IsPlace}

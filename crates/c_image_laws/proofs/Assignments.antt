@@ -1,12 +1,12 @@
 -- An assignment in C is the step of a definition in FORTRAN, or of a temporary that keeps a value.
 use Rattle.std.specs.Prelude.{◌≡◌}
 use Rattle.std.proofs.Common.{subst}
-use Rattle.c_tree.specs.declared.outcome.CValue.TheVariants.{Number, Pointer}
-use Rattle.c_tree.specs.Access.{ToNumber}
-use Rattle.c_tree.specs.Terms.{Variable}
+use Rattle.c_laws.specs.c_tree.declared.outcome.CValue.TheVariants.{Number, Pointer}
+use Rattle.c_laws.specs.c_tree.Access.{ToNumber}
+use Rattle.c_laws.specs.c_tree.Terms.{Variable}
 use Rattle.c_laws.proofs.StepLaws.{assignment_goes}
 use Rattle.c_laws.proofs.ValueLaws.{value_of-number}
-use Rattle.faithful.specs.StorageImage.{number_for}
+use Rattle.c_image.specs.faithful.StorageImage.{number_for}
 use Rattle.c_image.specs.Held.{whole_for}
 use Rattle.c_image_laws.specs.Meanings.{IsNumber}
 use Rattle.c_image_laws.specs.Statements.{AssignmentsStand, TemporariesAreAssigned}

@@ -3,15 +3,15 @@ use Rattle.std.specs.Prelude.{◌≡◌, ℕ, zero, suc, ◌+◌, ◌<◌, ◌�
 use Rattle.std.proofs.Common.{refl, sym, ap, ◌∙◌, subst, arith}
 use Rattle.std.proofs.lemmas.Option.{slice_get-map}
 use Rattle.std.proofs.lemmas.List.{length-replicate, length-map, length-take}
-use Rattle.f_tree.specs.Values.{Datum, IsInt, IsLog, IsText}
-use Rattle.f_tree.specs.Store.{Store, Sequence, Cell, Undefined, Chr, Part, Whole, Truth, undefined_units, with_whole}
-use Rattle.f_tree.specs.Store as store
-use Rattle.f_tree.specs.Association.{sequence_of, passing_one, passing_more, passing, made}
-use Rattle.c_tree.specs.declared.outcome.CValue.{CValue}
-use Rattle.c_tree.specs.Objects.{Object, Bytes, bytes_of_number}
-use Rattle.c_tree.specs.Linking as linking
-use Rattle.c_tree.specs.Steps.{bound, all_bound, with_frame}
-use Rattle.faithful.specs.StorageImage.{number_for, byte_for}
+use Rattle.c_image.specs.f_tree.Values.{Datum, IsInt, IsLog, IsText}
+use Rattle.c_image.specs.f_tree.Store.{Store, Sequence, Cell, Undefined, Chr, Part, Whole, Truth, undefined_units, with_whole}
+use Rattle.c_image.specs.f_tree.Store as store
+use Rattle.c_image.specs.f_tree.Association.{sequence_of, passing_one, passing_more, passing, made}
+use Rattle.c_laws.specs.c_tree.declared.outcome.CValue.{CValue}
+use Rattle.c_laws.specs.c_tree.Objects.{Object, Bytes, bytes_of_number}
+use Rattle.c_laws.specs.c_tree.Linking as linking
+use Rattle.c_laws.specs.c_tree.Steps.{bound, all_bound, with_frame}
+use Rattle.c_image.specs.faithful.StorageImage.{number_for, byte_for}
 use Rattle.c_image.specs.World.{World, with_held, with_sequence, framed, IsHomeless, IsIdle, Extends}
 use Rattle.c_image.specs.Standing.{IsInRange, AreInRange, Stands}
 use Rattle.c_image.specs.Held.{BeginWith, Holds}

@@ -1,15 +1,15 @@
 -- The laws in the forms in which they are stated.
 use Rattle.std.specs.Prelude.{◌≡◌, ℕ, ◌+◌, ◌*◌, ◌/◌, ◌%◌, pos, List, take, drop, Option, Some, None}
 use Rattle.std.proofs.Common.{refl, sym, ap, ◌∙◌, subst, arith}
-use Rattle.f_tree.specs.declared.names.Basic.{Basic}
-use Rattle.f_tree.specs.declared.names.Basic.TheVariants.{Integer, Logical, Character, Untyped}
-use Rattle.f_tree.specs.Values.{Spot, Datum, IsText, Gives}
-use Rattle.f_tree.specs.Store.{Store, Cell, Whole, Truth, Label, value_of_type, characters, fetch_as, defined_as, stored_in, whole_at}
-use Rattle.f_tree.specs.Store as store
-use Rattle.c_tree.specs.Access.{ToNumber, ToChar, ToPointer}
-use Rattle.c_tree.specs.declared.outcome.CValue.TheVariants.{Pointer}
-use Rattle.c_tree.specs.Objects.{Bytes}
-use Rattle.c_tree.specs.Terms.{Constant, Variable, Array, Element}
+use Rattle.c_image.specs.f_tree.declared.names.Basic.{Basic}
+use Rattle.c_image.specs.f_tree.declared.names.Basic.TheVariants.{Integer, Logical, Character, Untyped}
+use Rattle.c_image.specs.f_tree.Values.{Spot, Datum, IsText, Gives}
+use Rattle.c_image.specs.f_tree.Store.{Store, Cell, Whole, Truth, Label, value_of_type, characters, fetch_as, defined_as, stored_in, whole_at}
+use Rattle.c_image.specs.f_tree.Store as store
+use Rattle.c_laws.specs.c_tree.Access.{ToNumber, ToChar, ToPointer}
+use Rattle.c_laws.specs.c_tree.declared.outcome.CValue.TheVariants.{Pointer}
+use Rattle.c_laws.specs.c_tree.Objects.{Bytes}
+use Rattle.c_laws.specs.c_tree.Terms.{Constant, Variable, Array, Element}
 use Rattle.c_laws.proofs.ValueLaws.{Constant-counts}
 use Rattle.c_image.specs.Held.{whole_for}
 use Rattle.c_image.specs.Addresses.{Alone, Inside, InTexts, Through, access_to, pointer_object, HasShape}

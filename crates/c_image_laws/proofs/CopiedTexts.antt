@@ -1,12 +1,12 @@
 -- A text that the library copies or joins into a place is the one that FORTRAN defines there.
 use Rattle.std.specs.Prelude.{pos, ◌++◌, length, Ok}
 use Rattle.std.proofs.Common.{refl, ap, ◌∙◌}
-use Rattle.c_tree.specs.declared.outcome.CValue.TheVariants.{Number, Pointer}
-use Rattle.c_tree.specs.Faults.{after}
-use Rattle.c_tree.specs.World as c
-use Rattle.c_tree.specs.Library.{library}
-use Rattle.c_tree.specs.LibraryArguments.{number_through, count_from, length_from, text_at, shifted}
-use Rattle.c_tree.specs.LibraryTexts.{put_text, copied, concatenated, pieces}
+use Rattle.c_laws.specs.c_tree.declared.outcome.CValue.TheVariants.{Number, Pointer}
+use Rattle.c_laws.specs.c_tree.Faults.{after}
+use Rattle.c_laws.specs.c_tree.World as c
+use Rattle.c_laws.specs.c_tree.Library.{library}
+use Rattle.c_laws.specs.c_tree.LibraryArguments.{number_through, count_from, length_from, text_at, shifted}
+use Rattle.c_laws.specs.c_tree.LibraryTexts.{put_text, copied, concatenated, pieces}
 use Rattle.c_image_laws.specs.Pieces.{no_pieces, one_piece, PiecesAreRead, TextsAreCopied, TextsAreJoined}
 use Rattle.c_image_laws.proofs.DefinedPlaces.{text_defined}
 use Rattle.c_image_laws.proofs.TextValues.{length_is}

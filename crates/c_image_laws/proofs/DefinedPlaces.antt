@@ -3,23 +3,23 @@ use Rattle.std.specs.Prelude.{◌≡◌, ℕ, zero, suc, ◌+◌, ◌-◌, ◌%�
 use Rattle.std.proofs.Common.{refl, sym, ap, ◌∙◌, subst, arith}
 use Rattle.std.proofs.lemmas.Bool.{leb-true, le-leb}
 use Rattle.std.proofs.lemmas.List.{length-append, length-take, length-replicate}
-use Rattle.f_tree.specs.declared.names.Basic.{Basic}
-use Rattle.f_tree.specs.declared.names.Basic.TheVariants.{Integer, Logical, Character}
-use Rattle.f_tree.specs.Values.{Spot, Datum, IsInt, IsLog, IsText, IsSpot, IsProc, IsLabel, Nothing, Checked, Gives, Fails, in_range, NoMeaning, PastExtent, DefinesReadOnly}
-use Rattle.f_tree.specs.Values as fortran
-use Rattle.f_tree.specs.Setting.{IsIn, first_in, later_in}
-use Rattle.f_tree.specs.Store.{Store, Sequence, Cell, Undefined, Chr, Part, Whole, Label, with_whole, with_characters, fitted, defined_as, stored_in, has_room, define_in, define, labelled_in, define_label}
-use Rattle.f_tree.specs.Store as store
-use Rattle.c_tree.specs.declared.outcome.CValue.TheVariants.{Number, Pointer}
-use Rattle.c_tree.specs.declared.outcome.CFault.TheVariants.{Outside}
-use Rattle.c_tree.specs.Faults.{after, failing}
-use Rattle.c_tree.specs.Access.{ToNumber}
-use Rattle.c_tree.specs.Objects.{Object, Bytes, bytes_of_number, overlaid, stored}
-use Rattle.c_tree.specs.LibraryArguments.{text_stored, with_text}
-use Rattle.c_tree.specs.LibraryArguments as library
+use Rattle.c_image.specs.f_tree.declared.names.Basic.{Basic}
+use Rattle.c_image.specs.f_tree.declared.names.Basic.TheVariants.{Integer, Logical, Character}
+use Rattle.c_image.specs.f_tree.Values.{Spot, Datum, IsInt, IsLog, IsText, IsSpot, IsProc, IsLabel, Nothing, Checked, Gives, Fails, in_range, NoMeaning, PastExtent, DefinesReadOnly}
+use Rattle.c_image.specs.f_tree.Values as fortran
+use Rattle.c_image.specs.f_tree.Setting.{IsIn, first_in, later_in}
+use Rattle.c_image.specs.f_tree.Store.{Store, Sequence, Cell, Undefined, Chr, Part, Whole, Label, with_whole, with_characters, fitted, defined_as, stored_in, has_room, define_in, define, labelled_in, define_label}
+use Rattle.c_image.specs.f_tree.Store as store
+use Rattle.c_laws.specs.c_tree.declared.outcome.CValue.TheVariants.{Number, Pointer}
+use Rattle.c_laws.specs.c_tree.declared.outcome.CFault.TheVariants.{Outside}
+use Rattle.c_laws.specs.c_tree.Faults.{after, failing}
+use Rattle.c_laws.specs.c_tree.Access.{ToNumber}
+use Rattle.c_laws.specs.c_tree.Objects.{Object, Bytes, bytes_of_number, overlaid, stored}
+use Rattle.c_laws.specs.c_tree.LibraryArguments.{text_stored, with_text}
+use Rattle.c_laws.specs.c_tree.LibraryArguments as library
 use Rattle.c_laws.proofs.ObjectLaws.{length-bytes_of_number, stored-number}
-use Rattle.faithful.specs.StorageImage.{number_for}
-use Rattle.faithful.specs.UnitsAtStart.{AreBytes}
+use Rattle.c_image.specs.faithful.StorageImage.{number_for}
+use Rattle.c_image.specs.faithful.UnitsAtStart.{AreBytes}
 use Rattle.c_image.specs.World.{World}
 use Rattle.c_image.specs.Standing.{IsInRange, AreInRange, Stands}
 use Rattle.c_image.specs.Addresses.{HasShape, IsSound}

@@ -1,12 +1,12 @@
 -- The C expression for the elements before an element has their number, without a fault.
 use Rattle.std.specs.Prelude.{◌≡◌, ℕ, zero, suc, ◌+◌, ◌*◌, ◌<◌, ◌≤◌, ℤ, pos, ◌+ℤ◌, ◌-ℤ◌, nat_abs, int_le, Bool, true, false, ◌&&◌, List, [], ◌∷◌, Some, None, if◌then◌else◌}
 use Rattle.std.proofs.Common.{refl, sym, ap, ◌∙◌, subst, arith}
-use Rattle.f_tree.specs.Values.{Bytes, Datum, IsInt, OutOfBounds, Checked, Gives, Fails, given_that}
-use Rattle.f_tree.specs.Facts.{Bounds}
-use Rattle.f_tree.specs.Valuing.{is_within, size_of_dimension, elements_before}
-use Rattle.c_tree.specs.Objects.{Object}
-use Rattle.c_tree.specs.Terms.{Term}
-use Rattle.c_tree.specs.Values.{in_range}
+use Rattle.c_image.specs.f_tree.Values.{Bytes, Datum, IsInt, OutOfBounds, Checked, Gives, Fails, given_that}
+use Rattle.c_image.specs.f_tree.Facts.{Bounds}
+use Rattle.c_image.specs.f_tree.Valuing.{is_within, size_of_dimension, elements_before}
+use Rattle.c_laws.specs.c_tree.Objects.{Object}
+use Rattle.c_laws.specs.c_tree.Terms.{Term}
+use Rattle.c_laws.specs.c_tree.Values.{in_range}
 use Rattle.c_laws.proofs.ValueLaws.{Constant-counts}
 use Rattle.c_image.specs.Elements.{Step, product_term, index_term}
 use Rattle.c_image_laws.specs.Meanings.{IsNumber, IsDistance, AreSteps, no_steps, last_step, one_step}

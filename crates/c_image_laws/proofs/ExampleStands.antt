@@ -1,10 +1,10 @@
 -- The store of the example stands in its objects.
 use Rattle.std.specs.Prelude.{◌≡◌, ℕ, zero, suc, ◌<◌, ◌≤◌, pos, true, false, List, [], ◌∷◌, map, length, Option, Some, None, slice_get}
 use Rattle.std.proofs.Common.{refl, sym, ap, ◌∙◌, subst, arith}
-use Rattle.f_tree.specs.Values.{in_range}
-use Rattle.f_tree.specs.Store.{Sequence, Cell, Undefined, Chr, Part, Number}
-use Rattle.c_tree.specs.Objects.{Object, Bytes, bytes_of_number}
-use Rattle.faithful.specs.StorageImage.{byte_for, byte_of_object, UnitsStand}
+use Rattle.c_image.specs.f_tree.Values.{in_range}
+use Rattle.c_image.specs.f_tree.Store.{Sequence, Cell, Undefined, Chr, Part, Number}
+use Rattle.c_laws.specs.c_tree.Objects.{Object, Bytes, bytes_of_number}
+use Rattle.c_image.specs.faithful.StorageImage.{byte_for, byte_of_object, UnitsStand}
 use Rattle.c_image.specs.World.{Sane}
 use Rattle.c_image.specs.Standing.{IsInRange, AreInRange, HasRoom, IsHoused, Stands}
 use Rattle.c_image_laws.specs.Example.{two_sequences, three_objects, sizes, constants, two_homes}

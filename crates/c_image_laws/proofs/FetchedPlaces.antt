@@ -6,19 +6,19 @@ use Rattle.std.proofs.lemmas.Bool.{leb-true, eqb-true}
 use Rattle.std.proofs.lemmas.Bool.Decides.{Decides-int_eq}
 use Rattle.std.proofs.lemmas.Option.{slice_get_within, slice_get-map}
 use Rattle.std.proofs.lemmas.List.{length-map, length-take-le, length-drop}
-use Rattle.f_tree.specs.declared.names.Basic.{Basic}
-use Rattle.f_tree.specs.declared.names.Basic.TheVariants.{Integer, Logical, Character, Untyped}
-use Rattle.f_tree.specs.Values as fortran
-use Rattle.f_tree.specs.Values.{Spot, Datum, IsInt, IsLog, IsText, IsSpot, IsProc, IsLabel, Nothing, Checked, Gives, Fails}
-use Rattle.f_tree.specs.Store.{Store, Sequence, Cell, Undefined, Chr, Part, Whole, Truth, Label, same_truth, same_whole, whole_of, whole_at, value_of_type, with_first, characters, as_text, fetch_as, fetch_from, fetch_in, fetch, label_of_whole, label_in, label_at, store_opened}
-use Rattle.f_tree.specs.Store as store
-use Rattle.c_tree.specs.declared.outcome.CValue.TheVariants.{Number, Pointer}
-use Rattle.c_tree.specs.Faults.{after}
-use Rattle.c_tree.specs.Access.{ToNumber, ToByte}
-use Rattle.c_tree.specs.Objects.{Object, Bytes, plain, all_set, bytes_at, bytes_of_number, byte_from, read_object, fetched}
-use Rattle.c_tree.specs.LibraryArguments.{text_at, text_through, text_in}
+use Rattle.c_image.specs.f_tree.declared.names.Basic.{Basic}
+use Rattle.c_image.specs.f_tree.declared.names.Basic.TheVariants.{Integer, Logical, Character, Untyped}
+use Rattle.c_image.specs.f_tree.Values as fortran
+use Rattle.c_image.specs.f_tree.Values.{Spot, Datum, IsInt, IsLog, IsText, IsSpot, IsProc, IsLabel, Nothing, Checked, Gives, Fails}
+use Rattle.c_image.specs.f_tree.Store.{Store, Sequence, Cell, Undefined, Chr, Part, Whole, Truth, Label, same_truth, same_whole, whole_of, whole_at, value_of_type, with_first, characters, as_text, fetch_as, fetch_from, fetch_in, fetch, label_of_whole, label_in, label_at, store_opened}
+use Rattle.c_image.specs.f_tree.Store as store
+use Rattle.c_laws.specs.c_tree.declared.outcome.CValue.TheVariants.{Number, Pointer}
+use Rattle.c_laws.specs.c_tree.Faults.{after}
+use Rattle.c_laws.specs.c_tree.Access.{ToNumber, ToByte}
+use Rattle.c_laws.specs.c_tree.Objects.{Object, Bytes, plain, all_set, bytes_at, bytes_of_number, byte_from, read_object, fetched}
+use Rattle.c_laws.specs.c_tree.LibraryArguments.{text_at, text_through, text_in}
 use Rattle.c_laws.proofs.ObjectLaws.{all_set-map, bytes_at-within, number_at-aligned, number_from-bytes_of_number, fetched-number, length-bytes_of_number}
-use Rattle.faithful.specs.StorageImage.{number_for, byte_for}
+use Rattle.c_image.specs.faithful.StorageImage.{number_for, byte_for}
 use Rattle.c_image.specs.World.{World}
 use Rattle.c_image.specs.Standing.{HasRoom, IsHoused, Stands}
 use Rattle.c_image.specs.Addresses.{HasShape, IsSound}

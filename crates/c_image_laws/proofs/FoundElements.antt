@@ -1,14 +1,14 @@
 -- The element that FORTRAN finds by subscripts is the place that the C expression names, or where it points.
 use Rattle.std.specs.Prelude.{◌≡◌, ℕ, ◌*◌, ◌<◌, ◌≤◌, pos, List}
 use Rattle.std.proofs.Common.{refl, sym, ap, ◌∙◌, subst, arith}
-use Rattle.f_tree.specs.declared.names.Basic.{Basic}
-use Rattle.f_tree.specs.declared.names.Basic.TheVariants.{Integer, Logical, Character, Untyped}
-use Rattle.f_tree.specs.Values.{Bytes, Spot, Datum, IsInt, IsSpot, Checked, Gives, Fails, given_that}
-use Rattle.f_tree.specs.Store.{Number}
-use Rattle.f_tree.specs.Facts.{Bounds}
-use Rattle.f_tree.specs.Valuing.{elements_before, further, element_at}
-use Rattle.c_tree.specs.Access.{ToNumber}
-use Rattle.c_tree.specs.Values as c_range
+use Rattle.c_image.specs.f_tree.declared.names.Basic.{Basic}
+use Rattle.c_image.specs.f_tree.declared.names.Basic.TheVariants.{Integer, Logical, Character, Untyped}
+use Rattle.c_image.specs.f_tree.Values.{Bytes, Spot, Datum, IsInt, IsSpot, Checked, Gives, Fails, given_that}
+use Rattle.c_image.specs.f_tree.Store.{Number}
+use Rattle.c_image.specs.f_tree.Facts.{Bounds}
+use Rattle.c_image.specs.f_tree.Valuing.{elements_before, further, element_at}
+use Rattle.c_laws.specs.c_tree.Access.{ToNumber}
+use Rattle.c_laws.specs.c_tree.Values as c_range
 use Rattle.c_laws.proofs.ValueLaws.{Variable-counts}
 use Rattle.c_image.specs.Addresses.{access_to, HasShape}
 use Rattle.c_image.specs.Operations.{constant_term}

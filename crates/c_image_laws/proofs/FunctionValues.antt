@@ -7,31 +7,31 @@ use Rattle.std.proofs.Math.Nat.{pow-suc, pow-zero}
 use Rattle.std.proofs.lemmas.Bool.{eqb-true, eq-eqb}
 use Rattle.std.proofs.lemmas.Bool.Decides.{Decides-int_eq}
 use Rattle.std.proofs.lemmas.Int.{ints}
-use Rattle.run_state.specs.Bits.{inclusive_or, logical_product, exclusive_or, complement, shifted, bit_at, has_bit, with_bit, without_bit}
-use Rattle.f_tree.specs.Values as fortran
-use Rattle.f_tree.specs.Values.{Datum, IsInt, IsLog, IsText, IsSpot, IsProc, IsLabel, Nothing, Checked, Gives, Fails, ZeroDivide, given_that}
-use Rattle.f_tree.specs.Terms as function
-use Rattle.f_tree.specs.Store.{Whole, Truth}
-use Rattle.f_tree.specs.Store as store
-use Rattle.f_tree.specs.Valuing as valuing
-use Rattle.c_tree.specs.declared.outcome.CValue.{CValue}
-use Rattle.c_tree.specs.declared.outcome.CValue.TheVariants.{Number}
-use Rattle.c_tree.specs.declared.outcome.CFault.TheVariants as fault
-use Rattle.c_tree.specs.declared.expression.BinaryOp.TheVariants as op
-use Rattle.c_tree.specs.declared.expression.Extreme.{Extreme}
-use Rattle.c_tree.specs.declared.expression.Extreme.TheVariants as extreme
-use Rattle.c_tree.specs.Faults.{Or, after, failing}
-use Rattle.c_tree.specs.Objects.{Object, plain, as_number}
-use Rattle.c_tree.specs.Terms.{Term, Between, Most, Magnitude}
-use Rattle.c_tree.specs.Values.{in_range, seen, checked, most, magnitude, on_numbers}
-use Rattle.c_tree.specs.World.{World}
-use Rattle.c_tree.specs.World as c
-use Rattle.c_tree.specs.Builtins.{Builtin}
-use Rattle.c_tree.specs.LibraryArguments.{number_through}
-use Rattle.c_tree.specs.LibraryNumbers.{in_32_bits, power, signed, positive_difference, on_integers, on_integer, either_bit, both_bits, one_bit, or_fault, truth_or_fault, shifted_bits, bit_tested, bit_set, bit_cleared}
-use Rattle.c_tree.specs.Library.{library}
+use Rattle.c_laws.specs.run_state.Bits.{inclusive_or, logical_product, exclusive_or, complement, shifted, bit_at, has_bit, with_bit, without_bit}
+use Rattle.c_image.specs.f_tree.Values as fortran
+use Rattle.c_image.specs.f_tree.Values.{Datum, IsInt, IsLog, IsText, IsSpot, IsProc, IsLabel, Nothing, Checked, Gives, Fails, ZeroDivide, given_that}
+use Rattle.c_image.specs.f_tree.Terms as function
+use Rattle.c_image.specs.f_tree.Store.{Whole, Truth}
+use Rattle.c_image.specs.f_tree.Store as store
+use Rattle.c_image.specs.f_tree.Valuing as valuing
+use Rattle.c_laws.specs.c_tree.declared.outcome.CValue.{CValue}
+use Rattle.c_laws.specs.c_tree.declared.outcome.CValue.TheVariants.{Number}
+use Rattle.c_laws.specs.c_tree.declared.outcome.CFault.TheVariants as fault
+use Rattle.c_laws.specs.c_tree.declared.expression.BinaryOp.TheVariants as op
+use Rattle.c_laws.specs.c_tree.declared.expression.Extreme.{Extreme}
+use Rattle.c_laws.specs.c_tree.declared.expression.Extreme.TheVariants as extreme
+use Rattle.c_laws.specs.c_tree.Faults.{Or, after, failing}
+use Rattle.c_laws.specs.c_tree.Objects.{Object, plain, as_number}
+use Rattle.c_laws.specs.c_tree.Terms.{Term, Between, Most, Magnitude}
+use Rattle.c_laws.specs.c_tree.Values.{in_range, seen, checked, most, magnitude, on_numbers}
+use Rattle.c_laws.specs.c_tree.World.{World}
+use Rattle.c_laws.specs.c_tree.World as c
+use Rattle.c_laws.specs.c_tree.Builtins.{Builtin}
+use Rattle.c_laws.specs.c_tree.LibraryArguments.{number_through}
+use Rattle.c_laws.specs.c_tree.LibraryNumbers.{in_32_bits, power, signed, positive_difference, on_integers, on_integer, either_bit, both_bits, one_bit, or_fault, truth_or_fault, shifted_bits, bit_tested, bit_set, bit_cleared}
+use Rattle.c_laws.specs.c_tree.Library.{library}
 use Rattle.c_laws.proofs.ValueLaws.{Between-operation, checked-fits}
-use Rattle.faithful.specs.StorageImage.{number_for}
+use Rattle.c_image.specs.faithful.StorageImage.{number_for}
 use Rattle.c_image.specs.Held.{whole_for}
 use Rattle.c_image.specs.Operations.{extreme_term, function_term, library_for}
 use Rattle.c_image_laws.specs.Meanings.{Means, IsNumber, AllMean, none_mean, more_mean}

@@ -4,11 +4,11 @@ use Rattle.std.proofs.Common.{refl, sym, ap, ◌∙◌, subst, arith}
 use Rattle.std.proofs.lemmas.Bool.{eqb-true, eq-eqb, ltb-true, lt-ltb}
 use Rattle.std.proofs.lemmas.Option.{slice_get_within, slice_get_past}
 use Rattle.std.proofs.lemmas.List.{length-append, length-take-le}
-use Rattle.f_tree.specs.Store.{Store, Sequence, Cell}
-use Rattle.c_tree.specs.Objects.{Object, Bytes}
-use Rattle.c_tree.specs.Linking.{or_else}
+use Rattle.c_image.specs.f_tree.Store.{Store, Sequence, Cell}
+use Rattle.c_laws.specs.c_tree.Objects.{Object, Bytes}
+use Rattle.c_laws.specs.c_tree.Linking.{or_else}
 use Rattle.c_laws.proofs.ObjectLaws.{slice_get-slice_set_same, slice_get-slice_set_other}
-use Rattle.faithful.specs.StorageImage.{byte_for, byte_of_object, cell_of, UnitsStand}
+use Rattle.c_image.specs.faithful.StorageImage.{byte_for, byte_of_object, cell_of, UnitsStand}
 use Rattle.c_image.specs.World.{World, Sane, changed, with_held, with_sequence, Extends, held_from, framed, IsHomeless, IsIdle}
 use Rattle.c_image.specs.Standing.{AreInRange, HasRoom, IsHoused, Stands}
 use Rattle.c_image_laws.proofs.ListLaws.{at_front, at_back, at_taken, at_dropped, one_there, none_there, by_equal, by_less}

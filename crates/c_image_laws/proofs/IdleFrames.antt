@@ -1,7 +1,7 @@
 -- A frame that is idle stays idle while the world grows elsewhere, and is idle again when the world is cut.
 use Rattle.std.specs.Prelude.{◌≡◌, ℕ, suc, ◌+◌, ◌<◌, ◌≤◌, Option, Some, None}
 use Rattle.std.proofs.Common.{refl, sym, ◌∙◌, subst, arith}
-use Rattle.c_tree.specs.Objects.{Object}
+use Rattle.c_laws.specs.c_tree.Objects.{Object}
 use Rattle.c_image.specs.World.{changed}
 use Rattle.c_image_laws.specs.Statements.{IdleBesideSequence, IdleBesideFrame, IdleBesideObject, IdleBefore}
 use Rattle.c_image_laws.proofs.ListLaws.{one_there, none_there, by_equal}

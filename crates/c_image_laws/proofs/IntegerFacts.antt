@@ -3,7 +3,7 @@ use Rattle.std.specs.Prelude.{◌≡◌, ℕ, ◌<◌, ◌≤◌, ℤ, pos, negs
 use Rattle.std.proofs.Common.{refl, arith}
 use Rattle.std.proofs.lemmas.Bool.{le-leb}
 use Rattle.std.proofs.lemmas.Int.{ints}
-use Rattle.c_tree.specs.Values.{in_range}
+use Rattle.c_laws.specs.c_tree.Values.{in_range}
 
 -- a difference that is not negative
 pub difference_up : (z l : ℤ) → int_le l z ≡ true → pos (nat_abs (z -ℤ l)) ≡ z -ℤ l

@@ -4,18 +4,18 @@ use Rattle.std.proofs.Common.{refl, sym, ap, ◌∙◌, subst, arith}
 use Rattle.std.proofs.lemmas.Bool.{eqb-true}
 use Rattle.std.proofs.lemmas.Option.{slice_get_within}
 use Rattle.std.proofs.lemmas.List.{length-take, length-map}
-use Rattle.f_tree.specs.Values.{Datum, IsInt, IsLog, IsText, in_range}
-use Rattle.f_tree.specs.Store.{Store, Whole, Truth}
-use Rattle.f_tree.specs.Store as store
-use Rattle.c_tree.specs.declared.outcome.CValue.TheVariants.{Number, Pointer}
-use Rattle.c_tree.specs.Access.{ToNumber}
-use Rattle.c_tree.specs.Objects.{Object, Bytes, plain, all_set, bytes_of_number, overlaid, fetched, stored}
-use Rattle.c_tree.specs.Terms.{Variable}
-use Rattle.c_tree.specs.LibraryArguments.{text_stored, text_at, text_through, text_in}
+use Rattle.c_image.specs.f_tree.Values.{Datum, IsInt, IsLog, IsText, in_range}
+use Rattle.c_image.specs.f_tree.Store.{Store, Whole, Truth}
+use Rattle.c_image.specs.f_tree.Store as store
+use Rattle.c_laws.specs.c_tree.declared.outcome.CValue.TheVariants.{Number, Pointer}
+use Rattle.c_laws.specs.c_tree.Access.{ToNumber}
+use Rattle.c_laws.specs.c_tree.Objects.{Object, Bytes, plain, all_set, bytes_of_number, overlaid, fetched, stored}
+use Rattle.c_laws.specs.c_tree.Terms.{Variable}
+use Rattle.c_laws.specs.c_tree.LibraryArguments.{text_stored, text_at, text_through, text_in}
 use Rattle.c_laws.proofs.ObjectLaws.{all_set-map, bytes_at-within, overlaid-slice, length-overlaid, number_at-aligned, number_from-bytes_of_number, fetched-number, stored-number}
 use Rattle.c_laws.proofs.ValueLaws.{Variable-counts}
-use Rattle.faithful.specs.StorageImage.{number_for}
-use Rattle.faithful.specs.UnitsAtStart.{AreBytes}
+use Rattle.c_image.specs.faithful.StorageImage.{number_for}
+use Rattle.c_image.specs.faithful.UnitsAtStart.{AreBytes}
 use Rattle.c_image.specs.World.{World, IsHomeless}
 use Rattle.c_image.specs.Standing.{Stands}
 use Rattle.c_image.specs.Held.{whole_for, BeginWith, Holds}

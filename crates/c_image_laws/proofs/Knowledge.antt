@@ -1,12 +1,12 @@
 -- What a function knows of its names stays while the world grows, and while its temporaries keep values.
 use Rattle.std.specs.Prelude.{◌≡◌, ◌≢◌, ℕ, ◌<◌, ℤ, pos, List, Option, Some}
 use Rattle.std.proofs.Common.{refl, sym, ◌∙◌, subst}
-use Rattle.f_tree.specs.Values.{Spot, Datum, IsInt}
-use Rattle.f_tree.specs.Facts.{Facts, Frame}
-use Rattle.f_tree.specs.Valuing.{size_of_dimension}
-use Rattle.c_tree.specs.declared.outcome.CValue.TheVariants.{Pointer}
-use Rattle.c_tree.specs.Objects.{Object}
-use Rattle.c_tree.specs.Objects as object
+use Rattle.c_image.specs.f_tree.Values.{Spot, Datum, IsInt}
+use Rattle.c_image.specs.f_tree.Facts.{Facts, Frame}
+use Rattle.c_image.specs.f_tree.Valuing.{size_of_dimension}
+use Rattle.c_laws.specs.c_tree.declared.outcome.CValue.TheVariants.{Pointer}
+use Rattle.c_laws.specs.c_tree.Objects.{Object}
+use Rattle.c_laws.specs.c_tree.Objects as object
 use Rattle.c_image.specs.World.{World, changed, with_held, Extends}
 use Rattle.c_image.specs.Held.{BeginWith, Holds}
 use Rattle.c_image.specs.Addresses.{Address, Alone, Inside, InTexts, Through, access_to, pointer_object, Reaches}

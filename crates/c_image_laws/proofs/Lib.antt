@@ -25,3 +25,4 @@ pub mod TermValues
 pub mod TestedValues
 pub mod TextValues
 pub mod WrittenUnits
+pub use Rattle.c_laws.proofs as c_laws

@@ -4,7 +4,7 @@ use Rattle.std.proofs.Common.{refl, sym, ap, ◌∙◌, arith}
 use Rattle.std.proofs.lemmas.Bool.{eqb-true, eq-eqb, ltb-true, leb-false}
 use Rattle.std.proofs.lemmas.Option.{slice_get_within, slice_get-map}
 use Rattle.std.proofs.lemmas.List.{length-append, length-take-le, length-map}
-use Rattle.c_tree.specs.Objects.{overlaid}
+use Rattle.c_laws.specs.c_tree.Objects.{overlaid}
 
 pub at_front : {A : Type 0} (xs ys : List A) (i : ℕ) → i < length xs → slice_get (xs ++ ys) i ≡ slice_get xs i
 at_front [] ys i inside = absurd (omega (arith, inside))

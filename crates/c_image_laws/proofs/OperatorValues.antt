@@ -2,23 +2,23 @@
 use Rattle.std.specs.Prelude.{◌≡◌, ℤ, pos, ◌+ℤ◌, ◌-ℤ◌, ◌*ℤ◌, neg_ℤ, int_lt, int_le, int_div, Bool, true, false, not, ◌&&◌, ◌||◌, List, Some, None, Ok, if◌then◌else◌}
 use Rattle.std.specs.Ordering.{int_eq}
 use Rattle.std.proofs.Common.{refl, sym, ap, ◌∙◌, subst}
-use Rattle.f_tree.specs.Values as fortran
-use Rattle.f_tree.specs.Values.{Datum, IsInt, IsLog, IsText, IsSpot, IsProc, IsLabel, Nothing, Checked, Gives, Fails, Overflow, ZeroDivide}
-use Rattle.f_tree.specs.Terms.{Prefix, Negate, Complement, Operator, Add, Subtract, Multiply, Divide, IsLess, IsLessOrEqual, IsEqual, IsNotEqual, IsGreater, IsGreaterOrEqual, Both, Either, Same, Different}
-use Rattle.f_tree.specs.Store.{Whole, Truth, Label}
-use Rattle.f_tree.specs.Store as store
-use Rattle.f_tree.specs.Valuing as valuing
-use Rattle.f_tree.specs.Valuing.{valuing_opened}
-use Rattle.c_tree.specs.declared.outcome.CValue.TheVariants.{Number}
-use Rattle.c_tree.specs.declared.expression.UnaryOp.TheVariants as prefix
-use Rattle.c_tree.specs.declared.expression.BinaryOp.TheVariants as op
-use Rattle.c_tree.specs.declared.expression.BinaryOp.{BinaryOp}
-use Rattle.c_tree.specs.Faults.{Or, after}
-use Rattle.c_tree.specs.Objects.{Object, Typed, plain}
-use Rattle.c_tree.specs.Terms.{Term, Prefixed, Between}
-use Rattle.c_tree.specs.Values.{in_range, seen, between, operation, truth, condition, unless_decided}
+use Rattle.c_image.specs.f_tree.Values as fortran
+use Rattle.c_image.specs.f_tree.Values.{Datum, IsInt, IsLog, IsText, IsSpot, IsProc, IsLabel, Nothing, Checked, Gives, Fails, Overflow, ZeroDivide}
+use Rattle.c_image.specs.f_tree.Terms.{Prefix, Negate, Complement, Operator, Add, Subtract, Multiply, Divide, IsLess, IsLessOrEqual, IsEqual, IsNotEqual, IsGreater, IsGreaterOrEqual, Both, Either, Same, Different}
+use Rattle.c_image.specs.f_tree.Store.{Whole, Truth, Label}
+use Rattle.c_image.specs.f_tree.Store as store
+use Rattle.c_image.specs.f_tree.Valuing as valuing
+use Rattle.c_image.specs.f_tree.Valuing.{valuing_opened}
+use Rattle.c_laws.specs.c_tree.declared.outcome.CValue.TheVariants.{Number}
+use Rattle.c_laws.specs.c_tree.declared.expression.UnaryOp.TheVariants as prefix
+use Rattle.c_laws.specs.c_tree.declared.expression.BinaryOp.TheVariants as op
+use Rattle.c_laws.specs.c_tree.declared.expression.BinaryOp.{BinaryOp}
+use Rattle.c_laws.specs.c_tree.Faults.{Or, after}
+use Rattle.c_laws.specs.c_tree.Objects.{Object, Typed, plain}
+use Rattle.c_laws.specs.c_tree.Terms.{Term, Prefixed, Between}
+use Rattle.c_laws.specs.c_tree.Values.{in_range, seen, between, operation, truth, condition, unless_decided}
 use Rattle.c_laws.proofs.ValueLaws.{Counts, Between-operation, Add-counts, Subtract-counts, Multiply-counts, Divide-counts, Minus-counts}
-use Rattle.faithful.specs.StorageImage.{number_for}
+use Rattle.c_image.specs.faithful.StorageImage.{number_for}
 use Rattle.c_image.specs.Held.{whole_for}
 use Rattle.c_image.specs.Operations.{prefix_for, operator_for}
 use Rattle.c_image_laws.specs.Meanings.{Means}

@@ -2,16 +2,16 @@
 use Rattle.std.specs.Prelude.{◌≡◌, ℕ, ◌+◌, ◌≤◌, ℤ, true, List, map, length, Option, Some, None, slice_get}
 use Rattle.std.proofs.Common.{refl, sym, ap, ◌∙◌, subst, arith}
 use Rattle.std.proofs.lemmas.List.{length-map}
-use Rattle.f_tree.specs.Values.{Spot, Datum, IsInt, IsLog, IsText, in_range}
-use Rattle.f_tree.specs.Store.{Sequence, Chr, with_whole}
-use Rattle.f_tree.specs.Association.{sequence_of, basic_of}
-use Rattle.c_tree.specs.declared.outcome.CValue.{CValue}
-use Rattle.c_tree.specs.declared.outcome.CValue.TheVariants.{Number, Pointer}
-use Rattle.c_tree.specs.Access.{ToPointer}
-use Rattle.c_tree.specs.Declarations.{unset, unset_values}
-use Rattle.c_tree.specs.Linking.{or_else}
-use Rattle.c_tree.specs.Objects.{Object, bytes_of_number}
-use Rattle.c_tree.specs.Steps.{bound, all_bound}
+use Rattle.c_image.specs.f_tree.Values.{Spot, Datum, IsInt, IsLog, IsText, in_range}
+use Rattle.c_image.specs.f_tree.Store.{Sequence, Chr, with_whole}
+use Rattle.c_image.specs.f_tree.Association.{sequence_of, basic_of}
+use Rattle.c_laws.specs.c_tree.declared.outcome.CValue.{CValue}
+use Rattle.c_laws.specs.c_tree.declared.outcome.CValue.TheVariants.{Number, Pointer}
+use Rattle.c_laws.specs.c_tree.Access.{ToPointer}
+use Rattle.c_laws.specs.c_tree.Declarations.{unset, unset_values}
+use Rattle.c_laws.specs.c_tree.Linking.{or_else}
+use Rattle.c_laws.specs.c_tree.Objects.{Object, bytes_of_number}
+use Rattle.c_laws.specs.c_tree.Steps.{bound, all_bound}
 use Rattle.c_image.specs.World.{World, with_sequence, framed}
 use Rattle.c_image.specs.Held.{Holds}
 use Rattle.c_image.specs.Addresses.{Through, access_to, Reaches, IsSound}

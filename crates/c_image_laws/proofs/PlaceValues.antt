@@ -1,15 +1,15 @@
 -- The C expressions for the places of FORTRAN name the places where they stand, and point there.
 use Rattle.std.specs.Prelude.{◌≡◌, ℕ, zero, suc, ◌+◌, ◌*◌, ◌/◌, ◌%◌, ◌<◌, ◌≤◌, pos, List, [], ◌∷◌, length, Option, Some, slice_get}
 use Rattle.std.proofs.Common.{refl, sym, ap, ◌∙◌, subst, arith}
-use Rattle.f_tree.specs.declared.names.Basic.{Basic}
-use Rattle.f_tree.specs.declared.names.Basic.TheVariants.{Integer, Logical, Character, Untyped}
-use Rattle.f_tree.specs.Values.{Spot}
-use Rattle.f_tree.specs.Store.{Store}
-use Rattle.c_tree.specs.declared.outcome.CValue.TheVariants.{Pointer}
-use Rattle.c_tree.specs.declared.types.CastType.TheVariants as to
-use Rattle.c_tree.specs.Access.{ToNumber, ToChar, ToPointer}
-use Rattle.c_tree.specs.Objects.{Object, Bytes}
-use Rattle.c_tree.specs.Terms.{Constant, Variable, Array, Cast, Element}
+use Rattle.c_image.specs.f_tree.declared.names.Basic.{Basic}
+use Rattle.c_image.specs.f_tree.declared.names.Basic.TheVariants.{Integer, Logical, Character, Untyped}
+use Rattle.c_image.specs.f_tree.Values.{Spot}
+use Rattle.c_image.specs.f_tree.Store.{Store}
+use Rattle.c_laws.specs.c_tree.declared.outcome.CValue.TheVariants.{Pointer}
+use Rattle.c_laws.specs.c_tree.declared.types.CastType.TheVariants as to
+use Rattle.c_laws.specs.c_tree.Access.{ToNumber, ToChar, ToPointer}
+use Rattle.c_laws.specs.c_tree.Objects.{Object, Bytes}
+use Rattle.c_laws.specs.c_tree.Terms.{Constant, Variable, Array, Cast, Element}
 use Rattle.c_laws.proofs.ValueLaws.{Constant-counts}
 use Rattle.c_image.specs.World.{World}
 use Rattle.c_image.specs.Standing.{Stands}

@@ -1,10 +1,10 @@
 -- The C expressions that are passed for places, and those for parts of texts, point where the places stand.
 use Rattle.std.specs.Prelude.{◌≡◌, ◌+◌, ◌*◌, Some}
 use Rattle.std.proofs.Common.{refl, sym, ◌∙◌, subst, arith}
-use Rattle.c_tree.specs.declared.outcome.CValue.TheVariants.{Pointer}
-use Rattle.c_tree.specs.Access.{ToChar, ToPointer}
-use Rattle.c_tree.specs.Objects.{Bytes}
-use Rattle.c_tree.specs.Terms.{Variable}
+use Rattle.c_laws.specs.c_tree.declared.outcome.CValue.TheVariants.{Pointer}
+use Rattle.c_laws.specs.c_tree.Access.{ToChar, ToPointer}
+use Rattle.c_laws.specs.c_tree.Objects.{Bytes}
+use Rattle.c_laws.specs.c_tree.Terms.{Variable}
 use Rattle.c_image.specs.Addresses.{access_to, pointer_object, text_term}
 use Rattle.c_image.specs.Elements.{sum_term}
 use Rattle.c_image_laws.specs.Meanings.{Points}

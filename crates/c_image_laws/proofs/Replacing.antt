@@ -2,10 +2,10 @@
 use Rattle.std.specs.Prelude.{◌≡◌, ◌≢◌, ℕ, ◌+◌, ◌<◌, ◌≤◌, false, List, length, Option, Some, None, slice_get, slice_set, option_and_then}
 use Rattle.std.proofs.Common.{refl, sym, ap, ◌∙◌, subst, arith}
 use Rattle.std.proofs.lemmas.Option.{slice_get_within}
-use Rattle.f_tree.specs.Store.{Store, Sequence, Cell}
-use Rattle.c_tree.specs.Objects.{Object, Bytes, overlaid}
+use Rattle.c_image.specs.f_tree.Store.{Store, Sequence, Cell}
+use Rattle.c_laws.specs.c_tree.Objects.{Object, Bytes, overlaid}
 use Rattle.c_laws.proofs.ObjectLaws.{length-overlaid, slice_get-slice_set_same, slice_get-slice_set_other, length-slice_set}
-use Rattle.faithful.specs.StorageImage.{byte_for, byte_of_object, cell_of, UnitsStand}
+use Rattle.c_image.specs.faithful.StorageImage.{byte_for, byte_of_object, cell_of, UnitsStand}
 use Rattle.c_image.specs.World.{World}
 use Rattle.c_image.specs.Standing.{AreInRange, HasRoom, IsHoused, Stands}
 use Rattle.c_image_laws.proofs.ListLaws.{one_there, none_there, by_equal}

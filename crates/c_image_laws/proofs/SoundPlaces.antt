@@ -3,10 +3,10 @@ use Rattle.std.specs.Prelude.{◌≡◌, ℕ, ◌+◌, ◌*◌, ◌%◌, ◌≤�
 use Rattle.std.proofs.Common.{refl, sym, ap, subst, arith}
 use Rattle.std.proofs.lemmas.Bool.{leb-true}
 use Rattle.std.proofs.lemmas.Int.{ints}
-use Rattle.f_tree.specs.declared.names.Basic.{Basic}
-use Rattle.f_tree.specs.declared.names.Basic.TheVariants.{Integer, Logical, Character, Untyped}
-use Rattle.f_tree.specs.Values.{Bytes, Spot, Datum, IsSpot, OutOfBounds, PastExtent, Checked, Gives, Fails}
-use Rattle.f_tree.specs.Valuing.{further, cut, reaching}
+use Rattle.c_image.specs.f_tree.declared.names.Basic.{Basic}
+use Rattle.c_image.specs.f_tree.declared.names.Basic.TheVariants.{Integer, Logical, Character, Untyped}
+use Rattle.c_image.specs.f_tree.Values.{Bytes, Spot, Datum, IsSpot, OutOfBounds, PastExtent, Checked, Gives, Fails}
+use Rattle.c_image.specs.f_tree.Valuing.{further, cut, reaching}
 use Rattle.c_image.specs.World.{World, Extends}
 use Rattle.c_image.specs.Addresses.{HasShape, IsSound}
 use Rattle.c_image_laws.specs.DerivedPlaces.{further_place, cut_place}

@@ -3,14 +3,14 @@ use Rattle.std.specs.Prelude.{◌≡◌, ℕ, zero, suc, ◌+◌, ◌*◌, ◌�
 use Rattle.std.proofs.Common.{refl, sym, ap, subst, arith}
 use Rattle.std.proofs.lemmas.Bool.{eqb-true}
 use Rattle.std.proofs.lemmas.Int.{ints}
-use Rattle.c_tree.specs.declared.outcome.CValue.TheVariants.{Number, Pointer}
-use Rattle.c_tree.specs.declared.expression.UnaryOp.TheVariants as prefix
-use Rattle.c_tree.specs.declared.expression.BinaryOp.TheVariants as op
-use Rattle.c_tree.specs.Faults.{Or}
-use Rattle.c_tree.specs.Access.{Access, stride}
-use Rattle.c_tree.specs.Objects.{Object, Typed, extent}
-use Rattle.c_tree.specs.Terms.{Term, Constant, Between, Prefixed}
-use Rattle.c_tree.specs.Values.{in_range, seen}
+use Rattle.c_laws.specs.c_tree.declared.outcome.CValue.TheVariants.{Number, Pointer}
+use Rattle.c_laws.specs.c_tree.declared.expression.UnaryOp.TheVariants as prefix
+use Rattle.c_laws.specs.c_tree.declared.expression.BinaryOp.TheVariants as op
+use Rattle.c_laws.specs.c_tree.Faults.{Or}
+use Rattle.c_laws.specs.c_tree.Access.{Access, stride}
+use Rattle.c_laws.specs.c_tree.Objects.{Object, Typed, extent}
+use Rattle.c_laws.specs.c_tree.Terms.{Term, Constant, Between, Prefixed}
+use Rattle.c_laws.specs.c_tree.Values.{in_range, seen}
 use Rattle.c_laws.proofs.ValueLaws.{Constant-counts, Add-counts, Subtract-counts, Multiply-counts, Minus-counts}
 use Rattle.c_image.specs.Operations.{constant_term}
 use Rattle.c_image.specs.Elements.{sum_term, difference_term, product_term}

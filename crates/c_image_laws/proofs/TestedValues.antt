@@ -1,13 +1,13 @@
 -- What C does with the value of an expression: a test goes by a truth value, a switch by a number, and `?:` takes one of two arms.
 use Rattle.std.specs.Prelude.{◌≡◌, Bool, true, false, List}
 use Rattle.std.proofs.Common.{ap, ◌∙◌, subst}
-use Rattle.f_tree.specs.Values.{IsLog}
-use Rattle.c_tree.specs.Faults.{after}
-use Rattle.c_tree.specs.Objects.{Object, as_number}
-use Rattle.c_tree.specs.Terms.{Term, Choice}
-use Rattle.c_tree.specs.Values.{seen, condition, chosen}
+use Rattle.c_image.specs.f_tree.Values.{IsLog}
+use Rattle.c_laws.specs.c_tree.Faults.{after}
+use Rattle.c_laws.specs.c_tree.Objects.{Object, as_number}
+use Rattle.c_laws.specs.c_tree.Terms.{Term, Choice}
+use Rattle.c_laws.specs.c_tree.Values.{seen, condition, chosen}
 use Rattle.c_laws.proofs.ValueLaws.{value_of-number}
-use Rattle.faithful.specs.StorageImage.{number_for}
+use Rattle.c_image.specs.faithful.StorageImage.{number_for}
 use Rattle.c_image.specs.Held.{whole_for}
 use Rattle.c_image_laws.specs.Meanings.{Means, IsNumber}
 use Rattle.c_image_laws.specs.Tests.{ValuesAreGiven, TestsAreMeant, SwitchesAreMeant, ChoicesAreMeant}

@@ -5,28 +5,28 @@ use Rattle.std.specs.List.{starts_with}
 use Rattle.std.proofs.Common.{refl, sym, ap, ◌∙◌, subst, arith}
 use Rattle.std.proofs.lemmas.Bool.{eqb-true, eq-eqb, ltb-true, leb-false}
 use Rattle.std.proofs.lemmas.Int.{ints}
-use Rattle.f_tree.specs.Values.{Datum, IsInt, IsLog, IsText, Gives}
-use Rattle.f_tree.specs.Terms.{Operator, IsLess, IsLessOrEqual, IsEqual, IsNotEqual, IsGreater, IsGreaterOrEqual}
-use Rattle.f_tree.specs.Terms as function
-use Rattle.f_tree.specs.Store.{Whole, Truth}
-use Rattle.f_tree.specs.Store as store
-use Rattle.f_tree.specs.Valuing as valuing
-use Rattle.c_tree.specs.declared.outcome.CValue.{CValue}
-use Rattle.c_tree.specs.declared.outcome.CValue.TheVariants.{Number}
-use Rattle.c_tree.specs.declared.outcome.CFault.TheVariants.{Library}
-use Rattle.c_tree.specs.declared.expression.BinaryOp.TheVariants as op
-use Rattle.c_tree.specs.Faults.{after, failing}
-use Rattle.c_tree.specs.Objects.{Object}
-use Rattle.c_tree.specs.Terms.{Term, Constant, Between}
-use Rattle.c_tree.specs.World.{World}
-use Rattle.c_tree.specs.World as c
-use Rattle.c_tree.specs.Builtins.{Builtin, s_cmp, i_indx, l_ge, l_gt, l_le, l_lt}
-use Rattle.c_tree.specs.Library.{library}
-use Rattle.c_tree.specs.LibraryArguments.{length_from, text_at}
-use Rattle.c_tree.specs.LibraryTexts.{sign_of, against_blanks, blanks_against, comparison, on_texts, one_if, not_below, above, not_above, below, found_from, index_of}
+use Rattle.c_image.specs.f_tree.Values.{Datum, IsInt, IsLog, IsText, Gives}
+use Rattle.c_image.specs.f_tree.Terms.{Operator, IsLess, IsLessOrEqual, IsEqual, IsNotEqual, IsGreater, IsGreaterOrEqual}
+use Rattle.c_image.specs.f_tree.Terms as function
+use Rattle.c_image.specs.f_tree.Store.{Whole, Truth}
+use Rattle.c_image.specs.f_tree.Store as store
+use Rattle.c_image.specs.f_tree.Valuing as valuing
+use Rattle.c_laws.specs.c_tree.declared.outcome.CValue.{CValue}
+use Rattle.c_laws.specs.c_tree.declared.outcome.CValue.TheVariants.{Number}
+use Rattle.c_laws.specs.c_tree.declared.outcome.CFault.TheVariants.{Library}
+use Rattle.c_laws.specs.c_tree.declared.expression.BinaryOp.TheVariants as op
+use Rattle.c_laws.specs.c_tree.Faults.{after, failing}
+use Rattle.c_laws.specs.c_tree.Objects.{Object}
+use Rattle.c_laws.specs.c_tree.Terms.{Term, Constant, Between}
+use Rattle.c_laws.specs.c_tree.World.{World}
+use Rattle.c_laws.specs.c_tree.World as c
+use Rattle.c_laws.specs.c_tree.Builtins.{Builtin, s_cmp, i_indx, l_ge, l_gt, l_le, l_lt}
+use Rattle.c_laws.specs.c_tree.Library.{library}
+use Rattle.c_laws.specs.c_tree.LibraryArguments.{length_from, text_at}
+use Rattle.c_laws.specs.c_tree.LibraryTexts.{sign_of, against_blanks, blanks_against, comparison, on_texts, one_if, not_below, above, not_above, below, found_from, index_of}
 use Rattle.c_laws.proofs.ValueLaws.{Constant-counts}
-use Rattle.faithful.specs.StorageImage.{number_for}
-use Rattle.c_tree.specs.Values.{truth}
+use Rattle.c_image.specs.faithful.StorageImage.{number_for}
+use Rattle.c_laws.specs.c_tree.Values.{truth}
 use Rattle.c_image.specs.Held.{whole_for}
 use Rattle.c_image.specs.Operations.{operator_for, library_for}
 use Rattle.c_image_laws.specs.Meanings.{Means, IsNumber}

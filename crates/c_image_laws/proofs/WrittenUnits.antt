@@ -3,11 +3,11 @@
 use Rattle.std.specs.Prelude.{◌≡◌, ◌≢◌, ℕ, zero, suc, ◌+◌, ◌-◌, ◌<◌, ◌≤◌, List, [], ◌∷◌, length, take, drop, Option, Some, None, slice_get}
 use Rattle.std.proofs.Common.{refl, sym, ap, ◌∙◌, arith}
 use Rattle.std.proofs.lemmas.List.{length-append, length-take-le, length-drop}
-use Rattle.f_tree.specs.Values.{Bytes}
-use Rattle.f_tree.specs.Store.{Cell, Undefined, Chr, Part, Whole, with_whole, no_part, no_parts, without_value_of, with_character, with_characters}
-use Rattle.c_tree.specs.Objects.{bytes_of_number, overlaid}
+use Rattle.c_image.specs.f_tree.Values.{Bytes}
+use Rattle.c_image.specs.f_tree.Store.{Cell, Undefined, Chr, Part, Whole, with_whole, no_part, no_parts, without_value_of, with_character, with_characters}
+use Rattle.c_laws.specs.c_tree.Objects.{bytes_of_number, overlaid}
 use Rattle.c_laws.proofs.ObjectLaws.{length-bytes_of_number, slice_get-slice_set_same, slice_get-slice_set_other, length-slice_set}
-use Rattle.faithful.specs.StorageImage.{number_for, byte_for}
+use Rattle.c_image.specs.faithful.StorageImage.{number_for, byte_for}
 use Rattle.c_image_laws.proofs.ListLaws.{at_front, at_back, at_taken, at_dropped, one_there, overlaid_before, overlaid_within, overlaid_behind, by_equal, by_less}
 
 -- each unit with a byte stands there by its byte

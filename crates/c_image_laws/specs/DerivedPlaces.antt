@@ -1,9 +1,9 @@
 -- Places that FORTRAN derives from another: an element, a substring, and the place of a value that is passed.
 -- ANSI X3.9-1978, sections 5.4, 5.7 and 15.9.
 use Rattle.std.specs.Prelude.{ℕ, ◌+◌, ◌-◌, ◌*◌, ◌<◌, ℤ, nat_abs, length}
-use Rattle.f_tree.specs.Values.{Spot, Datum, IsText}
-use Rattle.f_tree.specs.Store.{Sequence}
-use Rattle.f_tree.specs.Association.{basic_of}
+use Rattle.c_image.specs.f_tree.Values.{Spot, Datum, IsText}
+use Rattle.c_image.specs.f_tree.Store.{Sequence}
+use Rattle.c_image.specs.f_tree.Association.{basic_of}
 use Rattle.c_image.specs.World.{World}
 
 -- the element so many elements further on

@@ -1,8 +1,8 @@
 -- A store of two sequences, an integer that is 2 and a text of which two characters are defined, and the objects of a C run in
 -- which it stands, with a constant behind them.
 use Rattle.std.specs.Prelude.{ℕ, zero, suc, pos, false, List, [], ◌∷◌, Option, Some, None, slice_get}
-use Rattle.f_tree.specs.Store.{Store, Undefined, Chr, Part, Number}
-use Rattle.c_tree.specs.Objects.{Object, Bytes}
+use Rattle.c_image.specs.f_tree.Store.{Store, Undefined, Chr, Part, Number}
+use Rattle.c_laws.specs.c_tree.Objects.{Object, Bytes}
 use Rattle.c_image.specs.World.{World}
 use Rattle.c_image.specs.Held.{number_object}
 

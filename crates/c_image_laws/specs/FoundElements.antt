@@ -1,13 +1,13 @@
 -- The element that FORTRAN finds by subscripts, and the C expression for it. ANSI X3.9-1978, section 5.4.
 use Rattle.std.specs.Prelude.{◌≡◌, ℕ, ℤ, pos, true, List}
-use Rattle.f_tree.specs.declared.names.Basic.TheVariants.{Character}
-use Rattle.f_tree.specs.Values.{Bytes, Spot, Datum, IsSpot, Gives, in_range}
-use Rattle.f_tree.specs.Store.{Store}
-use Rattle.f_tree.specs.Facts.{Bounds}
-use Rattle.f_tree.specs.Valuing.{element_at}
-use Rattle.c_tree.specs.Access.{ToNumber, ToChar}
-use Rattle.c_tree.specs.Objects.{Object}
-use Rattle.c_tree.specs.Terms.{Term}
+use Rattle.c_image.specs.f_tree.declared.names.Basic.TheVariants.{Character}
+use Rattle.c_image.specs.f_tree.Values.{Bytes, Spot, Datum, IsSpot, Gives, in_range}
+use Rattle.c_image.specs.f_tree.Store.{Store}
+use Rattle.c_image.specs.f_tree.Facts.{Bounds}
+use Rattle.c_image.specs.f_tree.Valuing.{element_at}
+use Rattle.c_laws.specs.c_tree.Access.{ToNumber, ToChar}
+use Rattle.c_laws.specs.c_tree.Objects.{Object}
+use Rattle.c_laws.specs.c_tree.Terms.{Term}
 use Rattle.c_image.specs.World.{World}
 use Rattle.c_image.specs.Standing.{Stands}
 use Rattle.c_image.specs.Addresses.{Address, access_to, Reaches, IsSound, element_term, text_term}

@@ -1,16 +1,16 @@
 -- When a C expression has the value of a FORTRAN one, or names its place, without a fault, and what stands after a store in C
 -- (C89, 3.2.2.1 and 3.3).
 use Rattle.std.specs.Prelude.{◌≡◌, ℕ, ℤ, pos, ◌-ℤ◌, true, List, [], ◌∷◌, length, slice_set, Option, Some, Ok}
-use Rattle.f_tree.specs.Values.{Datum, IsInt}
-use Rattle.f_tree.specs.Store.{Store, Whole}
-use Rattle.f_tree.specs.Facts.{Bounds}
-use Rattle.f_tree.specs.Valuing.{size_of_dimension}
-use Rattle.c_tree.specs.declared.outcome.CValue.TheVariants.{Number, Pointer}
-use Rattle.c_tree.specs.Access.{Access}
-use Rattle.c_tree.specs.Objects.{Object, Bytes, plain, fetched}
-use Rattle.c_tree.specs.Terms.{Term}
-use Rattle.c_tree.specs.Values.{in_range, seen}
-use Rattle.faithful.specs.StorageImage.{number_for}
+use Rattle.c_image.specs.f_tree.Values.{Datum, IsInt}
+use Rattle.c_image.specs.f_tree.Store.{Store, Whole}
+use Rattle.c_image.specs.f_tree.Facts.{Bounds}
+use Rattle.c_image.specs.f_tree.Valuing.{size_of_dimension}
+use Rattle.c_laws.specs.c_tree.declared.outcome.CValue.TheVariants.{Number, Pointer}
+use Rattle.c_laws.specs.c_tree.Access.{Access}
+use Rattle.c_laws.specs.c_tree.Objects.{Object, Bytes, plain, fetched}
+use Rattle.c_laws.specs.c_tree.Terms.{Term}
+use Rattle.c_laws.specs.c_tree.Values.{in_range, seen}
+use Rattle.c_image.specs.faithful.StorageImage.{number_for}
 use Rattle.c_image.specs.World.{World, with_held}
 use Rattle.c_image.specs.Standing.{Stands}
 use Rattle.c_image.specs.Held.{whole_for, BeginWith}

@@ -1,18 +1,18 @@
 -- What the library copies and joins: the pieces of a concatenation, by the lists of their addresses and lengths.
 -- ANSI X3.9-1978, sections 6.2 and 10.4.
 use Rattle.std.specs.Prelude.{◌≡◌, ℕ, zero, suc, pos, List, [], ◌∷◌, ◌++◌, length, Ok}
-use Rattle.f_tree.specs.Values.{Bytes, Spot, IsText, Gives}
-use Rattle.f_tree.specs.Store.{Store, define}
-use Rattle.c_tree.specs.declared.outcome.CValue.{CValue}
-use Rattle.c_tree.specs.declared.outcome.CValue.TheVariants.{Number, Pointer}
-use Rattle.c_tree.specs.Access.{ToChar, ToPointer}
-use Rattle.c_tree.specs.Objects.{Object, fetched}
-use Rattle.c_tree.specs.World as c
-use Rattle.c_tree.specs.Builtins.{s_copy, s_cat}
-use Rattle.c_tree.specs.Library.{library}
-use Rattle.c_tree.specs.LibraryArguments.{number_through, text_at, shifted}
-use Rattle.c_tree.specs.LibraryTexts.{pieces}
-use Rattle.faithful.specs.UnitsAtStart.{AreBytes}
+use Rattle.c_image.specs.f_tree.Values.{Bytes, Spot, IsText, Gives}
+use Rattle.c_image.specs.f_tree.Store.{Store, define}
+use Rattle.c_laws.specs.c_tree.declared.outcome.CValue.{CValue}
+use Rattle.c_laws.specs.c_tree.declared.outcome.CValue.TheVariants.{Number, Pointer}
+use Rattle.c_laws.specs.c_tree.Access.{ToChar, ToPointer}
+use Rattle.c_laws.specs.c_tree.Objects.{Object, fetched}
+use Rattle.c_laws.specs.c_tree.World as c
+use Rattle.c_laws.specs.c_tree.Builtins.{s_copy, s_cat}
+use Rattle.c_laws.specs.c_tree.Library.{library}
+use Rattle.c_laws.specs.c_tree.LibraryArguments.{number_through, text_at, shifted}
+use Rattle.c_laws.specs.c_tree.LibraryTexts.{pieces}
+use Rattle.c_image.specs.faithful.UnitsAtStart.{AreBytes}
 use Rattle.c_image.specs.World.{World}
 use Rattle.c_image.specs.Standing.{Stands}
 use Rattle.c_image.specs.Addresses.{IsSound}

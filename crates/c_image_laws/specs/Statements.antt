@@ -1,35 +1,35 @@
 -- What is said of the storage of a FORTRAN run among the objects of a C run: of reading and defining, of values and elements, and of
 -- calls. ANSI X3.9-1978, sections 2.11, 2.13, 5.4, 6, 10, 15.9 and 17; C89, 3.3.
 use Rattle.std.specs.Prelude.{◌≡◌, ℕ, ◌+◌, ◌*◌, ◌%◌, ◌<◌, ◌≤◌, ℤ, pos, true, false, List, [], ◌∷◌, ◌++◌, map, length, take, Option, Some, None, Ok, slice_get}
-use Rattle.simulation.specs.Machine.{Goes}
-use Rattle.f_tree.specs.declared.names.Basic.TheVariants.{Character}
-use Rattle.f_tree.specs.Values.{Bytes, Spot, Datum, IsInt, IsLog, IsText, IsSpot, Gives, in_range}
-use Rattle.f_tree.specs.Terms.{Prefix, Operator}
-use Rattle.f_tree.specs.Terms as fortran
-use Rattle.f_tree.specs.Store.{Store, Sequence, Whole, fetch, define, label_at, define_label, undefined_units}
-use Rattle.f_tree.specs.Facts.{Bounds, Facts, Frame}
-use Rattle.f_tree.specs.Valuing as valuing
-use Rattle.f_tree.specs.Association.{sequence_of, passing}
-use Rattle.c_tree.specs.declared.outcome.CValue.{CValue}
-use Rattle.c_tree.specs.declared.outcome.CValue.TheVariants.{Number, Pointer}
-use Rattle.c_tree.specs.declared.expression.UnaryOp.TheVariants as prefix
-use Rattle.c_tree.specs.declared.expression.BinaryOp.TheVariants as op
-use Rattle.c_tree.specs.Access.{Access, ToNumber, ToChar, ToByte, ToPointer}
-use Rattle.c_tree.specs.Objects.{Object, plain, fetched, stored}
-use Rattle.c_tree.specs.Objects as objects_of
-use Rattle.c_tree.specs.Declarations.{unset, unset_values}
-use Rattle.c_tree.specs.Terms.{Term, Constant, Variable, Array, Prefixed, Between}
-use Rattle.c_tree.specs.World as c
-use Rattle.c_tree.specs.Builtins.{Builtin, s_cmp}
-use Rattle.c_tree.specs.Linking as linking
-use Rattle.c_tree.specs.Library.{library}
-use Rattle.c_tree.specs.LibraryTexts.{comparison}
-use Rattle.c_tree.specs.LibraryArguments.{number_through, text_at, text_stored}
-use Rattle.c_tree.specs.LibraryArguments as filled
-use Rattle.c_tree.specs.Flat.{Assign}
-use Rattle.c_tree.specs.Steps.{View, deed, all_bound, with_frame}
-use Rattle.faithful.specs.StorageImage.{number_for, UnitsStand}
-use Rattle.faithful.specs.UnitsAtStart.{AreBytes}
+use Rattle.c_laws.specs.simulation.Machine.{Goes}
+use Rattle.c_image.specs.f_tree.declared.names.Basic.TheVariants.{Character}
+use Rattle.c_image.specs.f_tree.Values.{Bytes, Spot, Datum, IsInt, IsLog, IsText, IsSpot, Gives, in_range}
+use Rattle.c_image.specs.f_tree.Terms.{Prefix, Operator}
+use Rattle.c_image.specs.f_tree.Terms as fortran
+use Rattle.c_image.specs.f_tree.Store.{Store, Sequence, Whole, fetch, define, label_at, define_label, undefined_units}
+use Rattle.c_image.specs.f_tree.Facts.{Bounds, Facts, Frame}
+use Rattle.c_image.specs.f_tree.Valuing as valuing
+use Rattle.c_image.specs.f_tree.Association.{sequence_of, passing}
+use Rattle.c_laws.specs.c_tree.declared.outcome.CValue.{CValue}
+use Rattle.c_laws.specs.c_tree.declared.outcome.CValue.TheVariants.{Number, Pointer}
+use Rattle.c_laws.specs.c_tree.declared.expression.UnaryOp.TheVariants as prefix
+use Rattle.c_laws.specs.c_tree.declared.expression.BinaryOp.TheVariants as op
+use Rattle.c_laws.specs.c_tree.Access.{Access, ToNumber, ToChar, ToByte, ToPointer}
+use Rattle.c_laws.specs.c_tree.Objects.{Object, plain, fetched, stored}
+use Rattle.c_laws.specs.c_tree.Objects as objects_of
+use Rattle.c_laws.specs.c_tree.Declarations.{unset, unset_values}
+use Rattle.c_laws.specs.c_tree.Terms.{Term, Constant, Variable, Array, Prefixed, Between}
+use Rattle.c_laws.specs.c_tree.World as c
+use Rattle.c_laws.specs.c_tree.Builtins.{Builtin, s_cmp}
+use Rattle.c_laws.specs.c_tree.Linking as linking
+use Rattle.c_laws.specs.c_tree.Library.{library}
+use Rattle.c_laws.specs.c_tree.LibraryTexts.{comparison}
+use Rattle.c_laws.specs.c_tree.LibraryArguments.{number_through, text_at, text_stored}
+use Rattle.c_laws.specs.c_tree.LibraryArguments as filled
+use Rattle.c_laws.specs.c_tree.Flat.{Assign}
+use Rattle.c_laws.specs.c_tree.Steps.{View, deed, all_bound, with_frame}
+use Rattle.c_image.specs.faithful.StorageImage.{number_for, UnitsStand}
+use Rattle.c_image.specs.faithful.UnitsAtStart.{AreBytes}
 use Rattle.c_image.specs.World.{World, changed, with_held, with_sequence, framed, Extends, IsHomeless, IsIdle}
 use Rattle.c_image.specs.Standing.{Stands}
 use Rattle.c_image.specs.Held.{whole_for, BeginWith, Holds}

@@ -1,12 +1,12 @@
 -- What C does with the value of an expression (C89, 3.3.15, 3.6.4.1 and 3.6.4.2).
 use Rattle.std.specs.Prelude.{◌≡◌, ℤ, Bool, List, Some, Ok, if◌then◌else◌}
-use Rattle.f_tree.specs.Values.{Datum, IsInt, IsLog}
-use Rattle.f_tree.specs.Store.{Whole}
-use Rattle.c_tree.specs.declared.outcome.CValue.TheVariants.{Number}
-use Rattle.c_tree.specs.Objects.{Object}
-use Rattle.c_tree.specs.Terms.{Term, Choice}
-use Rattle.c_tree.specs.Values.{value_of, test_of, number_of}
-use Rattle.faithful.specs.StorageImage.{number_for}
+use Rattle.c_image.specs.f_tree.Values.{Datum, IsInt, IsLog}
+use Rattle.c_image.specs.f_tree.Store.{Whole}
+use Rattle.c_laws.specs.c_tree.declared.outcome.CValue.TheVariants.{Number}
+use Rattle.c_laws.specs.c_tree.Objects.{Object}
+use Rattle.c_laws.specs.c_tree.Terms.{Term, Choice}
+use Rattle.c_laws.specs.c_tree.Values.{value_of, test_of, number_of}
+use Rattle.c_image.specs.faithful.StorageImage.{number_for}
 use Rattle.c_image.specs.Held.{whole_for}
 use Rattle.c_image_laws.specs.Meanings.{Means}
 

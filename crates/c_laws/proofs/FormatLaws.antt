@@ -1,8 +1,8 @@
 -- The format that a pointer gives is the one that the text there begins with.
 use Rattle.std.specs.Prelude.{◌≡◌, refl, ℕ, ◌+◌, ◌-◌, nat_le, ◌⊎◌, List, [], ◌∷◌, map, length, drop, Option, Some, None, unwrap_or, Ok, slice_get, if◌then◌else◌}
 use Rattle.std.proofs.Common.{ap, subst, ◌∙◌, arith, inl, inr}
-use Rattle.edit_meaning.specs.Formats.{Format}
-use Rattle.edit_meaning.specs.FormatTexts.{State, Going, Done, Found, Nothing, Front, starting, next_state, found, from_state, tree_of, size_of}
+use Rattle.c_tree.specs.edit_meaning.Formats.{Format}
+use Rattle.c_tree.specs.edit_meaning.FormatTexts.{State, Going, Done, Found, Nothing, Front, starting, next_state, found, from_state, tree_of, size_of}
 use Rattle.c_tree.specs.declared.outcome.CValue.TheVariants.{Pointer}
 use Rattle.c_tree.specs.declared.outcome.CFault.TheVariants.{Outside}
 use Rattle.c_tree.specs.Faults.{failing}

@@ -1,8 +1,8 @@
 -- One step of a function, by the values of its parts; and the step of a whole run as that of the last called function.
 use Rattle.std.specs.Prelude.{◌≡◌, refl, ℕ, suc, ◌+◌, ◌-◌, nat_lt, ℤ, Bool, true, false, ◌&&◌, List, Option, Some, Ok, slice_get, if◌then◌else◌}
 use Rattle.std.proofs.Common.{ap, ◌∙◌}
-use Rattle.simulation.specs.Machine.{Runs, Frame, Goes, Calls, Answers, Breaks, act, next, run}
-use Rattle.run_state.specs.Units.{Units}
+use Rattle.c_tree.specs.simulation.Machine.{Runs, Frame, Goes, Calls, Answers, Breaks, act, next, run}
+use Rattle.c_tree.specs.run_state.Units.{Units}
 use Rattle.c_tree.specs.declared.outcome.CValue.{CValue}
 use Rattle.c_tree.specs.declared.outcome.CValue.TheVariants.{Function}
 use Rattle.c_tree.specs.Faults.{Faults}

@@ -3,10 +3,10 @@
 
 ghost use Rattle.std.specs.Prelude.{◌≡◌, ◌<◌, ◌≤◌, ◌+◌, ◌%◌, ◌⊎◌, nat_le, if◌then◌else◌, ℕ, suc, ℤ, FitsSigned, List, [], ◌∷◌, map, length, drop, slice_get, slice_set, Option, None, Some, Ok};
 ghost use Rattle.std.specs.Int.{w32};
-ghost use Rattle.simulation.specs.Machine.{Runs, Over, Broken, Frame, act, next};
-ghost use Rattle.edit_meaning.specs.Formats.{Format};
-ghost use Rattle.edit_meaning.specs.FormatTexts.{format_of, format_end};
-ghost use Rattle.run_state.specs.Units.{Units};
+ghost use Rattle.c_tree.specs.simulation.Machine.{Runs, Over, Broken, Frame, act, next};
+ghost use Rattle.c_tree.specs.edit_meaning.Formats.{Format};
+ghost use Rattle.c_tree.specs.edit_meaning.FormatTexts.{format_of, format_end};
+ghost use Rattle.c_tree.specs.run_state.Units.{Units};
 ghost use Rattle.c_tree.specs.declared.types.CastType.{CastType};
 ghost use Rattle.c_tree.specs.declared.expression.UnaryOp.{UnaryOp};
 ghost use Rattle.c_tree.specs.declared.expression.BinaryOp.{BinaryOp};

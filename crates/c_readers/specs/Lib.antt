@@ -7,3 +7,5 @@ pub mod Opened
 pub mod Readers
 pub mod TypeReader
 pub mod ValueReader
+pub use Rattle.c_tree.specs as c_tree
+pub use Rattle.grammar.specs as grammar

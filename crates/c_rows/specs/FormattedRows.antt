@@ -3,7 +3,7 @@ use Rattle.std.specs.Prelude.{ℕ, pos, negsuc, true, List, [], ◌∷◌, ◌++
 use Rattle.std.specs.Ordering.{int_eq}
 use Rattle.c_tree.specs.declared.outcome.CValue.{CValue}
 use Rattle.c_tree.specs.declared.outcome.CValue.TheVariants.{Pointer}
-use Rattle.run_state.specs.Units.{Units}
+use Rattle.c_tree.specs.run_state.Units.{Units}
 use Rattle.c_tree.specs.Faults.{Or}
 use Rattle.c_tree.specs.Objects.{Object, bytes_of_number}
 use Rattle.c_tree.specs.World.{Reply}

@@ -3,7 +3,7 @@ use Rattle.std.specs.Prelude.{ℕ, ℤ, pos, negsuc, Bool, true, List, [], ◌�
 use Rattle.c_tree.specs.declared.outcome.CValue.{CValue}
 use Rattle.c_tree.specs.declared.outcome.CValue.TheVariants.{Number, Pointer, Null}
 use Rattle.std.specs.Ordering.{int_eq}
-use Rattle.run_state.specs.Units.{Units, UnitState, Offered}
+use Rattle.c_tree.specs.run_state.Units.{Units, UnitState, Offered}
 use Rattle.c_tree.specs.Faults.{Or, after}
 use Rattle.c_tree.specs.declared.types.ListType.{ListType}
 use Rattle.c_tree.specs.declared.types.ListType.TheVariants as list

@@ -1,8 +1,8 @@
 -- Words in which the trees of the worked programs are written, and the units that they run on.
 use Rattle.std.specs.Prelude.{◌≡◌, ◌-◌, ℕ, ℤ, pos, false, List, [], ◌∷◌, ◌++◌, Option, Some, None, codes, if◌then◌else◌}
 use Rattle.std.specs.Ordering.{int_eq}
-use Rattle.simulation.specs.Machine.{State, Runs, Over, Broken}
-use Rattle.run_state.specs.Units.{Units, UnitState}
+use Rattle.c_tree.specs.simulation.Machine.{State, Runs, Over, Broken}
+use Rattle.c_tree.specs.run_state.Units.{Units, UnitState}
 use Rattle.c_tree.specs.declared.types.ListType.TheVariants.{Transfer}
 use Rattle.c_tree.specs.declared.types.NumberType.TheVariants as number
 use Rattle.c_tree.specs.declared.types.ResultType.TheVariants as result

@@ -2,9 +2,9 @@
 use Rattle.std.proofs.Common.{◌≡◌, refl, sym, ap, ◌∙◌, subst, ℕ, Bool, true, false, not, ◌&&◌, ◌||◌, List, [], ◌∷◌, ◌++◌, Option, Some, None, is_some, bytes_eq, if◌then◌else◌}
 use Rattle.std.specs.Borrow.{Bor}
 use Rattle.std.proofs.lemmas.Slice.Eq.{bytes_eq-Decides}
-use Rattle.c_tree.specs.CWords.{is_among}
-use Rattle.c_tree.specs.CExpressionText.{Scope}
-use Rattle.c_tree.specs.CDeclarationText.{without}
+use Rattle.c_lexer.specs.c_tree.CWords.{is_among}
+use Rattle.c_lexer.specs.c_tree.CExpressionText.{Scope}
+use Rattle.c_lexer.specs.c_tree.CDeclarationText.{without}
 use Rattle.c_readers.specs.CallReader.{has_some}
 use Rattle.c_scope.specs.declared.class.NameClass.{NameClass}
 use Rattle.c_scope.specs.declared.class.NameClass.TheVariants as class

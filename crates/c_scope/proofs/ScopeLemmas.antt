@@ -1,8 +1,8 @@
 -- What a name stands for in the scope of a file and a function.
 use Rattle.std.proofs.Common.{◌≡◌, refl, sym, ap, ◌∙◌, subst, ℕ, Bool, true, false, ◌||◌, if◌then◌else◌, List, [], ◌∷◌, ◌++◌, codes, Option, Some, None, is_some, Result, Ok, Err, OnOk, OnErr}
-use Rattle.c_tree.specs.CWords.{is_among}
-use Rattle.c_tree.specs.CExpressionText.{Scope}
-use Rattle.c_tree.specs.CText.{no_names}
+use Rattle.c_lexer.specs.c_tree.CWords.{is_among}
+use Rattle.c_lexer.specs.c_tree.CExpressionText.{Scope}
+use Rattle.c_lexer.specs.c_tree.CText.{no_names}
 use Rattle.std.specs.Borrow.{Bor}
 use Rattle.c_readers.specs.ExpressionReader.{is_known}
 use Rattle.c_readers.specs.CallReader.{has_some}

@@ -2,8 +2,8 @@
 use Rattle.std.specs.Prelude.{ℕ, Bool, true, false, not, ◌&&◌, List, [], ◌∷◌, Option, Some, None, is_some, bytes_eq}
 use Rattle.std.specs.Map.{lookup}
 use Rattle.std.specs.Borrow.{Bor}
-use Rattle.c_tree.specs.CExpressionText.{Scope}
-use Rattle.c_tree.specs.CDeclarationText.{with_object, with_array, with_function, with_pointer}
+use Rattle.c_lexer.specs.c_tree.CExpressionText.{Scope}
+use Rattle.c_lexer.specs.c_tree.CDeclarationText.{with_object, with_array, with_function, with_pointer}
 use Rattle.c_scope.specs.declared.class.NameClass.{NameClass}
 use Rattle.c_scope.specs.declared.class.NameClass.TheVariants as class
 

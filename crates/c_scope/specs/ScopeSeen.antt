@@ -1,7 +1,7 @@
 -- The scope that the names of a file and of a function make.
 use Rattle.std.specs.Prelude.{ℕ, List, [], Option}
-use Rattle.c_tree.specs.CExpressionText.{Scope}
-use Rattle.c_tree.specs.CText.{no_names}
+use Rattle.c_lexer.specs.c_tree.CExpressionText.{Scope}
+use Rattle.c_lexer.specs.c_tree.CText.{no_names}
 use Rattle.c_scope.specs.declared.class.NameClass.{NameClass}
 use Rattle.c_scope.specs.declared.scope.CScope.{CScope}
 use Rattle.c_scope.specs.NamesSeen.{behind, declared, class_in, or_outside}

@@ -1,7 +1,7 @@
 //! What a name stands for.
 
 ghost use Rattle.std.specs.Prelude.{◌≡◌, ◌||◌, ◌∷◌, [], codes};
-ghost use Rattle.c_tree.specs.CWords.{is_among};
+ghost use Rattle.c_lexer.specs.c_tree.CWords.{is_among};
 ghost use Rattle.c_scope.specs.NamesSeen as spec;
 
 /// What a name stands for.

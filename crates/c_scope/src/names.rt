@@ -2,8 +2,8 @@
 
 ghost use Rattle.std.specs.Prelude.{◌≡◌, bytes_eq};
 ghost use Rattle.std.specs.List.{list_any, list_all};
-ghost use Rattle.c_tree.specs.Tokens.{begins_with, is_letter, is_word_byte};
-ghost use Rattle.c_tree.specs.CWords as spec;
+ghost use Rattle.c_lexer.specs.c_tree.Tokens.{begins_with, is_letter, is_word_byte};
+ghost use Rattle.c_lexer.specs.c_tree.CWords as spec;
 
 use c_lexer::{is_letter, is_word_byte};
 

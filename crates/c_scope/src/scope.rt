@@ -1,7 +1,7 @@
 //! The names of a file and of the function that is being read.
 
 ghost use Rattle.std.specs.Prelude.{◌≡◌, true, false};
-ghost use Rattle.c_tree.specs.CText.{no_names};
+ghost use Rattle.c_lexer.specs.c_tree.CText.{no_names};
 ghost use Rattle.c_readers.specs.CallReader.{has_some};
 ghost use Rattle.c_scope.specs.NamesSeen.{behind, stand_once};
 
@@ -23,8 +23,8 @@ pub struct CScope<'a> {
 
 impl<'a> CScope<'a> {
     ghost use Rattle.std.specs.Prelude.{◌≡◌, ◌∷◌, ◌++◌, [], ◌||◌, false, true, OnOk, Some, codes};
-    ghost use Rattle.c_tree.specs.CWords.{is_among};
-    ghost use Rattle.c_tree.specs.CText.{no_names};
+    ghost use Rattle.c_lexer.specs.c_tree.CWords.{is_among};
+    ghost use Rattle.c_lexer.specs.c_tree.CText.{no_names};
     ghost use Rattle.c_readers.specs.ExpressionReader.{is_known};
     ghost use Rattle.c_readers.specs.CallReader.{has_some};
     ghost use Rattle.c_scope.specs.NamesSeen.{with_name};

@@ -2,14 +2,14 @@
 use Rattle.std.specs.Prelude.{◌≡◌, ℕ, true, List, [], ◌∷◌, ◌++◌, codes}
 use Rattle.std.specs.List.{list_all}
 use Rattle.std.proofs.Common.{refl, ap, sym, append_assoc}
-use Rattle.c_tree.specs.declared.types.ArgumentType.{ArgumentType}
-use Rattle.c_tree.specs.declared.types.NumberType.{NumberType}
-use Rattle.c_tree.specs.declared.declaration.CField.{CField}
-use Rattle.c_tree.specs.declared.declaration.CLocal.{CLocal}
-use Rattle.c_tree.specs.Tokens.{Token, Word, Quoted, Sign}
-use Rattle.c_tree.specs.CWords.{is_name, Separated, last_item, one_item}
-use Rattle.c_tree.specs.CExpressionText.{Scope}
-use Rattle.c_tree.specs.CDeclarationText.{IsLength, ReadsType, ReadsTypes, no_type, some_types, ReadsField, a_value, a_string, a_start, ReadsStatic, a_static, a_static_value, a_static_array, a_static_text, a_text_of_its_length, a_list, ReadsLocal, an_extern, static, a_number, an_array_of_numbers, an_array_of_chars, an_array_of_addresses}
+use Rattle.c_laws.specs.c_tree.declared.types.ArgumentType.{ArgumentType}
+use Rattle.c_laws.specs.c_tree.declared.types.NumberType.{NumberType}
+use Rattle.c_laws.specs.c_tree.declared.declaration.CField.{CField}
+use Rattle.c_laws.specs.c_tree.declared.declaration.CLocal.{CLocal}
+use Rattle.c_laws.specs.c_tree.Tokens.{Token, Word, Quoted, Sign}
+use Rattle.c_laws.specs.c_tree.CWords.{is_name, Separated, last_item, one_item}
+use Rattle.c_laws.specs.c_tree.CExpressionText.{Scope}
+use Rattle.c_laws.specs.c_tree.CDeclarationText.{IsLength, ReadsType, ReadsTypes, no_type, some_types, ReadsField, a_value, a_string, a_start, ReadsStatic, a_static, a_static_value, a_static_array, a_static_text, a_text_of_its_length, a_list, ReadsLocal, an_extern, static, a_number, an_array_of_numbers, an_array_of_chars, an_array_of_addresses}
 use Rattle.c_text.specs.Phrases.{letters}
 use Rattle.c_text.specs.Types.{number_word, result_word, block_word, argument_word, printed_value}
 use Rattle.c_text.specs.Strings.{quoted}

@@ -2,9 +2,9 @@
 use Rattle.std.specs.Prelude.{◌≡◌, ℕ, ℤ, true, List, [], ◌∷◌, ◌++◌, codes, decimal, Option}
 use Rattle.std.specs.List.{list_all}
 use Rattle.std.proofs.Common.{refl}
-use Rattle.c_tree.specs.Tokens.{Token, Word, Digits, Quoted, Sign}
-use Rattle.c_tree.specs.CWords.{is_name}
-use Rattle.c_tree.specs.CDeclarationText.{ReadsValue, ReadsValues, IsLength, ReadsArray, an_array, ReadsNumbers, no_image, an_image, ReadsText, no_text, a_text}
+use Rattle.c_laws.specs.c_tree.Tokens.{Token, Word, Digits, Quoted, Sign}
+use Rattle.c_laws.specs.c_tree.CWords.{is_name}
+use Rattle.c_laws.specs.c_tree.CDeclarationText.{ReadsValue, ReadsValues, IsLength, ReadsArray, an_array, ReadsNumbers, no_image, an_image, ReadsText, no_text, a_text}
 use Rattle.c_text.specs.Types.{printed_value}
 use Rattle.c_text.specs.Lists.{between_commas, braced}
 use Rattle.c_text.specs.Declarations.{bounds, first_values, first_string}

@@ -6,21 +6,21 @@ use Rattle.std.specs.Fmt.{digits}
 use Rattle.std.proofs.Common.{refl, ap, sym, subst, true≢false}
 use Rattle.std.proofs.lemmas.Bool.Decides.{nat_tests}
 use native.Mathlib.Omega.{arith}
-use Rattle.c_tree.specs.declared.types.NumberType.{NumberType}
-use Rattle.c_tree.specs.declared.types.NumberType.TheVariants as number_type
-use Rattle.c_tree.specs.declared.types.ResultType.{ResultType}
-use Rattle.c_tree.specs.declared.types.ResultType.TheVariants as gives
-use Rattle.c_tree.specs.declared.types.FunctionType.TheVariants as pointer
-use Rattle.c_tree.specs.declared.types.ListType.{ListType}
-use Rattle.c_tree.specs.declared.types.ListType.TheVariants as block
-use Rattle.c_tree.specs.declared.types.ParameterType.{ParameterType}
-use Rattle.c_tree.specs.declared.types.ParameterType.TheVariants as parameter
-use Rattle.c_tree.specs.declared.types.ArgumentType.{ArgumentType}
-use Rattle.c_tree.specs.declared.types.ArgumentType.TheVariants as argument
-use Rattle.c_tree.specs.Tokens.{Token, Word, Digits, Sign, begins_with, is_word_byte, is_sign}
-use Rattle.c_tree.specs.CWords as words
-use Rattle.c_tree.specs.CWords.{AWord, ASign, Separated, last_item, one_item, is_name, parameter_tokens, argument_tokens}
-use Rattle.c_tree.specs.CDeclarationText.{ReadsValue, plain, negative, negative_zero, least, ReadsType}
+use Rattle.c_laws.specs.c_tree.declared.types.NumberType.{NumberType}
+use Rattle.c_laws.specs.c_tree.declared.types.NumberType.TheVariants as number_type
+use Rattle.c_laws.specs.c_tree.declared.types.ResultType.{ResultType}
+use Rattle.c_laws.specs.c_tree.declared.types.ResultType.TheVariants as gives
+use Rattle.c_laws.specs.c_tree.declared.types.FunctionType.TheVariants as pointer
+use Rattle.c_laws.specs.c_tree.declared.types.ListType.{ListType}
+use Rattle.c_laws.specs.c_tree.declared.types.ListType.TheVariants as block
+use Rattle.c_laws.specs.c_tree.declared.types.ParameterType.{ParameterType}
+use Rattle.c_laws.specs.c_tree.declared.types.ParameterType.TheVariants as parameter
+use Rattle.c_laws.specs.c_tree.declared.types.ArgumentType.{ArgumentType}
+use Rattle.c_laws.specs.c_tree.declared.types.ArgumentType.TheVariants as argument
+use Rattle.c_laws.specs.c_tree.Tokens.{Token, Word, Digits, Sign, begins_with, is_word_byte, is_sign}
+use Rattle.c_laws.specs.c_tree.CWords as words
+use Rattle.c_laws.specs.c_tree.CWords.{AWord, ASign, Separated, last_item, one_item, is_name, parameter_tokens, argument_tokens}
+use Rattle.c_laws.specs.c_tree.CDeclarationText.{ReadsValue, plain, negative, negative_zero, least, ReadsType}
 use Rattle.c_text.specs.Types.{number_word, result_word, block_word, parameter_front, parameter_word, argument_word, printed_value}
 use Rattle.c_spelling.proofs.Tokens.{ReadsAs, Piece, word, blank, IsWord, name_word, sign, opening, closing, star, minus, number, decimal_begins}
 

@@ -2,12 +2,12 @@
 use Rattle.std.specs.Prelude.{◌≡◌, ℕ, Bool, true, false, if◌then◌else◌, List, [], ◌∷◌, ◌++◌, codes, Option, Some, None}
 use Rattle.std.specs.List.{list_all}
 use Rattle.std.proofs.Common.{refl}
-use Rattle.c_tree.specs.declared.declaration.CLocal.{CLocal}
-use Rattle.c_tree.specs.declared.declaration.CLocal.TheVariants as local
-use Rattle.c_tree.specs.Tokens.{Token, Sign}
-use Rattle.c_tree.specs.CWords.{is_name}
-use Rattle.c_tree.specs.CExpressionText.{Scope}
-use Rattle.c_tree.specs.CDeclarationText.{ReadsLocal, ReadsLocals, no_local, one_local}
+use Rattle.c_laws.specs.c_tree.declared.declaration.CLocal.{CLocal}
+use Rattle.c_laws.specs.c_tree.declared.declaration.CLocal.TheVariants as local
+use Rattle.c_laws.specs.c_tree.Tokens.{Token, Sign}
+use Rattle.c_laws.specs.c_tree.CWords.{is_name}
+use Rattle.c_laws.specs.c_tree.CExpressionText.{Scope}
+use Rattle.c_laws.specs.c_tree.CDeclarationText.{ReadsLocal, ReadsLocals, no_local, one_local}
 use Rattle.c_text.specs.Declarations.{printed_local, part_of, part_heading, is_part, heading_after, local_line, parts_end, locals_after}
 use Rattle.c_laws.proofs.TokenSpellings.{and-first, and-second}
 use Rattle.c_spelling.specs.Spelled.{local_of_bytes}

@@ -1,12 +1,12 @@
 -- The external objects and the constants of a printed file read as the tokens that spell them.
 use Rattle.std.specs.Prelude.{◌≡◌, ℕ, true, List, ◌∷◌, ◌++◌, codes}
 use Rattle.std.proofs.Common.{refl}
-use Rattle.c_tree.specs.declared.file.CObject.{CObject}
-use Rattle.c_tree.specs.declared.file.CConstant.{CConstant}
-use Rattle.c_tree.specs.Tokens.{Token, Word, Sign}
-use Rattle.c_tree.specs.CWords.{is_name}
-use Rattle.c_tree.specs.CDeclarationText.{ReadsObject, integers, chars}
-use Rattle.c_tree.specs.CText.{ReadsConstant, a_constant}
+use Rattle.c_laws.specs.c_tree.declared.file.CObject.{CObject}
+use Rattle.c_laws.specs.c_tree.declared.file.CConstant.{CConstant}
+use Rattle.c_laws.specs.c_tree.Tokens.{Token, Word, Sign}
+use Rattle.c_laws.specs.c_tree.CWords.{is_name}
+use Rattle.c_laws.specs.c_tree.CDeclarationText.{ReadsObject, integers, chars}
+use Rattle.c_laws.specs.c_tree.CText.{ReadsConstant, a_constant}
 use Rattle.c_text.specs.Phrases.{letters}
 use Rattle.c_text.specs.Types.{printed_value}
 use Rattle.c_text.specs.Declarations.{bounds, first_values, first_string, printed_array, object_line, constant_line}

@@ -1,12 +1,12 @@
 -- The parameters of a printed function read as the tokens that spell them.
 use Rattle.std.specs.Prelude.{◌≡◌, ℕ, true, false, List, [], ◌∷◌, ◌++◌, codes}
 use Rattle.std.proofs.Common.{refl}
-use Rattle.c_tree.specs.declared.types.ParameterType.{ParameterType}
-use Rattle.c_tree.specs.declared.declaration.CParam.{CParam}
-use Rattle.c_tree.specs.Tokens.{Token, Word, Sign, is_word_byte}
-use Rattle.c_tree.specs.CWords.{is_name, parameter_tokens}
-use Rattle.c_tree.specs.CExpressionText.{Scope}
-use Rattle.c_tree.specs.CDeclarationText.{ReadsParams, no_parameter, last_parameter, one_parameter}
+use Rattle.c_laws.specs.c_tree.declared.types.ParameterType.{ParameterType}
+use Rattle.c_laws.specs.c_tree.declared.declaration.CParam.{CParam}
+use Rattle.c_laws.specs.c_tree.Tokens.{Token, Word, Sign, is_word_byte}
+use Rattle.c_laws.specs.c_tree.CWords.{is_name, parameter_tokens}
+use Rattle.c_laws.specs.c_tree.CExpressionText.{Scope}
+use Rattle.c_laws.specs.c_tree.CDeclarationText.{ReadsParams, no_parameter, last_parameter, one_parameter}
 use Rattle.c_text.specs.Types.{parameter_front}
 use Rattle.c_text.specs.Lists.{after_commas}
 use Rattle.c_text.specs.Declarations.{printed_param, printed_params}

@@ -3,7 +3,7 @@ use Rattle.std.specs.Prelude.{◌≡◌, ℕ, ◌+◌, ◌*◌, ◌-◌, ◌/◌
 use Rattle.std.proofs.Common.{refl, ap, ◌∙◌, append_assoc}
 use Rattle.std.proofs.lemmas.Bool.Decides.{nat_tests}
 use native.Mathlib.Omega.{arith}
-use Rattle.c_tree.specs.Tokens.{Token, Quoted, Cut, longer_if, is_plain, is_digit_below, Plain, Escape, Octal, string_from, Lexeme, string_head, head_of}
+use Rattle.c_laws.specs.c_tree.Tokens.{Token, Quoted, Cut, longer_if, is_plain, is_digit_below, Plain, Escape, Octal, string_from, Lexeme, string_head, head_of}
 use Rattle.c_text.specs.Strings.{octal, escaped, all_escaped, quoted}
 use Rattle.c_laws.proofs.TokenSpellings.{and-first, and-second}
 use Rattle.c_spelling.specs.Spelled.{is_byte, of_bytes}

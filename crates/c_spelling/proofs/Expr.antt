@@ -3,16 +3,16 @@ use Rattle.std.specs.Prelude.{◌≡◌, ℕ, ◌≤◌, pos, true, false, ◌&&
 use Rattle.std.specs.List.{list_all}
 use Rattle.std.proofs.Common.{refl, sym, ◌∙◌, subst}
 use native.Mathlib.Omega.{arith}
-use Rattle.c_tree.specs.declared.types.CastType.{CastType}
-use Rattle.c_tree.specs.declared.expression.UnaryOp.{UnaryOp}
-use Rattle.c_tree.specs.declared.expression.BinaryOp.{BinaryOp}
-use Rattle.c_tree.specs.declared.expression.Extreme.{Extreme}
-use Rattle.c_tree.specs.declared.expression.CExpr.{CExpr}
-use Rattle.c_tree.specs.declared.expression.CExpr.TheVariants as expr
-use Rattle.c_tree.specs.Opened.{trees_opened}
-use Rattle.c_tree.specs.Tokens.{Token, Word, Digits, Quoted, Sign, begins_with, is_letter, is_word_byte}
-use Rattle.c_tree.specs.CWords.{is_name, is_among}
-use Rattle.c_tree.specs.CExpressionText.{Scope, an_object, a_function, IsKnown, declared_before, a_truth, ReadsExpr, a_number, a_string, a_name, parenthesised, prefixed, casted, between, chosen, indexed, a_field, size, extreme_of, magnitude}
+use Rattle.c_laws.specs.c_tree.declared.types.CastType.{CastType}
+use Rattle.c_laws.specs.c_tree.declared.expression.UnaryOp.{UnaryOp}
+use Rattle.c_laws.specs.c_tree.declared.expression.BinaryOp.{BinaryOp}
+use Rattle.c_laws.specs.c_tree.declared.expression.Extreme.{Extreme}
+use Rattle.c_laws.specs.c_tree.declared.expression.CExpr.{CExpr}
+use Rattle.c_laws.specs.c_tree.declared.expression.CExpr.TheVariants as expr
+use Rattle.c_laws.specs.c_tree.Opened.{trees_opened}
+use Rattle.c_laws.specs.c_tree.Tokens.{Token, Word, Digits, Quoted, Sign, begins_with, is_letter, is_word_byte}
+use Rattle.c_laws.specs.c_tree.CWords.{is_name, is_among}
+use Rattle.c_laws.specs.c_tree.CExpressionText.{Scope, an_object, a_function, IsKnown, declared_before, a_truth, ReadsExpr, a_number, a_string, a_name, parenthesised, prefixed, casted, between, chosen, indexed, a_field, size, extreme_of, magnitude}
 use Rattle.c_text.specs.Operators.{rank, op_level}
 use Rattle.c_text.specs.Strings.{quoted}
 use Rattle.c_text.specs.Expressions.{own_level, reads_as_one, bare}

@@ -2,11 +2,11 @@
 use Rattle.std.specs.Prelude.{◌≡◌, ℕ, true, false, List, [], ◌∷◌, ◌++◌, codes}
 use Rattle.std.specs.List.{list_all}
 use Rattle.std.proofs.Common.{refl}
-use Rattle.c_tree.specs.declared.expression.CExpr.{CExpr}
-use Rattle.c_tree.specs.declared.expression.CCall.{CCall}
-use Rattle.c_tree.specs.Tokens.{Token, Word, Sign}
-use Rattle.c_tree.specs.CWords.{is_among, Separated}
-use Rattle.c_tree.specs.CExpressionText.{Scope, ReadsExpr, ReadsArguments, no_argument, some_arguments, ReadsCall, by_name, through_a_parameter}
+use Rattle.c_laws.specs.c_tree.declared.expression.CExpr.{CExpr}
+use Rattle.c_laws.specs.c_tree.declared.expression.CCall.{CCall}
+use Rattle.c_laws.specs.c_tree.Tokens.{Token, Word, Sign}
+use Rattle.c_laws.specs.c_tree.CWords.{is_among, Separated}
+use Rattle.c_laws.specs.c_tree.CExpressionText.{Scope, ReadsExpr, ReadsArguments, no_argument, some_arguments, ReadsCall, by_name, through_a_parameter}
 use Rattle.c_text.specs.Expressions.{bare, arguments, printed_call}
 use Rattle.c_spelling.specs.Spelled.{expression_of_bytes, call_of_bytes}
 use Rattle.c_spelling.proofs.Tokens.{inside, Piece, Whole, IsWord, name_word, word, opening, closing, star}

@@ -4,10 +4,10 @@ use Rattle.std.specs.Char.{is_ascii_digit}
 use Rattle.std.proofs.Common.{refl, ap, sym, true≢false}
 use Rattle.std.proofs.lemmas.Bool.Decides.{nat_tests}
 use native.Mathlib.Omega.{arith}
-use Rattle.c_tree.specs.declared.expression.UnaryOp.{UnaryOp}
-use Rattle.c_tree.specs.declared.expression.UnaryOp.TheVariants.{Minus, Not, Deref, Address}
-use Rattle.c_tree.specs.Tokens.{Token, Sign, begins_with, is_sign, is_letter, is_word_byte}
-use Rattle.c_tree.specs.CWords.{prefix_sign}
+use Rattle.c_laws.specs.c_tree.declared.expression.UnaryOp.{UnaryOp}
+use Rattle.c_laws.specs.c_tree.declared.expression.UnaryOp.TheVariants.{Minus, Not, Deref, Address}
+use Rattle.c_laws.specs.c_tree.Tokens.{Token, Sign, begins_with, is_sign, is_letter, is_word_byte}
+use Rattle.c_laws.specs.c_tree.CWords.{prefix_sign}
 use Rattle.c_text.specs.Operators.{rank, prefix_word}
 use Rattle.c_text.specs.Expressions.{doubles, in_place}
 use Rattle.c_spelling.proofs.Tokens.{ReadsAs, in_words, sign, DigitsOf, decimal_digits}

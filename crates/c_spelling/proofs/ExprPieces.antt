@@ -2,19 +2,19 @@
 use Rattle.std.specs.Prelude.{◌≡◌, ℕ, suc, ◌≤◌, Bool, true, false, List, [], ◌∷◌, ◌++◌, codes, drop}
 use Rattle.std.proofs.Common.{refl, ap, subst}
 use native.Mathlib.Omega.{arith}
-use Rattle.c_tree.specs.declared.types.CastType.{CastType}
-use Rattle.c_tree.specs.declared.types.CastType.TheVariants as cast
-use Rattle.c_tree.specs.declared.types.FunctionType.TheVariants as pointer
-use Rattle.c_tree.specs.declared.expression.UnaryOp.{UnaryOp}
-use Rattle.c_tree.specs.declared.expression.BinaryOp.{BinaryOp}
-use Rattle.c_tree.specs.declared.expression.BinaryOp.TheVariants as op
-use Rattle.c_tree.specs.declared.expression.Extreme.{Extreme}
-use Rattle.c_tree.specs.declared.expression.Extreme.TheVariants.{Max, Min}
-use Rattle.c_tree.specs.declared.expression.CExpr.{CExpr}
-use Rattle.c_tree.specs.declared.expression.CExpr.TheVariants as expr
-use Rattle.c_tree.specs.Tokens.{Token, Word, Sign, is_word_byte}
-use Rattle.c_tree.specs.CWords.{is_name, prefix_sign, infix_sign, infix_level, cast_tokens, extreme_word}
-use Rattle.c_tree.specs.CExpressionText.{Scope, ReadsExpr, parenthesised, prefixed, casted, between, chosen, indexed, a_field, extreme_of, magnitude}
+use Rattle.c_laws.specs.c_tree.declared.types.CastType.{CastType}
+use Rattle.c_laws.specs.c_tree.declared.types.CastType.TheVariants as cast
+use Rattle.c_laws.specs.c_tree.declared.types.FunctionType.TheVariants as pointer
+use Rattle.c_laws.specs.c_tree.declared.expression.UnaryOp.{UnaryOp}
+use Rattle.c_laws.specs.c_tree.declared.expression.BinaryOp.{BinaryOp}
+use Rattle.c_laws.specs.c_tree.declared.expression.BinaryOp.TheVariants as op
+use Rattle.c_laws.specs.c_tree.declared.expression.Extreme.{Extreme}
+use Rattle.c_laws.specs.c_tree.declared.expression.Extreme.TheVariants.{Max, Min}
+use Rattle.c_laws.specs.c_tree.declared.expression.CExpr.{CExpr}
+use Rattle.c_laws.specs.c_tree.declared.expression.CExpr.TheVariants as expr
+use Rattle.c_laws.specs.c_tree.Tokens.{Token, Word, Sign, is_word_byte}
+use Rattle.c_laws.specs.c_tree.CWords.{is_name, prefix_sign, infix_sign, infix_level, cast_tokens, extreme_word}
+use Rattle.c_laws.specs.c_tree.CExpressionText.{Scope, ReadsExpr, parenthesised, prefixed, casted, between, chosen, indexed, a_field, extreme_of, magnitude}
 use Rattle.c_text.specs.Operators as printed
 use Rattle.c_text.specs.Operators.{rank, op_word, op_level, right_level, prefix_word}
 use Rattle.c_text.specs.Types.{cast_word}

@@ -2,13 +2,13 @@
 use Rattle.std.specs.Prelude.{◌≡◌, ℕ, true, false, List, [], ◌∷◌, ◌++◌, codes}
 use Rattle.std.specs.List.{list_all, flat_map}
 use Rattle.std.proofs.Common.{refl, ap, sym, subst, append_assoc}
-use Rattle.c_tree.specs.declared.file.CObject.{CObject}
-use Rattle.c_tree.specs.declared.file.CConstant.{CConstant}
-use Rattle.c_tree.specs.declared.file.CFunction.{CFunction}
-use Rattle.c_tree.specs.declared.file.CFile.{CFile}
-use Rattle.c_tree.specs.Tokens.{Token, Including, behind_a_gap, one_more, include_line}
-use Rattle.c_tree.specs.CExpressionText.{Scope}
-use Rattle.c_tree.specs.CText.{ReadsParts, only_functions, one_constant, one_object, no_names, ReadsFile, CText, WellFormed}
+use Rattle.c_laws.specs.c_tree.declared.file.CObject.{CObject}
+use Rattle.c_laws.specs.c_tree.declared.file.CConstant.{CConstant}
+use Rattle.c_laws.specs.c_tree.declared.file.CFunction.{CFunction}
+use Rattle.c_laws.specs.c_tree.declared.file.CFile.{CFile}
+use Rattle.c_laws.specs.c_tree.Tokens.{Token, Including, behind_a_gap, one_more, include_line}
+use Rattle.c_laws.specs.c_tree.CExpressionText.{Scope}
+use Rattle.c_laws.specs.c_tree.CText.{ReadsParts, only_functions, one_constant, one_object, no_names, ReadsFile, CText, WellFormed}
 use Rattle.c_text.specs.Phrases.{letters}
 use Rattle.c_text.specs.Declarations.{object_line, printed_objects, constant_line, printed_constants}
 use Rattle.c_text.specs.Printed.{printed_functions, printed}

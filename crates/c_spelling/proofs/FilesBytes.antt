@@ -3,32 +3,32 @@
 use Rattle.std.specs.Prelude.{◌≡◌, ℕ, ℤ, Bool, true, false, ◌&&◌, List, ◌∷◌, Option}
 use Rattle.std.specs.List.{list_all}
 use Rattle.std.proofs.Common.{refl, ap, sym, ◌∙◌, subst}
-use Rattle.c_tree.specs.declared.types.CastType.{CastType}
-use Rattle.c_tree.specs.declared.types.CastType.TheVariants as cast
-use Rattle.c_tree.specs.declared.types.ParameterType.{ParameterType}
-use Rattle.c_tree.specs.declared.types.ParameterType.TheVariants as parameter
-use Rattle.c_tree.specs.declared.types.ArgumentType.{ArgumentType}
-use Rattle.c_tree.specs.declared.types.ArgumentType.TheVariants as argument
-use Rattle.c_tree.specs.declared.expression.CExpr.{CExpr}
-use Rattle.c_tree.specs.declared.expression.CCall.{CCall}
-use Rattle.c_tree.specs.declared.statement.CCase.{CCase}
-use Rattle.c_tree.specs.declared.statement.CNext.{CNext}
-use Rattle.c_tree.specs.declared.statement.CStmt.{CStmt}
-use Rattle.c_tree.specs.declared.statement.CStmt.TheVariants as stmt
-use Rattle.c_tree.specs.declared.declaration.CParam.{CParam}
-use Rattle.c_tree.specs.declared.declaration.CField.{CField}
-use Rattle.c_tree.specs.declared.declaration.CLocal.{CLocal}
-use Rattle.c_tree.specs.declared.file.CObject.{CObject}
-use Rattle.c_tree.specs.declared.file.CConstant.{CConstant}
-use Rattle.c_tree.specs.declared.file.CFunction.{CFunction}
-use Rattle.c_tree.specs.declared.file.CFile.{CFile}
-use Rattle.c_tree.specs.Opened.{trees_opened}
-use Rattle.c_tree.specs.Tokens.{Token, Quoted}
-use Rattle.c_tree.specs.CWords.{Stand, Separated, last_item, one_item, cast_tokens, parameter_tokens, argument_tokens}
-use Rattle.c_tree.specs.CExpressionText.{Scope, ReadsExpr, a_number, a_string, a_name, parenthesised, prefixed, casted, between, chosen, indexed, a_field, size, extreme_of, magnitude, ReadsArguments, no_argument, some_arguments, ReadsCall, by_name, through_a_parameter}
-use Rattle.c_tree.specs.CStatementText.{ReadsCases, no_case, one_case, ReadsNext, up, down, added, ReadsFor, for_head, ReadsTested, tested, ReadsStmt, assigned, assigned_call, called, empty, a_block, labelled, jump, returned, returned_value, returned_call, if_only, if_else, switched, repeated_for, repeated_do, ReadsStmts, closed, one_more}
-use Rattle.c_tree.specs.CDeclarationText as text
-use Rattle.c_tree.specs.CText.{ReadsFunction, a_function, ReadsFunctions, no_function, one_function, ReadsConstant, a_constant, ReadsParts, only_functions, one_constant, one_object, CText}
+use Rattle.c_laws.specs.c_tree.declared.types.CastType.{CastType}
+use Rattle.c_laws.specs.c_tree.declared.types.CastType.TheVariants as cast
+use Rattle.c_laws.specs.c_tree.declared.types.ParameterType.{ParameterType}
+use Rattle.c_laws.specs.c_tree.declared.types.ParameterType.TheVariants as parameter
+use Rattle.c_laws.specs.c_tree.declared.types.ArgumentType.{ArgumentType}
+use Rattle.c_laws.specs.c_tree.declared.types.ArgumentType.TheVariants as argument
+use Rattle.c_laws.specs.c_tree.declared.expression.CExpr.{CExpr}
+use Rattle.c_laws.specs.c_tree.declared.expression.CCall.{CCall}
+use Rattle.c_laws.specs.c_tree.declared.statement.CCase.{CCase}
+use Rattle.c_laws.specs.c_tree.declared.statement.CNext.{CNext}
+use Rattle.c_laws.specs.c_tree.declared.statement.CStmt.{CStmt}
+use Rattle.c_laws.specs.c_tree.declared.statement.CStmt.TheVariants as stmt
+use Rattle.c_laws.specs.c_tree.declared.declaration.CParam.{CParam}
+use Rattle.c_laws.specs.c_tree.declared.declaration.CField.{CField}
+use Rattle.c_laws.specs.c_tree.declared.declaration.CLocal.{CLocal}
+use Rattle.c_laws.specs.c_tree.declared.file.CObject.{CObject}
+use Rattle.c_laws.specs.c_tree.declared.file.CConstant.{CConstant}
+use Rattle.c_laws.specs.c_tree.declared.file.CFunction.{CFunction}
+use Rattle.c_laws.specs.c_tree.declared.file.CFile.{CFile}
+use Rattle.c_laws.specs.c_tree.Opened.{trees_opened}
+use Rattle.c_laws.specs.c_tree.Tokens.{Token, Quoted}
+use Rattle.c_laws.specs.c_tree.CWords.{Stand, Separated, last_item, one_item, cast_tokens, parameter_tokens, argument_tokens}
+use Rattle.c_laws.specs.c_tree.CExpressionText.{Scope, ReadsExpr, a_number, a_string, a_name, parenthesised, prefixed, casted, between, chosen, indexed, a_field, size, extreme_of, magnitude, ReadsArguments, no_argument, some_arguments, ReadsCall, by_name, through_a_parameter}
+use Rattle.c_laws.specs.c_tree.CStatementText.{ReadsCases, no_case, one_case, ReadsNext, up, down, added, ReadsFor, for_head, ReadsTested, tested, ReadsStmt, assigned, assigned_call, called, empty, a_block, labelled, jump, returned, returned_value, returned_call, if_only, if_else, switched, repeated_for, repeated_do, ReadsStmts, closed, one_more}
+use Rattle.c_laws.specs.c_tree.CDeclarationText as text
+use Rattle.c_laws.specs.c_tree.CText.{ReadsFunction, a_function, ReadsFunctions, no_function, one_function, ReadsConstant, a_constant, ReadsParts, only_functions, one_constant, one_object, CText}
 use Rattle.c_spelling.specs.Spelled.{of_bytes, expression_of_bytes, call_of_bytes, next_of_bytes, statement_of_bytes, statements_of_bytes, field_of_bytes, text_of_bytes, local_of_bytes, object_of_bytes, function_of_bytes, file_of_bytes}
 use Rattle.c_spelling.proofs.TokensBytes.{tokens_fit, text_fits}
 use Rattle.c_spelling.proofs.StmtTrees.{bytes-Block, bytes-Label, bytes-If, bytes-IfElse, bytes-For, bytes-DoWhile}

@@ -2,13 +2,13 @@
 use Rattle.std.specs.Prelude.{◌≡◌, ℕ, Bool, true, false, if◌then◌else◌, List, [], ◌∷◌, ◌++◌, codes, bytes_eq, None}
 use Rattle.std.specs.List.{list_all}
 use Rattle.std.proofs.Common.{refl, ap, append_assoc}
-use Rattle.c_tree.specs.declared.types.ResultType.{ResultType}
-use Rattle.c_tree.specs.declared.types.ResultType.TheVariants as gives
-use Rattle.c_tree.specs.declared.file.CFunction.{CFunction}
-use Rattle.c_tree.specs.Tokens.{Token, Word, Sign}
-use Rattle.c_tree.specs.CWords.{is_name}
-use Rattle.c_tree.specs.CExpressionText.{Scope}
-use Rattle.c_tree.specs.CText.{ReadsFunction, a_function, ReadsFunctions, no_function, one_function}
+use Rattle.c_laws.specs.c_tree.declared.types.ResultType.{ResultType}
+use Rattle.c_laws.specs.c_tree.declared.types.ResultType.TheVariants as gives
+use Rattle.c_laws.specs.c_tree.declared.file.CFunction.{CFunction}
+use Rattle.c_laws.specs.c_tree.Tokens.{Token, Word, Sign}
+use Rattle.c_laws.specs.c_tree.CWords.{is_name}
+use Rattle.c_laws.specs.c_tree.CExpressionText.{Scope}
+use Rattle.c_laws.specs.c_tree.CText.{ReadsFunction, a_function, ReadsFunctions, no_function, one_function}
 use Rattle.c_text.specs.Types.{result_word}
 use Rattle.c_text.specs.Declarations.{printed_params, locals_after}
 use Rattle.c_text.specs.Printed.{printed_stmts, kind_of_result, function_kind, function_front, function_head, function_end, printed_function, printed_functions}

@@ -21,3 +21,4 @@ pub mod FilesFunctions
 pub mod Files
 pub mod FilesBytes
 pub mod Readings
+pub use Rattle.c_laws.proofs as c_laws

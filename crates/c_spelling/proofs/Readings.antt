@@ -2,16 +2,16 @@
 use Rattle.std.specs.Prelude.{◌≡◌, ℕ, true, ◌&&◌, List, [], ◌++◌, codes}
 use Rattle.std.specs.List.{list_all}
 use Rattle.std.proofs.Common.{refl, sym, subst, append-nil}
-use Rattle.c_tree.specs.declared.expression.CExpr.{CExpr}
-use Rattle.c_tree.specs.declared.expression.CCall.{CCall}
-use Rattle.c_tree.specs.declared.statement.CStmt.{CStmt}
-use Rattle.c_tree.specs.declared.file.CFile.{CFile}
-use Rattle.c_tree.specs.Tokens.{Token}
-use Rattle.c_tree.specs.CWords.{is_name}
-use Rattle.c_tree.specs.CLabels.{labels_of}
-use Rattle.c_tree.specs.CExpressionText.{Scope, ReadsExpr, ReadsCall}
-use Rattle.c_tree.specs.CStatementText.{ReadsStmt}
-use Rattle.c_tree.specs.CText.{kinds, CText, WellFormed}
+use Rattle.c_laws.specs.c_tree.declared.expression.CExpr.{CExpr}
+use Rattle.c_laws.specs.c_tree.declared.expression.CCall.{CCall}
+use Rattle.c_laws.specs.c_tree.declared.statement.CStmt.{CStmt}
+use Rattle.c_laws.specs.c_tree.declared.file.CFile.{CFile}
+use Rattle.c_laws.specs.c_tree.Tokens.{Token}
+use Rattle.c_laws.specs.c_tree.CWords.{is_name}
+use Rattle.c_laws.specs.c_tree.CLabels.{labels_of}
+use Rattle.c_laws.specs.c_tree.CExpressionText.{Scope, ReadsExpr, ReadsCall}
+use Rattle.c_laws.specs.c_tree.CStatementText.{ReadsStmt}
+use Rattle.c_laws.specs.c_tree.CText.{kinds, CText, WellFormed}
 use Rattle.c_text.specs.Expressions.{bare, printed_call}
 use Rattle.c_text.specs.Printed.{printed_stmt, printed}
 use Rattle.c_laws.proofs.TokenSpellings.{and-first, and-second}

@@ -2,15 +2,15 @@
 use Rattle.std.specs.Prelude.{◌≡◌, ℕ, ◌+◌, true, ◌&&◌, List, [], ◌++◌, map}
 use Rattle.std.specs.List.{list_all}
 use Rattle.std.proofs.Common.{sym, ◌∙◌, subst}
-use Rattle.c_tree.specs.declared.expression.CExpr.{CExpr}
-use Rattle.c_tree.specs.declared.statement.CCase.{CCase}
-use Rattle.c_tree.specs.declared.statement.CNext.{CNext}
-use Rattle.c_tree.specs.declared.statement.CStmt.{CStmt}
-use Rattle.c_tree.specs.Tokens.{Token}
-use Rattle.c_tree.specs.CWords.{is_name}
-use Rattle.c_tree.specs.CLabels.{LabelsOf, labels_of, labels_of_all}
-use Rattle.c_tree.specs.CExpressionText.{Scope}
-use Rattle.c_tree.specs.CStatementText.{ReadsCases, no_case, one_case, ReadsNext, up, down, added, ReadsFor, for_head, ReadsTested, tested, ReadsStmt, assigned, assigned_call, called, empty, a_block, labelled, jump, returned, returned_value, returned_call, if_only, if_else, switched, repeated_for, repeated_do, ReadsStmts, closed, one_more}
+use Rattle.c_laws.specs.c_tree.declared.expression.CExpr.{CExpr}
+use Rattle.c_laws.specs.c_tree.declared.statement.CCase.{CCase}
+use Rattle.c_laws.specs.c_tree.declared.statement.CNext.{CNext}
+use Rattle.c_laws.specs.c_tree.declared.statement.CStmt.{CStmt}
+use Rattle.c_laws.specs.c_tree.Tokens.{Token}
+use Rattle.c_laws.specs.c_tree.CWords.{is_name}
+use Rattle.c_laws.specs.c_tree.CLabels.{LabelsOf, labels_of, labels_of_all}
+use Rattle.c_laws.specs.c_tree.CExpressionText.{Scope}
+use Rattle.c_laws.specs.c_tree.CStatementText.{ReadsCases, no_case, one_case, ReadsNext, up, down, added, ReadsFor, for_head, ReadsTested, tested, ReadsStmt, assigned, assigned_call, called, empty, a_block, labelled, jump, returned, returned_value, returned_call, if_only, if_else, switched, repeated_for, repeated_do, ReadsStmts, closed, one_more}
 use Rattle.c_text.specs.Printed.{printed_next}
 use Rattle.c_laws.proofs.TokenSpellings.{and-first, and-second}
 use Rattle.c_spelling.specs.Spelled.{expression_of_bytes, call_of_bytes, next_of_bytes, statement_of_bytes, statements_of_bytes}

@@ -1,14 +1,14 @@
 -- The lines of each form of a statement read as the form, given that its parts do (C89, 3.6).
 use Rattle.std.specs.Prelude.{◌≡◌, ℕ, ◌+◌, true, List, [], ◌∷◌, ◌++◌, codes, Some, None}
 use Rattle.std.proofs.Common.{refl, ap, sym, ◌∙◌, subst}
-use Rattle.c_tree.specs.declared.expression.CExpr.{CExpr}
-use Rattle.c_tree.specs.declared.expression.CCall.{CCall}
-use Rattle.c_tree.specs.declared.statement.CStmt.{CStmt}
-use Rattle.c_tree.specs.declared.statement.CStmt.TheVariants as stmt
-use Rattle.c_tree.specs.Tokens.{Token, Word, Sign}
-use Rattle.c_tree.specs.CWords.{is_name}
-use Rattle.c_tree.specs.CExpressionText.{Scope, ReadsExpr, ReadsCall}
-use Rattle.c_tree.specs.CStatementText.{ReadsTarget, tested, ReadsStmt, assigned, assigned_call, called, empty, a_block, labelled, jump, returned, returned_value, returned_call, if_only, if_else, repeated_do, ReadsStmts, closed, one_more}
+use Rattle.c_laws.specs.c_tree.declared.expression.CExpr.{CExpr}
+use Rattle.c_laws.specs.c_tree.declared.expression.CCall.{CCall}
+use Rattle.c_laws.specs.c_tree.declared.statement.CStmt.{CStmt}
+use Rattle.c_laws.specs.c_tree.declared.statement.CStmt.TheVariants as stmt
+use Rattle.c_laws.specs.c_tree.Tokens.{Token, Word, Sign}
+use Rattle.c_laws.specs.c_tree.CWords.{is_name}
+use Rattle.c_laws.specs.c_tree.CExpressionText.{Scope, ReadsExpr, ReadsCall}
+use Rattle.c_laws.specs.c_tree.CStatementText.{ReadsTarget, tested, ReadsStmt, assigned, assigned_call, called, empty, a_block, labelled, jump, returned, returned_value, returned_call, if_only, if_else, repeated_do, ReadsStmts, closed, one_more}
 use Rattle.c_text.specs.Phrases.{letters}
 use Rattle.c_text.specs.Expressions.{bare, printed_call}
 use Rattle.c_text.specs.Printed.{target, line, assignment, printed_return, returned_call as printed_returned_call, if_head, while_end, printed_stmt, printed_stmts}

@@ -1,15 +1,15 @@
 -- The lines of a `for` and of a `switch` read as the statement, given that their parts do (C89, 3.6.4.2 and 3.6.5.3).
 use Rattle.std.specs.Prelude.{◌≡◌, ℕ, ◌+◌, ◌≤◌, pos, false, flat_map, List, [], ◌∷◌, ◌++◌, codes, decimal}
 use Rattle.std.proofs.Common.{refl}
-use Rattle.c_tree.specs.declared.expression.CExpr.{CExpr}
-use Rattle.c_tree.specs.declared.statement.CCase.{CCase}
-use Rattle.c_tree.specs.declared.statement.CNext.{CNext}
-use Rattle.c_tree.specs.declared.statement.CNext.TheVariants as next
-use Rattle.c_tree.specs.declared.statement.CStmt.{CStmt}
-use Rattle.c_tree.specs.declared.statement.CStmt.TheVariants as stmt
-use Rattle.c_tree.specs.Tokens.{Token, Word, Digits, Sign}
-use Rattle.c_tree.specs.CExpressionText.{Scope, ReadsExpr}
-use Rattle.c_tree.specs.CStatementText.{ReadsTarget, ReadsCases, no_case, one_case, has_twice, case_numbers, ReadsNext, up as up_to, down as down_to, added as added_to, for_head as a_for_head, tested, switched, repeated_for}
+use Rattle.c_laws.specs.c_tree.declared.expression.CExpr.{CExpr}
+use Rattle.c_laws.specs.c_tree.declared.statement.CCase.{CCase}
+use Rattle.c_laws.specs.c_tree.declared.statement.CNext.{CNext}
+use Rattle.c_laws.specs.c_tree.declared.statement.CNext.TheVariants as next
+use Rattle.c_laws.specs.c_tree.declared.statement.CStmt.{CStmt}
+use Rattle.c_laws.specs.c_tree.declared.statement.CStmt.TheVariants as stmt
+use Rattle.c_laws.specs.c_tree.Tokens.{Token, Word, Digits, Sign}
+use Rattle.c_laws.specs.c_tree.CExpressionText.{Scope, ReadsExpr}
+use Rattle.c_laws.specs.c_tree.CStatementText.{ReadsTarget, ReadsCases, no_case, one_case, has_twice, case_numbers, ReadsNext, up as up_to, down as down_to, added as added_to, for_head as a_for_head, tested, switched, repeated_for}
 use Rattle.c_text.specs.Phrases.{letters}
 use Rattle.c_text.specs.Expressions.{bare}
 use Rattle.c_text.specs.Printed.{target, line, case_line, printed_next, switch_head, for_start, for_head, printed_switch, printed_stmts}

@@ -2,16 +2,16 @@
 use Rattle.std.specs.Prelude.{◌≡◌, ℕ, ◌==◌, Bool, true, false, ◌&&◌, ◌||◌, filter, List, [], ◌∷◌, ◌++◌, length, bytes_eq, Some, None}
 use Rattle.std.specs.List.{list_all}
 use Rattle.std.proofs.Common.{refl, ap, sym, ◌∙◌, subst, cond, true≢false}
-use Rattle.c_tree.specs.declared.expression.CExpr.{CExpr}
-use Rattle.c_tree.specs.declared.statement.CNext.{CNext}
-use Rattle.c_tree.specs.declared.statement.CStmt.{CStmt}
-use Rattle.c_tree.specs.declared.statement.CStmt.TheVariants as stmt
-use Rattle.c_tree.specs.Opened.{trees_opened}
-use Rattle.c_tree.specs.Tokens.{Token}
-use Rattle.c_tree.specs.CWords.{is_name, is_among}
-use Rattle.c_tree.specs.CLabels.{LabelsOf, labels_of, labels_of_all, labels_meet, both, standing, no_label, stands_once}
-use Rattle.c_tree.specs.CExpressionText.{Scope}
-use Rattle.c_tree.specs.CStatementText.{ReadsStmt, assigned, assigned_call, called, empty, a_block, labelled, jump, returned, returned_value, returned_call, if_only, if_else, switched, repeated_for, repeated_do, ReadsStmts, closed, one_more}
+use Rattle.c_laws.specs.c_tree.declared.expression.CExpr.{CExpr}
+use Rattle.c_laws.specs.c_tree.declared.statement.CNext.{CNext}
+use Rattle.c_laws.specs.c_tree.declared.statement.CStmt.{CStmt}
+use Rattle.c_laws.specs.c_tree.declared.statement.CStmt.TheVariants as stmt
+use Rattle.c_laws.specs.c_tree.Opened.{trees_opened}
+use Rattle.c_laws.specs.c_tree.Tokens.{Token}
+use Rattle.c_laws.specs.c_tree.CWords.{is_name, is_among}
+use Rattle.c_laws.specs.c_tree.CLabels.{LabelsOf, labels_of, labels_of_all, labels_meet, both, standing, no_label, stands_once}
+use Rattle.c_laws.specs.c_tree.CExpressionText.{Scope}
+use Rattle.c_laws.specs.c_tree.CStatementText.{ReadsStmt, assigned, assigned_call, called, empty, a_block, labelled, jump, returned, returned_value, returned_call, if_only, if_else, switched, repeated_for, repeated_do, ReadsStmts, closed, one_more}
 use Rattle.c_laws.proofs.TokenSpellings.{and-first, and-second}
 use Rattle.c_spelling.specs.Spelled.{expression_of_bytes, next_of_bytes, statement_of_bytes, statements_of_bytes}
 use Rattle.c_spelling.proofs.TokensScope.{AreNames, passed_by, all_first, names_append}

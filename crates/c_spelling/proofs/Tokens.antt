@@ -7,11 +7,11 @@ use Rattle.std.proofs.Common.{refl, ap, sym, ◌∙◌, subst, append_assoc}
 use Rattle.std.proofs.lemmas.Bool.Decides.{nat_tests}
 use Rattle.std.proofs.lemmas.Fmt.{decimal_by_steps, decimal_is_IsNumeral}
 use native.Mathlib.Omega.{arith}
-use Rattle.c_tree.specs.declared.expression.BinaryOp.{BinaryOp}
-use Rattle.c_tree.specs.declared.expression.BinaryOp.TheVariants as op
-use Rattle.c_tree.specs.Tokens.{Token, Word, Digits, Quoted, Sign, Cut, longer_if, to_comment_end, Head, comment_head, begins_sign, is_sign, begins_with, is_letter, is_word_byte, is_space, is_short, is_number, Gap, Lexeme, begins_comment, head_of, line_feeds, still_alone, Placed, AreTokens, no_more, behind_a_gap, one_more}
-use Rattle.c_tree.specs.CWords.{words, is_name, is_among, infix_sign}
-use Rattle.c_tree.specs.CText.{kinds}
+use Rattle.c_laws.specs.c_tree.declared.expression.BinaryOp.{BinaryOp}
+use Rattle.c_laws.specs.c_tree.declared.expression.BinaryOp.TheVariants as op
+use Rattle.c_laws.specs.c_tree.Tokens.{Token, Word, Digits, Quoted, Sign, Cut, longer_if, to_comment_end, Head, comment_head, begins_sign, is_sign, begins_with, is_letter, is_word_byte, is_space, is_short, is_number, Gap, Lexeme, begins_comment, head_of, line_feeds, still_alone, Placed, AreTokens, no_more, behind_a_gap, one_more}
+use Rattle.c_laws.specs.c_tree.CWords.{words, is_name, is_among, infix_sign}
+use Rattle.c_laws.specs.c_tree.CText.{kinds}
 use Rattle.c_text.specs.Operators.{op_word}
 use Rattle.c_text.specs.Printed.{indent}
 use Rattle.c_laws.proofs.TokenSpellings.{and-first, and-second, word_reads, number_reads, space_reads, sign_reads, long_sign_reads, head-of-sign, sign_by}

@@ -4,8 +4,8 @@ use Rattle.std.specs.Str.Parse.{digits_value}
 use Rattle.std.proofs.Common.{refl, ap, sym, ◌∙◌}
 use Rattle.std.proofs.lemmas.Bool.Decides.{nat_tests}
 use native.Mathlib.Omega.{arith}
-use Rattle.c_tree.specs.Tokens.{Token, Word, Digits, Quoted, Bad, Cut, longer_if, is_letter, is_word_byte, is_space, is_number, is_plain, is_digit_below, Awaited, Plain, Escape, Octal, string_from, Head, Lexeme, run, word_or_number, string_head, include_head, include_at, begins_comment, comment_head, comment_at, is_sign, head_of, Placed, AreTokens, no_more, behind_a_gap, one_more}
-use Rattle.c_tree.specs.CText.{kinds}
+use Rattle.c_laws.specs.c_tree.Tokens.{Token, Word, Digits, Quoted, Bad, Cut, longer_if, is_letter, is_word_byte, is_space, is_number, is_plain, is_digit_below, Awaited, Plain, Escape, Octal, string_from, Head, Lexeme, run, word_or_number, string_head, include_head, include_at, begins_comment, comment_head, comment_at, is_sign, head_of, Placed, AreTokens, no_more, behind_a_gap, one_more}
+use Rattle.c_laws.specs.c_tree.CText.{kinds}
 use Rattle.c_laws.proofs.TokenSpellings.{head_by, sign_by, comment_by}
 use Rattle.c_spelling.specs.Spelled.{is_byte, of_bytes}
 

@@ -2,8 +2,8 @@
 use Rattle.std.specs.Prelude.{◌≡◌, ℕ, Bool, true, List, [], ◌∷◌, ◌++◌, codes}
 use Rattle.std.specs.List.{list_all}
 use Rattle.std.proofs.Common.{refl, ap}
-use Rattle.c_tree.specs.Tokens.{Token, Sign}
-use Rattle.c_tree.specs.CWords.{ASign, Separated, last_item, one_item}
+use Rattle.c_laws.specs.c_tree.Tokens.{Token, Sign}
+use Rattle.c_laws.specs.c_tree.CWords.{ASign, Separated, last_item, one_item}
 use Rattle.c_text.specs.Lists.{after_commas, between_commas}
 use Rattle.c_laws.proofs.TokenSpellings.{and-first, and-second}
 use Rattle.c_spelling.proofs.Tokens.{inside, in_words, Piece, blank, comma}

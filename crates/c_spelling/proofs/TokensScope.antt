@@ -3,15 +3,15 @@ use Rattle.std.specs.Prelude.{◌≡◌, ℕ, Bool, true, false, not, ◌&&◌, 
 use Rattle.std.specs.List.{list_all}
 use Rattle.std.specs.Cmp.Lexicographic.{same_text}
 use Rattle.std.proofs.Common.{refl, ap, sym, ◌∙◌, subst, cond, true≢false}
-use Rattle.c_tree.specs.declared.types.ParameterType.{ParameterType}
-use Rattle.c_tree.specs.declared.types.ParameterType.TheVariants as parameter
-use Rattle.c_tree.specs.declared.declaration.CParam.{CParam}
-use Rattle.c_tree.specs.declared.declaration.CLocal.{CLocal}
-use Rattle.c_tree.specs.declared.declaration.CLocal.TheVariants as local
-use Rattle.c_tree.specs.Tokens.{Token}
-use Rattle.c_tree.specs.CWords.{is_name, is_among}
-use Rattle.c_tree.specs.CExpressionText.{Scope}
-use Rattle.c_tree.specs.CDeclarationText.{without, hiding, with_object, with_array, with_function, with_pointer, with_declared, with_parameter, ReadsLocals, no_local, one_local, ReadsParams, no_parameter, last_parameter, one_parameter}
+use Rattle.c_laws.specs.c_tree.declared.types.ParameterType.{ParameterType}
+use Rattle.c_laws.specs.c_tree.declared.types.ParameterType.TheVariants as parameter
+use Rattle.c_laws.specs.c_tree.declared.declaration.CParam.{CParam}
+use Rattle.c_laws.specs.c_tree.declared.declaration.CLocal.{CLocal}
+use Rattle.c_laws.specs.c_tree.declared.declaration.CLocal.TheVariants as local
+use Rattle.c_laws.specs.c_tree.Tokens.{Token}
+use Rattle.c_laws.specs.c_tree.CWords.{is_name, is_among}
+use Rattle.c_laws.specs.c_tree.CExpressionText.{Scope}
+use Rattle.c_laws.specs.c_tree.CDeclarationText.{without, hiding, with_object, with_array, with_function, with_pointer, with_declared, with_parameter, ReadsLocals, no_local, one_local, ReadsParams, no_parameter, last_parameter, one_parameter}
 use Rattle.c_laws.proofs.TokenSpellings.{and-first, and-second}
 
 abbrev pub AreNames : List (List ℕ) → Type 0

@@ -2,25 +2,25 @@
 -- bytes.
 use Rattle.std.specs.Prelude.{◌≡◌, ℕ, nat_lt, Bool, true, ◌&&◌, List, [], ◌++◌, codes, Option, Some, None}
 use Rattle.std.specs.List.{list_all}
-use Rattle.c_tree.specs.declared.expression.CExpr.{CExpr, Number, Str, Name, Unary', Cast', Binary', Choose', Index', Field', SizeInt, MaxMin', Abs', end_of-CExpr, more_of-CExpr}
-use Rattle.c_tree.specs.declared.expression.CCall.{CCall}
-use Rattle.c_tree.specs.declared.statement.CNext.{CNext}
-use Rattle.c_tree.specs.declared.statement.CNext.TheVariants as next
-use Rattle.c_tree.specs.declared.statement.CStmt as stmt
-use Rattle.c_tree.specs.declared.declaration.CField.{CField}
-use Rattle.c_tree.specs.declared.declaration.CField.TheVariants as field
-use Rattle.c_tree.specs.declared.declaration.CLocal.{CLocal}
-use Rattle.c_tree.specs.declared.declaration.CLocal.TheVariants as local
-use Rattle.c_tree.specs.declared.file.CObject.{CObject}
-use Rattle.c_tree.specs.declared.file.CObject.TheVariants as object
-use Rattle.c_tree.specs.declared.file.CFunction.{CFunction}
-use Rattle.c_tree.specs.declared.file.CFile.{CFile}
-use Rattle.c_tree.specs.Tokens.{Token, Placed, AreTokensOf}
-use Rattle.c_tree.specs.CWords.{is_name}
-use Rattle.c_tree.specs.CLabels.{labels_of}
-use Rattle.c_tree.specs.CExpressionText.{Scope, ReadsExpr, ReadsCall}
-use Rattle.c_tree.specs.CStatementText.{ReadsStmt}
-use Rattle.c_tree.specs.CText.{kinds, CText, WellFormed}
+use Rattle.c_laws.specs.c_tree.declared.expression.CExpr.{CExpr, Number, Str, Name, Unary', Cast', Binary', Choose', Index', Field', SizeInt, MaxMin', Abs', end_of-CExpr, more_of-CExpr}
+use Rattle.c_laws.specs.c_tree.declared.expression.CCall.{CCall}
+use Rattle.c_laws.specs.c_tree.declared.statement.CNext.{CNext}
+use Rattle.c_laws.specs.c_tree.declared.statement.CNext.TheVariants as next
+use Rattle.c_laws.specs.c_tree.declared.statement.CStmt as stmt
+use Rattle.c_laws.specs.c_tree.declared.declaration.CField.{CField}
+use Rattle.c_laws.specs.c_tree.declared.declaration.CField.TheVariants as field
+use Rattle.c_laws.specs.c_tree.declared.declaration.CLocal.{CLocal}
+use Rattle.c_laws.specs.c_tree.declared.declaration.CLocal.TheVariants as local
+use Rattle.c_laws.specs.c_tree.declared.file.CObject.{CObject}
+use Rattle.c_laws.specs.c_tree.declared.file.CObject.TheVariants as object
+use Rattle.c_laws.specs.c_tree.declared.file.CFunction.{CFunction}
+use Rattle.c_laws.specs.c_tree.declared.file.CFile.{CFile}
+use Rattle.c_laws.specs.c_tree.Tokens.{Token, Placed, AreTokensOf}
+use Rattle.c_laws.specs.c_tree.CWords.{is_name}
+use Rattle.c_laws.specs.c_tree.CLabels.{labels_of}
+use Rattle.c_laws.specs.c_tree.CExpressionText.{Scope, ReadsExpr, ReadsCall}
+use Rattle.c_laws.specs.c_tree.CStatementText.{ReadsStmt}
+use Rattle.c_laws.specs.c_tree.CText.{kinds, CText, WellFormed}
 use Rattle.c_text.specs.Expressions.{bare, printed_call}
 use Rattle.c_text.specs.Printed.{printed_stmt, printed}
 

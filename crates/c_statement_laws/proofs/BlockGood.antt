@@ -1,18 +1,18 @@
 -- Statements up to a closing brace are read as they stand, where each statement is.
 use Rattle.std.proofs.Common.{◌≡◌, refl, sym, ap, ◌∙◌, subst, ℕ, zero, suc, ◌≤◌, le_refl, Bool, true, false, List, [], ◌∷◌, ◌++◌, append_assoc, append-nil, length, codes, bytes_eq, arith}
-use Rattle.c_tree.specs.declared.expression.CExpr.{CExpr}
-use Rattle.c_tree.specs.declared.expression.CCall.{CCall}
-use Rattle.c_tree.specs.declared.statement.CNext.{CNext}
-use Rattle.c_tree.specs.declared.statement.CStmt.{CStmt}
-use Rattle.c_tree.specs.Tokens.{Token, Word, Sign}
-use Rattle.c_tree.specs.CWords.{ASign}
-use Rattle.c_tree.specs.CLabels.{LabelsOf, both, labels_of, labels_of_all}
-use Rattle.c_tree.specs.CExpressionText.{Scope, ReadsCall, by_name, through_a_parameter}
-use Rattle.c_tree.specs.CStatementText as text
-use Rattle.c_tree.specs.CStatementText.{ReadsStmt, ReadsStmts, ReadsTested, ReadsFor}
-use Rattle.c_readers.specs.Readers.{Tokens, Reader}
-use Rattle.grammar.specs.Exactness.{head, Filled, Judged, Good}
-use Rattle.grammar.proofs.Judging.{Onto, judged-then-some, in_turn, good-as, good-fewer, judged-also, refuses, takes-one, at-the-token, at-the-end}
+use Rattle.c_grammar_laws.specs.c_tree.declared.expression.CExpr.{CExpr}
+use Rattle.c_grammar_laws.specs.c_tree.declared.expression.CCall.{CCall}
+use Rattle.c_grammar_laws.specs.c_tree.declared.statement.CNext.{CNext}
+use Rattle.c_grammar_laws.specs.c_tree.declared.statement.CStmt.{CStmt}
+use Rattle.c_grammar_laws.specs.c_tree.Tokens.{Token, Word, Sign}
+use Rattle.c_grammar_laws.specs.c_tree.CWords.{ASign}
+use Rattle.c_grammar_laws.specs.c_tree.CLabels.{LabelsOf, both, labels_of, labels_of_all}
+use Rattle.c_grammar_laws.specs.c_tree.CExpressionText.{Scope, ReadsCall, by_name, through_a_parameter}
+use Rattle.c_grammar_laws.specs.c_tree.CStatementText as text
+use Rattle.c_grammar_laws.specs.c_tree.CStatementText.{ReadsStmt, ReadsStmts, ReadsTested, ReadsFor}
+use Rattle.c_grammar_laws.specs.c_readers.Readers.{Tokens, Reader}
+use Rattle.c_grammar_laws.specs.grammar.Exactness.{head, Filled, Judged, Good}
+use Rattle.c_grammar_laws.proofs.grammar.Judging.{Onto, judged-then-some, in_turn, good-as, good-fewer, judged-also, refuses, takes-one, at-the-token, at-the-end}
 use Rattle.c_grammar_laws.proofs.TokenGood.{equal-texts, OneSign, good-sign}
 use Rattle.c_grammar_laws.proofs.ExpressionTables.{expression-shorter}
 use Rattle.c_statement_readers.specs.LabelTests.{can_meet}

@@ -3,16 +3,16 @@ use Rattle.std.proofs.Common.{◌≡◌, refl, sym, ap, ◌∙◌, subst, ℕ, �
 use Rattle.std.specs.List.{list_all}
 use Rattle.std.proofs.lemmas.Bool.{or_left, or_right}
 use Rattle.std.proofs.lemmas.List.Folds.{list_any-append}
-use Rattle.c_tree.specs.declared.statement.CStmt.{CStmt}
-use Rattle.c_tree.specs.declared.statement.CStmt.TheVariants as stmt
-use Rattle.c_tree.specs.Tokens.{Word, Sign}
-use Rattle.c_tree.specs.CWords.{is_among, is_name}
-use Rattle.c_tree.specs.CLabels.{LabelsOf, both, no_label, standing, labels_of, labels_of_all, stands_once}
-use Rattle.c_tree.specs.CExpressionText.{Scope}
-use Rattle.c_tree.specs.CStatementText as text
-use Rattle.c_tree.specs.CStatementText.{ReadsStmts}
-use Rattle.grammar.specs.Exactness.{Filled}
-use Rattle.grammar.proofs.Judging.{good-as}
+use Rattle.c_grammar_laws.specs.c_tree.declared.statement.CStmt.{CStmt}
+use Rattle.c_grammar_laws.specs.c_tree.declared.statement.CStmt.TheVariants as stmt
+use Rattle.c_grammar_laws.specs.c_tree.Tokens.{Word, Sign}
+use Rattle.c_grammar_laws.specs.c_tree.CWords.{is_among, is_name}
+use Rattle.c_grammar_laws.specs.c_tree.CLabels.{LabelsOf, both, no_label, standing, labels_of, labels_of_all, stands_once}
+use Rattle.c_grammar_laws.specs.c_tree.CExpressionText.{Scope}
+use Rattle.c_grammar_laws.specs.c_tree.CStatementText as text
+use Rattle.c_grammar_laws.specs.c_tree.CStatementText.{ReadsStmts}
+use Rattle.c_grammar_laws.specs.grammar.Exactness.{Filled}
+use Rattle.c_grammar_laws.proofs.grammar.Judging.{good-as}
 use Rattle.c_grammar_laws.proofs.TokenGood.{equal-texts, equal-self}
 use Rattle.c_statement_readers.specs.LabelTests.{may_be_named, can_meet, meet, with_label}
 use Rattle.c_statement_readers.specs.StatementReader.{statement, body}

@@ -1,20 +1,20 @@
 -- Where a call begins, both the reader of calls and that of expressions take what stands before the parenthesis that opens the arguments.
 use Rattle.std.proofs.Common.{◌≡◌, refl, sym, ap, ◌∙◌, subst, ℕ, zero, suc, Bool, true, false, ◌&&◌, ◌||◌, List, [], ◌∷◌, codes, bytes_eq, if◌then◌else◌, Option, Some, None, Err}
 use Rattle.std.proofs.lemmas.Bool.{and_from, or_left, or_right}
-use Rattle.c_tree.specs.declared.expression.CExpr.{CExpr}
-use Rattle.c_tree.specs.declared.expression.CExpr.TheVariants as expr
-use Rattle.c_tree.specs.declared.expression.CCall.{CCall}
-use Rattle.c_tree.specs.Tokens.{Word, Sign}
-use Rattle.c_tree.specs.CWords.{is_among}
-use Rattle.c_tree.specs.CExpressionText as text
-use Rattle.c_tree.specs.CExpressionText.{Scope, ReadsCall}
-use Rattle.c_readers.specs.Readers.{Tokens, Reader, lookup, ◌>>=◌}
-use Rattle.c_readers.specs.Opened.{readers_opened}
-use Rattle.c_readers.specs.ExpressionReader as reader
-use Rattle.c_readers.specs.ExpressionReader.{WordLead, Sized, Extremal, Absolute, Named, leading_words, or_name, is_known, word_lead, expression, expression_behind}
-use Rattle.c_readers.specs.CallReader as calls
-use Rattle.c_readers.specs.CallReader.{has_some, call}
-use Rattle.grammar.specs.Exactness.{Filled}
+use Rattle.c_grammar_laws.specs.c_tree.declared.expression.CExpr.{CExpr}
+use Rattle.c_grammar_laws.specs.c_tree.declared.expression.CExpr.TheVariants as expr
+use Rattle.c_grammar_laws.specs.c_tree.declared.expression.CCall.{CCall}
+use Rattle.c_grammar_laws.specs.c_tree.Tokens.{Word, Sign}
+use Rattle.c_grammar_laws.specs.c_tree.CWords.{is_among}
+use Rattle.c_grammar_laws.specs.c_tree.CExpressionText as text
+use Rattle.c_grammar_laws.specs.c_tree.CExpressionText.{Scope, ReadsCall}
+use Rattle.c_grammar_laws.specs.c_readers.Readers.{Tokens, Reader, lookup, ◌>>=◌}
+use Rattle.c_grammar_laws.specs.c_readers.Opened.{readers_opened}
+use Rattle.c_grammar_laws.specs.c_readers.ExpressionReader as reader
+use Rattle.c_grammar_laws.specs.c_readers.ExpressionReader.{WordLead, Sized, Extremal, Absolute, Named, leading_words, or_name, is_known, word_lead, expression, expression_behind}
+use Rattle.c_grammar_laws.specs.c_readers.CallReader as calls
+use Rattle.c_grammar_laws.specs.c_readers.CallReader.{has_some, call}
+use Rattle.c_grammar_laws.specs.grammar.Exactness.{Filled}
 use Rattle.c_grammar_laws.proofs.TokenGood.{equal-texts}
 use Rattle.c_grammar_laws.proofs.ExpressionSteps.{name-free, among-names, name-lead}
 use Rattle.c_statement_readers.specs.PartReader.{starts_with, points_and_opens, starred_and_opens, begins_call}

@@ -4,15 +4,15 @@ use Rattle.std.specs.List.{list_all, list_any}
 use Rattle.std.specs.Ordering.{int_eq}
 use Rattle.std.proofs.lemmas.Bool.{and_from}
 use Rattle.std.proofs.lemmas.List.{map-append, length-map}
-use Rattle.c_tree.specs.declared.statement.CCase.{CCase}
-use Rattle.c_tree.specs.Tokens.{Word, Sign}
-use Rattle.c_tree.specs.CWords.{ASign}
-use Rattle.c_tree.specs.CStatementText as text
-use Rattle.c_tree.specs.CStatementText.{ReadsCases, has_twice, case_numbers}
-use Rattle.c_readers.specs.Readers.{Tokens, Reader, ◌>>=◌}
-use Rattle.c_readers.specs.ValueReader.{is_within}
-use Rattle.grammar.specs.Exactness.{Filled, Judged, Good}
-use Rattle.grammar.proofs.Judging.{in_turn, in_turn_of, good-as, good-found, judged-fewer, behind-token, refuses, refuses-end, takes-one}
+use Rattle.c_grammar_laws.specs.c_tree.declared.statement.CCase.{CCase}
+use Rattle.c_grammar_laws.specs.c_tree.Tokens.{Word, Sign}
+use Rattle.c_grammar_laws.specs.c_tree.CWords.{ASign}
+use Rattle.c_grammar_laws.specs.c_tree.CStatementText as text
+use Rattle.c_grammar_laws.specs.c_tree.CStatementText.{ReadsCases, has_twice, case_numbers}
+use Rattle.c_grammar_laws.specs.c_readers.Readers.{Tokens, Reader, ◌>>=◌}
+use Rattle.c_grammar_laws.specs.c_readers.ValueReader.{is_within}
+use Rattle.c_grammar_laws.specs.grammar.Exactness.{Filled, Judged, Good}
+use Rattle.c_grammar_laws.proofs.grammar.Judging.{in_turn, in_turn_of, good-as, good-found, judged-fewer, behind-token, refuses, refuses-end, takes-one}
 use Rattle.c_grammar_laws.proofs.TokenGood.{equal-texts, OneSign, good-sign, OneWord, good-word, OneName, good-name}
 use Rattle.c_grammar_laws.proofs.ValueGood.{OneNumber, good-number, is-within}
 use Rattle.c_grammar_laws.proofs.FreshNames.{fresh_name, fresh-named, fresh-absent}

@@ -3,14 +3,14 @@ use Rattle.std.proofs.Common.{◌≡◌, refl, sym, ap, ◌∙◌, subst, ℕ, s
 use Rattle.std.specs.List.{list_all}
 use Rattle.std.proofs.lemmas.Bool.{and_from}
 use Rattle.std.proofs.lemmas.List.{map-append, length-map}
-use Rattle.c_tree.specs.declared.statement.CCase.{CCase}
-use Rattle.c_tree.specs.Tokens.{Digits}
-use Rattle.c_tree.specs.CWords.{AWord, ASign, Next}
-use Rattle.c_tree.specs.CStatementText as form
-use Rattle.c_tree.specs.CStatementText.{ReadsCases, has_twice, case_numbers}
-use Rattle.c_readers.specs.Readers.{Tokens, found, ◌>>=◌}
-use Rattle.c_readers.specs.ValueReader.{is_within}
-use Rattle.grammar.specs.Exactness.{Eventually}
+use Rattle.c_grammar_laws.specs.c_tree.declared.statement.CCase.{CCase}
+use Rattle.c_grammar_laws.specs.c_tree.Tokens.{Digits}
+use Rattle.c_grammar_laws.specs.c_tree.CWords.{AWord, ASign, Next}
+use Rattle.c_grammar_laws.specs.c_tree.CStatementText as form
+use Rattle.c_grammar_laws.specs.c_tree.CStatementText.{ReadsCases, has_twice, case_numbers}
+use Rattle.c_grammar_laws.specs.c_readers.Readers.{Tokens, found, ◌>>=◌}
+use Rattle.c_grammar_laws.specs.c_readers.ValueReader.{is_within}
+use Rattle.c_grammar_laws.specs.grammar.Exactness.{Eventually}
 use Rattle.c_grammar_laws.proofs.TokenReads.{sign-read, word-read, name-read}
 use Rattle.c_grammar_laws.proofs.ValueGood.{number-read}
 use Rattle.c_grammar_laws.proofs.ExpressionComplete.{later}

@@ -1,8 +1,8 @@
 -- A reader that goes by a test of the tokens, where the test looks further than the token at which either way stops.
 use Rattle.std.proofs.Common.{◌≡◌, refl, sym, ap, ◌∙◌, subst, ◌⊎◌, inl, inr, ℕ, Bool, true, false, [], ◌∷◌, ◌++◌, append_assoc, Option, Some, None, Ok, Err}
-use Rattle.c_tree.specs.Tokens.{Token}
-use Rattle.c_readers.specs.Readers.{Tokens, Outcome, Reader, ◌>>=◌}
-use Rattle.grammar.specs.Exactness.{head, Judged}
+use Rattle.c_grammar_laws.specs.c_tree.Tokens.{Token}
+use Rattle.c_grammar_laws.specs.c_readers.Readers.{Tokens, Outcome, Reader, ◌>>=◌}
+use Rattle.c_grammar_laws.specs.grammar.Exactness.{head, Judged}
 
 -- All tokens were taken, whatever was found.
 abbrev pub Ends : {A : Type 0} → Option (Outcome A) → Type 0

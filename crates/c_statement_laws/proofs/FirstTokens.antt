@@ -2,25 +2,25 @@
 use Rattle.std.proofs.Common.{◌≡◌, refl, sym, ap, ◌∙◌, subst, ℕ, suc, ◌≤◌, Bool, true, false, not, ◌&&◌, ◌||◌, List, [], ◌∷◌, codes, bytes_eq, Option, Some, None, Ok, Err, arith}
 use Rattle.std.specs.List.{list_all}
 use Rattle.std.proofs.lemmas.Bool.{and_right, or_parts}
-use Rattle.c_tree.specs.declared.expression.CExpr.{CExpr}
-use Rattle.c_tree.specs.declared.expression.CExpr.TheVariants as expr
-use Rattle.c_tree.specs.declared.expression.CCall.{CCall}
-use Rattle.c_tree.specs.declared.expression.UnaryOp.TheVariants as prefix
-use Rattle.c_tree.specs.declared.expression.Extreme.TheVariants as extreme
-use Rattle.c_tree.specs.declared.statement.CNext.{CNext}
-use Rattle.c_tree.specs.declared.statement.CStmt.{CStmt}
-use Rattle.c_tree.specs.Tokens.{Word, Sign, Digits, Quoted, Including, Bad, begins_with, is_letter, is_word_byte}
-use Rattle.c_tree.specs.CWords.{words, is_among, is_name}
-use Rattle.c_tree.specs.CLabels.{LabelsOf}
-use Rattle.c_tree.specs.CExpressionText as text
-use Rattle.c_tree.specs.CExpressionText.{Scope, IsKnown, ReadsExpr, ReadsCall}
-use Rattle.c_tree.specs.CStatementText as form
-use Rattle.c_tree.specs.CStatementText.{ReadsTested, ReadsFor, ReadsStmt, ReadsStmts}
-use Rattle.c_readers.specs.Readers.{Tokens, Outcome, found, ◌>>=◌}
-use Rattle.c_readers.specs.Opened.{readers_opened}
-use Rattle.c_readers.specs.ExpressionReader as reader
-use Rattle.c_readers.specs.ExpressionReader.{WordLead, Sized, Extremal, Absolute, Named, word_lead, expression, expression_behind}
-use Rattle.grammar.specs.Exactness.{Eventually}
+use Rattle.c_grammar_laws.specs.c_tree.declared.expression.CExpr.{CExpr}
+use Rattle.c_grammar_laws.specs.c_tree.declared.expression.CExpr.TheVariants as expr
+use Rattle.c_grammar_laws.specs.c_tree.declared.expression.CCall.{CCall}
+use Rattle.c_grammar_laws.specs.c_tree.declared.expression.UnaryOp.TheVariants as prefix
+use Rattle.c_grammar_laws.specs.c_tree.declared.expression.Extreme.TheVariants as extreme
+use Rattle.c_grammar_laws.specs.c_tree.declared.statement.CNext.{CNext}
+use Rattle.c_grammar_laws.specs.c_tree.declared.statement.CStmt.{CStmt}
+use Rattle.c_grammar_laws.specs.c_tree.Tokens.{Word, Sign, Digits, Quoted, Including, Bad, begins_with, is_letter, is_word_byte}
+use Rattle.c_grammar_laws.specs.c_tree.CWords.{words, is_among, is_name}
+use Rattle.c_grammar_laws.specs.c_tree.CLabels.{LabelsOf}
+use Rattle.c_grammar_laws.specs.c_tree.CExpressionText as text
+use Rattle.c_grammar_laws.specs.c_tree.CExpressionText.{Scope, IsKnown, ReadsExpr, ReadsCall}
+use Rattle.c_grammar_laws.specs.c_tree.CStatementText as form
+use Rattle.c_grammar_laws.specs.c_tree.CStatementText.{ReadsTested, ReadsFor, ReadsStmt, ReadsStmts}
+use Rattle.c_grammar_laws.specs.c_readers.Readers.{Tokens, Outcome, found, ◌>>=◌}
+use Rattle.c_grammar_laws.specs.c_readers.Opened.{readers_opened}
+use Rattle.c_grammar_laws.specs.c_readers.ExpressionReader as reader
+use Rattle.c_grammar_laws.specs.c_readers.ExpressionReader.{WordLead, Sized, Extremal, Absolute, Named, word_lead, expression, expression_behind}
+use Rattle.c_grammar_laws.specs.grammar.Exactness.{Eventually}
 use Rattle.c_grammar_laws.specs.ExpressionLaws.{OfNames, EndsAt}
 use Rattle.c_grammar_laws.proofs.TokenGood.{equal-texts}
 use Rattle.c_grammar_laws.proofs.ExpressionSteps.{among-names, name-free, name-lead}

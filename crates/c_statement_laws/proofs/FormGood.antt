@@ -2,19 +2,19 @@
 use Rattle.std.proofs.Common.{◌≡◌, refl, sym, ap, ◌∙◌, subst, ℕ, suc, ◌≤◌, Bool, true, false, List, [], ◌∷◌, codes, bytes_eq, Some, None, arith}
 use Rattle.std.specs.List.{list_all}
 use Rattle.std.proofs.lemmas.Bool.{and_from}
-use Rattle.c_tree.specs.declared.expression.CExpr.{CExpr}
-use Rattle.c_tree.specs.declared.statement.CCase.{CCase}
-use Rattle.c_tree.specs.declared.statement.CStmt.{CStmt}
-use Rattle.c_tree.specs.declared.statement.CStmt.TheVariants as stmt
-use Rattle.c_tree.specs.Tokens.{Word}
-use Rattle.c_tree.specs.CWords.{ASign}
-use Rattle.c_tree.specs.CLabels.{LabelsOf, both, labels_of, labels_of_all}
-use Rattle.c_tree.specs.CExpressionText.{Scope}
-use Rattle.c_tree.specs.CStatementText as text
-use Rattle.c_tree.specs.CStatementText.{ReadsStmts, ReadsCases, ReadsTested, has_twice, case_numbers}
-use Rattle.c_readers.specs.Readers.{Tokens, lookup}
-use Rattle.grammar.specs.Exactness.{Filled, Judged, Good}
-use Rattle.grammar.proofs.Judging.{in_turn, in_turn_of, good-as, good-found, judged-fewer, behind-token, stays, stays-end}
+use Rattle.c_grammar_laws.specs.c_tree.declared.expression.CExpr.{CExpr}
+use Rattle.c_grammar_laws.specs.c_tree.declared.statement.CCase.{CCase}
+use Rattle.c_grammar_laws.specs.c_tree.declared.statement.CStmt.{CStmt}
+use Rattle.c_grammar_laws.specs.c_tree.declared.statement.CStmt.TheVariants as stmt
+use Rattle.c_grammar_laws.specs.c_tree.Tokens.{Word}
+use Rattle.c_grammar_laws.specs.c_tree.CWords.{ASign}
+use Rattle.c_grammar_laws.specs.c_tree.CLabels.{LabelsOf, both, labels_of, labels_of_all}
+use Rattle.c_grammar_laws.specs.c_tree.CExpressionText.{Scope}
+use Rattle.c_grammar_laws.specs.c_tree.CStatementText as text
+use Rattle.c_grammar_laws.specs.c_tree.CStatementText.{ReadsStmts, ReadsCases, ReadsTested, has_twice, case_numbers}
+use Rattle.c_grammar_laws.specs.c_readers.Readers.{Tokens, lookup}
+use Rattle.c_grammar_laws.specs.grammar.Exactness.{Filled, Judged, Good}
+use Rattle.c_grammar_laws.proofs.grammar.Judging.{in_turn, in_turn_of, good-as, good-found, judged-fewer, behind-token, stays, stays-end}
 use Rattle.c_grammar_laws.proofs.TokenGood.{equal-texts, OneSign, good-sign, OneWord, good-word, OneName, good-name}
 use Rattle.c_grammar_laws.proofs.ExpressionTables.{row-found}
 use Rattle.c_grammar_laws.proofs.FreshNames.{fresh_name}

@@ -1,18 +1,18 @@
 -- The head of a `for` that is spelled is read.
 use Rattle.std.proofs.Common.{◌≡◌, refl, sym, ap, ◌∙◌, ℕ, List, [], ◌∷◌, codes, Option, None, arith}
-use Rattle.c_tree.specs.declared.expression.CExpr.{CExpr}
-use Rattle.c_tree.specs.declared.expression.UnaryOp.TheVariants as prefix
-use Rattle.c_tree.specs.declared.statement.CNext.{CNext}
-use Rattle.c_tree.specs.declared.statement.CNext.TheVariants as next
-use Rattle.c_tree.specs.Tokens.{Word, Sign, Digits, Quoted, Including, Bad}
-use Rattle.c_tree.specs.CWords.{ASign}
-use Rattle.c_tree.specs.CExpressionText as text
-use Rattle.c_tree.specs.CExpressionText.{Scope, ReadsExpr}
-use Rattle.c_tree.specs.CStatementText as form
-use Rattle.c_tree.specs.CStatementText.{ReadsNext, ReadsFor}
-use Rattle.c_readers.specs.Readers.{Tokens, found, lookup, ◌>>=◌, a_sign}
-use Rattle.c_readers.specs.ExpressionReader.{expression}
-use Rattle.grammar.specs.Exactness.{Eventually}
+use Rattle.c_grammar_laws.specs.c_tree.declared.expression.CExpr.{CExpr}
+use Rattle.c_grammar_laws.specs.c_tree.declared.expression.UnaryOp.TheVariants as prefix
+use Rattle.c_grammar_laws.specs.c_tree.declared.statement.CNext.{CNext}
+use Rattle.c_grammar_laws.specs.c_tree.declared.statement.CNext.TheVariants as next
+use Rattle.c_grammar_laws.specs.c_tree.Tokens.{Word, Sign, Digits, Quoted, Including, Bad}
+use Rattle.c_grammar_laws.specs.c_tree.CWords.{ASign}
+use Rattle.c_grammar_laws.specs.c_tree.CExpressionText as text
+use Rattle.c_grammar_laws.specs.c_tree.CExpressionText.{Scope, ReadsExpr}
+use Rattle.c_grammar_laws.specs.c_tree.CStatementText as form
+use Rattle.c_grammar_laws.specs.c_tree.CStatementText.{ReadsNext, ReadsFor}
+use Rattle.c_grammar_laws.specs.c_readers.Readers.{Tokens, found, lookup, ◌>>=◌, a_sign}
+use Rattle.c_grammar_laws.specs.c_readers.ExpressionReader.{expression}
+use Rattle.c_grammar_laws.specs.grammar.Exactness.{Eventually}
 use Rattle.c_grammar_laws.proofs.ExpressionComplete.{and_too}
 use Rattle.c_statement_readers.specs.PartReader.{Step, steps, turn_by, turn, added, ForHead, for_rest, for_head}
 use Rattle.c_statement_laws.specs.StatementLaws.{InOrder}

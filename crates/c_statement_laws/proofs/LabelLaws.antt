@@ -4,15 +4,15 @@ use Rattle.std.specs.List.{list_all}
 use Rattle.std.proofs.lemmas.Bool.{and_from, or_left, or_right}
 use Rattle.std.proofs.lemmas.List.Elements.{filter-append}
 use Rattle.std.proofs.lemmas.List.Folds.{list_all-append, list_any-append}
-use Rattle.c_tree.specs.declared.expression.CExpr.{CExpr}
-use Rattle.c_tree.specs.declared.expression.CCall.{CCall}
-use Rattle.c_tree.specs.declared.statement.CCase.{CCase}
-use Rattle.c_tree.specs.declared.statement.CNext.{CNext}
-use Rattle.c_tree.specs.declared.statement.CStmt.{CStmt}
-use Rattle.c_tree.specs.declared.statement.CStmt.TheVariants as form
-use Rattle.c_tree.specs.CWords.{is_among, is_name}
-use Rattle.c_tree.specs.CLabels.{LabelsOf, no_label, both, standing, labels_of, labels_of_all}
-use Rattle.c_tree.specs.Opened.{trees_opened}
+use Rattle.c_grammar_laws.specs.c_tree.declared.expression.CExpr.{CExpr}
+use Rattle.c_grammar_laws.specs.c_tree.declared.expression.CCall.{CCall}
+use Rattle.c_grammar_laws.specs.c_tree.declared.statement.CCase.{CCase}
+use Rattle.c_grammar_laws.specs.c_tree.declared.statement.CNext.{CNext}
+use Rattle.c_grammar_laws.specs.c_tree.declared.statement.CStmt.{CStmt}
+use Rattle.c_grammar_laws.specs.c_tree.declared.statement.CStmt.TheVariants as form
+use Rattle.c_grammar_laws.specs.c_tree.CWords.{is_among, is_name}
+use Rattle.c_grammar_laws.specs.c_tree.CLabels.{LabelsOf, no_label, both, standing, labels_of, labels_of_all}
+use Rattle.c_grammar_laws.specs.c_tree.Opened.{trees_opened}
 use Rattle.c_grammar_laws.proofs.TokenGood.{equal-texts, equal-self}
 use Rattle.c_statement_readers.specs.LabelTests.{may_be_named, can_meet, may_stand, with_label}
 

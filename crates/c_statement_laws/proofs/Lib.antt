@@ -18,3 +18,4 @@ pub mod StatementGood
 pub mod StatementReads
 pub mod StatementRowLaws
 pub mod StatementSteps
+pub use Rattle.c_grammar_laws.proofs as c_grammar_laws

@@ -5,7 +5,7 @@ use Rattle.std.specs.Ordering.{int_eq}
 use Rattle.std.proofs.lemmas.Bool.{or_parts, or_from}
 use Rattle.std.proofs.lemmas.Bool.Decides.{Decides-int_eq}
 use Rattle.std.proofs.lemmas.List.Folds.{list_any-append}
-use Rattle.c_tree.specs.CStatementText.{has_twice}
+use Rattle.c_grammar_laws.specs.c_tree.CStatementText.{has_twice}
 
 pub same-number : (a b : ℤ) → int_eq a b ≡ true → a ≡ b
 same-number a b h = (Decides-int_eq a b).0 h

@@ -1,16 +1,16 @@
 -- What is tested, and the head of a `for`, are read as they stand.
 use Rattle.std.proofs.Common.{◌≡◌, refl, sym, ap, ◌∙◌, subst, ℕ, suc, ◌≤◌, List, [], ◌∷◌, codes, Option, Some, None, arith}
-use Rattle.c_tree.specs.declared.expression.CExpr.{CExpr}
-use Rattle.c_tree.specs.declared.statement.CNext.{CNext}
-use Rattle.c_tree.specs.declared.statement.CNext.TheVariants as next
-use Rattle.c_tree.specs.Tokens.{Word, Sign}
-use Rattle.c_tree.specs.CExpressionText.{Scope, ReadsExpr}
-use Rattle.c_tree.specs.CStatementText as text
-use Rattle.c_tree.specs.CStatementText.{ReadsNext, ReadsFor, ReadsTested}
-use Rattle.c_readers.specs.Readers.{Tokens, lookup}
-use Rattle.c_readers.specs.ExpressionReader.{expression}
-use Rattle.grammar.specs.Exactness.{head, Judged, Good}
-use Rattle.grammar.proofs.Judging.{in_turn, good-found, judged-also, judged-fewer, behind-token, at-the-token, at-the-end}
+use Rattle.c_grammar_laws.specs.c_tree.declared.expression.CExpr.{CExpr}
+use Rattle.c_grammar_laws.specs.c_tree.declared.statement.CNext.{CNext}
+use Rattle.c_grammar_laws.specs.c_tree.declared.statement.CNext.TheVariants as next
+use Rattle.c_grammar_laws.specs.c_tree.Tokens.{Word, Sign}
+use Rattle.c_grammar_laws.specs.c_tree.CExpressionText.{Scope, ReadsExpr}
+use Rattle.c_grammar_laws.specs.c_tree.CStatementText as text
+use Rattle.c_grammar_laws.specs.c_tree.CStatementText.{ReadsNext, ReadsFor, ReadsTested}
+use Rattle.c_grammar_laws.specs.c_readers.Readers.{Tokens, lookup}
+use Rattle.c_grammar_laws.specs.c_readers.ExpressionReader.{expression}
+use Rattle.c_grammar_laws.specs.grammar.Exactness.{head, Judged, Good}
+use Rattle.c_grammar_laws.proofs.grammar.Judging.{in_turn, good-found, judged-also, judged-fewer, behind-token, at-the-token, at-the-end}
 use Rattle.c_grammar_laws.proofs.TokenGood.{OneSign, good-sign}
 use Rattle.c_grammar_laws.proofs.ExpressionTables.{row-found}
 use Rattle.c_statement_readers.specs.PartReader.{Step, Upward, Downward, steps, turn_by, turn, added, ForHead, for_rest, for_head, tested}

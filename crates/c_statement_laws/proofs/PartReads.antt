@@ -1,17 +1,17 @@
 -- Calls, assignments, returns, and the heads of statements that are spelled are read.
 use Rattle.std.proofs.Common.{◌≡◌, refl, sym, ap, ◌∙◌, subst, ℕ, ◌≤◌, Bool, true, false, not, ◌||◌, List, [], ◌∷◌, codes, bytes_eq, None, arith}
-use Rattle.c_tree.specs.declared.expression.CExpr.{CExpr}
-use Rattle.c_tree.specs.declared.expression.CCall.{CCall}
-use Rattle.c_tree.specs.declared.statement.CStmt.TheVariants as stmt
-use Rattle.c_tree.specs.Tokens.{Word, Sign, Digits, Quoted, Including, Bad}
-use Rattle.c_tree.specs.CWords.{ASign, is_among}
-use Rattle.c_tree.specs.CExpressionText.{Scope, ReadsExpr, ReadsCall}
-use Rattle.c_tree.specs.CStatementText as form
-use Rattle.c_tree.specs.CStatementText.{ReadsTested, ReadsNext, ReadsFor}
-use Rattle.c_readers.specs.Readers.{Tokens, found, ◌>>=◌, a_sign}
-use Rattle.c_readers.specs.ExpressionReader.{expression}
-use Rattle.c_readers.specs.CallReader.{call}
-use Rattle.grammar.specs.Exactness.{Eventually}
+use Rattle.c_grammar_laws.specs.c_tree.declared.expression.CExpr.{CExpr}
+use Rattle.c_grammar_laws.specs.c_tree.declared.expression.CCall.{CCall}
+use Rattle.c_grammar_laws.specs.c_tree.declared.statement.CStmt.TheVariants as stmt
+use Rattle.c_grammar_laws.specs.c_tree.Tokens.{Word, Sign, Digits, Quoted, Including, Bad}
+use Rattle.c_grammar_laws.specs.c_tree.CWords.{ASign, is_among}
+use Rattle.c_grammar_laws.specs.c_tree.CExpressionText.{Scope, ReadsExpr, ReadsCall}
+use Rattle.c_grammar_laws.specs.c_tree.CStatementText as form
+use Rattle.c_grammar_laws.specs.c_tree.CStatementText.{ReadsTested, ReadsNext, ReadsFor}
+use Rattle.c_grammar_laws.specs.c_readers.Readers.{Tokens, found, ◌>>=◌, a_sign}
+use Rattle.c_grammar_laws.specs.c_readers.ExpressionReader.{expression}
+use Rattle.c_grammar_laws.specs.c_readers.CallReader.{call}
+use Rattle.c_grammar_laws.specs.grammar.Exactness.{Eventually}
 use Rattle.c_grammar_laws.specs.ExpressionLaws.{EndsAt}
 use Rattle.c_grammar_laws.proofs.ExpressionComplete.{reads-whole, and_too}
 use Rattle.c_grammar_laws.proofs.CallComplete.{reads-call}

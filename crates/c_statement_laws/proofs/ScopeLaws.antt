@@ -2,9 +2,9 @@
 use Rattle.std.proofs.Common.{◌≡◌, refl, sym, ap, ◌∙◌, Bool, true, false, not, ◌||◌, List, [], ◌∷◌, bytes_eq, ℕ, if◌then◌else◌}
 use Rattle.std.specs.List.{list_all}
 use Rattle.std.proofs.lemmas.Bool.{and_from, or_left, or_right}
-use Rattle.c_tree.specs.CWords.{is_among, is_name}
-use Rattle.c_tree.specs.CExpressionText.{Scope}
-use Rattle.c_tree.specs.CDeclarationText.{without, with_object, with_array, with_function, with_pointer}
+use Rattle.c_grammar_laws.specs.c_tree.CWords.{is_among, is_name}
+use Rattle.c_grammar_laws.specs.c_tree.CExpressionText.{Scope}
+use Rattle.c_grammar_laws.specs.c_tree.CDeclarationText.{without, with_object, with_array, with_function, with_pointer}
 use Rattle.c_grammar_laws.proofs.TokenGood.{equal-texts}
 use Rattle.c_statement_laws.specs.StatementLaws.{PointersAmong, InOrder, ScopesInOrder}
 use Rattle.c_statement_laws.proofs.LabelLaws.{all-at, all-each}

@@ -1,20 +1,20 @@
 -- Calls, assignments and returns are read as they stand.
 use Rattle.std.proofs.Common.{◌≡◌, refl, ap, ℕ, ◌≤◌, le_refl, Bool, true, false, List, [], ◌∷◌, codes, bytes_eq, Some, None, arith}
-use Rattle.c_tree.specs.declared.expression.CExpr.{CExpr}
-use Rattle.c_tree.specs.declared.expression.CCall.{CCall}
-use Rattle.c_tree.specs.declared.statement.CStmt.{CStmt}
-use Rattle.c_tree.specs.declared.statement.CStmt.TheVariants as stmt
-use Rattle.c_tree.specs.Tokens.{Word, Sign}
-use Rattle.c_tree.specs.CWords.{ASign}
-use Rattle.c_tree.specs.CLabels.{LabelsOf}
-use Rattle.c_tree.specs.CExpressionText.{Scope, ReadsExpr, ReadsCall}
-use Rattle.c_tree.specs.CStatementText as text
-use Rattle.c_tree.specs.CStatementText.{ReadsStmt}
-use Rattle.c_readers.specs.Readers.{Tokens, Reader, found, a_sign, ◌>>=◌}
-use Rattle.c_readers.specs.ExpressionReader.{expression}
-use Rattle.c_readers.specs.CallReader.{call}
-use Rattle.grammar.specs.Exactness.{head, Judged, Good}
-use Rattle.grammar.proofs.Judging.{in_turn, good-fewer, good-found, judged-also, takes-one, at-the-token, at-the-end}
+use Rattle.c_grammar_laws.specs.c_tree.declared.expression.CExpr.{CExpr}
+use Rattle.c_grammar_laws.specs.c_tree.declared.expression.CCall.{CCall}
+use Rattle.c_grammar_laws.specs.c_tree.declared.statement.CStmt.{CStmt}
+use Rattle.c_grammar_laws.specs.c_tree.declared.statement.CStmt.TheVariants as stmt
+use Rattle.c_grammar_laws.specs.c_tree.Tokens.{Word, Sign}
+use Rattle.c_grammar_laws.specs.c_tree.CWords.{ASign}
+use Rattle.c_grammar_laws.specs.c_tree.CLabels.{LabelsOf}
+use Rattle.c_grammar_laws.specs.c_tree.CExpressionText.{Scope, ReadsExpr, ReadsCall}
+use Rattle.c_grammar_laws.specs.c_tree.CStatementText as text
+use Rattle.c_grammar_laws.specs.c_tree.CStatementText.{ReadsStmt}
+use Rattle.c_grammar_laws.specs.c_readers.Readers.{Tokens, Reader, found, a_sign, ◌>>=◌}
+use Rattle.c_grammar_laws.specs.c_readers.ExpressionReader.{expression}
+use Rattle.c_grammar_laws.specs.c_readers.CallReader.{call}
+use Rattle.c_grammar_laws.specs.grammar.Exactness.{head, Judged, Good}
+use Rattle.c_grammar_laws.proofs.grammar.Judging.{in_turn, good-fewer, good-found, judged-also, takes-one, at-the-token, at-the-end}
 use Rattle.c_grammar_laws.proofs.TokenGood.{equal-texts, OneSign, good-sign}
 use Rattle.c_grammar_laws.proofs.ExpressionGood.{good_expressions}
 use Rattle.c_grammar_laws.proofs.CallGood.{all_good_calls}

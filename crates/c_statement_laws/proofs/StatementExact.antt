@@ -3,16 +3,16 @@ use Rattle.std.proofs.Common.{◌≡◌, refl, sym, ◌∙◌, subst, ℕ, le_re
 use Rattle.std.specs.List.{list_all}
 use Rattle.std.proofs.lemmas.Bool.{and_from, eqb-true}
 use Rattle.std.proofs.lemmas.List.Folds.{list_all-append}
-use Rattle.c_tree.specs.declared.statement.CStmt.{CStmt}
-use Rattle.c_tree.specs.declared.statement.CStmt.TheVariants as stmt
-use Rattle.c_tree.specs.CWords.{is_among, is_name}
-use Rattle.c_tree.specs.CLabels.{LabelsOf, no_label, both, standing, labels_of, labels_of_all, stands_once}
-use Rattle.c_tree.specs.CExpressionText.{Scope}
-use Rattle.c_tree.specs.CStatementText as form
-use Rattle.c_tree.specs.CStatementText.{ReadsStmt, ReadsStmts}
-use Rattle.c_readers.specs.Readers.{Tokens}
+use Rattle.c_grammar_laws.specs.c_tree.declared.statement.CStmt.{CStmt}
+use Rattle.c_grammar_laws.specs.c_tree.declared.statement.CStmt.TheVariants as stmt
+use Rattle.c_grammar_laws.specs.c_tree.CWords.{is_among, is_name}
+use Rattle.c_grammar_laws.specs.c_tree.CLabels.{LabelsOf, no_label, both, standing, labels_of, labels_of_all, stands_once}
+use Rattle.c_grammar_laws.specs.c_tree.CExpressionText.{Scope}
+use Rattle.c_grammar_laws.specs.c_tree.CStatementText as form
+use Rattle.c_grammar_laws.specs.c_tree.CStatementText.{ReadsStmt, ReadsStmts}
+use Rattle.c_grammar_laws.specs.c_readers.Readers.{Tokens}
 use Rattle.c_grammar_laws.specs.ExpressionLaws.{Anything}
-use Rattle.grammar.proofs.GoodExact.{good-exact}
+use Rattle.c_grammar_laws.proofs.grammar.GoodExact.{good-exact}
 use Rattle.c_statement_readers.specs.LabelTests.{may_be_named, can_meet, meet}
 use Rattle.c_statement_readers.specs.StatementReader.{statement, body}
 use Rattle.c_statement_laws.specs.StatementLaws.{StatementIs, BodyIs, EndsStatement, ExactStatements, ExactBodies}

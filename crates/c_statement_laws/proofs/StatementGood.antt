@@ -1,17 +1,17 @@
 -- Statements are read as they stand.
 use Rattle.std.proofs.Common.{◌≡◌, refl, sym, ap, ◌∙◌, subst, ℕ, zero, suc, ◌≤◌, Bool, true, false, ◌||◌, List, [], ◌∷◌, codes, Option, Some, None, arith}
 use Rattle.std.proofs.lemmas.Bool.{and_from, and_right, or_right}
-use Rattle.c_tree.specs.declared.statement.CStmt.{CStmt}
-use Rattle.c_tree.specs.declared.statement.CStmt.TheVariants as stmt
-use Rattle.c_tree.specs.Tokens.{Word, Sign}
-use Rattle.c_tree.specs.CWords.{is_among}
-use Rattle.c_tree.specs.CLabels.{LabelsOf, both, no_label, standing, labels_of}
-use Rattle.c_tree.specs.CExpressionText.{Scope}
-use Rattle.c_tree.specs.CStatementText as text
-use Rattle.c_readers.specs.Readers.{Tokens, Reader, found, lookup, ◌>>=◌, a_sign}
-use Rattle.c_readers.specs.ExpressionReader.{WordLead, word_lead, expression}
-use Rattle.grammar.specs.Exactness.{head, Judged, Good}
-use Rattle.grammar.proofs.Judging.{in_turn, good-found, judged-also, behind-token, takes-one, at-the-token, at-the-end}
+use Rattle.c_grammar_laws.specs.c_tree.declared.statement.CStmt.{CStmt}
+use Rattle.c_grammar_laws.specs.c_tree.declared.statement.CStmt.TheVariants as stmt
+use Rattle.c_grammar_laws.specs.c_tree.Tokens.{Word, Sign}
+use Rattle.c_grammar_laws.specs.c_tree.CWords.{is_among}
+use Rattle.c_grammar_laws.specs.c_tree.CLabels.{LabelsOf, both, no_label, standing, labels_of}
+use Rattle.c_grammar_laws.specs.c_tree.CExpressionText.{Scope}
+use Rattle.c_grammar_laws.specs.c_tree.CStatementText as text
+use Rattle.c_grammar_laws.specs.c_readers.Readers.{Tokens, Reader, found, lookup, ◌>>=◌, a_sign}
+use Rattle.c_grammar_laws.specs.c_readers.ExpressionReader.{WordLead, word_lead, expression}
+use Rattle.c_grammar_laws.specs.grammar.Exactness.{head, Judged, Good}
+use Rattle.c_grammar_laws.proofs.grammar.Judging.{in_turn, good-found, judged-also, behind-token, takes-one, at-the-token, at-the-end}
 use Rattle.c_grammar_laws.proofs.TokenGood.{OneSign, good-sign}
 use Rattle.c_grammar_laws.proofs.ExpressionTables.{row-found}
 use Rattle.c_statement_readers.specs.LabelTests.{can_meet, may_stand, with_label}

@@ -1,17 +1,17 @@
 -- Statements that are spelled are read.
 use Rattle.std.proofs.Common.{◌≡◌, refl, sym, ap, ◌∙◌, subst, ℕ, zero, suc, ◌+◌, ◌≤◌, Bool, true, false, List, [], ◌∷◌, ◌++◌, append_assoc, append-nil, codes, Some, None, arith}
-use Rattle.c_tree.specs.declared.expression.CExpr.{CExpr}
-use Rattle.c_tree.specs.declared.statement.CNext.{CNext}
-use Rattle.c_tree.specs.declared.statement.CStmt.{CStmt}
-use Rattle.c_tree.specs.declared.statement.CStmt.TheVariants as stmt
-use Rattle.c_tree.specs.Tokens.{Sign}
-use Rattle.c_tree.specs.CWords.{ASign, AWord}
-use Rattle.c_tree.specs.CLabels.{LabelsOf, no_label, both, standing, labels_of, labels_of_all}
-use Rattle.c_tree.specs.CExpressionText.{Scope, ReadsExpr}
-use Rattle.c_tree.specs.CStatementText as form
-use Rattle.c_tree.specs.CStatementText.{ReadsStmt, ReadsStmts, ReadsTested, ReadsFor}
-use Rattle.c_readers.specs.Readers.{Tokens, found}
-use Rattle.grammar.specs.Exactness.{Eventually}
+use Rattle.c_grammar_laws.specs.c_tree.declared.expression.CExpr.{CExpr}
+use Rattle.c_grammar_laws.specs.c_tree.declared.statement.CNext.{CNext}
+use Rattle.c_grammar_laws.specs.c_tree.declared.statement.CStmt.{CStmt}
+use Rattle.c_grammar_laws.specs.c_tree.declared.statement.CStmt.TheVariants as stmt
+use Rattle.c_grammar_laws.specs.c_tree.Tokens.{Sign}
+use Rattle.c_grammar_laws.specs.c_tree.CWords.{ASign, AWord}
+use Rattle.c_grammar_laws.specs.c_tree.CLabels.{LabelsOf, no_label, both, standing, labels_of, labels_of_all}
+use Rattle.c_grammar_laws.specs.c_tree.CExpressionText.{Scope, ReadsExpr}
+use Rattle.c_grammar_laws.specs.c_tree.CStatementText as form
+use Rattle.c_grammar_laws.specs.c_tree.CStatementText.{ReadsStmt, ReadsStmts, ReadsTested, ReadsFor}
+use Rattle.c_grammar_laws.specs.c_readers.Readers.{Tokens, found}
+use Rattle.c_grammar_laws.specs.grammar.Exactness.{Eventually}
 use Rattle.c_grammar_laws.proofs.CallComplete.{Soon}
 use Rattle.c_statement_readers.specs.LabelTests.{may_be_named, can_meet, with_label}
 use Rattle.c_statement_readers.specs.PartReader.{Right, Value, Called, set_to, simple, return_of, tested}

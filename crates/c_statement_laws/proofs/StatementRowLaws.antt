@@ -1,6 +1,6 @@
 -- The rows of statements, by computation.
 use Rattle.std.proofs.Common.{refl}
-use Rattle.c_tree.specs.Opened.{trees_opened}
+use Rattle.c_grammar_laws.specs.c_tree.Opened.{trees_opened}
 use Rattle.c_statement_readers.specs.Opened.{statements_opened}
 use Rattle.c_statement_laws.specs.StatementRows.{StatementRows, BodyRows}
 

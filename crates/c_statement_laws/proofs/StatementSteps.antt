@@ -1,14 +1,14 @@
 -- One step of the reader of statements for each form.
 use Rattle.std.proofs.Common.{◌≡◌, refl, sym, ap, ◌∙◌, ℕ, suc, Bool, true, false, not, ◌&&◌, List, [], ◌∷◌, ◌++◌, codes, bytes_eq, if◌then◌else◌, Some, None}
-use Rattle.c_tree.specs.declared.expression.CExpr.{CExpr}
-use Rattle.c_tree.specs.declared.statement.CCase.{CCase}
-use Rattle.c_tree.specs.declared.statement.CStmt.{CStmt}
-use Rattle.c_tree.specs.declared.statement.CStmt.TheVariants as stmt
-use Rattle.c_tree.specs.Tokens.{Word, Sign, Digits, Quoted, Including, Bad}
-use Rattle.c_tree.specs.CWords.{is_among, is_name, AWord, ASign}
-use Rattle.c_tree.specs.CLabels.{LabelsOf, both, labels_of, labels_of_all}
-use Rattle.c_tree.specs.CExpressionText.{Scope}
-use Rattle.c_readers.specs.Readers.{Tokens, Reader, found, refused, ◌>>=◌, a_sign, a_word}
+use Rattle.c_grammar_laws.specs.c_tree.declared.expression.CExpr.{CExpr}
+use Rattle.c_grammar_laws.specs.c_tree.declared.statement.CCase.{CCase}
+use Rattle.c_grammar_laws.specs.c_tree.declared.statement.CStmt.{CStmt}
+use Rattle.c_grammar_laws.specs.c_tree.declared.statement.CStmt.TheVariants as stmt
+use Rattle.c_grammar_laws.specs.c_tree.Tokens.{Word, Sign, Digits, Quoted, Including, Bad}
+use Rattle.c_grammar_laws.specs.c_tree.CWords.{is_among, is_name, AWord, ASign}
+use Rattle.c_grammar_laws.specs.c_tree.CLabels.{LabelsOf, both, labels_of, labels_of_all}
+use Rattle.c_grammar_laws.specs.c_tree.CExpressionText.{Scope}
+use Rattle.c_grammar_laws.specs.c_readers.Readers.{Tokens, Reader, found, refused, ◌>>=◌, a_sign, a_word}
 use Rattle.c_grammar_laws.proofs.ExpressionSteps.{not-found}
 use Rattle.c_grammar_laws.proofs.TokenReads.{sign-read, word-read, name-read}
 use Rattle.c_statement_readers.specs.LabelTests.{may_be_named, may_stand, with_label}

@@ -1,15 +1,15 @@
 -- The laws of the readers of statements.
 use Rattle.std.specs.Prelude.{◌≡◌, ◌≤◌, ℕ, Bool, true, false, List, ◌∷◌, codes, bytes_eq}
-use Rattle.c_tree.specs.declared.statement.CStmt.{CStmt}
-use Rattle.c_tree.specs.Tokens.{Word}
-use Rattle.c_tree.specs.CWords.{is_among, is_name}
-use Rattle.c_tree.specs.CLabels.{LabelsOf, both, labels_of, labels_of_all, labels_meet}
-use Rattle.c_tree.specs.CExpressionText.{Scope}
-use Rattle.c_tree.specs.CStatementText.{ReadsStmt, ReadsStmts}
-use Rattle.c_tree.specs.CDeclarationText.{with_object, with_array, with_function, with_pointer}
-use Rattle.c_tree.specs.CText.{no_names}
-use Rattle.c_readers.specs.Readers.{Tokens}
-use Rattle.grammar.specs.Exactness.{Good, Exact}
+use Rattle.c_grammar_laws.specs.c_tree.declared.statement.CStmt.{CStmt}
+use Rattle.c_grammar_laws.specs.c_tree.Tokens.{Word}
+use Rattle.c_grammar_laws.specs.c_tree.CWords.{is_among, is_name}
+use Rattle.c_grammar_laws.specs.c_tree.CLabels.{LabelsOf, both, labels_of, labels_of_all, labels_meet}
+use Rattle.c_grammar_laws.specs.c_tree.CExpressionText.{Scope}
+use Rattle.c_grammar_laws.specs.c_tree.CStatementText.{ReadsStmt, ReadsStmts}
+use Rattle.c_grammar_laws.specs.c_tree.CDeclarationText.{with_object, with_array, with_function, with_pointer}
+use Rattle.c_grammar_laws.specs.c_tree.CText.{no_names}
+use Rattle.c_grammar_laws.specs.c_readers.Readers.{Tokens}
+use Rattle.c_grammar_laws.specs.grammar.Exactness.{Good, Exact}
 use Rattle.c_grammar_laws.specs.ExpressionLaws.{OfNames, Anything}
 use Rattle.c_statement_readers.specs.LabelTests.{can_meet}
 use Rattle.c_statement_readers.specs.StatementReader.{closes_anywhere, block, statement, body}

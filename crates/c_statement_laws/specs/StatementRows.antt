@@ -1,17 +1,17 @@
 -- Tokens with the statements that the readers give, or with the tokens from the offending one on. The objects are x and g, the function f, and the
 -- parameter that points to a function g.
 use Rattle.std.specs.Prelude.{◌≡◌, ℕ, pos, Bool, false, true, List, [], ◌∷◌, codes, Some, None, Ok, Err}
-use Rattle.c_tree.specs.declared.expression.UnaryOp.TheVariants as prefix
-use Rattle.c_tree.specs.declared.expression.CExpr.{CExpr}
-use Rattle.c_tree.specs.declared.expression.CExpr.TheVariants as expr
-use Rattle.c_tree.specs.declared.expression.CCall.{CCall}
-use Rattle.c_tree.specs.declared.statement.CNext.TheVariants as next
-use Rattle.c_tree.specs.declared.statement.CStmt.{CStmt}
-use Rattle.c_tree.specs.declared.statement.CStmt.TheVariants as stmt
-use Rattle.c_tree.specs.Tokens.{Token, Word, Digits, Sign}
-use Rattle.c_tree.specs.CLabels.{no_label}
-use Rattle.c_tree.specs.CExpressionText.{Scope}
-use Rattle.c_readers.specs.Readers.{Tokens}
+use Rattle.c_grammar_laws.specs.c_tree.declared.expression.UnaryOp.TheVariants as prefix
+use Rattle.c_grammar_laws.specs.c_tree.declared.expression.CExpr.{CExpr}
+use Rattle.c_grammar_laws.specs.c_tree.declared.expression.CExpr.TheVariants as expr
+use Rattle.c_grammar_laws.specs.c_tree.declared.expression.CCall.{CCall}
+use Rattle.c_grammar_laws.specs.c_tree.declared.statement.CNext.TheVariants as next
+use Rattle.c_grammar_laws.specs.c_tree.declared.statement.CStmt.{CStmt}
+use Rattle.c_grammar_laws.specs.c_tree.declared.statement.CStmt.TheVariants as stmt
+use Rattle.c_grammar_laws.specs.c_tree.Tokens.{Token, Word, Digits, Sign}
+use Rattle.c_grammar_laws.specs.c_tree.CLabels.{no_label}
+use Rattle.c_grammar_laws.specs.c_tree.CExpressionText.{Scope}
+use Rattle.c_grammar_laws.specs.c_readers.Readers.{Tokens}
 use Rattle.c_statement_readers.specs.StatementReader.{statement, body}
 
 abbrev row_scope : Scope

@@ -8,9 +8,9 @@ use Rattle.c_tree.specs.CExpressionText.{Scope}
 use Rattle.c_readers.specs.Readers.{Tokens, Outcome, Reader, ◌>>=◌, a_sign, a_name}
 use Rattle.c_readers.specs.ExpressionReader.{expression}
 use Rattle.c_readers.specs.CallReader.{arguments, called, through_a_parameter, starred, has_some, by_function, by_opening, call}
-use Rattle.grammar.specs.Exactness.{Took, Stopped, Judged, Good}
-use Rattle.c_grammar_laws.proofs.ExpressionGood.{good_expressions}
-use Rattle.c_grammar_laws.proofs.CallGood.{all_good_arguments}
+use Rattle.c_readers.specs.grammar.Exactness.{Took, Stopped, Judged, Good}
+use Rattle.c_statement_laws.proofs.c_grammar_laws.ExpressionGood.{good_expressions}
+use Rattle.c_statement_laws.proofs.c_grammar_laws.CallGood.{all_good_arguments}
 use Rattle.c_expression_reader.specs.declared.failure.Failure.{Failure}
 use Rattle.c_expression_reader.specs.declared.failure.Failure.TheVariants.{Memory, NotC}
 use Rattle.c_expression_reader.specs.Readings.{shown, Gives}

@@ -2,9 +2,9 @@
 use Rattle.std.specs.Prelude.{ℕ, zero, suc, nat_le, pos, Bool, not, ◌&&◌, List, [], ◌∷◌, ◌++◌, length, codes, bytes_eq, Option, None, if◌then◌else◌}
 use Rattle.std.specs.List.{list_any}
 use Rattle.std.specs.Ordering.{int_eq}
-use Rattle.c_tree.specs.declared.statement.CCase.{CCase}
-use Rattle.c_tree.specs.Tokens.{Word, Sign}
-use Rattle.c_tree.specs.CStatementText.{case_numbers}
+use Rattle.c_readers.specs.c_tree.declared.statement.CCase.{CCase}
+use Rattle.c_readers.specs.c_tree.Tokens.{Word, Sign}
+use Rattle.c_readers.specs.c_tree.CStatementText.{case_numbers}
 use Rattle.c_readers.specs.Readers.{Tokens, Outcome, Reader, found, refused, ◌>>=◌, a_sign, a_word, a_name}
 use Rattle.c_readers.specs.ValueReader.{is_within, a_number}
 use Rattle.c_statement_readers.specs.LabelTests.{may_be_named}

@@ -2,8 +2,8 @@
 -- whole function each label that is named stands once.
 use Rattle.std.specs.Prelude.{ℕ, nat_le, Bool, not, ◌&&◌, List, length, filter, bytes_eq}
 use Rattle.std.specs.List.{list_all}
-use Rattle.c_tree.specs.CWords.{is_among, is_name}
-use Rattle.c_tree.specs.CLabels.{LabelsOf, no_label, both, standing, stands_once}
+use Rattle.c_readers.specs.c_tree.CWords.{is_among, is_name}
+use Rattle.c_readers.specs.c_tree.CLabels.{LabelsOf, no_label, both, standing, stands_once}
 
 -- A label may be named: it is a name, and stands once at most.
 abbrev pub may_be_named : List (List ℕ) → List ℕ → Bool

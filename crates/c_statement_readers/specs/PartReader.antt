@@ -1,14 +1,14 @@
 -- The readers of what statements are made of (C89, 3.6): what is assigned and returned, what is tested, and the head of a `for`.
 use Rattle.std.specs.Prelude.{ℕ, Bool, true, false, ◌&&◌, List, [], ◌∷◌, codes, bytes_eq, Option, Some, None}
-use Rattle.c_tree.specs.declared.expression.CExpr.{CExpr}
-use Rattle.c_tree.specs.declared.expression.CCall.{CCall}
-use Rattle.c_tree.specs.declared.statement.CNext.{CNext}
-use Rattle.c_tree.specs.declared.statement.CNext.TheVariants as next
-use Rattle.c_tree.specs.declared.statement.CStmt.{CStmt}
-use Rattle.c_tree.specs.declared.statement.CStmt.TheVariants as stmt
-use Rattle.c_tree.specs.Tokens.{Word, Sign}
-use Rattle.c_tree.specs.CWords.{is_among}
-use Rattle.c_tree.specs.CExpressionText.{Scope}
+use Rattle.c_readers.specs.c_tree.declared.expression.CExpr.{CExpr}
+use Rattle.c_readers.specs.c_tree.declared.expression.CCall.{CCall}
+use Rattle.c_readers.specs.c_tree.declared.statement.CNext.{CNext}
+use Rattle.c_readers.specs.c_tree.declared.statement.CNext.TheVariants as next
+use Rattle.c_readers.specs.c_tree.declared.statement.CStmt.{CStmt}
+use Rattle.c_readers.specs.c_tree.declared.statement.CStmt.TheVariants as stmt
+use Rattle.c_readers.specs.c_tree.Tokens.{Word, Sign}
+use Rattle.c_readers.specs.c_tree.CWords.{is_among}
+use Rattle.c_readers.specs.c_tree.CExpressionText.{Scope}
 use Rattle.c_readers.specs.Readers.{Tokens, Outcome, Reader, found, ◌>>=◌, lookup, a_sign}
 use Rattle.c_readers.specs.ExpressionReader.{expression}
 use Rattle.c_readers.specs.CallReader.{call}

@@ -1,12 +1,12 @@
 -- The reader of statements (C89, 3.6). It goes by the labels that stand and are named so far in the function, so that each label that is named
 -- can still stand once; at the closing brace of the function each does.
 use Rattle.std.specs.Prelude.{ℕ, zero, suc, Bool, true, false, ◌&&◌, ◌||◌, List, [], ◌∷◌, ◌++◌, codes, bytes_eq, Option, Some, None, if◌then◌else◌}
-use Rattle.c_tree.specs.declared.expression.CExpr.{CExpr}
-use Rattle.c_tree.specs.declared.statement.CStmt.{CStmt}
-use Rattle.c_tree.specs.declared.statement.CStmt.TheVariants as stmt
-use Rattle.c_tree.specs.Tokens.{Word, Sign}
-use Rattle.c_tree.specs.CLabels.{LabelsOf, no_label, both, labels_of, labels_of_all}
-use Rattle.c_tree.specs.CExpressionText.{Scope}
+use Rattle.c_readers.specs.c_tree.declared.expression.CExpr.{CExpr}
+use Rattle.c_readers.specs.c_tree.declared.statement.CStmt.{CStmt}
+use Rattle.c_readers.specs.c_tree.declared.statement.CStmt.TheVariants as stmt
+use Rattle.c_readers.specs.c_tree.Tokens.{Word, Sign}
+use Rattle.c_readers.specs.c_tree.CLabels.{LabelsOf, no_label, both, labels_of, labels_of_all}
+use Rattle.c_readers.specs.c_tree.CExpressionText.{Scope}
 use Rattle.c_readers.specs.Readers.{Tokens, Outcome, Reader, found, refused, ◌>>=◌, lookup, a_sign, a_word, a_name}
 use Rattle.c_readers.specs.ExpressionReader.{WordLead, word_lead}
 use Rattle.c_statement_readers.specs.LabelTests.{may_be_named, may_stand, with_label, meet}

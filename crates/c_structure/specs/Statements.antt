@@ -1,17 +1,20 @@
 -- Structured C statements whose flat form is a given list of items: a test that passes the items behind it is an `if`, with an `else` where it is said
--- that the last of them passes the other arm; a loop that is said to begin at an item is a `for`; labels stand where it is said that they do. None for
--- items that have no statement of their own. C89, 3.6.
-use Rattle.std.specs.Prelude.{ℕ, zero, suc, ◌+◌, ◌-◌, pos, nat_eq, nat_le, Bool, true, false, ◌&&◌, List, [], ◌∷◌, ◌++◌, length, take, drop, Option, Some, None, is_none, option_map, slice_get, if◌then◌else◌}
+-- that the last of them passes the other arm; an item that picks one of the jumps behind it is a `switch`; a loop that is said to begin at an item is a
+-- `for`; labels stand where it is said that they do. None for items that have no statement of their own. C89, 3.6.
+use Rattle.std.specs.Prelude.{ℕ, ℤ, zero, suc, ◌+◌, ◌-◌, pos, negsuc, nat_eq, nat_le, Bool, true, false, not, ◌&&◌, List, [], ◌∷◌, ◌++◌, map, length, take, drop, Option, Some, None, is_none, option_map, slice_get, if◌then◌else◌}
+use Rattle.std.specs.List.{list_any}
+use Rattle.std.specs.Ordering.{int_eq}
 use Rattle.c_tree.specs.declared.expression.CExpr.{CExpr}
 use Rattle.c_tree.specs.declared.expression.BinaryOp.TheVariants as op
 use Rattle.c_tree.specs.declared.expression.UnaryOp.TheVariants as prefix
+use Rattle.c_tree.specs.declared.statement.CCase.{CCase}
 use Rattle.c_tree.specs.declared.statement.CNext.{CNext}
 use Rattle.c_tree.specs.declared.statement.CNext.TheVariants as next
 use Rattle.c_tree.specs.declared.statement.CStmt.{CStmt}
 use Rattle.c_tree.specs.declared.statement.CStmt.TheVariants as stmt
 use Rattle.c_tree.specs.Access.{ToNumber, ToPointer, ToFunction}
 use Rattle.c_tree.specs.Terms.{Term, Constant, Variable, Array, Prefixed, Between, Element}
-use Rattle.c_tree.specs.Flat.{Flat, Assign, Branch, Jump, Invoke, Return, Nothing, Ignored, Kept, Direct, Through}
+use Rattle.c_tree.specs.Flat.{Flat, Assign, Branch, Select, Jump, Invoke, Return, Nothing, Ignored, Kept, Direct, Through, CaseAt}
 use Rattle.c_structure.specs.Expressions.{Names, expr_for, exprs_for, strings_in, strings_in_all}
 
 -- what is known besides the items: names, the label before the item at a position, whether an item is the jump at the end of an arm, and how many items
@@ -51,6 +54,7 @@ statement_of o item = None
 unfoldable pub strings_of_item : Names → Flat → List ℕ
 strings_of_item names (Assign t u) = strings_in names t ++ strings_in names u
 strings_of_item names (Branch test on off) = strings_in names test
+strings_of_item names (Select value cases otherwise) = strings_in names value
 strings_of_item names (Invoke Ignored callee arguments) = strings_in_all names arguments
 strings_of_item names (Invoke (Kept t) callee arguments) = strings_in names t ++ strings_in_all names arguments
 strings_of_item names (Return (Some t)) = strings_in names t
@@ -106,10 +110,51 @@ branch_for o write n test zero later = if_for o write n test 0 later
 branch_for o write n test (suc m) later =
     if o.ends_arm (suc n + m) then arms_for o write n test m (end_of_arm (slice_get later m)) later else if_for o write n test (suc m) later
 
+-- a case with the label to which its jump goes
+unfoldable pub case_by : ℤ → Option (List ℕ) → Option CCase
+case_by number None = None
+case_by number (Some label) = Some (record { number = number; label = label })
+
+-- the case that an item at a position is the jump of, where no label stands before it
+unfoldable pub case_for : Outline → ℕ → CaseAt → Flat → Option CCase
+case_for o n at (Jump position) = if nat_eq at.position n && is_none (o.label n) then case_by at.number (o.label position) else None
+case_for o n at item = None
+
+unfoldable pub before_cases : Option CCase → Option (List CCase) → Option (List CCase)
+before_cases (Some case) (Some cases) = Some (case ∷ cases)
+before_cases _ _ = None
+
+-- the cases whose jumps are the first items from a position on, in their order
+unfoldable pub cases_for : Outline → ℕ → List CaseAt → List Flat → Option (List CCase)
+cases_for o n [] later = Some []
+cases_for o n (at ∷ cases) [] = None
+cases_for o n (at ∷ cases) (item ∷ later) = before_cases (case_for o n at item) (cases_for o (suc n) cases later)
+
+-- a number without a sign, as far as an int goes
+unfoldable pub is_case_number : ℤ → Bool
+is_case_number (pos n) = nat_le n 2147483647
+is_case_number (negsuc n) = false
+
+-- the numbers of the cases: none stands twice (3.6.4.2)
+unfoldable pub are_case_numbers : List ℤ → Bool
+are_case_numbers [] = true
+are_case_numbers (number ∷ later) = is_case_number number && (not (list_any (int_eq number) later) && are_case_numbers later)
+
+unfoldable pub switch_by : Option CExpr → Option (List CCase) → Option CStmt
+switch_by (Some value) (Some cases) = Some (stmt.Switch value cases)
+switch_by _ _ = None
+
+-- a value that picks one of so many jumps, which stand at once behind it
+unfoldable pub switch_for : Outline → Writer → ℕ → Option CExpr → List CaseAt → List Flat → Option (List CStmt)
+switch_for o write n value cases later =
+    before (option_map (with_label (o.label n)) (switch_by value (cases_for o (suc n) cases later))) (write (suc n + length cases) (drop (length cases) later))
+
 -- an item, and those behind it
 unfoldable pub item_for : Outline → Writer → ℕ → Flat → List Flat → Option (List CStmt)
 item_for o write n (Branch test on off) later =
     if nat_eq on (suc n) && (nat_le (suc n) off && nat_le (off - suc n) (length later)) then branch_for o write n (expr_for o.names test) (off - suc n) later else None
+item_for o write n (Select value cases otherwise) later =
+    if nat_eq otherwise (suc n + length cases) && are_case_numbers (map (λ (at : CaseAt). at.number) cases) then switch_for o write n (expr_for o.names value) cases later else None
 item_for o write n item later = before (option_map (with_label (o.label n)) (statement_of o item)) (write (suc n) later)
 
 -- ## Loops
@@ -170,5 +215,5 @@ statements_for o zero n (item ∷ later) = None
 statements_for o (suc turns) n (item ∷ later) = part_for o (statements_for o turns) (o.loop n) n item later
 
 unfoldable pub statements_opened : Unit {0}
-unfolding set_by call_by set_call_by statement_of strings_of_item strings_of_items with_label before if_by if_else_by end_of_arm if_for if_else_for arms_for branch_for item_for same_place added_by next_by next_for for_by goes_back is_loop loop_for part_for statements_for
+unfolding set_by call_by set_call_by statement_of strings_of_item strings_of_items with_label before if_by if_else_by end_of_arm if_for if_else_for arms_for branch_for case_by case_for before_cases cases_for is_case_number are_case_numbers switch_by switch_for item_for same_place added_by next_by next_for for_by goes_back is_loop loop_for part_for statements_for
 statements_opened = tt

@@ -2,14 +2,14 @@
 use Rattle.std.specs.Prelude.{◌≡◌, ℕ, ◌+◌, ℤ, pos, negsuc, nat_le, Bool, true, false, List, [], ◌∷◌, ◌++◌, length, Option, Some, None, option_map, if◌then◌else◌}
 use Rattle.std.proofs.Common.{refl, sym, ap, ◌∙◌, subst, arith}
 use Rattle.std.proofs.lemmas.List.{map-append, length-map, append_assoc}
-use Rattle.c_tree.specs.declared.expression.CExpr.{CExpr}
-use Rattle.c_tree.specs.declared.expression.CExpr.TheVariants as expr
-use Rattle.c_tree.specs.Terms.{Term, Constant, Variable, Array, Routine, Unknown, Prefixed, Cast, Between, Choice, Element, Field, Size, Most, Magnitude}
-use Rattle.c_tree.specs.Drafts.{Scope, Draft, bare, drafted, joined, joined_three}
-use Rattle.c_tree.specs.LinkedExpressions.{linked, name_of, linked_all}
+use Rattle.c_laws.specs.c_tree.declared.expression.CExpr.{CExpr}
+use Rattle.c_laws.specs.c_tree.declared.expression.CExpr.TheVariants as expr
+use Rattle.c_laws.specs.c_tree.Terms.{Term, Constant, Variable, Array, Routine, Unknown, Prefixed, Cast, Between, Choice, Element, Field, Size, Most, Magnitude}
+use Rattle.c_laws.specs.c_tree.Drafts.{Scope, Draft, bare, drafted, joined, joined_three}
+use Rattle.c_laws.specs.c_tree.LinkedExpressions.{linked, name_of, linked_all}
 use Rattle.c_laws.proofs.TreeEquations.{linked-Unary, linked-Cast, linked-Binary, linked-Choose, linked-Index, linked-Field, linked-SizeInt, linked-MaxMin, linked-Abs}
 use Rattle.c_structure.specs.Expressions.{Names, with_two, with_three, number_expr, array_expr, expr_for, one_more, exprs_for, string_at, strings_in, strings_in_all}
-use Rattle.c_tree.specs.Access.{Access}
+use Rattle.c_laws.specs.c_tree.Access.{Access}
 use Rattle.c_structure_laws.specs.Fitting.{KnowsArray, KnowsAll, AreNumbered, AreBytesOf, IsDrawn, ExpressionsAreTheirs}
 
 -- ## Parts

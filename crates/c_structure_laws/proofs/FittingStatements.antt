@@ -1,27 +1,28 @@
 -- The statements that are built have the items that they are built for.
-use Rattle.std.specs.Prelude.{◌≡◌, ℕ, zero, suc, ◌+◌, ◌-◌, ◌≤◌, pos, nat_eq, nat_le, Bool, true, false, ◌&&◌, List, [], ◌∷◌, ◌++◌, length, map, take, drop, Option, Some, None, is_none, option_map, slice_get, if◌then◌else◌}
+use Rattle.std.specs.Prelude.{◌≡◌, ℕ, ℤ, zero, suc, ◌+◌, ◌-◌, ◌≤◌, pos, nat_eq, nat_le, Bool, true, false, ◌&&◌, List, [], ◌∷◌, ◌++◌, length, map, take, drop, Option, Some, None, is_none, option_map, slice_get, if◌then◌else◌}
 use Rattle.std.proofs.Common.{refl, sym, ap, ◌∙◌, subst, arith}
-use Rattle.std.proofs.lemmas.Bool.{eqb-true, leb-true}
+use Rattle.std.proofs.lemmas.Bool.{and_parts, eqb-true, leb-true}
 use Rattle.std.proofs.lemmas.List.{append-nil, append_assoc, length-append, length-take-le, take-append-drop}
-use Rattle.c_tree.specs.declared.expression.CExpr.{CExpr}
-use Rattle.c_tree.specs.declared.expression.CCall.{CCall}
-use Rattle.c_tree.specs.declared.expression.BinaryOp.TheVariants as op
-use Rattle.c_tree.specs.declared.expression.UnaryOp.TheVariants as prefix
-use Rattle.c_tree.specs.declared.statement.CNext.{CNext}
-use Rattle.c_tree.specs.declared.statement.CNext.TheVariants as next
-use Rattle.c_tree.specs.declared.statement.CStmt.{CStmt}
-use Rattle.c_tree.specs.declared.statement.CStmt.TheVariants as stmt
-use Rattle.c_tree.specs.Access.{ToNumber, ToPointer, ToFunction}
-use Rattle.c_tree.specs.Terms.{Term, Constant, Variable, Array, Routine, Prefixed, Between, Element}
-use Rattle.c_tree.specs.Flat.{Flat, Assign, Branch, Select, Jump, Invoke, Return, ReturnAnswer, Nothing, Lost, Ignored, Kept, Returned, Callee, Direct, Through, Nowhere}
-use Rattle.c_tree.specs.Drafts.{Scope, Draft, bare, drafted, joined}
-use Rattle.c_tree.specs.LinkedExpressions.{linked, name_of, linked_all, Calling, called, linked_call}
-use Rattle.c_tree.specs.FlatForm as code
-use Rattle.c_tree.specs.FlatForm.{LabelAt, Labels, Body, sequence, one, marked, if_only, if_else, jump_to, next_item, tested, for_loop, body, body_of_all}
+use Rattle.c_laws.specs.c_tree.declared.expression.CExpr.{CExpr}
+use Rattle.c_laws.specs.c_tree.declared.expression.CCall.{CCall}
+use Rattle.c_laws.specs.c_tree.declared.expression.BinaryOp.TheVariants as op
+use Rattle.c_laws.specs.c_tree.declared.expression.UnaryOp.TheVariants as prefix
+use Rattle.c_laws.specs.c_tree.declared.statement.CCase.{CCase}
+use Rattle.c_laws.specs.c_tree.declared.statement.CNext.{CNext}
+use Rattle.c_laws.specs.c_tree.declared.statement.CNext.TheVariants as next
+use Rattle.c_laws.specs.c_tree.declared.statement.CStmt.{CStmt}
+use Rattle.c_laws.specs.c_tree.declared.statement.CStmt.TheVariants as stmt
+use Rattle.c_laws.specs.c_tree.Access.{ToNumber, ToPointer, ToFunction}
+use Rattle.c_laws.specs.c_tree.Terms.{Term, Constant, Variable, Array, Routine, Prefixed, Between, Element}
+use Rattle.c_laws.specs.c_tree.Flat.{Flat, Assign, Branch, Select, Jump, Invoke, Return, ReturnAnswer, Nothing, Lost, Ignored, Kept, Returned, Direct, Through, Nowhere, CaseAt}
+use Rattle.c_laws.specs.c_tree.Drafts.{Scope, Draft, bare, drafted, joined}
+use Rattle.c_laws.specs.c_tree.LinkedExpressions.{linked, name_of, linked_all, Calling, called, linked_call}
+use Rattle.c_laws.specs.c_tree.FlatForm as code
+use Rattle.c_laws.specs.c_tree.FlatForm.{LabelAt, Labels, Body, sequence, one, marked, if_only, if_else, jump_to, cases_from, case_jumps, next_item, tested, for_loop, body, body_of_all}
 use Rattle.c_laws.proofs.TreeEquations.{body-Label, body-If, body-IfElse, body-For}
 use Rattle.c_structure.specs.Expressions.{Names, expr_for, exprs_for, string_at, strings_in, strings_in_all}
-use Rattle.c_structure.specs.Statements.{Outline, set_by, call_by, set_call_by, statement_of, strings_of_item, strings_of_items, with_label, before, if_by, if_else_by, end_of_arm, Writer, if_for, if_else_for, arms_for, branch_for, item_for, same_place, added_by, next_by, next_for, for_by, goes_back, is_loop, loop_for, part_for, statements_for}
-use Rattle.c_structure_laws.specs.Fitting.{KnowsArray, Knows, KnowsAll, KnowsCallee, KnowsItem, KnowsItems, AreNumbered, AreBytesOf, IsDrawn, mark_at, marks_from, Fits, AreLabels, StatementsAreTheirs}
+use Rattle.c_structure.specs.Statements.{Outline, set_by, call_by, set_call_by, statement_of, strings_of_item, strings_of_items, with_label, before, if_by, if_else_by, end_of_arm, Writer, if_for, if_else_for, arms_for, branch_for, case_by, case_for, before_cases, cases_for, are_case_numbers, switch_by, switch_for, item_for, same_place, added_by, next_by, next_for, for_by, goes_back, is_loop, loop_for, part_for, statements_for}
+use Rattle.c_structure_laws.specs.Fitting.{KnowsArray, Knows, KnowsAll, KnowsItem, KnowsItems, AreNumbered, AreBytesOf, IsDrawn, mark_at, marks_from, Fits, AreLabels, StatementsAreTheirs}
 use Rattle.c_structure_laws.proofs.DrawnExpressions.{bytes_both, numbered_left, behind_both, drawn_bare, drawn_name, drawn_by, drawn_both, some_same, mapped_by, expr_drawn, exprs_drawn}
 
 plus_one : (n : ℕ) → n + 1 ≡ suc n
@@ -432,12 +433,160 @@ module _ (o : Outline) (scope : Scope) (labels : Labels) (are : AreLabels o labe
           (subst (λ p. Fits o scope labels n (Branch t (suc n) p ∷ later) (body_of_all ss)) there (branch_fits write fit n (off - suc n) t later ss within g test knows))
       by false so g = absurd (cc)
 
+  is_bare : (found : Option (List ℕ)) → is_none found ≡ true → found ≡ None
+  is_bare None h = refl
+  is_bare (Some name) h = absurd (cc)
+
+  -- ## A value that picks a jump
+
+  record IsLabelled (number : ℤ) (found : Option (List ℕ)) (case : CCase) : Type 0 where
+    label : List ℕ
+    label_is : found ≡ Some label
+    is : record { number = number; label = label } ≡ case
+
+  labelled_case : (number : ℤ) (found : Option (List ℕ)) (case : CCase) → case_by number found ≡ Some case → IsLabelled number found case
+  unfolding case_by
+  labelled_case number None case h = absurd (cc)
+  labelled_case number (Some label) case h = record { label = label; label_is = refl; is = some_same (record { number = number; label = label }) case h }
+
+  at_place : ℤ → ℕ → CaseAt
+  at_place number position = record { number = number; position = position }
+
+  -- a case whose jump is an item
+  record IsCase (n : ℕ) (at : CaseAt) (item : Flat) (case : CCase) : Type 0 where
+    place : at_place case.number n ≡ at
+    jump : jump_to (labels case.label) ≡ item
+    bare : o.label n ≡ None
+    strings : strings_of_item o.names item ≡ []
+
+  case_found : (n : ℕ) (at : CaseAt) (item : Flat) (case : CCase) → case_for o n at item ≡ Some case → IsCase n at item case
+  unfolding case_for strings_of_item at_place
+  case_found n at (Jump position) case h = by (nat_eq at.position n && is_none (o.label n)) refl h
+    where
+      by : (b : Bool) → nat_eq at.position n && is_none (o.label n) ≡ b → (if b then case_by at.number (o.label position) else None) ≡ Some case → IsCase n at (Jump position) case
+      by true so g =
+          let c = labelled_case at.number (o.label position) case g in
+          let there : at.position ≡ n = eqb-true at.position n (left_true _ _ so) in
+          subst (IsCase n at (Jump position)) c.is (record {
+            place = ap (at_place at.number) (sym there);
+            jump = ap jump_to (are.found position c.label c.label_is);
+            bare = is_bare (o.label n) (right_true _ _ so);
+            strings = refl;
+          })
+      by false so g = absurd (cc)
+  case_found n at item case h = absurd (cc)
+
+  record AreCasesBefore (x : Option CCase) (xs : Option (List CCase)) (cases : List CCase) : Type 0 where
+    first : CCase
+    later : List CCase
+    first_is : x ≡ Some first
+    later_are : xs ≡ Some later
+    is : first ∷ later ≡ cases
+
+  cases_before : (x : Option CCase) (xs : Option (List CCase)) (cases : List CCase) → before_cases x xs ≡ Some cases → AreCasesBefore x xs cases
+  unfolding before_cases
+  cases_before (Some case) (Some later) cases h = record { first = case; later = later; first_is = refl; later_are = refl; is = some_same (case ∷ later) cases h }
+  cases_before (Some case) None cases h = absurd (cc)
+  cases_before None xs cases h = absurd (cc)
+
+  -- cases whose jumps are the first items from a position on
+  record AreCases (n : ℕ) (ats : List CaseAt) (later : List Flat) (cases : List CCase) : Type 0 where
+    long : length cases ≡ length ats
+    room : length (take (length ats) later) ≡ length ats
+    places : cases_from n cases ≡ ats
+    jumps : case_jumps cases labels ≡ take (length ats) later
+    marks : marks_from o.label n (take (length ats) later) ≡ []
+    strings : strings_of_items o.names (take (length ats) later) ≡ []
+
+  cases_found : (n : ℕ) (ats : List CaseAt) (later : List Flat) (cases : List CCase) → cases_for o n ats later ≡ Some cases → AreCases n ats later cases
+  unfolding cases_for strings_of_items at_place
+  cases_found n [] later cases h =
+      subst (AreCases n [] later) (some_same [] cases h) (record { long = refl; room = refl; places = refl; jumps = refl; marks = refl; strings = refl })
+  cases_found n (at ∷ ats) [] cases h = absurd (cc)
+  cases_found n (at ∷ ats) (item ∷ later) cases h =
+      let b = cases_before (case_for o n at item) (cases_for o (suc n) ats later) cases h in
+      let one = case_found n at item b.first b.first_is in
+      let more = cases_found (suc n) ats later b.later b.later_are in
+      subst (AreCases n (at ∷ ats) (item ∷ later)) b.is (record {
+        long = ap suc more.long;
+        room = ap suc more.room;
+        places = (λ i. one.place i ∷ cases_from (plus_one n i) b.later) ∙ ap (λ zs. at ∷ zs) more.places;
+        jumps = (λ i. one.jump i ∷ more.jumps i);
+        marks = (λ i. mark_at n (one.bare i) ++ more.marks i);
+        strings = (λ i. one.strings i ++ more.strings i);
+      })
+
+  record IsSwitch (x : Option CExpr) (xs : Option (List CCase)) (s : CStmt) : Type 0 where
+    value : CExpr
+    cases : List CCase
+    value_is : x ≡ Some value
+    cases_are : xs ≡ Some cases
+    is : stmt.Switch value cases ≡ s
+
+  switch_of : (x : Option CExpr) (xs : Option (List CCase)) (s : CStmt) → switch_by x xs ≡ Some s → IsSwitch x xs s
+  unfolding switch_by
+  switch_of (Some value) (Some cases) s h = record { value = value; cases = cases; value_is = refl; cases_are = refl; is = cc }
+  switch_of (Some value) None s h = absurd (cc)
+  switch_of None xs s h = absurd (cc)
+
+  -- a switch fits a value and the jumps of its cases
+  switch_is : (n : ℕ) (t : Term) (ats : List CaseAt) (later : List Flat) (value : CExpr) (cases : List CCase) → IsDrawn o.names scope (strings_in o.names t) (linked value) t → AreCases (suc n) ats later cases
+      → FitsUnlabelled n (Select t ats (suc n + length ats)) (take (length ats) later) (body (stmt.Switch value cases))
+  unfolding strings_of_items strings_of_item
+  switch_is n t ats later value cases is found =
+      let ks = strings_in o.names t in
+      let js = strings_of_items o.names (take (length ats) later) in
+      let long = found.long in
+      let room = found.room in
+      let there : n + 1 + length cases ≡ suc n + length ats = omega (arith, long) in
+      record {
+        size = (let whole : 1 + length cases ≡ suc (length (take (length ats) later)) = omega (arith, long, room) in whole);
+        strings = is.strings ∙ ap (map o.names.string) (sym (append-nil ks) ∙ ap (λ zs. ks ++ zs) (sym found.strings));
+        marks = sym found.marks;
+        drawn = λ first are'. (λ i. Select (is.drawn first (numbered_left first ks js are') i) (cases_from (plus_one n i) cases) (there i) ∷ case_jumps cases labels)
+            ∙ (λ i. Select t (found.places i) (suc n + length ats) ∷ found.jumps i);
+      }
+
+  picked_fit : (write : Writer) → WriterFits write → (n : ℕ) (t : Term) (ats : List CaseAt) (later : List Flat) (ss : List CStmt) → switch_for o write n (expr_for o.names t) ats later ≡ Some ss → Knows scope o.names t
+      → KnowsItems scope o.names later → Fits o scope labels n (Select t ats (suc n + length ats) ∷ later) (body_of_all ss)
+  unfolding WriterFits switch_for
+  picked_fit write fit n t ats later ss h value knows =
+      let m = length ats in
+      let item = Select t ats (suc n + m) in
+      let made = switch_by (expr_for o.names t) (cases_for o (suc n) ats later) in
+      let rest = write (suc n + m) (drop m later) in
+      let b = before_by (option_map (with_label (o.label n)) made) rest ss h in
+      let s = mapped_by (with_label (o.label n)) made b.first b.first_is in
+      let w = switch_of (expr_for o.names t) (cases_for o (suc n) ats later) s.one s.one_is in
+      let room = (cases_found (suc n) ats later w.cases w.cases_are).room in
+      subst (λ zs. Fits o scope labels n (item ∷ zs) (body_of_all ss)) (take-append-drop m later)
+      (first_fits n (suc n + m) item (take m later) (drop m later) made rest ss (omega (arith, room)) h
+      (λ one is.
+      let v = switch_of (expr_for o.names t) (cases_for o (suc n) ats later) one is in
+      subst (λ z. FitsUnlabelled n item (take m later) (body z)) v.is
+      (switch_is n t ats later v.value v.cases (expr_drawn scope o.names t v.value v.value_is value) (cases_found (suc n) ats later v.cases v.cases_are)))
+      (λ others is. fit (suc n + m) (drop m later) others is (knows_drop scope o.names m later knows)))
+
+  switch_fits : (write : Writer) → WriterFits write → (n : ℕ) (t : Term) (ats : List CaseAt) (otherwise : ℕ) (later : List Flat) (ss : List CStmt)
+      → (if nat_eq otherwise (suc n + length ats) && are_case_numbers (map (λ (at : CaseAt). at.number) ats) then switch_for o write n (expr_for o.names t) ats later else None) ≡ Some ss → Knows scope o.names t → KnowsItems scope o.names later
+      → Fits o scope labels n (Select t ats otherwise ∷ later) (body_of_all ss)
+  switch_fits write fit n t ats otherwise later ss h value knows = by (nat_eq otherwise (suc n + length ats) && are_case_numbers (map (λ (at : CaseAt). at.number) ats)) refl h
+    where
+      by : (b : Bool) → nat_eq otherwise (suc n + length ats) && are_case_numbers (map (λ (at : CaseAt). at.number) ats) ≡ b → (if b then switch_for o write n (expr_for o.names t) ats later else None) ≡ Some ss
+          → Fits o scope labels n (Select t ats otherwise ∷ later) (body_of_all ss)
+      by true so g =
+          let last : otherwise ≡ suc n + length ats = eqb-true otherwise (suc n + length ats) (and_parts _ _ so).0 in
+          subst (λ p. Fits o scope labels n (Select t ats p ∷ later) (body_of_all ss)) (sym last) (picked_fit write fit n t ats later ss g value knows)
+      by false so g = absurd (cc)
+
+  -- ## An item that begins no loop
+
   item_fits : (write : Writer) → WriterFits write → (n : ℕ) (item : Flat) (later : List Flat) (ss : List CStmt) → item_for o write n item later ≡ Some ss → KnowsItem scope o.names item → KnowsItems scope o.names later
       → Fits o scope labels n (item ∷ later) (body_of_all ss)
   unfolding item_for
   item_fits write fit n (Branch t on off) later ss h known knows = test_fits write fit n on off t later ss h known knows
   item_fits write fit n (Assign t u) later ss h known knows = single_fits write fit n (Assign t u) later ss h known knows
-  item_fits write fit n (Select t cases otherwise) later ss h known knows = single_fits write fit n (Select t cases otherwise) later ss h known knows
+  item_fits write fit n (Select t cases otherwise) later ss h known knows = switch_fits write fit n t cases otherwise later ss h known knows
   item_fits write fit n (Jump position) later ss h known knows = single_fits write fit n (Jump position) later ss h known knows
   item_fits write fit n (Invoke how callee arguments) later ss h known knows = single_fits write fit n (Invoke how callee arguments) later ss h known knows
   item_fits write fit n (Return value) later ss h known knows = single_fits write fit n (Return value) later ss h known knows
@@ -607,10 +756,6 @@ module _ (o : Outline) (scope : Scope) (labels : Labels) (are : AreLabels o labe
   unfolding for_by
   for_of (Some a) (Some b) (Some c) (Some d) (Some e) s h = record { variable = a; first = b; test = c; next = d; turn = e; variable_is = refl; first_is = refl; test_is = refl; next_is = refl; turn_is = refl; is = cc }
   for_of x y z m xs s h = absurd (cc)
-
-  is_bare : (found : Option (List ℕ)) → is_none found ≡ true → found ≡ None
-  is_bare None h = refl
-  is_bare (Some name) h = absurd (cc)
 
   back_is : (n : ℕ) (found : Option Flat) → goes_back n found ≡ true → found ≡ Some (Jump n)
   unfolding goes_back

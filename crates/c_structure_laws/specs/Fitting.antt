@@ -1,13 +1,13 @@
 -- When C statements have given items as their flat form, where names in scope stand for what they are taken to stand for. C89, 3.1.2.1 and 3.6.
 use Rattle.std.specs.Prelude.{◌≡◌, ℕ, suc, ◌+◌, true, List, [], ◌∷◌, ◌++◌, map, length, Option, Some, None}
-use Rattle.c_tree.specs.declared.expression.CExpr.{CExpr}
-use Rattle.c_tree.specs.declared.statement.CStmt.{CStmt}
-use Rattle.c_tree.specs.Access.{Access, ToChar}
-use Rattle.c_tree.specs.Terms.{Term, Variable, Array, Routine, Prefixed, Cast, Between, Choice, Element, Field, Most, Magnitude}
-use Rattle.c_tree.specs.Flat.{Flat, Assign, Branch, Invoke, Return, Ignored, Kept, Callee, Direct, Through}
-use Rattle.c_tree.specs.Drafts.{Scope, Draft}
-use Rattle.c_tree.specs.LinkedExpressions.{linked}
-use Rattle.c_tree.specs.FlatForm.{LabelAt, Labels, Body, body_of_all}
+use Rattle.c_laws.specs.c_tree.declared.expression.CExpr.{CExpr}
+use Rattle.c_laws.specs.c_tree.declared.statement.CStmt.{CStmt}
+use Rattle.c_laws.specs.c_tree.Access.{Access, ToChar}
+use Rattle.c_laws.specs.c_tree.Terms.{Term, Variable, Array, Routine, Prefixed, Cast, Between, Choice, Element, Field, Most, Magnitude}
+use Rattle.c_laws.specs.c_tree.Flat.{Flat, Assign, Branch, Select, Invoke, Return, Ignored, Kept, Callee, Direct, Through}
+use Rattle.c_laws.specs.c_tree.Drafts.{Scope, Draft}
+use Rattle.c_laws.specs.c_tree.LinkedExpressions.{linked}
+use Rattle.c_laws.specs.c_tree.FlatForm.{LabelAt, Labels, Body, body_of_all}
 use Rattle.c_structure.specs.Expressions.{Names, expr_for, strings_in}
 use Rattle.c_structure.specs.Statements.{Outline, strings_of_items, statements_for}
 
@@ -47,6 +47,7 @@ KnowsCallee scope names other = Unit {0}
 abbrev pub KnowsItem : Scope → Names → Flat → Type 0
 KnowsItem scope names (Assign t u) = Knows scope names t × Knows scope names u
 KnowsItem scope names (Branch test on off) = Knows scope names test
+KnowsItem scope names (Select value cases otherwise) = Knows scope names value
 KnowsItem scope names (Invoke Ignored callee arguments) = KnowsCallee scope names callee × KnowsAll scope names arguments
 KnowsItem scope names (Invoke (Kept t) callee arguments) = Knows scope names t × KnowsCallee scope names callee × KnowsAll scope names arguments
 KnowsItem scope names (Return (Some t)) = Knows scope names t

@@ -7,3 +7,4 @@ pub mod Expressions
 pub mod Declarations
 pub mod Printed
 pub mod Opened
+pub use Rattle.c_tree.specs as c_tree

@@ -1,13 +1,13 @@
 -- A text spells one file alone, and then it is refused at no line.
 use Rattle.std.proofs.Common.{◌≡◌, ℕ, true, List, Result, Ok, Err}
-use Rattle.f_tree.specs.declared.names.Options.{Options}
-use Rattle.f_tree.specs.declared.units.File.{File}
-use Rattle.c_tree.specs.declared.file.CFile.{CFile}
-use Rattle.c_tree.specs.CText.{CText, WellFormed}
+use Rattle.faithful.specs.f_tree.declared.names.Options.{Options}
+use Rattle.faithful.specs.f_tree.declared.units.File.{File}
+use Rattle.faithful.specs.c_tree.declared.file.CFile.{CFile}
+use Rattle.faithful.specs.c_tree.CText.{CText, WellFormed}
 use Rattle.faithful.specs.Faithful.{Faithful, SpellAll, none, more}
-use Rattle.c_text.specs.Printed.{printed}
-use Rattle.c_laws.proofs.PlainText as plain
-use Rattle.c_laws.proofs.RefusalLaws.{not_both}
+use Rattle.c_spelling.specs.c_text.Printed.{printed}
+use Rattle.c_spelling.proofs.c_laws.PlainText as plain
+use Rattle.c_spelling.proofs.c_laws.RefusalLaws.{not_both}
 use Rattle.c_spelling.specs.Spelled.{file_of_bytes}
 use Rattle.c_spelling.proofs.Files.{file_spelled}
 use Rattle.c_file_reader.specs.declared.texts.ReadFail.{ReadFail}

@@ -1,11 +1,11 @@
 -- What the reading of a text gives that spells a C file (C89, 3.7).
 use Rattle.std.specs.Prelude.{◌≡◌, ℕ, true, List, [], ◌∷◌, Result, Ok, Err}
-use Rattle.f_tree.specs.declared.names.Options.{Options}
-use Rattle.f_tree.specs.declared.units.File.{File}
-use Rattle.c_tree.specs.declared.file.CFile.{CFile}
-use Rattle.c_tree.specs.CText.{CText, WellFormed}
+use Rattle.faithful.specs.f_tree.declared.names.Options.{Options}
+use Rattle.faithful.specs.f_tree.declared.units.File.{File}
+use Rattle.faithful.specs.c_tree.declared.file.CFile.{CFile}
+use Rattle.faithful.specs.c_tree.CText.{CText, WellFormed}
 use Rattle.faithful.specs.Faithful.{Faithful}
-use Rattle.c_text.specs.Printed.{printed}
+use Rattle.c_spelling.specs.c_text.Printed.{printed}
 use Rattle.c_spelling.specs.Spelled.{file_of_bytes}
 use Rattle.c_file_reader.specs.declared.texts.ReadFail.{ReadFail}
 use Rattle.c_file_reader.specs.declared.texts.ReadFail.TheVariants.{NotC, NoMemory}

@@ -1,1 +1,2 @@
 pub mod TextRows
+pub use Rattle.c_rows.specs as c_rows

@@ -4,15 +4,15 @@ use Rattle.std.specs.List.{list_all}
 use Rattle.std.proofs.Common.{refl, sym, subst, ap, ◌∙◌}
 use Rattle.std.proofs.lemmas.List.{length-append, append-nil}
 use native.Mathlib.Omega.{arith}
-use Rattle.c_tree.specs.declared.statement.CStmt.{CStmt}
-use Rattle.c_tree.specs.Tokens.{Token}
-use Rattle.c_tree.specs.CWords.{is_among}
-use Rattle.c_tree.specs.CExpressionText as text
-use Rattle.c_tree.specs.CStatementText as statement
-use Rattle.c_tree.specs.CLabels.{LabelsOf, no_label, both, labels_of, labels_of_all, stands_once, labels_meet}
-use Rattle.c_tree.specs.Flat.{Flat}
-use Rattle.c_tree.specs.Drafts.{Scope}
-use Rattle.c_tree.specs.FlatForm.{LabelAt, Body, position_of, sequence, empty, body, body_of_all, is_return, ends, with_return, whole_body, flat_form}
+use Rattle.c_laws.specs.c_tree.declared.statement.CStmt.{CStmt}
+use Rattle.c_laws.specs.c_tree.Tokens.{Token}
+use Rattle.c_laws.specs.c_tree.CWords.{is_among}
+use Rattle.c_laws.specs.c_tree.CExpressionText as text
+use Rattle.c_laws.specs.c_tree.CStatementText as statement
+use Rattle.c_laws.specs.c_tree.CLabels.{LabelsOf, no_label, both, labels_of, labels_of_all, stands_once, labels_meet}
+use Rattle.c_laws.specs.c_tree.Flat.{Flat}
+use Rattle.c_laws.specs.c_tree.Drafts.{Scope}
+use Rattle.c_laws.specs.c_tree.FlatForm.{LabelAt, Body, position_of, sequence, empty, body, body_of_all, is_return, ends, with_return, whole_body, flat_form}
 use Rattle.c_totality.specs.Sound.{Each}
 use Rattle.c_totality.specs.Standing.{AllStand}
 use Rattle.c_totality.proofs.ListLaws.{and-left, and-right, each-left, each-map}

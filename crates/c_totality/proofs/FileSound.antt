@@ -3,26 +3,26 @@ use Rattle.std.specs.Prelude.{◌≡◌, ℕ, ◌+◌, Bool, true, false, cond, 
 use Rattle.std.specs.List.{list_any}
 use Rattle.std.proofs.Common.{refl, sym, subst, ap, ◌∙◌}
 use Rattle.std.proofs.lemmas.List.Folds.{list_any-append}
-use Rattle.c_tree.specs.declared.statement.CStmt.{CStmt}
-use Rattle.c_tree.specs.declared.file.CObject.{CObject}
-use Rattle.c_tree.specs.declared.file.CObject.TheVariants.{Integers, Chars}
-use Rattle.c_tree.specs.declared.file.CConstant.{CConstant}
-use Rattle.c_tree.specs.declared.file.CFunction.{CFunction}
-use Rattle.c_tree.specs.declared.file.CFile.{CFile}
-use Rattle.c_tree.specs.Tokens.{Token}
-use Rattle.c_tree.specs.CWords.{is_among}
-use Rattle.c_tree.specs.CExpressionText as text
-use Rattle.c_tree.specs.CStatementText as statement
-use Rattle.c_tree.specs.CDeclarationText as declaration
-use Rattle.c_tree.specs.CDeclarationText.{without, with_object, with_array, with_function}
-use Rattle.c_tree.specs.CText.{ReadsFunction, a_function, ReadsFunctions, no_function, one_function, ReadsParts, only_functions, one_constant, one_object, no_names, ReadsFile}
-use Rattle.c_tree.specs.CLabels.{labels_meet}
-use Rattle.c_tree.specs.Access.{Access, ToNumber, ToChar}
-use Rattle.c_tree.specs.Terms.{Constant, Unknown}
-use Rattle.c_tree.specs.Drafts.{Scope}
-use Rattle.c_tree.specs.FlatForm.{whole_body}
-use Rattle.c_tree.specs.Declarations.{declared_statics, declared_externs}
-use Rattle.c_tree.specs.Linking.{Routines, external, function_names, known_functions, array_at, external_term, known_externals, included, declared_constants, file_scope, strings_of, objects_of, linked_function, linked_functions, linked_file, any_of, misses}
+use Rattle.c_laws.specs.c_tree.declared.statement.CStmt.{CStmt}
+use Rattle.c_laws.specs.c_tree.declared.file.CObject.{CObject}
+use Rattle.c_laws.specs.c_tree.declared.file.CObject.TheVariants.{Integers, Chars}
+use Rattle.c_laws.specs.c_tree.declared.file.CConstant.{CConstant}
+use Rattle.c_laws.specs.c_tree.declared.file.CFunction.{CFunction}
+use Rattle.c_laws.specs.c_tree.declared.file.CFile.{CFile}
+use Rattle.c_laws.specs.c_tree.Tokens.{Token}
+use Rattle.c_laws.specs.c_tree.CWords.{is_among}
+use Rattle.c_laws.specs.c_tree.CExpressionText as text
+use Rattle.c_laws.specs.c_tree.CStatementText as statement
+use Rattle.c_laws.specs.c_tree.CDeclarationText as declaration
+use Rattle.c_laws.specs.c_tree.CDeclarationText.{without, with_object, with_array, with_function}
+use Rattle.c_laws.specs.c_tree.CText.{ReadsFunction, a_function, ReadsFunctions, no_function, one_function, ReadsParts, only_functions, one_constant, one_object, no_names, ReadsFile}
+use Rattle.c_laws.specs.c_tree.CLabels.{labels_meet}
+use Rattle.c_laws.specs.c_tree.Access.{Access, ToNumber, ToChar}
+use Rattle.c_laws.specs.c_tree.Terms.{Constant, Unknown}
+use Rattle.c_laws.specs.c_tree.Drafts.{Scope}
+use Rattle.c_laws.specs.c_tree.FlatForm.{whole_body}
+use Rattle.c_laws.specs.c_tree.Declarations.{declared_statics, declared_externs}
+use Rattle.c_laws.specs.c_tree.Linking.{Routines, external, function_names, known_functions, array_at, external_term, known_externals, included, declared_constants, file_scope, strings_of, objects_of, linked_function, linked_functions, linked_file, any_of, misses}
 use Rattle.c_totality.specs.Sound.{Each, IsKnown}
 use Rattle.c_totality.specs.Standing.{StandsWhole}
 use Rattle.c_totality.proofs.ListLaws.{among-or, among-without, both-ways, or-left, or-right, or-of-left, or-of-right, or-false, same-names, name-itself, each-map}

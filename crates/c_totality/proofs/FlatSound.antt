@@ -4,23 +4,23 @@ use Rattle.std.specs.Prelude.{◌≡◌, ℕ, suc, ◌+◌, ◌<◌, ◌≤◌, 
 use Rattle.std.proofs.Common.{refl, sym, subst, ap, ◌∙◌}
 use Rattle.std.proofs.lemmas.List.{length-append, map-append, append-nil}
 use native.Mathlib.Omega.{arith}
-use Rattle.c_tree.specs.declared.expression.CExpr.{CExpr}
-use Rattle.c_tree.specs.declared.expression.CCall.{CCall}
-use Rattle.c_tree.specs.declared.statement.CCase.{CCase}
-use Rattle.c_tree.specs.declared.statement.CNext.{CNext}
-use Rattle.c_tree.specs.declared.statement.CStmt.{CStmt}
-use Rattle.c_tree.specs.declared.statement.CStmt.TheVariants as stmt
-use Rattle.c_tree.specs.Tokens.{Token}
-use Rattle.c_tree.specs.CWords.{is_among, Separated, last_item, one_item}
-use Rattle.c_tree.specs.CExpressionText as text
-use Rattle.c_tree.specs.CStatementText as statement
-use Rattle.c_tree.specs.CLabels.{LabelsOf, no_label, both, standing, labels_of, labels_of_all}
-use Rattle.c_tree.specs.Terms.{Term, Routine}
-use Rattle.c_tree.specs.Flat.{Flat, Assign, Branch, Jump, ReturnAnswer, Nothing, Ignored, Returned}
-use Rattle.c_tree.specs.Drafts.{Scope, Draft, bare, drafted, joined}
-use Rattle.c_tree.specs.LinkedExpressions.{linked, linked_all, linked_call, direct, Calling}
-use Rattle.c_tree.specs.FlatForm.{LabelAt, Labels, Body, one, sequence, empty, jump_to, jump, marked, invoked, set_call, return_call, returned, if_only, if_else, cases_from, case_jumps, switch, next_item, for_loop, do_while, body, body_of_all, is_return}
-use Rattle.c_tree.specs.Opened.{trees_opened}
+use Rattle.c_laws.specs.c_tree.declared.expression.CExpr.{CExpr}
+use Rattle.c_laws.specs.c_tree.declared.expression.CCall.{CCall}
+use Rattle.c_laws.specs.c_tree.declared.statement.CCase.{CCase}
+use Rattle.c_laws.specs.c_tree.declared.statement.CNext.{CNext}
+use Rattle.c_laws.specs.c_tree.declared.statement.CStmt.{CStmt}
+use Rattle.c_laws.specs.c_tree.declared.statement.CStmt.TheVariants as stmt
+use Rattle.c_laws.specs.c_tree.Tokens.{Token}
+use Rattle.c_laws.specs.c_tree.CWords.{is_among, Separated, last_item, one_item}
+use Rattle.c_laws.specs.c_tree.CExpressionText as text
+use Rattle.c_laws.specs.c_tree.CStatementText as statement
+use Rattle.c_laws.specs.c_tree.CLabels.{LabelsOf, no_label, both, standing, labels_of, labels_of_all}
+use Rattle.c_laws.specs.c_tree.Terms.{Term, Routine}
+use Rattle.c_laws.specs.c_tree.Flat.{Flat, Assign, Branch, Jump, ReturnAnswer, Nothing, Ignored, Returned}
+use Rattle.c_laws.specs.c_tree.Drafts.{Scope, Draft, bare, drafted, joined}
+use Rattle.c_laws.specs.c_tree.LinkedExpressions.{linked, linked_all, linked_call, direct, Calling}
+use Rattle.c_laws.specs.c_tree.FlatForm.{LabelAt, Labels, Body, one, sequence, empty, jump_to, jump, marked, invoked, set_call, return_call, returned, if_only, if_else, cases_from, case_jumps, switch, next_item, for_loop, do_while, body, body_of_all, is_return}
+use Rattle.c_laws.specs.c_tree.Opened.{trees_opened}
 use Rattle.c_laws.proofs.TreeEquations.{body-Block, body-Label, body-If, body-IfElse, body-For, body-DoWhile}
 use Rattle.c_totality.specs.Sound.{Each, IsKnown}
 use Rattle.c_totality.specs.Standing.{IsKnownCallee, IsCaseIn, Stands, AllStand}

@@ -1,12 +1,12 @@
 -- Each function of the library, with as many arguments as it takes, gives a value or comes to a fault.
 use Rattle.std.specs.Prelude.{◌≡◌, ℕ, zero, suc, true, false, List, [], ◌∷◌, Some, slice_get, codes}
 use Rattle.std.proofs.Common.{subst}
-use Rattle.run_state.specs.Bits.{shifted, bit_at, has_bit, with_bit, without_bit}
-use Rattle.c_tree.specs.declared.outcome.CValue.{CValue}
-use Rattle.c_tree.specs.World.{World, Output, Input}
-use Rattle.c_tree.specs.Builtins.{Signature, signature, signatures, Taken, ANumber, APointer, two_texts, two_pointers, one_list, transfer_kind, ByFormat, ByList, OnUnit, InMemory, s_copy, s_cmp, s_cat, i_indx, pow_ii, i_sign, i_dim, l_ge, l_gt, l_le, l_lt, s_stop, Begin, Finish, do_fio, do_lio, f_open, f_clos, f_back, f_rew, f_end, i_or, i_and, i_eor, i_not, i_shft, b_test, b_set, b_clr, s_rnge}
-use Rattle.c_tree.specs.Library.{stops, out_of_range, library}
-use Rattle.c_tree.specs.Steps.{takes, takes_all}
+use Rattle.c_laws.specs.run_state.Bits.{shifted, bit_at, has_bit, with_bit, without_bit}
+use Rattle.c_laws.specs.c_tree.declared.outcome.CValue.{CValue}
+use Rattle.c_laws.specs.c_tree.World.{World, Output, Input}
+use Rattle.c_laws.specs.c_tree.Builtins.{Signature, signature, signatures, Taken, ANumber, APointer, two_texts, two_pointers, one_list, transfer_kind, ByFormat, ByList, OnUnit, InMemory, s_copy, s_cmp, s_cat, i_indx, pow_ii, i_sign, i_dim, l_ge, l_gt, l_le, l_lt, s_stop, Begin, Finish, do_fio, do_lio, f_open, f_clos, f_back, f_rew, f_end, i_or, i_and, i_eor, i_not, i_shft, b_test, b_set, b_clr, s_rnge}
+use Rattle.c_laws.specs.c_tree.Library.{stops, out_of_range, library}
+use Rattle.c_laws.specs.c_tree.Steps.{takes, takes_all}
 use Rattle.c_totality.specs.Sound.{IsMeant, gives, Each}
 use Rattle.c_totality.proofs.ListLaws.{and-right}
 use Rattle.c_totality.proofs.SoundLaws.{after-meant}

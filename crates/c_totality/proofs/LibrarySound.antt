@@ -1,23 +1,23 @@
 -- What the library reads and stores through its arguments, and its functions of numbers, texts and units, are values or
 -- faults.
 use Rattle.std.specs.Prelude.{ℕ, zero, suc, ℤ, pos, negsuc, Bool, true, false, List, [], ◌∷◌, length, Option, Some, None, Result, Ok, Err, codes, slice_get}
-use Rattle.run_state.specs.Units.{Units, UnitState, Picked, Closing, with_unit, with_record, unless_ended, write_at, write_unit, one_back, back_at, back_unit, rewind_at, rewind_unit, end_at, end_unit, close_at, close_unit, connect_file, pick, open_at, open_unit}
-use Rattle.run_state.specs.declared.refusals.UnitRefusal.{UnitRefusal}
-use Rattle.run_state.specs.declared.refusals.UnitRefusal.TheVariants.{NotConnected, NotOffered, Taken, PastEnd, Failed}
-use Rattle.c_tree.specs.declared.outcome.CValue.{CValue}
-use Rattle.c_tree.specs.declared.outcome.CValue.TheVariants.{Pointer, Null}
-use Rattle.c_tree.specs.declared.outcome.CFault.TheVariants.{Library}
-use Rattle.c_tree.specs.declared.types.ListType.{ListType}
-use Rattle.c_tree.specs.declared.types.ListType.TheVariants as list_type
-use Rattle.c_tree.specs.Faults.{Or, failing}
-use Rattle.c_tree.specs.Access.{Access, ToList}
-use Rattle.c_tree.specs.Objects.{Object, Bytes, Values, Place}
-use Rattle.c_tree.specs.World.{World, Transfer}
-use Rattle.c_tree.specs.LibraryArguments.{number_through, count_from, length_from, text_in, text_through, text_at, with_text, store_text, text_stored, list_in, list_of, list_at, name_from, name_in, name_at, field_value, field_number, shifted as further, fitted}
-use Rattle.c_tree.specs.LibraryNumbers.{in_32_bits, power, signed, positive_difference, on_integers, on_integer, or_fault, truth_or_fault}
-use Rattle.c_tree.specs.LibraryTexts.{put_text, copied, on_texts, pieces, concatenated}
-use Rattle.c_tree.specs.LibraryUnits.{changed_units, name_given, zero_blanks_given, opens, closed, closes, positions}
-use Rattle.c_tree.specs.Transfers.{refusal_number, outside_transfers, in_transfer}
+use Rattle.c_laws.specs.run_state.Units.{Units, UnitState, Picked, Closing, with_unit, with_record, unless_ended, write_at, write_unit, one_back, back_at, back_unit, rewind_at, rewind_unit, end_at, end_unit, close_at, close_unit, connect_file, pick, open_at, open_unit}
+use Rattle.c_laws.specs.run_state.declared.refusals.UnitRefusal.{UnitRefusal}
+use Rattle.c_laws.specs.run_state.declared.refusals.UnitRefusal.TheVariants.{NotConnected, NotOffered, Taken, PastEnd, Failed}
+use Rattle.c_laws.specs.c_tree.declared.outcome.CValue.{CValue}
+use Rattle.c_laws.specs.c_tree.declared.outcome.CValue.TheVariants.{Pointer, Null}
+use Rattle.c_laws.specs.c_tree.declared.outcome.CFault.TheVariants.{Library}
+use Rattle.c_laws.specs.c_tree.declared.types.ListType.{ListType}
+use Rattle.c_laws.specs.c_tree.declared.types.ListType.TheVariants as list_type
+use Rattle.c_laws.specs.c_tree.Faults.{Or, failing}
+use Rattle.c_laws.specs.c_tree.Access.{Access, ToList}
+use Rattle.c_laws.specs.c_tree.Objects.{Object, Bytes, Values, Place}
+use Rattle.c_laws.specs.c_tree.World.{World, Transfer}
+use Rattle.c_laws.specs.c_tree.LibraryArguments.{number_through, count_from, length_from, text_in, text_through, text_at, with_text, store_text, text_stored, list_in, list_of, list_at, name_from, name_in, name_at, field_value, field_number, shifted as further, fitted}
+use Rattle.c_laws.specs.c_tree.LibraryNumbers.{in_32_bits, power, signed, positive_difference, on_integers, on_integer, or_fault, truth_or_fault}
+use Rattle.c_laws.specs.c_tree.LibraryTexts.{put_text, copied, on_texts, pieces, concatenated}
+use Rattle.c_laws.specs.c_tree.LibraryUnits.{changed_units, name_given, zero_blanks_given, opens, closed, closes, positions}
+use Rattle.c_laws.specs.c_tree.Transfers.{refusal_number, outside_transfers, in_transfer}
 use Rattle.c_totality.specs.Sound.{IsMeant, gives, faults}
 use Rattle.c_totality.proofs.SoundLaws.{after-meant, meant}
 use Rattle.c_totality.proofs.ValueSound.{as_number-meant, fetched-meant, bytes_at-meant, with_bytes-meant, field-meant, checked-meant}

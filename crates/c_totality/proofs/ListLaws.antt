@@ -4,7 +4,7 @@ use Rattle.std.specs.List.{list_any, position_or_len}
 use Rattle.std.proofs.Common.{refl, sym, subst, ap, ◌∙◌, lt-ltb}
 use Rattle.std.proofs.lemmas.Slice.Eq.{bytes_eq-Decides}
 use native.Mathlib.Omega.{arith}
-use Rattle.c_tree.specs.CWords.{is_among}
+use Rattle.c_laws.specs.c_tree.CWords.{is_among}
 use Rattle.c_totality.specs.Sound.{Each}
 
 -- ## Each

@@ -3,18 +3,18 @@
 use Rattle.std.specs.Prelude.{◌≡◌, ℕ, true, false, ◌||◌, List, [], ◌∷◌, ◌++◌, codes, is_none, bytes_eq}
 use Rattle.std.proofs.Common.{refl, sym, subst, ap, ◌∙◌}
 use Rattle.std.proofs.lemmas.List.Folds.{list_any-append}
-use Rattle.c_tree.specs.declared.types.ParameterType.{ParameterType}
-use Rattle.c_tree.specs.declared.types.ParameterType.TheVariants as parameter
-use Rattle.c_tree.specs.declared.declaration.CParam.{CParam}
-use Rattle.c_tree.specs.declared.declaration.CLocal.{CLocal}
-use Rattle.c_tree.specs.Tokens.{Token}
-use Rattle.c_tree.specs.CWords.{is_among}
-use Rattle.c_tree.specs.CExpressionText as text
-use Rattle.c_tree.specs.CDeclarationText as declaration
-use Rattle.c_tree.specs.CDeclarationText.{IsNew, without, hiding, with_object, with_array, with_function, with_pointer, with_declared, with_parameter}
-use Rattle.c_tree.specs.Drafts.{Scope}
-use Rattle.c_tree.specs.Declarations.{Declared, declared_parameters, declared_statics, declared_automatics, declared_externs}
-use Rattle.c_tree.specs.Linking.{Routines, known_objects, known_functions}
+use Rattle.c_laws.specs.c_tree.declared.types.ParameterType.{ParameterType}
+use Rattle.c_laws.specs.c_tree.declared.types.ParameterType.TheVariants as parameter
+use Rattle.c_laws.specs.c_tree.declared.declaration.CParam.{CParam}
+use Rattle.c_laws.specs.c_tree.declared.declaration.CLocal.{CLocal}
+use Rattle.c_laws.specs.c_tree.Tokens.{Token}
+use Rattle.c_laws.specs.c_tree.CWords.{is_among}
+use Rattle.c_laws.specs.c_tree.CExpressionText as text
+use Rattle.c_laws.specs.c_tree.CDeclarationText as declaration
+use Rattle.c_laws.specs.c_tree.CDeclarationText.{IsNew, without, hiding, with_object, with_array, with_function, with_pointer, with_declared, with_parameter}
+use Rattle.c_laws.specs.c_tree.Drafts.{Scope}
+use Rattle.c_laws.specs.c_tree.Declarations.{Declared, declared_parameters, declared_statics, declared_automatics, declared_externs}
+use Rattle.c_laws.specs.c_tree.Linking.{Routines, known_objects, known_functions}
 use Rattle.c_totality.specs.Sound.{IsKnown}
 use Rattle.c_totality.proofs.ListLaws.{among-or, among-without, both-ways, or-left, or-right, or-of-left, or-of-right, or-false, same-names, name-itself, IsOther, is-other}
 use Rattle.c_totality.proofs.FlatSound.{IsRoutine, NamesKnown}

@@ -4,17 +4,17 @@ use Rattle.std.specs.List.{list_any, position_or_len}
 use Rattle.std.proofs.Common.{refl, sym, subst, ap, ◌∙◌, lt-ltb, inl, inr}
 use Rattle.std.proofs.lemmas.List.Folds.{list_any-append}
 use native.Mathlib.Omega.{arith}
-use Rattle.c_tree.specs.declared.declaration.CParam.{CParam}
-use Rattle.c_tree.specs.declared.file.CObject.{CObject}
-use Rattle.c_tree.specs.declared.file.CFunction.{CFunction}
-use Rattle.c_tree.specs.declared.file.CFile.{CFile}
-use Rattle.c_tree.specs.CWords.{is_among}
-use Rattle.c_tree.specs.CText.{WellFormed}
-use Rattle.c_tree.specs.Drafts.{Scope}
-use Rattle.c_tree.specs.Builtins.{builtin_names}
-use Rattle.c_tree.specs.Linking.{Function, Program, External, external, or_else, with_external, with_externals, externals_from, externals, external_number, function_names, all_functions, Routines, routines, parameter_types, linked_function, linked_functions, linked_file, linked_files, program, main_name, named, has_parameters, any_of, lacks_main, misses, broken_rule, first_broken_rule}
-use Rattle.c_tree.specs.Steps.{all_fit}
-use Rattle.c_tree.specs.Meaning.{text_of, main_number, meaning}
+use Rattle.c_laws.specs.c_tree.declared.declaration.CParam.{CParam}
+use Rattle.c_laws.specs.c_tree.declared.file.CObject.{CObject}
+use Rattle.c_laws.specs.c_tree.declared.file.CFunction.{CFunction}
+use Rattle.c_laws.specs.c_tree.declared.file.CFile.{CFile}
+use Rattle.c_laws.specs.c_tree.CWords.{is_among}
+use Rattle.c_laws.specs.c_tree.CText.{WellFormed}
+use Rattle.c_laws.specs.c_tree.Drafts.{Scope}
+use Rattle.c_laws.specs.c_tree.Builtins.{builtin_names}
+use Rattle.c_laws.specs.c_tree.Linking.{Function, Program, External, external, or_else, with_external, with_externals, externals_from, externals, external_number, function_names, all_functions, Routines, routines, parameter_types, linked_function, linked_functions, linked_file, linked_files, program, main_name, named, has_parameters, any_of, lacks_main, misses, broken_rule, first_broken_rule}
+use Rattle.c_laws.specs.c_tree.Steps.{all_fit}
+use Rattle.c_laws.specs.c_tree.Meaning.{text_of, main_number, meaning}
 use Rattle.c_totality.specs.Sound.{Each}
 use Rattle.c_totality.specs.Standing.{StandsWhole, MainBegins}
 use Rattle.c_totality.specs.Totality.{AreWellFormed, one_file, AreLinked, each_kept, too_many_bytes, EachFunctionStands, EachMainBegins, NoRunIsWithoutMeaning}

@@ -2,16 +2,16 @@
 use Rattle.std.specs.Prelude.{◌≡◌, ℕ, zero, suc, ◌<◌, nat_lt, ℤ, Bool, true, false, List, [], ◌∷◌, length, Option, Some, None, if◌then◌else◌}
 use Rattle.std.proofs.Common.{refl, sym, subst, ap, ltb-true, lt-ltb}
 use native.Mathlib.Omega.{arith}
-use Rattle.simulation.specs.Machine.{State, Runs, Over, Broken, Frame, Has, Enters, Refused, numbers, active, entering, unless_active, opening, calling, answering, act, next, run, begun, machine_opened}
-use Rattle.run_state.specs.Units.{Units}
-use Rattle.c_tree.specs.declared.outcome.CValue.{CValue}
-use Rattle.c_tree.specs.declared.outcome.CFault.{CFault}
-use Rattle.c_tree.specs.Faults.{Or, Faults, NoMeaning}
-use Rattle.c_tree.specs.Linking as linking
-use Rattle.c_tree.specs.World.{World, Ending}
-use Rattle.c_tree.specs.Steps as steps
-use Rattle.c_tree.specs.Steps.{View, sorts, language, Happening, taken, all_fit, start, resume, step}
-use Rattle.c_tree.specs.Meaning.{numbered, text_of, machine, main_number, first_world, run_of, Meaningless, outcome}
+use Rattle.c_laws.specs.simulation.Machine.{State, Runs, Over, Broken, Frame, Has, Enters, Refused, numbers, active, entering, unless_active, opening, calling, answering, act, next, run, begun, machine_opened}
+use Rattle.c_laws.specs.run_state.Units.{Units}
+use Rattle.c_laws.specs.c_tree.declared.outcome.CValue.{CValue}
+use Rattle.c_laws.specs.c_tree.declared.outcome.CFault.{CFault}
+use Rattle.c_laws.specs.c_tree.Faults.{Or, Faults, NoMeaning}
+use Rattle.c_laws.specs.c_tree.Linking as linking
+use Rattle.c_laws.specs.c_tree.World.{World, Ending}
+use Rattle.c_laws.specs.c_tree.Steps as steps
+use Rattle.c_laws.specs.c_tree.Steps.{View, sorts, language, Happening, taken, all_fit, start, resume, step}
+use Rattle.c_laws.specs.c_tree.Meaning.{numbered, text_of, machine, main_number, first_world, run_of, Meaningless, outcome}
 use Rattle.c_totality.specs.Sound.{Each}
 use Rattle.c_totality.specs.Standing.{AllStand, StandsWhole, MainBegins, Waits, IsSound}
 use Rattle.c_totality.proofs.StepSound.{IsWell, it_goes, it_ends, it_calls, it_answers, it_breaks, GoesPast, goes_past, is_stopped, taken-past, step-well}

@@ -1,13 +1,13 @@
 -- The names that are declared where a statement of a function stands are known where the function is linked.
 use Rattle.std.specs.Prelude.{◌≡◌, ℕ, ◌+◌, Bool, true, false, ◌||◌, List, [], ◌∷◌, ◌++◌, Option, Some, None, is_none, bytes_eq, if◌then◌else◌}
 use Rattle.std.proofs.Common.{refl, ap, ◌∙◌}
-use Rattle.c_tree.specs.declared.declaration.CParam.{CParam}
-use Rattle.c_tree.specs.declared.declaration.CLocal.{CLocal}
-use Rattle.c_tree.specs.declared.declaration.CLocal.TheVariants as local
-use Rattle.c_tree.specs.CWords.{is_among}
-use Rattle.c_tree.specs.Drafts.{Scope}
-use Rattle.c_tree.specs.Declarations.{Declared, declared_parameters, declared_statics, declared_automatics}
-use Rattle.c_tree.specs.Linking.{Routines, known_objects, routine, known_functions}
+use Rattle.c_laws.specs.c_tree.declared.declaration.CParam.{CParam}
+use Rattle.c_laws.specs.c_tree.declared.declaration.CLocal.{CLocal}
+use Rattle.c_laws.specs.c_tree.declared.declaration.CLocal.TheVariants as local
+use Rattle.c_laws.specs.c_tree.CWords.{is_among}
+use Rattle.c_laws.specs.c_tree.Drafts.{Scope}
+use Rattle.c_laws.specs.c_tree.Declarations.{Declared, declared_parameters, declared_statics, declared_automatics}
+use Rattle.c_laws.specs.c_tree.Linking.{Routines, known_objects, routine, known_functions}
 use Rattle.c_totality.specs.Sound.{Each, IsKnown}
 use Rattle.c_totality.proofs.ListLaws.{or-left, or-right, or-of-left, or-of-right, or-false}
 use Rattle.c_totality.proofs.FlatSound.{routine-known, IsRoutine, a_routine}

@@ -1,6 +1,6 @@
 -- What is built of valuings that are meant is meant.
 use Rattle.std.specs.Prelude.{Bool, true, false, if◌then◌else◌}
-use Rattle.c_tree.specs.Faults.{Or, after}
+use Rattle.c_laws.specs.c_tree.Faults.{Or, after}
 use Rattle.c_totality.specs.Sound.{IsMeant, gives, faults, Each}
 
 pub after-meant : {A B : Type 0} {r : Or A} {rest : A → Or B} → IsMeant r → ((a : A) → IsMeant (rest a)) → IsMeant (after r rest)

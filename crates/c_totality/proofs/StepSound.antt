@@ -4,20 +4,20 @@ use Rattle.std.specs.Prelude.{◌≡◌, ℕ, zero, suc, ◌+◌, ◌-◌, ◌<�
 use Rattle.std.specs.Ordering.{int_eq}
 use Rattle.std.proofs.Common.{refl, sym, subst}
 use native.Mathlib.Omega.{arith}
-use Rattle.simulation.specs.Machine.{Goes, Ends, Calls, Answers, Breaks}
-use Rattle.c_tree.specs.declared.outcome.CValue.{CValue}
-use Rattle.c_tree.specs.declared.outcome.CValue.TheVariants.{Number, Pointer, Null, Function}
-use Rattle.c_tree.specs.declared.outcome.CFault.{CFault}
-use Rattle.c_tree.specs.declared.types.ResultType.{ResultType}
-use Rattle.c_tree.specs.declared.types.ResultType.TheVariants as result
-use Rattle.c_tree.specs.Faults.{Or, Faults, after}
-use Rattle.c_tree.specs.Objects.{Object}
-use Rattle.c_tree.specs.Terms.{Term}
-use Rattle.c_tree.specs.Flat.{Flat, Assign, Branch, Select, Jump, Invoke, Return, ReturnAnswer, Nothing, Lost, Callee, Direct, Through, Nowhere, Use, Ignored, Kept, Returned, CaseAt}
-use Rattle.c_tree.specs.Linking as linking
-use Rattle.c_tree.specs.World.{World, Ending, Reply, Gives, Void, Stops}
-use Rattle.c_tree.specs.Builtins.{Signature, signatures}
-use Rattle.c_tree.specs.Steps.{Wants, WantsNothing, WantsValue, WantsAnswer, View, Happening, given_that, Onward, taken, wanted, callee_of, takes_all, may_give, moving, replied, library_called, called, given_by, case_position, assigned, invoked, deed, deed_at, step}
+use Rattle.c_laws.specs.simulation.Machine.{Goes, Ends, Calls, Answers, Breaks}
+use Rattle.c_laws.specs.c_tree.declared.outcome.CValue.{CValue}
+use Rattle.c_laws.specs.c_tree.declared.outcome.CValue.TheVariants.{Number, Pointer, Null, Function}
+use Rattle.c_laws.specs.c_tree.declared.outcome.CFault.{CFault}
+use Rattle.c_laws.specs.c_tree.declared.types.ResultType.{ResultType}
+use Rattle.c_laws.specs.c_tree.declared.types.ResultType.TheVariants as result
+use Rattle.c_laws.specs.c_tree.Faults.{Or, Faults, after}
+use Rattle.c_laws.specs.c_tree.Objects.{Object}
+use Rattle.c_laws.specs.c_tree.Terms.{Term}
+use Rattle.c_laws.specs.c_tree.Flat.{Flat, Assign, Branch, Select, Jump, Invoke, Return, ReturnAnswer, Nothing, Lost, Callee, Direct, Through, Nowhere, Use, Ignored, Kept, Returned, CaseAt}
+use Rattle.c_laws.specs.c_tree.Linking as linking
+use Rattle.c_laws.specs.c_tree.World.{World, Ending, Reply, Gives, Void, Stops}
+use Rattle.c_laws.specs.c_tree.Builtins.{Signature, signatures}
+use Rattle.c_laws.specs.c_tree.Steps.{Wants, WantsNothing, WantsValue, WantsAnswer, View, Happening, given_that, Onward, taken, wanted, callee_of, takes_all, may_give, moving, replied, library_called, called, given_by, case_position, assigned, invoked, deed, deed_at, step}
 use Rattle.c_totality.specs.Sound.{IsMeant, gives, faults, Each}
 use Rattle.c_totality.specs.Standing.{IsKnownCallee, IsKnownUse, IsCaseIn, Stands, AllStand}
 use Rattle.c_totality.proofs.ListLaws.{and-left}

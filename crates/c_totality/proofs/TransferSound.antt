@@ -1,29 +1,29 @@
 -- The calls of a transfer are values or faults.
 use Rattle.std.specs.Prelude.{ℕ, zero, suc, ◌+◌, ◌-◌, ◌*◌, nat_eq, nat_le, nat_lt, ℤ, pos, Bool, true, false, List, [], ◌∷◌, ◌++◌, length, drop, Option, Some, None, Result, Ok, Err, codes, slice_get, if◌then◌else◌}
-use Rattle.edit_meaning.specs.Listed as list
-use Rattle.edit_meaning.specs.Formats.{Descriptor, IntIn, LogicalIn, TextIn, Format, edits_for, closing}
-use Rattle.edit_meaning.specs.Halts.{Halt, Number as HaltNumber, EndOfRecords, OtherType}
-use Rattle.edit_meaning.specs.ListInput as input
-use Rattle.edit_meaning.specs.ListItems as items
-use Rattle.edit_meaning.specs.TakenRecords as taken
-use Rattle.edit_meaning.specs.Transfers.{Progress, with_next, closed_by}
-use Rattle.run_state.specs.Units.{Units, is_connected, write_unit}
-use Rattle.run_state.specs.declared.refusals.UnitRefusal.{UnitRefusal}
-use Rattle.c_tree.specs.declared.outcome.CValue.{CValue}
-use Rattle.c_tree.specs.declared.outcome.CValue.TheVariants.{Pointer, Null}
-use Rattle.c_tree.specs.declared.types.ListType.{ListType}
-use Rattle.c_tree.specs.declared.types.ListType.TheVariants as list_type
-use Rattle.c_tree.specs.Faults.{Or, after}
-use Rattle.c_tree.specs.Objects.{Object, Bytes, Values}
-use Rattle.c_tree.specs.World.{Direction, Output, Input, Layout, Formatted, Listed, Medium, Unit, Internal, InternalFile, Transfer, World, Reply}
-use Rattle.c_tree.specs.Builtins.{Style, ByFormat, ByList, Site, OnUnit, InMemory, TransferKind}
-use Rattle.c_tree.specs.LibraryArguments.{fitted, shifted}
-use Rattle.c_tree.specs.FormatsGiven.{FormatRead, Begins, NoFormat, NotSet, EndsEarly, format_read, format_in, format_at}
-use Rattle.c_tree.specs.Transfers.{Control, unit_control, internal_file, internal_control, format_field, when_connected, when_format, formatted_start, Upcoming, nothing_but, led_by, records_upcoming, records_left, internal_record, fetched_before, internal_upcoming, upcoming, new_transfer, Passage, GoesOn, Answers}
-use Rattle.c_tree.specs.TransferStarts.{first_read, reading, opened, control_of, format_of, started, starts}
-use Rattle.c_tree.specs.TransferOutput.{ItemKind, IntegerItem, LogicalItem, TextItem, item_kind, item_length, item_at, items_at, if_four, item_under, Made, made, new_records, made_before, next_descriptor, write_all, Filling, Filled, Stuck, one_filled, fill_one, fill_all, put_on_unit, lines_put, records_put, put_values, listed_put, led_on, value_put, formatted_put, output_ended}
-use Rattle.c_tree.specs.TransferInput.{value_taken, listed_stop, listed_taken, records_needed, unless_slashed, kind_of, listed_item, format_stop, all_taken, formatted_taken, edited_item, wanted_under, formatted_item, closed_input, formatted_closed, with_upcoming, formatted_input_ended}
-use Rattle.c_tree.specs.TransferCalls.{then_later, each_item, formatted_done, formatted_by, formatted_items, listed_done, listed_by, listed_items, is_kind, ended, ends}
+use Rattle.c_laws.specs.edit_meaning.Listed as list
+use Rattle.c_laws.specs.edit_meaning.Formats.{Descriptor, IntIn, LogicalIn, TextIn, Format, edits_for, closing}
+use Rattle.c_laws.specs.edit_meaning.Halts.{Halt, Number as HaltNumber, EndOfRecords, OtherType}
+use Rattle.c_laws.specs.edit_meaning.ListInput as input
+use Rattle.c_laws.specs.edit_meaning.ListItems as items
+use Rattle.c_laws.specs.edit_meaning.TakenRecords as taken
+use Rattle.c_laws.specs.edit_meaning.Transfers.{Progress, with_next, closed_by}
+use Rattle.c_laws.specs.run_state.Units.{Units, is_connected, write_unit}
+use Rattle.c_laws.specs.run_state.declared.refusals.UnitRefusal.{UnitRefusal}
+use Rattle.c_laws.specs.c_tree.declared.outcome.CValue.{CValue}
+use Rattle.c_laws.specs.c_tree.declared.outcome.CValue.TheVariants.{Pointer, Null}
+use Rattle.c_laws.specs.c_tree.declared.types.ListType.{ListType}
+use Rattle.c_laws.specs.c_tree.declared.types.ListType.TheVariants as list_type
+use Rattle.c_laws.specs.c_tree.Faults.{Or, after}
+use Rattle.c_laws.specs.c_tree.Objects.{Object, Bytes, Values}
+use Rattle.c_laws.specs.c_tree.World.{Direction, Output, Input, Layout, Formatted, Listed, Medium, Unit, Internal, InternalFile, Transfer, World, Reply}
+use Rattle.c_laws.specs.c_tree.Builtins.{Style, ByFormat, ByList, Site, OnUnit, InMemory, TransferKind}
+use Rattle.c_laws.specs.c_tree.LibraryArguments.{fitted, shifted}
+use Rattle.c_laws.specs.c_tree.FormatsGiven.{FormatRead, Begins, NoFormat, NotSet, EndsEarly, format_read, format_in, format_at}
+use Rattle.c_laws.specs.c_tree.Transfers.{Control, unit_control, internal_file, internal_control, format_field, when_connected, when_format, formatted_start, Upcoming, nothing_but, led_by, records_upcoming, records_left, internal_record, fetched_before, internal_upcoming, upcoming, new_transfer, Passage, GoesOn, Answers}
+use Rattle.c_laws.specs.c_tree.TransferStarts.{first_read, reading, opened, control_of, format_of, started, starts}
+use Rattle.c_laws.specs.c_tree.TransferOutput.{ItemKind, IntegerItem, LogicalItem, TextItem, item_kind, item_length, item_at, items_at, if_four, item_under, Made, made, new_records, made_before, next_descriptor, write_all, Filling, Filled, Stuck, one_filled, fill_one, fill_all, put_on_unit, lines_put, records_put, put_values, listed_put, led_on, value_put, formatted_put, output_ended}
+use Rattle.c_laws.specs.c_tree.TransferInput.{value_taken, listed_stop, listed_taken, records_needed, unless_slashed, kind_of, listed_item, format_stop, all_taken, formatted_taken, edited_item, wanted_under, formatted_item, closed_input, formatted_closed, with_upcoming, formatted_input_ended}
+use Rattle.c_laws.specs.c_tree.TransferCalls.{then_later, each_item, formatted_done, formatted_by, formatted_items, listed_done, listed_by, listed_items, is_kind, ended, ends}
 use Rattle.c_totality.specs.Sound.{IsMeant, gives, faults}
 use Rattle.c_totality.proofs.SoundLaws.{after-meant, if-meant, meant}
 use Rattle.c_totality.proofs.ValueSound.{stored-meant}

@@ -1,20 +1,20 @@
 -- What is read of objects and stored in them, and the values of terms of declared names, are values or faults.
 use Rattle.std.specs.Prelude.{ℕ, ℤ, ◌+ℤ◌, ◌-ℤ◌, ◌*ℤ◌, neg_ℤ, Bool, true, false, List, [], ◌∷◌, Option, Some, None, slice_get}
-use Rattle.c_tree.specs.declared.outcome.CValue.{CValue}
-use Rattle.c_tree.specs.declared.outcome.CValue.TheVariants.{Number, Pointer, Null, Function}
-use Rattle.c_tree.specs.declared.types.CastType.{CastType}
-use Rattle.c_tree.specs.declared.types.CastType.TheVariants as to
-use Rattle.c_tree.specs.declared.expression.UnaryOp.{UnaryOp}
-use Rattle.c_tree.specs.declared.expression.UnaryOp.TheVariants as prefix
-use Rattle.c_tree.specs.declared.expression.BinaryOp.{BinaryOp}
-use Rattle.c_tree.specs.declared.expression.BinaryOp.TheVariants as op
-use Rattle.c_tree.specs.declared.expression.Extreme.{Extreme}
-use Rattle.c_tree.specs.declared.expression.Extreme.TheVariants as extreme
-use Rattle.c_tree.specs.Faults.{Or, after}
-use Rattle.c_tree.specs.Access.{Access, ToNumber, ToChar, ToByte, ToList, ToField, ToPointer, ToFunction, NumberField, TextField, FieldAt, field_named, stride}
-use Rattle.c_tree.specs.Objects.{Object, Bytes, Values, Held, Typed, Place, as_number, as_pointer, as_function, all_set, bytes_at, byte_from, number_at, read_bytes, read_value, read_held, read_object, read_through, fetched, with_bytes, with_number, null_for_zero, converted, with_value, put_bytes, put_object, store_through, stored}
-use Rattle.c_tree.specs.Terms.{Term, Constant, Variable, Array, Routine, Unknown, Prefixed, Cast, Between, Choice, Element, Field, Size, Most, Magnitude}
-use Rattle.c_tree.specs.Values.{Seen, only_value, with_place, checked, condition, pointer_at, moved_by, moved, sum_of, difference_of, same, quotient, remainder, on_numbers, relation, operation, unless_decided, between, null_from, cast_number, cast_value, cast, pointed, place_of, address_of, prefixed, element, field_at, field_in, field, chosen, choice, most, magnitude, seen, value_of, place_named, values_of, test_of, number_of}
+use Rattle.c_laws.specs.c_tree.declared.outcome.CValue.{CValue}
+use Rattle.c_laws.specs.c_tree.declared.outcome.CValue.TheVariants.{Number, Pointer, Null, Function}
+use Rattle.c_laws.specs.c_tree.declared.types.CastType.{CastType}
+use Rattle.c_laws.specs.c_tree.declared.types.CastType.TheVariants as to
+use Rattle.c_laws.specs.c_tree.declared.expression.UnaryOp.{UnaryOp}
+use Rattle.c_laws.specs.c_tree.declared.expression.UnaryOp.TheVariants as prefix
+use Rattle.c_laws.specs.c_tree.declared.expression.BinaryOp.{BinaryOp}
+use Rattle.c_laws.specs.c_tree.declared.expression.BinaryOp.TheVariants as op
+use Rattle.c_laws.specs.c_tree.declared.expression.Extreme.{Extreme}
+use Rattle.c_laws.specs.c_tree.declared.expression.Extreme.TheVariants as extreme
+use Rattle.c_laws.specs.c_tree.Faults.{Or, after}
+use Rattle.c_laws.specs.c_tree.Access.{Access, ToNumber, ToChar, ToByte, ToList, ToField, ToPointer, ToFunction, NumberField, TextField, FieldAt, field_named, stride}
+use Rattle.c_laws.specs.c_tree.Objects.{Object, Bytes, Values, Held, Typed, Place, as_number, as_pointer, as_function, all_set, bytes_at, byte_from, number_at, read_bytes, read_value, read_held, read_object, read_through, fetched, with_bytes, with_number, null_for_zero, converted, with_value, put_bytes, put_object, store_through, stored}
+use Rattle.c_laws.specs.c_tree.Terms.{Term, Constant, Variable, Array, Routine, Unknown, Prefixed, Cast, Between, Choice, Element, Field, Size, Most, Magnitude}
+use Rattle.c_laws.specs.c_tree.Values.{Seen, only_value, with_place, checked, condition, pointer_at, moved_by, moved, sum_of, difference_of, same, quotient, remainder, on_numbers, relation, operation, unless_decided, between, null_from, cast_number, cast_value, cast, pointed, place_of, address_of, prefixed, element, field_at, field_in, field, chosen, choice, most, magnitude, seen, value_of, place_named, values_of, test_of, number_of}
 use Rattle.c_totality.specs.Sound.{IsMeant, gives, faults, Each, IsKnown}
 use Rattle.c_totality.proofs.SoundLaws.{after-meant, meant}
 

@@ -1,8 +1,8 @@
 -- What is never without meaning: a valuing that gives a value or comes to a fault, and terms of names that are declared.
 use Rattle.std.specs.Prelude.{List, [], ◌∷◌, Ok, Err}
-use Rattle.c_tree.specs.declared.outcome.CFault.{CFault}
-use Rattle.c_tree.specs.Faults.{Or, Faults}
-use Rattle.c_tree.specs.Terms.{Term, Constant, Variable, Array, Routine, Unknown, Prefixed, Cast, Between, Choice, Element, Field, Size, Most, Magnitude}
+use Rattle.c_laws.specs.c_tree.declared.outcome.CFault.{CFault}
+use Rattle.c_laws.specs.c_tree.Faults.{Or, Faults}
+use Rattle.c_laws.specs.c_tree.Terms.{Term, Constant, Variable, Array, Routine, Unknown, Prefixed, Cast, Between, Choice, Element, Field, Size, Most, Magnitude}
 
 -- a value or a fault
 pub data IsMeant {A : Type 0} : Or A → Type 0 where

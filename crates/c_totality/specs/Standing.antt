@@ -1,12 +1,12 @@
 -- Code in which each item is of known terms and goes on to positions that are in the code, and runs of such code.
 use Rattle.std.specs.Prelude.{◌≡◌, ℕ, true, ◌+◌, ◌<◌, List, [], ◌∷◌, length, Some, None}
-use Rattle.simulation.specs.Machine.{State, Runs, Over, Broken, Frame, Has}
-use Rattle.c_tree.specs.Faults.{Faults, NoMeaning}
-use Rattle.c_tree.specs.Flat.{Flat, Assign, Branch, Select, Jump, Invoke, Return, ReturnAnswer, Nothing, Lost, Callee, Direct, Through, Nowhere, Use, Ignored, Kept, Returned, CaseAt}
-use Rattle.c_tree.specs.Linking.{Function, Program}
-use Rattle.c_tree.specs.World.{Ending}
-use Rattle.c_tree.specs.Steps.{sorts, all_fit}
-use Rattle.c_tree.specs.Meaning.{text_of, main_number}
+use Rattle.c_laws.specs.simulation.Machine.{State, Runs, Over, Broken, Frame, Has}
+use Rattle.c_laws.specs.c_tree.Faults.{Faults, NoMeaning}
+use Rattle.c_laws.specs.c_tree.Flat.{Flat, Assign, Branch, Select, Jump, Invoke, Return, ReturnAnswer, Nothing, Lost, Callee, Direct, Through, Nowhere, Use, Ignored, Kept, Returned, CaseAt}
+use Rattle.c_laws.specs.c_tree.Linking.{Function, Program}
+use Rattle.c_laws.specs.c_tree.World.{Ending}
+use Rattle.c_laws.specs.c_tree.Steps.{sorts, all_fit}
+use Rattle.c_laws.specs.c_tree.Meaning.{text_of, main_number}
 use Rattle.c_totality.specs.Sound.{Each, IsKnown}
 
 abbrev pub IsKnownCallee : Callee → Type 0

@@ -2,20 +2,20 @@
 -- most, the limit on bytes. And what holds on the way: no term of declared names, no call of the library and no step of
 -- the code of such files comes to a form without meaning.
 use Rattle.std.specs.Prelude.{◌≡◌, ℕ, true, List, [], ◌∷◌, Some, None, slice_get}
-use Rattle.simulation.specs.Machine.{State, next}
-use Rattle.run_state.specs.Units.{Units}
-use Rattle.c_tree.specs.declared.outcome.CValue.{CValue}
-use Rattle.c_tree.specs.declared.file.CFile.{CFile}
-use Rattle.c_tree.specs.CText.{WellFormed}
-use Rattle.c_tree.specs.Objects.{Object}
-use Rattle.c_tree.specs.Terms.{Term}
-use Rattle.c_tree.specs.Values.{value_of, place_named}
-use Rattle.c_tree.specs.Linking.{Program, program, first_broken_rule}
-use Rattle.c_tree.specs.World.{World, Ending}
-use Rattle.c_tree.specs.Builtins.{Signature, signatures}
-use Rattle.c_tree.specs.Library.{library}
-use Rattle.c_tree.specs.Steps.{sorts, language, takes_all}
-use Rattle.c_tree.specs.Meaning.{Meaningless, machine, meaning, outcome}
+use Rattle.c_laws.specs.simulation.Machine.{State, next}
+use Rattle.c_laws.specs.run_state.Units.{Units}
+use Rattle.c_laws.specs.c_tree.declared.outcome.CValue.{CValue}
+use Rattle.c_laws.specs.c_tree.declared.file.CFile.{CFile}
+use Rattle.c_laws.specs.c_tree.CText.{WellFormed}
+use Rattle.c_laws.specs.c_tree.Objects.{Object}
+use Rattle.c_laws.specs.c_tree.Terms.{Term}
+use Rattle.c_laws.specs.c_tree.Values.{value_of, place_named}
+use Rattle.c_laws.specs.c_tree.Linking.{Program, program, first_broken_rule}
+use Rattle.c_laws.specs.c_tree.World.{World, Ending}
+use Rattle.c_laws.specs.c_tree.Builtins.{Signature, signatures}
+use Rattle.c_laws.specs.c_tree.Library.{library}
+use Rattle.c_laws.specs.c_tree.Steps.{sorts, language, takes_all}
+use Rattle.c_laws.specs.c_tree.Meaning.{Meaningless, machine, meaning, outcome}
 use Rattle.c_totality.specs.Sound.{IsMeant, Each, IsKnown}
 use Rattle.c_totality.specs.Standing.{StandsWhole, MainBegins, IsSound}
 

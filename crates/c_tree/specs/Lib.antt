@@ -34,3 +34,6 @@ pub mod CLabels
 pub mod CStatementText
 pub mod CDeclarationText
 pub mod CGuards
+pub use Rattle.edit_meaning.specs as edit_meaning
+pub use Rattle.run_state.specs as run_state
+pub use Rattle.simulation.specs as simulation

@@ -1,27 +1,27 @@
 -- Both runs begin alike.
 use Rattle.std.specs.Prelude.{◌≡◌, ℕ, List, [], Option, Some, None}
 use Rattle.std.proofs.Common.{refl, sym, ap, ◌∙◌, subst}
-use Rattle.simulation.specs.Machine.{begun}
-use Rattle.simulation.specs.Law.{Alike}
-use Rattle.simulation.proofs.Corollaries.{begins_alike}
-use Rattle.run_state.specs.Units.{Units}
-use Rattle.f_tree.specs.Values.{Checked, Gives, Fails}
-use Rattle.f_tree.specs.Terms.{AsSubroutine}
-use Rattle.f_tree.specs.Store.{Store}
-use Rattle.f_tree.specs.Facts.{ProgramUnit}
-use Rattle.f_tree.specs.Setting.{Setting}
-use Rattle.f_tree.specs.Images.{image_store}
-use Rattle.f_tree.specs.World as fortran
-use Rattle.f_tree.specs.World.{TheMain}
-use Rattle.f_tree.specs.Meaning as source
-use Rattle.f_tree.specs.Meaning.{found_from, world_with, start_world, call_of_main, started}
-use Rattle.c_tree.specs.declared.file.CFile.{CFile}
-use Rattle.c_tree.specs.Linking as linking
-use Rattle.c_tree.specs.Meaning.{machine, main_number, first_world, step_factor}
-use Rattle.c_tree.specs.Steps.{language}
-use Rattle.faithful.specs.SameTransfer.{SameTransfer, neither}
-use Rattle.c_image.specs.World.{World}
-use Rattle.c_image_laws.proofs.Growing.{extends_itself}
+use Rattle.lowering_laws.specs.simulation.Machine.{begun}
+use Rattle.lowering_laws.specs.simulation.Law.{Alike}
+use Rattle.lowering_laws.proofs.simulation.Corollaries.{begins_alike}
+use Rattle.lowering_laws.specs.run_state.Units.{Units}
+use Rattle.lowering_laws.specs.f_tree.Values.{Checked, Gives, Fails}
+use Rattle.lowering_laws.specs.f_tree.Terms.{AsSubroutine}
+use Rattle.lowering_laws.specs.f_tree.Store.{Store}
+use Rattle.lowering_laws.specs.f_tree.Facts.{ProgramUnit}
+use Rattle.lowering_laws.specs.f_tree.Setting.{Setting}
+use Rattle.lowering_laws.specs.f_tree.Images.{image_store}
+use Rattle.lowering_laws.specs.f_tree.World as fortran
+use Rattle.lowering_laws.specs.f_tree.World.{TheMain}
+use Rattle.lowering_laws.specs.f_tree.Meaning as source
+use Rattle.lowering_laws.specs.f_tree.Meaning.{found_from, world_with, start_world, call_of_main, started}
+use Rattle.procedure_emission.specs.c_tree.declared.file.CFile.{CFile}
+use Rattle.procedure_emission.specs.c_tree.Linking as linking
+use Rattle.procedure_emission.specs.c_tree.Meaning.{machine, main_number, first_world, step_factor}
+use Rattle.procedure_emission.specs.c_tree.Steps.{language}
+use Rattle.procedure_emission.specs.faithful.SameTransfer.{SameTransfer, neither}
+use Rattle.procedure_emission.specs.c_image.World.{World}
+use Rattle.procedure_emission.proofs.c_image_laws.Growing.{extends_itself}
 use Rattle.procedure_emission.specs.CallLayer.{CallWorld, none_passed}
 use Rattle.call_bridge.specs.CallBridge.{Translation, linking_of, IsTranslated}
 use Rattle.call_bridge.proofs.LinkedUnits.{linked}

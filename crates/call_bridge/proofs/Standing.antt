@@ -1,30 +1,30 @@
 -- What stands in the objects of a state of the C run: storage, the transfer in progress, and what belongs to each active procedure.
 use Rattle.std.specs.Prelude.{◌≡◌, ℕ, ◌<◌, List, Option, Some, slice_get}
 use Rattle.std.proofs.Common.{refl, sym, ◌∙◌, subst}
-use Rattle.simulation.specs.Machine.{Frame, Has}
-use Rattle.simulation.specs.Law.{Grown, unchanged, by, WaitingFrames, none, text, wrapper}
-use Rattle.f_tree.specs.Values.{Spot}
-use Rattle.f_tree.specs.Facts as fortran_facts
-use Rattle.f_tree.specs.Facts.{ProgramUnit}
-use Rattle.f_tree.specs.Setting.{Setting}
-use Rattle.f_tree.specs.World as fortran
-use Rattle.f_tree.specs.World.{fortran_sorts}
-use Rattle.l_core.specs.Machine.{View}
+use Rattle.lowering_laws.specs.simulation.Machine.{Frame, Has}
+use Rattle.lowering_laws.specs.simulation.Law.{Grown, unchanged, by, WaitingFrames, none, text, wrapper}
+use Rattle.lowering_laws.specs.f_tree.Values.{Spot}
+use Rattle.lowering_laws.specs.f_tree.Facts as fortran_facts
+use Rattle.lowering_laws.specs.f_tree.Facts.{ProgramUnit}
+use Rattle.lowering_laws.specs.f_tree.Setting.{Setting}
+use Rattle.lowering_laws.specs.f_tree.World as fortran
+use Rattle.lowering_laws.specs.f_tree.World.{fortran_sorts}
+use Rattle.lowering_laws.specs.l_core.Machine.{View}
 use Rattle.lowering_laws.specs.Layer.{lower_kit}
-use Rattle.simulation.specs.Composition.{composite_kit}
-use Rattle.c_tree.specs.declared.file.CFile.{CFile}
-use Rattle.c_tree.specs.Objects.{Object}
-use Rattle.c_tree.specs.World as c
-use Rattle.c_tree.specs.Steps as c_steps
-use Rattle.faithful.specs.StorageImage.{NamesStand}
-use Rattle.faithful.specs.FrameImage as each
-use Rattle.faithful.specs.FrameImage.{Each, ProcedureStands, FrameStands}
-use Rattle.faithful.specs.SameTransfer.{SameMedium, on_unit, in_file, SameTransfer, neither, both}
-use Rattle.c_image.specs.World.{World, Extends}
-use Rattle.c_image_laws.proofs.Growing.{extends_itself, extends_through}
-use Rattle.c_emit_laws.specs.EmittedNumbers.{IsKnown}
-use Rattle.emitted_texts.specs.SecondLayer.{Surroundings, Emission, TransfersStand}
-use Rattle.emitted_texts.proofs.Known.{known_later}
+use Rattle.lowering_laws.specs.simulation.Composition.{composite_kit}
+use Rattle.procedure_emission.specs.c_tree.declared.file.CFile.{CFile}
+use Rattle.procedure_emission.specs.c_tree.Objects.{Object}
+use Rattle.procedure_emission.specs.c_tree.World as c
+use Rattle.procedure_emission.specs.c_tree.Steps as c_steps
+use Rattle.procedure_emission.specs.faithful.StorageImage.{NamesStand}
+use Rattle.procedure_emission.specs.faithful.FrameImage as each
+use Rattle.procedure_emission.specs.faithful.FrameImage.{Each, ProcedureStands, FrameStands}
+use Rattle.procedure_emission.specs.faithful.SameTransfer.{SameMedium, on_unit, in_file, SameTransfer, neither, both}
+use Rattle.procedure_emission.specs.c_image.World.{World, Extends}
+use Rattle.procedure_emission.proofs.c_image_laws.Growing.{extends_itself, extends_through}
+use Rattle.procedure_emission.specs.c_emit_laws.EmittedNumbers.{IsKnown}
+use Rattle.procedure_emission.specs.emitted_texts.SecondLayer.{Surroundings, Emission, TransfersStand}
+use Rattle.procedure_emission.proofs.emitted_texts.Known.{known_later}
 use Rattle.procedure_emission.specs.Reading.{numbers_kept}
 use Rattle.procedure_emission.specs.CallLayer.{CallWorld, IsFrameOf, AreProceduresHeld, function_object, call_kit}
 use Rattle.call_bridge.specs.CallBridge.{Translation, MayRun, linking_of, IsTranslated}

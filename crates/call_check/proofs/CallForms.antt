@@ -10,7 +10,7 @@ use Rattle.f_tree.specs.declared.expressions.Expr.TheBlock as block
 use Rattle.f_tree.specs.declared.statements.Body.{Body, Call, IfOne', more_of-Body, end_of-Body}
 use Rattle.f_tree.specs.declared.statements.Body.TheVariants as body
 use Rattle.f_tree.specs.Folds.{folds_opened}
-use Rattle.declaration_rows.specs.ReferenceRows.{only, layer_parts, parts_of}
+use Rattle.call_shapes.specs.declaration_rows.ReferenceRows.{only, layer_parts, parts_of}
 use Rattle.call_shapes.specs.declared.shapes.NamedShape.{NamedShape}
 use Rattle.call_shapes.specs.CallsMade.{listed, calls_within, calls_in_row, calls_in_held, calls_among, layer_calls, calls_of_body}
 use Rattle.call_check.specs.CallsSeen.{calls_in_option}

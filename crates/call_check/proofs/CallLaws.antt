@@ -11,9 +11,9 @@ use Rattle.f_tree.specs.Folds.{layer_of}
 use Rattle.f_tree.specs.Values.{Bytes}
 use Rattle.f_tree.specs.Uses.{is_among, heading_of, defines_function}
 use Rattle.f_tree.specs.Attributes.{Definition, definitions_in, definition_by, arrays_of}
-use Rattle.declaration_rows.specs.Judgement.{What, AValue, APlace, AnArray, AProcedureName, AFunctionName, AnExit, NoOperand, Known, judge}
-use Rattle.declaration_rows.specs.NameRows.{own_attributes, known_in, known_within}
-use Rattle.declaration_rows.specs.ReferenceRows.{known_for}
+use Rattle.call_shapes.specs.declaration_rows.Judgement.{What, AValue, APlace, AnArray, AProcedureName, AFunctionName, AnExit, NoOperand, Known, judge}
+use Rattle.call_shapes.specs.declaration_rows.NameRows.{own_attributes, known_in, known_within}
+use Rattle.call_shapes.specs.declaration_rows.ReferenceRows.{known_for}
 use Rattle.expression_judge.specs.declared.names.Names.{Names}
 use Rattle.expression_judge.specs.declared.operand.Found.{Found}
 use Rattle.expression_judge.specs.Operands.{operand_of, found}

@@ -7,7 +7,7 @@ use Rattle.std.proofs.lemmas.List.{append-nil, nil_from_length}
 use Rattle.f_tree.specs.declared.statements.Stmt.{Stmt}
 use Rattle.f_tree.specs.declared.units.Unit.{Unit as WrittenUnit}
 use Rattle.f_tree.specs.declared.units.File.{File}
-use Rattle.declaration_rows.specs.GlobalRows.{all_units}
+use Rattle.call_shapes.specs.declaration_rows.GlobalRows.{all_units}
 use Rattle.call_shapes.specs.declared.findings.Finding.{Finding}
 use Rattle.call_shapes.specs.declared.shapes.NamedShape.{NamedShape}
 use Rattle.call_shapes.specs.CallsMade.{calls_of_statement}

@@ -20,8 +20,8 @@ use Rattle.f_tree.specs.Folds.{layer_of}
 use Rattle.f_tree.specs.Values.{Bytes}
 use Rattle.f_tree.specs.Facts.{Attribute}
 use Rattle.f_tree.specs.Attributes.{from_all}
-use Rattle.declaration_rows.specs.GlobalRows.{all_units}
-use Rattle.declaration_rows.specs.NameRows.{given_names, known_in}
+use Rattle.call_shapes.specs.declaration_rows.GlobalRows.{all_units}
+use Rattle.call_shapes.specs.declaration_rows.NameRows.{given_names, known_in}
 use Rattle.expression_judge.specs.declared.names.Names.{Names}
 use Rattle.expression_judge.specs.SeenNames.{fact_in, AreSeen}
 use Rattle.call_shapes.specs.declared.shapes.Argument.{Argument}

@@ -2,7 +2,7 @@
 use Rattle.std.specs.Prelude.{◌≡◌}
 use Rattle.f_tree.specs.declared.units.Unit.{Unit as WrittenUnit}
 use Rattle.f_tree.specs.Attributes.{arrays_of}
-use Rattle.declaration_rows.specs.NameRows.{known_in}
+use Rattle.call_shapes.specs.declaration_rows.NameRows.{known_in}
 use Rattle.declared_types.specs.TypeTables.{AreTypes}
 use Rattle.expression_judge.specs.SeenNames.{AreSeen}
 use Rattle.name_table.specs.Named.{names_in, IsNameSet}

@@ -4,7 +4,7 @@
 
 ghost use Rattle.std.specs.Prelude.{◌≡◌, OnOk, IfOk, None, Some, List, ℕ, bytes_eq, if◌then◌else◌};
 ghost use Rattle.std.specs.HashMap.{get_by};
-ghost use Rattle.declaration_rows.specs.NameRows.{own_attributes};
+ghost use Rattle.call_shapes.specs.declaration_rows.NameRows.{own_attributes};
 ghost use Rattle.declared_types.specs.TypeTables.{AreTypes};
 ghost use Rattle.name_table.specs.Named.{texts};
 ghost use Rattle.reference_judge.specs.KnownBindings.{bound_basic};

@@ -3,7 +3,7 @@
 
 ghost use Rattle.std.specs.Prelude.{◌≡◌, ◌++◌, [], OnOk, IfOk, if◌then◌else◌};
 ghost use Rattle.std.specs.List.{list_any};
-ghost use Rattle.declaration_rows.specs.GlobalRows.{all_units};
+ghost use Rattle.call_shapes.specs.declaration_rows.GlobalRows.{all_units};
 ghost use Rattle.call_shapes.specs.Disagreements as spec;
 ghost use Rattle.call_check.specs.KnownUnits.{AreKnown};
 

@@ -3,7 +3,7 @@
 
 ghost use Rattle.std.specs.Prelude.{◌≡◌, ◌++◌, OnOk, IfOk};
 ghost use Rattle.f_tree.specs.Attributes.{from_all};
-ghost use Rattle.declaration_rows.specs.GlobalRows.{all_units};
+ghost use Rattle.call_shapes.specs.declaration_rows.GlobalRows.{all_units};
 ghost use Rattle.call_shapes.specs.ProcedureShapes.{shaped, unit_procedures, procedures_of};
 ghost use Rattle.call_check.specs.ProceduresSeen as seen;
 

@@ -2,8 +2,8 @@
 #![tactic(auto)]
 
 ghost use Rattle.std.specs.Prelude.{◌≡◌, ◌++◌, OnOk, IfOk, option_copied};
-ghost use Rattle.declaration_rows.specs.NameRows.{known_in};
-ghost use Rattle.declaration_rows.specs.ReferenceRows.{parts_of};
+ghost use Rattle.call_shapes.specs.declaration_rows.NameRows.{known_in};
+ghost use Rattle.call_shapes.specs.declaration_rows.ReferenceRows.{parts_of};
 ghost use Rattle.declared_types.specs.TypeTables.{AreTypes};
 ghost use Rattle.expression_judge.specs.SeenNames.{AreSeen};
 ghost use Rattle.f_tree.specs.Uses.{heading_of};

@@ -1,19 +1,19 @@
 -- Small sets of units with calls, as trees, and what is found of their calls.
 use Rattle.std.specs.Prelude.{ℕ, suc, pos, true, List, [], ◌∷◌, codes, Option, Some, None}
-use Rattle.f_tree.specs.declared.names.Basic.{Basic}
-use Rattle.f_tree.specs.declared.names.Basic.TheVariants as type
-use Rattle.f_tree.specs.declared.expressions.BinaryOp.TheVariants as op
-use Rattle.f_tree.specs.declared.expressions.Expr.{Expr}
-use Rattle.f_tree.specs.declared.expressions.Expr as expr
-use Rattle.f_tree.specs.declared.statements.Body.{Body}
-use Rattle.f_tree.specs.declared.statements.Body as body
-use Rattle.f_tree.specs.declared.statements.DummyArgument.{DummyArgument}
-use Rattle.f_tree.specs.declared.statements.DummyArgument.TheVariants as dummy
-use Rattle.f_tree.specs.declared.statements.Stmt.{Stmt}
-use Rattle.f_tree.specs.declared.statements.UnitKind.{UnitKind}
-use Rattle.f_tree.specs.declared.statements.UnitKind.TheVariants as kind
-use Rattle.f_tree.specs.declared.units.Unit.{Unit as WrittenUnit}
-use Rattle.f_tree.specs.declared.units.File.{File}
+use Rattle.call_shapes.specs.f_tree.declared.names.Basic.{Basic}
+use Rattle.call_shapes.specs.f_tree.declared.names.Basic.TheVariants as type
+use Rattle.call_shapes.specs.f_tree.declared.expressions.BinaryOp.TheVariants as op
+use Rattle.call_shapes.specs.f_tree.declared.expressions.Expr.{Expr}
+use Rattle.call_shapes.specs.f_tree.declared.expressions.Expr as expr
+use Rattle.call_shapes.specs.f_tree.declared.statements.Body.{Body}
+use Rattle.call_shapes.specs.f_tree.declared.statements.Body as body
+use Rattle.call_shapes.specs.f_tree.declared.statements.DummyArgument.{DummyArgument}
+use Rattle.call_shapes.specs.f_tree.declared.statements.DummyArgument.TheVariants as dummy
+use Rattle.call_shapes.specs.f_tree.declared.statements.Stmt.{Stmt}
+use Rattle.call_shapes.specs.f_tree.declared.statements.UnitKind.{UnitKind}
+use Rattle.call_shapes.specs.f_tree.declared.statements.UnitKind.TheVariants as kind
+use Rattle.call_shapes.specs.f_tree.declared.units.Unit.{Unit as WrittenUnit}
+use Rattle.call_shapes.specs.f_tree.declared.units.File.{File}
 use Rattle.call_shapes.specs.declared.findings.Finding.{Finding}
 use Rattle.call_shapes.specs.declared.findings.Reason.{Reason}
 use Rattle.call_shapes.specs.declared.shapes.Argument.{Argument}

@@ -2,7 +2,7 @@
 #![tactic(auto)]
 
 ghost use Rattle.std.specs.Prelude.{◌∷◌, [], ◌≡◌, codes};
-ghost use Rattle.f_tree.specs.declared.expressions.Expr as expr;
+ghost use Rattle.call_shapes.specs.f_tree.declared.expressions.Expr as expr;
 ghost use Rattle.call_shapes.specs.declared.findings.Reason.TheVariants as reason;
 ghost use Rattle.call_shapes.specs.declared.shapes.Argument.TheVariants as argument;
 ghost use Rattle.call_check_rows.specs.CallSources.{calling_a_function, calling_in_a_definition, calling_s, calling_t, calling_with_logical, calling_within_a_call, found, found_in, including_a_call, line, num, referring_to_a_subroutine, wanting_a_logical};

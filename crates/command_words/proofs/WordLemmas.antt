@@ -7,10 +7,10 @@ use Rattle.f2c_outside.specs.Texts.{word_at}
 use Rattle.output_names.specs.OutputNames.{have_one_output}
 use Rattle.command_words.specs.CommandWords.{is_the_word, has_word, gives_its_output, goes_on_with, first_other}
 
-plus_one : (n : ℕ) → n + 1 ≡ suc n
+pub plus_one : (n : ℕ) → n + 1 ≡ suc n
 plus_one n = omega arith
 
-there : (words : List (List ℕ)) (k : ℕ) (word : List ℕ) → slice_get words k ≡ Some word → drop k words ≡ word ∷ drop (suc k) words
+pub there : (words : List (List ℕ)) (k : ℕ) (word : List ℕ) → slice_get words k ≡ Some word → drop k words ≡ word ∷ drop (suc k) words
 there [] k word is = absurd (cc)
 there (w ∷ words) zero word is = let same : w ≡ word = cc in ap (λ z. z ∷ words) same
 there (w ∷ words) (suc k) word is = there words k word is
@@ -26,12 +26,12 @@ never [] k less at = absurd (omega (arith, less))
 never (w ∷ ws) zero less at = absurd (cc)
 never (w ∷ ws) (suc k) less at = never ws k (omega (arith, less)) at
 
-record IsWordAt (words : List (List ℕ)) (passed : ℕ) : Type 0 where
-  word : List ℕ
-  at : slice_get words passed ≡ Some word
-  numbered : word_at (passed + 1) words ≡ Some word
+pub record IsWordAt (words : List (List ℕ)) (passed : ℕ) : Type 0 where
+  pub word : List ℕ
+  pub at : slice_get words passed ≡ Some word
+  pub numbered : word_at (passed + 1) words ≡ Some word
 
-the_word : (words : List (List ℕ)) (passed : ℕ) → passed < length words → IsWordAt words passed
+pub the_word : (words : List (List ℕ)) (passed : ℕ) → passed < length words → IsWordAt words passed
 the_word words passed within = by (slice_get words passed) refl
   where
     by : (found : Option (List ℕ)) → slice_get words passed ≡ found → IsWordAt words passed
@@ -91,13 +91,13 @@ any_found P (w ∷ words) (suc count) (suc k) word within at is = by (P w) (any_
     by true rest = refl
     by false rest = rest
 
-found_by : (P : List ℕ → Bool) (test : Option (List ℕ) → Bool) (words : List (List ℕ)) (count passed : ℕ) → ((word : List ℕ) → test (Some word) ≡ P word) → passed < count →
+pub found_by : (P : List ℕ → Bool) (test : Option (List ℕ) → Bool) (words : List (List ℕ)) (count passed : ℕ) → ((word : List ℕ) → test (Some word) ≡ P word) → passed < count →
     count ≤ length words → test (word_at (passed + 1) words) ≡ true → list_any P (take count words) ≡ true
 found_by P test words count passed same within low is =
     let w = the_word words passed (omega (arith, within, low)) in
     any_found P words count passed w.word within w.at (sym (same w.word) ∙ (sym (ap test w.numbered) ∙ is))
 
-passed_by : (P : List ℕ → Bool) (test : Option (List ℕ) → Bool) (words : List (List ℕ)) (passed : ℕ) → ((word : List ℕ) → test (Some word) ≡ P word) → passed < length words →
+pub passed_by : (P : List ℕ → Bool) (test : Option (List ℕ) → Bool) (words : List (List ℕ)) (passed : ℕ) → ((word : List ℕ) → test (Some word) ≡ P word) → passed < length words →
     test (word_at (passed + 1) words) ≡ false → list_any P (take passed words) ≡ false → list_any P (take (passed + 1) words) ≡ false
 passed_by P test words passed same within is none =
     let w = the_word words passed within in

@@ -7,9 +7,9 @@ use Rattle.f2c_outside.specs.declared.shelves.Place.TheVariants.{Input, File}
 use Rattle.f2c_outside.specs.Shelf.{text_or_none}
 use Rattle.f2c_outside.specs.Texts.{word_at}
 use Rattle.f_tree.specs.declared.names.Options.{Options}
-use Rattle.output_names.specs.OutputNames.{is_file_word, have_one_output}
+use Rattle.output_names.specs.OutputNames.{is_file_word, is_prototype_word, have_one_output}
 use Rattle.command_words.specs.declared.command.Command.{Command}
-use Rattle.command_words.specs.declared.command.Command.TheVariants.{Translate, Split, Help, BadWord}
+use Rattle.command_words.specs.declared.command.Command.TheVariants.{Translate, Split, Check, Help, BadWord}
 use Rattle.command_words.specs.declared.command.Origin.{Origin}
 use Rattle.command_words.specs.declared.command.Origin.TheVariants as origin
 
@@ -87,13 +87,48 @@ abbrev pub place_from : List (List ℕ) → Origin → Place
 place_from words origin.Input = Input
 place_from words (origin.Word number) = File (text_or_none (word_at number words))
 
+-- `-check`: the calls of FORTRAN files are checked, by what they and prototype files say
+abbrev pub check_word : List ℕ
+check_word = codes "-check"
+
+-- a word that names a file of a check
+abbrev pub names_a_file : List ℕ → Bool
+names_a_file word = is_file_word word || is_prototype_word word
+
+abbrev pub is_checked : List ℕ → Bool
+is_checked word = bytes_eq word check_word || names_a_file word
+
+-- whether there is a word that names a file of a check, and one with which a check goes on
+abbrev pub is_some_file : Option (List ℕ) → Bool
+is_some_file None = false
+is_some_file (Some word) = names_a_file word
+
+abbrev pub is_some_checked : Option (List ℕ) → Bool
+is_some_checked None = false
+is_some_checked (Some word) = is_checked word
+
+-- the number of the first word with which no check goes on
+unfoldable pub first_unchecked : ℕ → List (List ℕ) → Option ℕ
+first_unchecked number [] = None
+first_unchecked number (word ∷ words) = if is_checked word then first_unchecked (suc number) words else Some number
+
+-- a check has no options
+abbrev pub no_options : Options
+no_options = record { undeclared = false; onetrip = false; long_cards = false; checks = false }
+
+-- and one file at least
+abbrev pub check_by : List (List ℕ) → Option ℕ → Command
+check_by words None = if list_any names_a_file words then Check no_options else BadWord 1
+check_by words (Some number) = BadWord number
+
 -- options and files, in any order, ask for a translation, an option as often as one likes; `-split` stands first, before a file at most; a word that
--- asks for the usage stands alone; else the first word is named with which no command goes on
+-- asks for the usage stands alone; `-check` and files stand in any order; else the first word is named with which no command goes on
 abbrev pub command_for : Option (List ℕ) → List (List ℕ) → Command
 command_for None words = translation_by words (first_other 1 [] words)
 command_for (Some first) words =
     if is_split first then split_by (word_at 2 words) words
-    else (if is_help first then (if nat_eq (length words) 1 then Help else BadWord 2) else translation_by words (first_other 1 [] words))
+    else (if is_help first then (if nat_eq (length words) 1 then Help else BadWord 2) else
+    (if has_word check_word words then check_by words (first_unchecked 1 words) else translation_by words (first_other 1 [] words)))
 
 abbrev pub command_of : List (List ℕ) → Command
 command_of words = command_for (word_at 1 words) words

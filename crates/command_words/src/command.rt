@@ -6,6 +6,7 @@ ghost use Rattle.f2c_outside.specs.Texts.{word_at};
 ghost use Rattle.output_names.specs.OutputNames.{have_one_output};
 ghost use Rattle.command_words.specs.CommandWords as words_of;
 
+use crate::checks::{CHECK, check_by};
 use f_tree::names::Options;
 use f2c_outside::texts::Words;
 use output_names::{have_one_output, is_file_word};
@@ -26,6 +27,8 @@ pub enum Command {
     Translate(Options),
     /// Cut what is read there into its pieces, one for each program unit, and write each to a file of its own.
     Split(Origin),
+    /// Read the files that the words name to their ends, and list the calls that disagree with what they call, under these options.
+    Check(Options),
     /// Write the usage on Output.
     Help,
     /// Nothing: with the word of this number, counted from 1, no command goes on.
@@ -183,7 +186,8 @@ fn split_by(words: &Words) -> Command
 }
 
 /// The command that the words ask for: translation where they are options and files, splitting where `-split` is the first and a FORTRAN
-/// file at most stands behind it, and the usage where `-h` or `--help` is the only one. No other command has a word yet.
+/// file at most stands behind it, the usage where `-h` or `--help` is the only one, and a check of calls where they are `-check` and files, in any
+/// order, one file at least. No other command has a word yet.
 pub fn command_of_words(words: &Words) -> Command
     ensures { result ≡ words_of.command_of words.now }
 {
@@ -191,6 +195,7 @@ pub fn command_of_words(words: &Words) -> Command
         Some(first) if is_split(first) => split_by(words),
         Some(first) if is_help(first) && words.len() == 1 => Command::Help,
         Some(first) if is_help(first) => Command::BadWord(2),
+        Some(_) if has_word(words, CHECK) => check_by(words),
         _ => translation_by(words),
     }
 }

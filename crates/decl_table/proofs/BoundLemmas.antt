@@ -1,5 +1,5 @@
 -- The constant bounds of dimensions, one after the other.
-use Rattle.std.proofs.Common.{◌≡◌, ℕ, ◌+◌, ◌<◌, ℤ, pos, Bool, true, false, not, ◌&&◌, List, [], ◌∷◌, ◌++◌, map, take, get_or, length, Option, Some, None, Result, Ok, Err, OnOk, IfOk, refl, ap, sym, subst, ◌∙◌, append-nil, append_assoc, drop, drop-cons, suc, ◌≤◌, arith}
+use Rattle.std.proofs.Common.{◌≡◌, ℕ, ◌+◌, ◌<◌, ℤ, pos, Bool, true, false, not, ◌&&◌, List, [], ◌∷◌, ◌++◌, map, take, get_or, length, Option, Some, None, option_map, Result, Ok, Err, OnOk, IfOk, refl, ap, sym, subst, ◌∙◌, append-nil, append_assoc, drop, drop-cons, suc, ◌≤◌, arith}
 use Rattle.std.proofs.lemmas.List.{take_more, take_all, drop_all, map-append}
 use Rattle.f_tree.specs.declared.expressions.Expr.{Expr}
 use Rattle.f_tree.specs.declared.statements.Dimension.{Dimension as WrittenDimension}
@@ -29,44 +29,45 @@ one-read names = refl
 pub lower-unwritten : (table : Constants) (functions : List Bytes) (lower : Option Expr) → lower ≡ None → IsLowerOf table functions lower (Some (pos 1))
 lower-unwritten table functions lower is = record { worth = λ names known. one-read names ∙ ap (λ l. constant_term (lower_read names l)) (sym is) }
 
-pub upper-written : {E : Type 0} (table : Constants) (functions : List Bytes) (bound : UpperBound) (e : Expr) (r : Result (Option ℤ) E) → bound ≡ upper'.Value e
-    → IfOk r (λ v. IsBoundOf table functions e v) → IfOk r (λ v. IsUpperOf table functions bound v)
+pub upper-written : (table : Constants) (functions : List Bytes) (bound : UpperBound) (e : Expr) (v : Option ℤ) (number : Option (Option ℤ)) → bound ≡ upper'.Value e
+    → IsBoundOf table functions e v → number ≡ option_map Some v → IsUpperOf table functions bound number
 unfolding upper_read constant_upper
-upper-written table functions bound e (Ok v) is h = record { worth = λ names known. h.value names known ∙ ap (λ u. constant_upper (upper_read names u)) (sym is) }
-upper-written table functions bound e (Err x) is h = h
+upper-written table functions bound e v number is h kept = record {
+  worth = λ names known. kept ∙ ap (option_map Some) (h.value names known) ∙ ap (λ u. constant_upper (upper_read names u)) (sym is);
+}
 
-star-read : (names : Bytes → Attribute) → None ≡ constant_upper (upper_read names upper'.Star)
+star-read : (names : Bytes → Attribute) → Some None ≡ constant_upper (upper_read names upper'.Star)
 unfolding upper_read constant_upper
 star-read names = refl
 
-pub upper-star : (table : Constants) (functions : List Bytes) (bound : UpperBound) → bound ≡ upper'.Star → IsUpperOf table functions bound None
+pub upper-star : (table : Constants) (functions : List Bytes) (bound : UpperBound) → bound ≡ upper'.Star → IsUpperOf table functions bound (Some None)
 upper-star table functions bound is = record { worth = λ names known. star-read names ∙ ap (λ u. constant_upper (upper_read names u)) (sym is) }
 
 -- BOUNDS OF A DIMENSION
-no-lower : (o : Option ℤ) → bounds_between None o ≡ []
+no-lower : (o : Option (Option ℤ)) → bounds_between None o ≡ []
 unfolding bounds_between
 no-lower None = refl
-no-lower (Some b) = refl
+no-lower (Some upper) = refl
 
 no-upper : (o : Option ℤ) → bounds_between o None ≡ []
 unfolding bounds_between
 no-upper None = refl
 no-upper (Some a) = refl
 
-one-between : (a b : ℤ) → map bounds_of (record { lower = a; upper = b } ∷ []) ≡ bounds_between (Some a) (Some b)
+one-between : (a : ℤ) (b : Option ℤ) → map bounds_of (record { lower = a; upper = b } ∷ []) ≡ bounds_between (Some a) (Some b)
 unfolding bounds_between bounds_of
 one-between a b = refl
 
 nothing-put : (old : List Bound) (more : List Bounds) → more ≡ [] → map bounds_of old ≡ map bounds_of old ++ more
 nothing-put old more is = sym (append-nil (map bounds_of old)) ∙ ap (λ bs. map bounds_of old ++ bs) (sym is)
 
-pub between-not-lower : (old : List Bound) (lower upper : Option ℤ) → lower ≡ None → map bounds_of old ≡ map bounds_of old ++ bounds_between lower upper
+pub between-not-lower : (old : List Bound) (lower : Option ℤ) (upper : Option (Option ℤ)) → lower ≡ None → map bounds_of old ≡ map bounds_of old ++ bounds_between lower upper
 between-not-lower old lower upper is = nothing-put old (bounds_between lower upper) (ap (λ l. bounds_between l upper) is ∙ no-lower upper)
 
-pub between-not-upper : (old : List Bound) (lower upper : Option ℤ) → upper ≡ None → map bounds_of old ≡ map bounds_of old ++ bounds_between lower upper
+pub between-not-upper : (old : List Bound) (lower : Option ℤ) (upper : Option (Option ℤ)) → upper ≡ None → map bounds_of old ≡ map bounds_of old ++ bounds_between lower upper
 between-not-upper old lower upper is = nothing-put old (bounds_between lower upper) (ap (bounds_between lower) is ∙ no-upper lower)
 
-pub between-put : {A E : Type 0} (r : Result A E) (old new : List Bound) (lower upper : Option ℤ) (a b : ℤ) → lower ≡ Some a → upper ≡ Some b
+pub between-put : {A E : Type 0} (r : Result A E) (old new : List Bound) (lower : Option ℤ) (upper : Option (Option ℤ)) (a : ℤ) (b : Option ℤ) → lower ≡ Some a → upper ≡ Some b
     → OnOk r (new ≡ old ++ record { lower = a; upper = b } ∷ []) → OnOk r (map bounds_of new ≡ map bounds_of old ++ bounds_between lower upper)
 between-put (Ok x) old new lower upper a b low high put =
     ap (map bounds_of) put ∙ map-append bounds_of old (record { lower = a; upper = b } ∷ [])
@@ -78,7 +79,7 @@ one-dimension : (names : Bytes → Attribute) (d : WrittenDimension) →
 unfolding constant_bounds dimension_read
 one-dimension names d = append-nil (bounds_between (constant_term (lower_read names d.lower)) (constant_upper (upper_read names d.upper)))
 
-pub bound-added : {A E : Type 0} (r : Result A E) (table : Constants) (functions : List Bytes) (old new : List Bound) (d : WrittenDimension) (a b : Option ℤ)
+pub bound-added : {A E : Type 0} (r : Result A E) (table : Constants) (functions : List Bytes) (old new : List Bound) (d : WrittenDimension) (a : Option ℤ) (b : Option (Option ℤ))
     → IsLowerOf table functions d.lower a → IsUpperOf table functions d.upper b
     → OnOk r (map bounds_of new ≡ map bounds_of old ++ bounds_between a b) → OnOk r (AddsBounds table functions old new (d ∷ []))
 bound-added (Ok x) table functions old new d a b low high put = record {

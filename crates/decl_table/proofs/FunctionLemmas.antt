@@ -15,13 +15,13 @@ use Rattle.f_tree.specs.Folds.{layer_of}
 use Rattle.f_tree.specs.Values.{Bytes}
 use Rattle.f_tree.specs.Uses.{Use, Manner, Declared, used, all_of, is_among, uses_of_body, uses_of_statements, seen_from, first_seen}
 use Rattle.f_tree.specs.Attributes.{from_all, intrinsic_in, option_list, named_dummies, arrays_of, is_used_as, with_list, own_class, class_by, class_of, signs_of, names_of}
-use Rattle.declaration_rows.specs.NameRows.{all_names}
+use Rattle.name_facts.specs.declaration_rows.NameRows.{all_names}
 use Rattle.name_table.specs.declared.name_set.NameSet.{NameSet}
 use Rattle.name_table.specs.Named.{IsNameSet, names_in, texts}
 use Rattle.name_table.proofs.Texts.{bytes_eq_flip}
 use Rattle.name_table.proofs.SetLemmas.{among_both, among_none}
 use Rattle.name_classes.specs.KnownSigns.{unit_uses}
-use Rattle.name_uses.proofs.BodyForms.{uses-Intrinsic}
+use Rattle.declared_types.proofs.name_uses.BodyForms.{uses-Intrinsic}
 use Rattle.decl_table.specs.UnitFacts.{is_intrinsic, AddsFunction, AreFunctionsAmong, AreFunctions}
 use Rattle.decl_table.proofs.BoundLemmas.{one-taken}
 

@@ -12,7 +12,7 @@ use Rattle.f_tree.specs.Uses.{is_among, uses_of_statements}
 use Rattle.f_tree.specs.WellTyped.{has_size}
 use Rattle.f_tree.specs.Attributes as written
 use Rattle.f_tree.specs.Attributes.{Typed, bare, dimension_read, constant_bounds, constants_of, class_of, names_of, arrays_of, attribute_of, with_class, with_dimensions, without_expansion, all_described, described, attribute_in, expansions_from, definitions_in, from_all}
-use Rattle.declaration_rows.specs.NameRows.{given_names, own_attributes, all_names, shape_in}
+use Rattle.name_facts.specs.declaration_rows.NameRows.{given_names, own_attributes, all_names, shape_in}
 use Rattle.name_table.specs.Named.{names_in, texts}
 use Rattle.name_table.proofs.Texts.{bytes_eq_flip}
 use Rattle.name_facts.specs.declared.fact.NameFact.{NameFact}

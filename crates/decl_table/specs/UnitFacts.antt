@@ -15,7 +15,7 @@ use Rattle.f_tree.specs.Facts.{Attribute}
 use Rattle.f_tree.specs.Uses.{is_among}
 use Rattle.f_tree.specs.Attributes as written
 use Rattle.f_tree.specs.Attributes.{Constant, Typed, constants_from, constants_of, class_of, dimension_read, lower_read, upper_read, constant_term, constant_upper, constant_bounds, fitted_to, bare}
-use Rattle.declaration_rows.specs.NameRows.{own_attributes}
+use Rattle.name_facts.specs.declaration_rows.NameRows.{own_attributes}
 use Rattle.name_table.specs.declared.name_set.NameSet.{NameSet}
 use Rattle.name_table.specs.Named.{IsNameSet, names_in}
 use Rattle.name_facts.specs.declared.fact.Bound.{Bound}
@@ -82,7 +82,7 @@ Known table functions names = (x : Bytes) → IsKnownAs x (names x) (known_by ta
 pub record IsLowerOf (table : Constants) (functions : List Bytes) (lower : Option Expr) (number : Option ℤ) : Type 0 where
   pub worth : (names : Bytes → Attribute) → Known table functions names → number ≡ constant_term (lower_read names lower)
 
-pub record IsUpperOf (table : Constants) (functions : List Bytes) (bound : UpperBound) (number : Option ℤ) : Type 0 where
+pub record IsUpperOf (table : Constants) (functions : List Bytes) (bound : UpperBound) (number : Option (Option ℤ)) : Type 0 where
   pub worth : (names : Bytes → Attribute) → Known table functions names → number ≡ constant_upper (upper_read names bound)
 
 pub record AddsBounds (table : Constants) (functions : List Bytes) (old new : List Bound) (ds : List WrittenDimension) : Type 0 where

@@ -1,6 +1,6 @@
 //! The constant bounds of dimensions. Section 5.1.1.
 
-ghost use Rattle.std.specs.Prelude.{◌≡◌, ◌∷◌, ◌++◌, [], map, OnOk, IfOk};
+ghost use Rattle.std.specs.Prelude.{◌≡◌, ◌∷◌, ◌++◌, [], map, OnOk, IfOk, Some, option_map};
 ghost use Rattle.f_tree.specs.Attributes.{bounds_between};
 ghost use Rattle.name_facts.specs.GivenFacts.{bounds_of};
 ghost use Rattle.name_table.specs.Named.{IsNameSet, names_in};
@@ -30,27 +30,37 @@ fn lower_value(
     }
 }
 
-/// The number that an upper bound is worth; none for `*`.
+/// An upper bound that is written, where it is worth a number.
+fn written(number: Option<i32>) -> Option<Option<i32>>
+    ensures { result ≡ option_map Some number }
+{
+    match number {
+        Some(number) => Some(Some(number)),
+        None => None,
+    }
+}
+
+/// An upper bound, where it is worth a number or is `*`, which is worth none.
 fn upper_value(
     alloc: Global,
     constants: &Constants,
     functions: &NameSet,
     upper: &UpperBound,
-) -> Result<Option<i32>, AllocError>
+) -> Result<Option<Option<i32>>, AllocError>
     requires { IsNameSet functions.now }
     ensures { IfOk result (λ number. IsUpperOf constants.now (names_in functions.now) upper.now number) }
 {
     match upper {
-        UpperBound::Value(e) => bound_value(alloc, constants, functions, e),
-        UpperBound::Star => Ok(None),
+        UpperBound::Value(e) => Ok(written(bound_value(alloc, constants, functions, e)?)),
+        UpperBound::Star => Ok(Some(None)),
     }
 }
 
-/// Adds the bounds of a dimension where both are numbers.
+/// Adds the bounds of a dimension where both are numbers, or the upper one is `*`.
 fn add_between(
     bounds: &mut Items<Bound>,
     lower: Option<i32>,
-    upper: Option<i32>,
+    upper: Option<Option<i32>>,
 ) -> Result<(), AllocError>
     ensures { OnOk result (map bounds_of bounds.new ≡ map bounds_of bounds.old ++ bounds_between lower upper) }
 {
@@ -63,7 +73,7 @@ fn add_between(
     }
 }
 
-/// Adds the bounds of a dimension where both are constant.
+/// Adds the bounds of a dimension where both are constant, or the upper one is `*`. Section 5.1.2.
 fn add_bound(
     alloc: Global,
     constants: &Constants,
@@ -79,7 +89,7 @@ fn add_bound(
     add_between(bounds, lower, upper)
 }
 
-/// The bounds of those dimensions whose bounds are constant. An error where memory ran out.
+/// The bounds of those dimensions whose bounds are constant, or constant but for `*`. An error where memory ran out.
 pub(crate) fn constant_bounds(
     alloc: Global,
     constants: &Constants,

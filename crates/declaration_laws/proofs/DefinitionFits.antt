@@ -3,25 +3,25 @@ use Rattle.std.specs.Prelude.{◌≡◌, ℕ, suc, ◌+◌, Bool, true, false, L
 use Rattle.std.proofs.Common.{refl, sym, ap, ◌∙◌, subst, arith}
 use Rattle.std.proofs.lemmas.List.{append_assoc, append-nil, map-append}
 use Rattle.std.proofs.lemmas.Slice.Eq.{bytes_eq-Decides}
-use Rattle.f_tree.specs.declared.names.Basic.{Basic}
-use Rattle.f_tree.specs.declared.names.Basic.TheVariants.{Integer, Logical, Character, Untyped}
-use Rattle.f_tree.specs.declared.names.Class.TheVariants as class
-use Rattle.f_tree.specs.declared.refusals.Kind.{Kind}
-use Rattle.f_tree.specs.declared.refusals.Refusal.{Refusal}
-use Rattle.f_tree.specs.declared.statements.Stmt.{Stmt}
-use Rattle.f_tree.specs.declared.units.Unit.{Unit as WrittenUnit}
-use Rattle.f_tree.specs.Values.{Bytes}
-use Rattle.f_tree.specs.Terms.{Front, Fitted, Term, Bound, NoMore, More}
-use Rattle.f_tree.specs.Facts.{Attribute, Facts}
-use Rattle.f_tree.specs.Reading.{read}
-use Rattle.f_tree.specs.Attributes.{from_all, bare, Expansion, expansion_among, bound_term, dummy_among, expanded_as, within_function, with_expansions, result_term, Definition, definitions_in, expansion_of, expansions_from, arrays_of}
-use Rattle.f_tree.specs.Lines.{Naming, is_array}
-use Rattle.f_tree.specs.WellTyped as typed
-use Rattle.f_tree.specs.WellTyped.{Sort, ValueOf, IsOf, IsNth, is_variable, is_procedure_name, is_callee, has_size, rank_of, Typed, AreTyped}
-use Rattle.declaration_rows.specs.Judgement.{Known, judge}
-use Rattle.declaration_rows.specs.Fits.{FitsOne, AgreesOnVariable, IsConstant, IsReplaced, Agrees, IsReadAs, read_alike, never_read}
-use Rattle.declaration_rows.specs.StatementRows.{value_rows}
-use Rattle.declaration_rows.specs.NameRows.{given_names, own_attributes, Signature, signature_of, signature_among, definitions_of, signatures_of, known_in, dummy_or, unless_dummy, known_within, dummies_rows, definition_rows, definitions_rows, stood, defined_rows}
+use Rattle.fortran_laws.specs.f_tree.declared.names.Basic.{Basic}
+use Rattle.fortran_laws.specs.f_tree.declared.names.Basic.TheVariants.{Integer, Logical, Character, Untyped}
+use Rattle.fortran_laws.specs.f_tree.declared.names.Class.TheVariants as class
+use Rattle.fortran_laws.specs.f_tree.declared.refusals.Kind.{Kind}
+use Rattle.fortran_laws.specs.f_tree.declared.refusals.Refusal.{Refusal}
+use Rattle.fortran_laws.specs.f_tree.declared.statements.Stmt.{Stmt}
+use Rattle.fortran_laws.specs.f_tree.declared.units.Unit.{Unit as WrittenUnit}
+use Rattle.fortran_laws.specs.f_tree.Values.{Bytes}
+use Rattle.fortran_laws.specs.f_tree.Terms.{Front, Fitted, Term, Bound, NoMore, More}
+use Rattle.fortran_laws.specs.f_tree.Facts.{Attribute, Facts}
+use Rattle.fortran_laws.specs.f_tree.Reading.{read}
+use Rattle.fortran_laws.specs.f_tree.Attributes.{from_all, bare, Expansion, expansion_among, bound_term, dummy_among, expanded_as, within_function, with_expansions, result_term, Definition, definitions_in, expansion_of, expansions_from, arrays_of}
+use Rattle.fortran_laws.specs.f_tree.Lines.{Naming, is_array}
+use Rattle.fortran_laws.specs.f_tree.WellTyped as typed
+use Rattle.fortran_laws.specs.f_tree.WellTyped.{Sort, ValueOf, IsOf, IsNth, is_variable, is_procedure_name, is_callee, has_size, rank_of, Typed, AreTyped}
+use Rattle.refusal_order.specs.declaration_rows.Judgement.{Known, judge}
+use Rattle.refusal_order.specs.declaration_rows.Fits.{FitsOne, AgreesOnVariable, IsConstant, IsReplaced, Agrees, IsReadAs, read_alike, never_read}
+use Rattle.refusal_order.specs.declaration_rows.StatementRows.{value_rows}
+use Rattle.refusal_order.specs.declaration_rows.NameRows.{given_names, own_attributes, Signature, signature_of, signature_among, definitions_of, signatures_of, known_in, dummy_or, unless_dummy, known_within, dummies_rows, definition_rows, definitions_rows, stood, defined_rows}
 use Rattle.declaration_laws.proofs.ExpressionFits.{none_of_both, same_some, wanted_in, expressions_fit}
 use Rattle.declaration_laws.proofs.UnitFits.{none_stood}
 use Rattle.declaration_laws.proofs.NameFits.{all_expansions, IsNamed, a_name, no_name, each_named, IsFaultless, valued_by, constant_by, never}

@@ -2,26 +2,26 @@
 use Rattle.std.specs.Prelude.{◌≡◌, ℕ, zero, suc, nat_eq, pos, Bool, true, false, List, [], ◌∷◌, ◌++◌, length, map, replicate, Option, Some, None, IsTrue}
 use Rattle.std.proofs.Common.{refl, sym, ap, ◌∙◌, subst}
 use Rattle.std.proofs.lemmas.Bool.{eqb-true}
-use Rattle.f_tree.specs.declared.names.Basic.{Basic}
-use Rattle.f_tree.specs.declared.names.Basic.TheVariants.{Integer, Logical, Character}
-use Rattle.f_tree.specs.declared.names.Class.{Class}
-use Rattle.f_tree.specs.declared.names.Class.TheVariants as class
-use Rattle.f_tree.specs.declared.refusals.Kind.{Kind}
-use Rattle.f_tree.specs.declared.refusals.Kind.TheVariants.{OperandTypes, NumberOfSubscripts}
-use Rattle.f_tree.specs.declared.expressions.BinaryOp.{BinaryOp}
-use Rattle.f_tree.specs.declared.expressions.BinaryOp.TheVariants as op
-use Rattle.f_tree.specs.declared.expressions.Expr.{Expr, Int, Logical as TruthValue, Text, Name, Apply', Part', Minus', Plus', Not', Paren', Binary', AltReturn, Bind', Bound as BoundValue, Row_of-Expr, end_of-Expr, more_of-Expr, None', Some', Held-Expr-Part-1}
-use Rattle.f_tree.specs.Folds.{fold_expr, fold_exprs, fold_held}
-use Rattle.f_tree.specs.Values.{Bytes, Datum, IsInt, IsLog, IsText, IsLabel, Nothing}
-use Rattle.f_tree.specs.Terms.{Negate, Complement, Operator, Add, Subtract, Multiply, Divide, IsLess, IsLessOrEqual, IsEqual, IsNotEqual, IsGreater, IsGreaterOrEqual, Both, Either, Same, Different, Function, Power, Truncation, Magnitude, Remainder, SignTransfer, PositiveDifference, Largest, Smallest, CharacterCode, CharacterOfCode, TextLength, IndexOf, LexicallyGreaterOrEqual, LexicallyGreater, LexicallyLessOrEqual, LexicallyLess, Front, Fitted, InclusiveOr, LogicalProduct, ExclusiveOr, BitComplement, BitShift, BitTest, BitSet, BitClear, AsFunction, Term, Val, Fetch, At, Element, Part, Joined, Before, Between, Intrinsically, Refer, Bind, Terms, NoMore, More, terms}
-use Rattle.f_tree.specs.Facts.{Dimension, Attribute, Facts}
-use Rattle.f_tree.specs.Association.{same_basic}
-use Rattle.f_tree.specs.Reading.{Read, valued_only, placed, function_named, name_read, pieces_asked, operands_of, width_or_zero, function_read, intrinsic_read, expanded_read, applied_read, end_read, name_or_none, joined_read, binary_read, layer_read, read}
-use Rattle.f_tree.specs.Lines.{is_array}
-use Rattle.f_tree.specs.WellTyped as typed
-use Rattle.f_tree.specs.WellTyped.{Sort, ValueOf, PlaceOf, AProcedure, ALabel, Absent, IsOf, IsValued, Operates, Applies, IsPiece, ArePieces, IsLast, IsVariable, Typed, AreTyped, integers_of, rank_of, is_variable, is_procedure_name, is_callee, has_size}
-use Rattle.declaration_rows.specs.Judgement.{What, AValue, APlace, AnArray, AProcedureName, AFunctionName, AnExit, NoOperand, Judged, Known, a_value, a_place, no_operand, wants_one, unless, wants, are_comparable, passed, all_faults, all_passed, all_wanted, variable_judged, function_name, bound_judged, name_judged, wanted_by, given_by, intrinsic_judged, expanded_judged, defined_judged, reference_judged, element_judged, applied_judged, wants_place, end_faults, part_judged, both_wanted, compared, binary_judged, layer_judged, judge}
-use Rattle.declaration_rows.specs.Fits.{JoinsPieces, FitsOne, IsNoArray, FitsValue, FitsPlace, FitsAs, Fits, AgreesOnVariable, IsConstant, IsReplaced, Agrees, IsReadAs, read_alike, never_read, EachFaultlessExpressionIsTyped}
+use Rattle.fortran_laws.specs.f_tree.declared.names.Basic.{Basic}
+use Rattle.fortran_laws.specs.f_tree.declared.names.Basic.TheVariants.{Integer, Logical, Character}
+use Rattle.fortran_laws.specs.f_tree.declared.names.Class.{Class}
+use Rattle.fortran_laws.specs.f_tree.declared.names.Class.TheVariants as class
+use Rattle.fortran_laws.specs.f_tree.declared.refusals.Kind.{Kind}
+use Rattle.fortran_laws.specs.f_tree.declared.refusals.Kind.TheVariants.{OperandTypes, NumberOfSubscripts}
+use Rattle.fortran_laws.specs.f_tree.declared.expressions.BinaryOp.{BinaryOp}
+use Rattle.fortran_laws.specs.f_tree.declared.expressions.BinaryOp.TheVariants as op
+use Rattle.fortran_laws.specs.f_tree.declared.expressions.Expr.{Expr, Int, Logical as TruthValue, Text, Name, Apply', Part', Minus', Plus', Not', Paren', Binary', AltReturn, Bind', Bound as BoundValue, Row_of-Expr, end_of-Expr, more_of-Expr, None', Some', Held-Expr-Part-1}
+use Rattle.fortran_laws.specs.f_tree.Folds.{fold_expr, fold_exprs, fold_held}
+use Rattle.fortran_laws.specs.f_tree.Values.{Bytes, Datum, IsInt, IsLog, IsText, IsLabel, Nothing}
+use Rattle.fortran_laws.specs.f_tree.Terms.{Negate, Complement, Operator, Add, Subtract, Multiply, Divide, IsLess, IsLessOrEqual, IsEqual, IsNotEqual, IsGreater, IsGreaterOrEqual, Both, Either, Same, Different, Function, Power, Truncation, Magnitude, Remainder, SignTransfer, PositiveDifference, Largest, Smallest, CharacterCode, CharacterOfCode, TextLength, IndexOf, LexicallyGreaterOrEqual, LexicallyGreater, LexicallyLessOrEqual, LexicallyLess, Front, Fitted, InclusiveOr, LogicalProduct, ExclusiveOr, BitComplement, BitShift, BitTest, BitSet, BitClear, AsFunction, Term, Val, Fetch, At, Element, Part, Joined, Before, Between, Intrinsically, Refer, Bind, Terms, NoMore, More, terms}
+use Rattle.fortran_laws.specs.f_tree.Facts.{Dimension, Attribute, Facts}
+use Rattle.fortran_laws.specs.f_tree.Association.{same_basic}
+use Rattle.fortran_laws.specs.f_tree.Reading.{Read, valued_only, placed, function_named, name_read, pieces_asked, operands_of, width_or_zero, function_read, intrinsic_read, expanded_read, applied_read, end_read, name_or_none, joined_read, binary_read, layer_read, read}
+use Rattle.fortran_laws.specs.f_tree.Lines.{is_array}
+use Rattle.fortran_laws.specs.f_tree.WellTyped as typed
+use Rattle.fortran_laws.specs.f_tree.WellTyped.{Sort, ValueOf, PlaceOf, AProcedure, ALabel, Absent, IsOf, IsValued, Operates, Applies, IsPiece, ArePieces, IsLast, IsVariable, Typed, AreTyped, integers_of, rank_of, is_variable, is_procedure_name, is_callee, has_size}
+use Rattle.refusal_order.specs.declaration_rows.Judgement.{What, AValue, APlace, AnArray, AProcedureName, AFunctionName, AnExit, NoOperand, Judged, Known, a_value, a_place, no_operand, wants_one, unless, wants, are_comparable, passed, all_faults, all_passed, all_wanted, variable_judged, function_name, bound_judged, name_judged, wanted_by, given_by, intrinsic_judged, expanded_judged, defined_judged, reference_judged, element_judged, applied_judged, wants_place, end_faults, part_judged, both_wanted, compared, binary_judged, layer_judged, judge}
+use Rattle.refusal_order.specs.declaration_rows.Fits.{JoinsPieces, FitsOne, IsNoArray, FitsValue, FitsPlace, FitsAs, Fits, AgreesOnVariable, IsConstant, IsReplaced, Agrees, IsReadAs, read_alike, never_read, EachFaultlessExpressionIsTyped}
 
 -- LISTS
 pub none_of_both : {A : Type 0} (xs ys : List A) → (xs ++ ys) ≡ [] → (xs ≡ []) × (ys ≡ [])

@@ -5,3 +5,4 @@ pub mod SetFits
 pub mod StatementFits
 pub mod UnitFits
 pub mod VerdictLemmas
+pub use Rattle.fortran_laws.proofs as fortran_laws

@@ -3,42 +3,42 @@ use Rattle.std.specs.Prelude.{◌≡◌, ℕ, nat_eq, Bool, true, false, ◌&&�
 use Rattle.std.proofs.Common.{refl, sym, ap, ◌∙◌, subst}
 use Rattle.std.proofs.lemmas.Bool.{eqb-true}
 use Rattle.std.proofs.lemmas.Slice.Eq.{bytes_eq-Decides}
-use Rattle.f_tree.specs.declared.names.Basic.{Basic}
-use Rattle.f_tree.specs.declared.names.Basic.TheVariants.{Integer, Logical, Character}
-use Rattle.f_tree.specs.declared.names.Class.{Class}
-use Rattle.f_tree.specs.declared.names.Class.TheVariants as class
-use Rattle.f_tree.specs.declared.refusals.Kind.{Kind}
-use Rattle.f_tree.specs.declared.refusals.Kind.TheVariants.{NameHasTypeReal, ConflictingAttributes, BoundNotConstant, BadParameterValue}
-use Rattle.f_tree.specs.declared.refusals.Refusal.{Refusal}
-use Rattle.f_tree.specs.declared.expressions.BinaryOp.{BinaryOp}
-use Rattle.f_tree.specs.declared.expressions.BinaryOp.TheVariants as op
-use Rattle.f_tree.specs.declared.expressions.Expr.{Expr, Int, Logical as TruthValue, Text, Name, Apply', Part', Minus', Plus', Not', Paren', Binary', AltReturn, Bind', Bound as BoundValue, more_of-Expr}
-use Rattle.f_tree.specs.declared.statements.Body.{Body}
-use Rattle.f_tree.specs.declared.statements.Dimension.{Dimension as WrittenDimension}
-use Rattle.f_tree.specs.declared.statements.UpperBound.{UpperBound}
-use Rattle.f_tree.specs.declared.statements.UpperBound.TheVariants as upper
-use Rattle.f_tree.specs.declared.statements.UnitKind.{UnitKind}
-use Rattle.f_tree.specs.declared.statements.UnitKind.TheVariants as kind
-use Rattle.f_tree.specs.declared.statements.Stmt.{Stmt}
-use Rattle.f_tree.specs.declared.units.Unit.{Unit as WrittenUnit}
-use Rattle.f_tree.specs.Folds.{fold_expr}
-use Rattle.f_tree.specs.Values.{Bytes, Datum, IsInt, IsLog, IsText}
-use Rattle.f_tree.specs.Terms.{Add, Subtract, Multiply, Divide}
-use Rattle.f_tree.specs.Facts.{Attribute, FunctionUnit, Facts}
-use Rattle.f_tree.specs.Valuing.{elements_of}
-use Rattle.f_tree.specs.Setting.{IsIn, first_in, later_in}
-use Rattle.f_tree.specs.Reading.{Read, valued_only, placed, name_read, binary_read, layer_read, read}
-use Rattle.f_tree.specs.Uses.{Use, uses_of_statements}
-use Rattle.f_tree.specs.Attributes.{bare, Constant, constants_of, Expansion, expansions_from, arrays_of, lower_read, upper_read, dimension_read, with_class, with_dimensions, without_expansion, with_expansions, attribute_of, described, all_described, attribute_in}
-use Rattle.f_tree.specs.Lines.{Naming, unit_kind}
-use Rattle.f_tree.specs.WellTyped as typed
-use Rattle.f_tree.specs.WellTyped.{ValueOf, IsOf, IsValued, IsVariable, is_variable, is_procedure_name, is_callee, has_size}
-use Rattle.f_tree.specs.WellFormed as formed
-use Rattle.f_tree.specs.WellFormed.{IsStored, IsOfVariables, IsUpper, AreDimensions, IsResult, is_dummy}
-use Rattle.declaration_rows.specs.Judgement.{unless}
-use Rattle.declaration_rows.specs.Fits.{IsConstant}
-use Rattle.declaration_rows.specs.StatementRows.{is_typed}
-use Rattle.declaration_rows.specs.NameRows.{given_names, own_attributes, all_names, definitions_of, stood, is_integer_value, same_integer, is_integer_name, is_arithmetic, layer_bound, is_bound_expression, is_lower, is_upper, are_dummy_bounds, shape_in, has_value, is_empty, is_function, type_rows, function_rows, is_referenced, conflict_rows, bound_rows, unmeasured, constant_rows, element_rows, at_first, at_both, mentions, declares, fixes, makes, first_statements, name_rows, names_rows}
+use Rattle.fortran_laws.specs.f_tree.declared.names.Basic.{Basic}
+use Rattle.fortran_laws.specs.f_tree.declared.names.Basic.TheVariants.{Integer, Logical, Character}
+use Rattle.fortran_laws.specs.f_tree.declared.names.Class.{Class}
+use Rattle.fortran_laws.specs.f_tree.declared.names.Class.TheVariants as class
+use Rattle.fortran_laws.specs.f_tree.declared.refusals.Kind.{Kind}
+use Rattle.fortran_laws.specs.f_tree.declared.refusals.Kind.TheVariants.{NameHasTypeReal, ConflictingAttributes, BoundNotConstant, BadParameterValue}
+use Rattle.fortran_laws.specs.f_tree.declared.refusals.Refusal.{Refusal}
+use Rattle.fortran_laws.specs.f_tree.declared.expressions.BinaryOp.{BinaryOp}
+use Rattle.fortran_laws.specs.f_tree.declared.expressions.BinaryOp.TheVariants as op
+use Rattle.fortran_laws.specs.f_tree.declared.expressions.Expr.{Expr, Int, Logical as TruthValue, Text, Name, Apply', Part', Minus', Plus', Not', Paren', Binary', AltReturn, Bind', Bound as BoundValue, more_of-Expr}
+use Rattle.fortran_laws.specs.f_tree.declared.statements.Body.{Body}
+use Rattle.fortran_laws.specs.f_tree.declared.statements.Dimension.{Dimension as WrittenDimension}
+use Rattle.fortran_laws.specs.f_tree.declared.statements.UpperBound.{UpperBound}
+use Rattle.fortran_laws.specs.f_tree.declared.statements.UpperBound.TheVariants as upper
+use Rattle.fortran_laws.specs.f_tree.declared.statements.UnitKind.{UnitKind}
+use Rattle.fortran_laws.specs.f_tree.declared.statements.UnitKind.TheVariants as kind
+use Rattle.fortran_laws.specs.f_tree.declared.statements.Stmt.{Stmt}
+use Rattle.fortran_laws.specs.f_tree.declared.units.Unit.{Unit as WrittenUnit}
+use Rattle.fortran_laws.specs.f_tree.Folds.{fold_expr}
+use Rattle.fortran_laws.specs.f_tree.Values.{Bytes, Datum, IsInt, IsLog, IsText}
+use Rattle.fortran_laws.specs.f_tree.Terms.{Add, Subtract, Multiply, Divide}
+use Rattle.fortran_laws.specs.f_tree.Facts.{Attribute, FunctionUnit, Facts}
+use Rattle.fortran_laws.specs.f_tree.Valuing.{elements_of}
+use Rattle.fortran_laws.specs.f_tree.Setting.{IsIn, first_in, later_in}
+use Rattle.fortran_laws.specs.f_tree.Reading.{Read, valued_only, placed, name_read, binary_read, layer_read, read}
+use Rattle.fortran_laws.specs.f_tree.Uses.{Use, uses_of_statements}
+use Rattle.fortran_laws.specs.f_tree.Attributes.{bare, Constant, constants_of, Expansion, expansions_from, arrays_of, lower_read, upper_read, dimension_read, with_class, with_dimensions, without_expansion, with_expansions, attribute_of, described, all_described, attribute_in}
+use Rattle.fortran_laws.specs.f_tree.Lines.{Naming, unit_kind}
+use Rattle.fortran_laws.specs.f_tree.WellTyped as typed
+use Rattle.fortran_laws.specs.f_tree.WellTyped.{ValueOf, IsOf, IsValued, IsVariable, is_variable, is_procedure_name, is_callee, has_size}
+use Rattle.fortran_laws.specs.f_tree.WellFormed as formed
+use Rattle.fortran_laws.specs.f_tree.WellFormed.{IsStored, IsOfVariables, IsUpper, AreDimensions, IsResult, is_dummy}
+use Rattle.refusal_order.specs.declaration_rows.Judgement.{unless}
+use Rattle.refusal_order.specs.declaration_rows.Fits.{IsConstant}
+use Rattle.refusal_order.specs.declaration_rows.StatementRows.{is_typed}
+use Rattle.refusal_order.specs.declaration_rows.NameRows.{given_names, own_attributes, all_names, definitions_of, stood, is_integer_value, same_integer, is_integer_name, is_arithmetic, layer_bound, is_bound_expression, is_lower, is_upper, are_dummy_bounds, shape_in, has_value, is_empty, is_function, type_rows, function_rows, is_referenced, conflict_rows, bound_rows, unmeasured, constant_rows, element_rows, at_first, at_both, mentions, declares, fixes, makes, first_statements, name_rows, names_rows}
 use Rattle.declaration_laws.proofs.ExpressionFits.{none_of_both, unless_holds, is_flat}
 use Rattle.declaration_laws.proofs.StatementFits.{typed_well}
 use Rattle.declaration_laws.proofs.UnitFits.{none_mapped, none_stood, both_true}

@@ -1,28 +1,28 @@
 -- A set that breaks no row is well formed in each of its settings.
 use Rattle.std.specs.Prelude.{◌≡◌, ℕ, zero, suc, ◌+◌, ◌<◌, Bool, true, false, List, [], ◌∷◌, ◌++◌, map, length, Some, slice_get, is_some, IsTrue, if◌then◌else◌}
 use Rattle.std.proofs.Common.{refl, sym, ap, ◌∙◌, subst, arith}
-use Rattle.f_tree.specs.declared.names.Class.{Class}
-use Rattle.f_tree.specs.declared.names.Class.TheVariants as class
-use Rattle.f_tree.specs.declared.names.Options.{Options}
-use Rattle.f_tree.specs.declared.refusals.Refusal.{Refusal}
-use Rattle.f_tree.specs.declared.statements.Stmt.{Stmt}
-use Rattle.f_tree.specs.declared.units.Unit.{Unit as WrittenUnit}
-use Rattle.f_tree.specs.declared.units.File.{File}
-use Rattle.f_tree.specs.Values.{Bytes}
-use Rattle.f_tree.specs.Facts.{Attribute, EntryPoint, Home, Member, ProgramUnit, Facts}
-use Rattle.f_tree.specs.Reading.{name_or_none}
-use Rattle.f_tree.specs.Uses.{Use, uses_of_statements}
-use Rattle.f_tree.specs.Attributes.{from_all, is_not_empty, Constant, constants_of, Expansion, arrays_of, attribute_of, described, all_described}
-use Rattle.f_tree.specs.Lines.{loop_label_in, line_of, formals_of, entries_from, formats_of, is_stored, size_of, stored_among, unit_kind, program_of, with_ties, unit_read}
-use Rattle.f_tree.specs.Setting.{Setting, unit_home, IsMember, here, there, IsIn, first_in, later_in, IsSetting}
-use Rattle.f_tree.specs.Meaning.{units_in, units_of, facts_at}
-use Rattle.f_tree.specs.Valuing.{elements_of}
-use Rattle.f_tree.specs.WellFormed.{IsNest, IsStored, IsResult, IsWellFormed, is_dummy, AreDimensions}
+use Rattle.fortran_laws.specs.f_tree.declared.names.Class.{Class}
+use Rattle.fortran_laws.specs.f_tree.declared.names.Class.TheVariants as class
+use Rattle.fortran_laws.specs.f_tree.declared.names.Options.{Options}
+use Rattle.fortran_laws.specs.f_tree.declared.refusals.Refusal.{Refusal}
+use Rattle.fortran_laws.specs.f_tree.declared.statements.Stmt.{Stmt}
+use Rattle.fortran_laws.specs.f_tree.declared.units.Unit.{Unit as WrittenUnit}
+use Rattle.fortran_laws.specs.f_tree.declared.units.File.{File}
+use Rattle.fortran_laws.specs.f_tree.Values.{Bytes}
+use Rattle.fortran_laws.specs.f_tree.Facts.{Attribute, EntryPoint, Home, Member, ProgramUnit, Facts}
+use Rattle.fortran_laws.specs.f_tree.Reading.{name_or_none}
+use Rattle.fortran_laws.specs.f_tree.Uses.{Use, uses_of_statements}
+use Rattle.fortran_laws.specs.f_tree.Attributes.{from_all, is_not_empty, Constant, constants_of, Expansion, arrays_of, attribute_of, described, all_described}
+use Rattle.fortran_laws.specs.f_tree.Lines.{loop_label_in, line_of, formals_of, entries_from, formats_of, is_stored, size_of, stored_among, unit_kind, program_of, with_ties, unit_read}
+use Rattle.fortran_laws.specs.f_tree.Setting.{Setting, unit_home, IsMember, here, there, IsIn, first_in, later_in, IsSetting}
+use Rattle.fortran_laws.specs.f_tree.Meaning.{units_in, units_of, facts_at}
+use Rattle.fortran_laws.specs.f_tree.Valuing.{elements_of}
+use Rattle.fortran_laws.specs.f_tree.WellFormed.{IsNest, IsStored, IsResult, IsWellFormed, is_dummy, AreDimensions}
 use Rattle.fortran_laws.proofs.HomeLemmas.{each_stored_name}
-use Rattle.declaration_rows.specs.Fits.{Agrees}
-use Rattle.declaration_rows.specs.NameRows.{given_names, own_attributes, all_names, definitions_of, known_in, defined_rows, names_rows, shape_in, unmeasured}
-use Rattle.declaration_rows.specs.UnitRows.{statements_rows, labels_rows, ranges_from, crossing_rows, nest_rows, ends_by_end, end_rows, unit_rows_as, unit_rows}
-use Rattle.declaration_rows.specs.SetRows.{all_unit_rows, units_rows, files_rows, set_faults, EachFaultlessSetIsWellFormed}
+use Rattle.refusal_order.specs.declaration_rows.Fits.{Agrees}
+use Rattle.refusal_order.specs.declaration_rows.NameRows.{given_names, own_attributes, all_names, definitions_of, known_in, defined_rows, names_rows, shape_in, unmeasured}
+use Rattle.refusal_order.specs.declaration_rows.UnitRows.{statements_rows, labels_rows, ranges_from, crossing_rows, nest_rows, ends_by_end, end_rows, unit_rows_as, unit_rows}
+use Rattle.refusal_order.specs.declaration_rows.SetRows.{all_unit_rows, units_rows, files_rows, set_faults, EachFaultlessSetIsWellFormed}
 use Rattle.declaration_laws.proofs.ExpressionFits.{none_of_both}
 use Rattle.declaration_laws.proofs.UnitFits.{each_line_formed, nest_formed, entries_within, mapped_length, in_either}
 use Rattle.declaration_laws.proofs.NameFits.{all_expansions, IsNamed, a_name, no_name, each_named, IsFaultless, each_faultless, HasStorage, stored_by, dummy_fits, HasResult, result_by}

@@ -1,41 +1,41 @@
 -- A statement that breaks no row is well formed where it stands.
 use Rattle.std.specs.Prelude.{◌≡◌, ℕ, pos, Bool, true, false, ◌||◌, List, [], ◌∷◌, ◌++◌, Option, Some, None, IsTrue, if◌then◌else◌}
 use Rattle.std.proofs.Common.{refl, sym, ap, ◌∙◌, subst}
-use Rattle.f_tree.specs.declared.names.Basic.{Basic}
-use Rattle.f_tree.specs.declared.names.Basic.TheVariants.{Integer, Logical, Character, Untyped}
-use Rattle.f_tree.specs.declared.names.Class.{Class}
-use Rattle.f_tree.specs.declared.names.Class.TheVariants as class
-use Rattle.f_tree.specs.declared.refusals.Kind.{Kind}
-use Rattle.f_tree.specs.declared.refusals.Kind.TheVariants.{SyntaxError, ConflictingAttributes, LabelMissingOrTwice, BadDoNest, OperandTypes, NumberOfSubscripts, BadStatementFunction, BadFormat}
-use Rattle.f_tree.specs.declared.expressions.Expr.{Expr}
-use Rattle.f_tree.specs.declared.statements.Body as whole
-use Rattle.f_tree.specs.declared.statements.Body.{Body, Row_of-Body, more_of-Body, IfOne'}
-use Rattle.f_tree.specs.declared.statements.ListItem.{ListItem, Item as ItemTree, Loop', Row_of-ListItem, end_of-ListItem, more_of-ListItem}
-use Rattle.f_tree.specs.declared.statements.LoopControl.{LoopControl}
-use Rattle.f_tree.specs.declared.statements.Control.{Control}
-use Rattle.f_tree.specs.declared.statements.ControlValue.{ControlValue}
-use Rattle.f_tree.specs.declared.statements.ControlValue.TheVariants as value
-use Rattle.f_tree.specs.declared.statements.ControlWord.{ControlWord}
-use Rattle.f_tree.specs.declared.statements.ControlWord.TheVariants as word
-use Rattle.f_tree.specs.declared.statements.Direction as direction
-use Rattle.f_tree.specs.declared.statements.Direction.TheVariants as way
-use Rattle.f_tree.specs.Folds.{fold_item, fold_items, fold_body, layer_of}
-use Rattle.f_tree.specs.Values.{Bytes, IsInt}
-use Rattle.f_tree.specs.Terms.{Term, Val, At, All, Alone, Terms, NoMore, More, terms, refers}
-use Rattle.f_tree.specs.Facts.{Attribute, Direction, Input, Output, Layout, Listed, Labelled, Computed, Unformatted, Word, UnitWord, FormatWord, StatusWord, FileWord, FileStatusWord, AccessWord, FormWord, BlankWord, AuxiliaryKind, Work, ToSet, ToSetText, ToSetLabel, ToGo, ToPick, ToGoAssigned, ToGoBySign, ToGuard, ToEnterArm, ToLoop, ToTestLoop, ToCall, ToReturn, ToStop, ToBegin, ToAuxiliary, ToEnd, Form, Passes, On, Facts}
-use Rattle.f_tree.specs.Transfers.{is_format_word as is_format}
-use Rattle.f_tree.specs.Association.{same_basic}
-use Rattle.f_tree.specs.Reading.{Read, valued_only, placed, name_read, read}
-use Rattle.f_tree.specs.Uses.{heading_of}
-use Rattle.f_tree.specs.Lines.{value_of, place_of, arguments_of, step_of, control_of, is_array, array_or, item_of, work_of, layer_job, job_of, jobs_of, is_character, is_text, Written, standard_unit, nothing_written, with_operand, if_placed, settled, control_written, controls_written, controls_of, layout_written, way_of, transfer_form, auxiliary_of, auxiliary_form, is_statement_function, value_assignment, text_assignment, assignment, assign_form, return_form, layer_form, form_of, mark_of}
-use Rattle.f_tree.specs.WellTyped as typed
-use Rattle.f_tree.specs.WellTyped.{Sort, ValueOf, PlaceOf, AProcedure, ALabel, IsValued, IsPiece, ArePieces, is_callee, Typed, AreTyped}
-use Rattle.f_tree.specs.WellFormed as formed
-use Rattle.f_tree.specs.WellFormed.{HasStatement, HasTerminal, EachStands, takes_step, MayStand, WordTakes, WordsTake, unit_sort, names_format, is_given, HasLayout, IsListed, loop_sorts, JobIsFormed, WorkIsFormed, ArePassed, ArePiecesAndPlace, has_arm, Takes, IsFormed}
-use Rattle.declaration_rows.specs.Judgement.{What, AValue, APlace, AnArray, AProcedureName, AFunctionName, AnExit, NoOperand, Judged, wants_one, unless, wants, bound_judged, name_judged, a_value, function_name, judge}
-use Rattle.declaration_rows.specs.Fits.{JoinsPieces, FitsOne, IsNoArray, FitsPlace, FitsArray, FitsAs, Fits, Agrees, read_alike}
-use Rattle.declaration_rows.specs.StatementRows.{Site, branch, all_branches, settable, typed_as, target_rows, value_rows, assigned_rows, judged_name, step_rows, loop_rows, is_typed, read_one, written_one, item_rows, joined_rows, layer_listed, listed_rows, text_one, text_rows, file_or_number, unit_rows, control_rows, controls_rows, is_unit_word, is_format_word, any_word, call_passed, arguments_rows, breaks, breaks_alone, assign_broken, return_rows, layer_broken, broken}
-use Rattle.declaration_rows.specs.Formed.{IsSite, StandsThere, EachFaultlessStatementIsFormed}
+use Rattle.fortran_laws.specs.f_tree.declared.names.Basic.{Basic}
+use Rattle.fortran_laws.specs.f_tree.declared.names.Basic.TheVariants.{Integer, Logical, Character, Untyped}
+use Rattle.fortran_laws.specs.f_tree.declared.names.Class.{Class}
+use Rattle.fortran_laws.specs.f_tree.declared.names.Class.TheVariants as class
+use Rattle.fortran_laws.specs.f_tree.declared.refusals.Kind.{Kind}
+use Rattle.fortran_laws.specs.f_tree.declared.refusals.Kind.TheVariants.{SyntaxError, ConflictingAttributes, LabelMissingOrTwice, BadDoNest, OperandTypes, NumberOfSubscripts, BadStatementFunction, BadFormat}
+use Rattle.fortran_laws.specs.f_tree.declared.expressions.Expr.{Expr}
+use Rattle.fortran_laws.specs.f_tree.declared.statements.Body as whole
+use Rattle.fortran_laws.specs.f_tree.declared.statements.Body.{Body, Row_of-Body, more_of-Body, IfOne'}
+use Rattle.fortran_laws.specs.f_tree.declared.statements.ListItem.{ListItem, Item as ItemTree, Loop', Row_of-ListItem, end_of-ListItem, more_of-ListItem}
+use Rattle.fortran_laws.specs.f_tree.declared.statements.LoopControl.{LoopControl}
+use Rattle.fortran_laws.specs.f_tree.declared.statements.Control.{Control}
+use Rattle.fortran_laws.specs.f_tree.declared.statements.ControlValue.{ControlValue}
+use Rattle.fortran_laws.specs.f_tree.declared.statements.ControlValue.TheVariants as value
+use Rattle.fortran_laws.specs.f_tree.declared.statements.ControlWord.{ControlWord}
+use Rattle.fortran_laws.specs.f_tree.declared.statements.ControlWord.TheVariants as word
+use Rattle.fortran_laws.specs.f_tree.declared.statements.Direction as direction
+use Rattle.fortran_laws.specs.f_tree.declared.statements.Direction.TheVariants as way
+use Rattle.fortran_laws.specs.f_tree.Folds.{fold_item, fold_items, fold_body, layer_of}
+use Rattle.fortran_laws.specs.f_tree.Values.{Bytes, IsInt}
+use Rattle.fortran_laws.specs.f_tree.Terms.{Term, Val, At, All, Alone, Terms, NoMore, More, terms, refers}
+use Rattle.fortran_laws.specs.f_tree.Facts.{Attribute, Direction, Input, Output, Layout, Listed, Labelled, Computed, Unformatted, Word, UnitWord, FormatWord, StatusWord, FileWord, FileStatusWord, AccessWord, FormWord, BlankWord, AuxiliaryKind, Work, ToSet, ToSetText, ToSetLabel, ToGo, ToPick, ToGoAssigned, ToGoBySign, ToGuard, ToEnterArm, ToLoop, ToTestLoop, ToCall, ToReturn, ToStop, ToBegin, ToAuxiliary, ToEnd, Form, Passes, On, Facts}
+use Rattle.fortran_laws.specs.f_tree.Transfers.{is_format_word as is_format}
+use Rattle.fortran_laws.specs.f_tree.Association.{same_basic}
+use Rattle.fortran_laws.specs.f_tree.Reading.{Read, valued_only, placed, name_read, read}
+use Rattle.fortran_laws.specs.f_tree.Uses.{heading_of}
+use Rattle.fortran_laws.specs.f_tree.Lines.{value_of, place_of, arguments_of, step_of, control_of, is_array, array_or, item_of, work_of, layer_job, job_of, jobs_of, is_character, is_text, Written, standard_unit, nothing_written, with_operand, if_placed, settled, control_written, controls_written, controls_of, layout_written, way_of, transfer_form, auxiliary_of, auxiliary_form, is_statement_function, value_assignment, text_assignment, assignment, assign_form, return_form, layer_form, form_of, mark_of}
+use Rattle.fortran_laws.specs.f_tree.WellTyped as typed
+use Rattle.fortran_laws.specs.f_tree.WellTyped.{Sort, ValueOf, PlaceOf, AProcedure, ALabel, IsValued, IsPiece, ArePieces, is_callee, Typed, AreTyped}
+use Rattle.fortran_laws.specs.f_tree.WellFormed as formed
+use Rattle.fortran_laws.specs.f_tree.WellFormed.{HasStatement, HasTerminal, EachStands, takes_step, MayStand, WordTakes, WordsTake, unit_sort, names_format, is_given, HasLayout, IsListed, loop_sorts, JobIsFormed, WorkIsFormed, ArePassed, ArePiecesAndPlace, has_arm, Takes, IsFormed}
+use Rattle.refusal_order.specs.declaration_rows.Judgement.{What, AValue, APlace, AnArray, AProcedureName, AFunctionName, AnExit, NoOperand, Judged, wants_one, unless, wants, bound_judged, name_judged, a_value, function_name, judge}
+use Rattle.refusal_order.specs.declaration_rows.Fits.{JoinsPieces, FitsOne, IsNoArray, FitsPlace, FitsArray, FitsAs, Fits, Agrees, read_alike}
+use Rattle.refusal_order.specs.declaration_rows.StatementRows.{Site, branch, all_branches, settable, typed_as, target_rows, value_rows, assigned_rows, judged_name, step_rows, loop_rows, is_typed, read_one, written_one, item_rows, joined_rows, layer_listed, listed_rows, text_one, text_rows, file_or_number, unit_rows, control_rows, controls_rows, is_unit_word, is_format_word, any_word, call_passed, arguments_rows, breaks, breaks_alone, assign_broken, return_rows, layer_broken, broken}
+use Rattle.refusal_order.specs.declaration_rows.Formed.{IsSite, StandsThere, EachFaultlessStatementIsFormed}
 use Rattle.declaration_laws.proofs.ExpressionFits.{none_of_both, unless_holds, same_some, basics_are, terms_joined, Related, wanted_in, one_as, name_fits, expressions_fit}
 
 -- arrays among what is listed

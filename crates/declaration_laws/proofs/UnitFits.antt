@@ -3,27 +3,27 @@ use Rattle.std.specs.Prelude.{◌≡◌, ℕ, zero, suc, ◌+◌, ◌<◌, nat_l
 use Rattle.std.proofs.Common.{refl, sym, ap, ◌∙◌, subst, arith}
 use Rattle.std.proofs.lemmas.Bool.{ltb-true}
 use Rattle.std.proofs.lemmas.Option.{slice_get-map}
-use Rattle.f_tree.specs.declared.refusals.Kind.{Kind}
-use Rattle.f_tree.specs.declared.statements.Body as whole
-use Rattle.f_tree.specs.declared.statements.Body.{Body, Row_of-Body, more_of-Body, IfOne'}
-use Rattle.f_tree.specs.declared.statements.DummyArgument.{DummyArgument}
-use Rattle.f_tree.specs.declared.statements.Stmt.{Stmt}
-use Rattle.f_tree.specs.declared.units.Unit.{Unit as WrittenUnit}
-use Rattle.f_tree.specs.Folds.{fold_body, layer_of}
-use Rattle.f_tree.specs.Values.{Bytes}
-use Rattle.f_tree.specs.Terms.{NoMore}
-use Rattle.f_tree.specs.Facts.{EntryPoint, ToEnd, On, Mark, Plain, Opens, Arm, Closes, Line, ProgramUnit, Facts}
-use Rattle.f_tree.specs.Places.{place_of_label, terminal_of}
-use Rattle.f_tree.specs.Transfers.{labelled_text}
-use Rattle.f_tree.specs.Lines.{Naming, layer_form, form_of, mark_of, line_of, formals_of, entry_in, entries_from, formats_of}
-use Rattle.f_tree.specs.Setting.{IsIn, first_in, later_in}
-use Rattle.f_tree.specs.WellFormed as formed
-use Rattle.f_tree.specs.WellFormed.{HasStatement, HasTerminal, IsFormed, IsNest}
-use Rattle.declaration_rows.specs.Fits.{Agrees}
-use Rattle.declaration_rows.specs.StatementRows.{broken}
-use Rattle.declaration_rows.specs.Formed.{IsSite, StandsThere}
-use Rattle.declaration_rows.specs.NameRows.{given_names, known_in, stood}
-use Rattle.declaration_rows.specs.UnitRows.{may_be_entered, such_at, is_behind, may_end, site_at, statements_rows, nest_row, around_behind, left_open, nest_rows, is_end, ends_by_end}
+use Rattle.fortran_laws.specs.f_tree.declared.refusals.Kind.{Kind}
+use Rattle.fortran_laws.specs.f_tree.declared.statements.Body as whole
+use Rattle.fortran_laws.specs.f_tree.declared.statements.Body.{Body, Row_of-Body, more_of-Body, IfOne'}
+use Rattle.fortran_laws.specs.f_tree.declared.statements.DummyArgument.{DummyArgument}
+use Rattle.fortran_laws.specs.f_tree.declared.statements.Stmt.{Stmt}
+use Rattle.fortran_laws.specs.f_tree.declared.units.Unit.{Unit as WrittenUnit}
+use Rattle.fortran_laws.specs.f_tree.Folds.{fold_body, layer_of}
+use Rattle.fortran_laws.specs.f_tree.Values.{Bytes}
+use Rattle.fortran_laws.specs.f_tree.Terms.{NoMore}
+use Rattle.fortran_laws.specs.f_tree.Facts.{EntryPoint, ToEnd, On, Mark, Plain, Opens, Arm, Closes, Line, ProgramUnit, Facts}
+use Rattle.fortran_laws.specs.f_tree.Places.{place_of_label, terminal_of}
+use Rattle.fortran_laws.specs.f_tree.Transfers.{labelled_text}
+use Rattle.fortran_laws.specs.f_tree.Lines.{Naming, layer_form, form_of, mark_of, line_of, formals_of, entry_in, entries_from, formats_of}
+use Rattle.fortran_laws.specs.f_tree.Setting.{IsIn, first_in, later_in}
+use Rattle.fortran_laws.specs.f_tree.WellFormed as formed
+use Rattle.fortran_laws.specs.f_tree.WellFormed.{HasStatement, HasTerminal, IsFormed, IsNest}
+use Rattle.refusal_order.specs.declaration_rows.Fits.{Agrees}
+use Rattle.refusal_order.specs.declaration_rows.StatementRows.{broken}
+use Rattle.refusal_order.specs.declaration_rows.Formed.{IsSite, StandsThere}
+use Rattle.refusal_order.specs.declaration_rows.NameRows.{given_names, known_in, stood}
+use Rattle.refusal_order.specs.declaration_rows.UnitRows.{may_be_entered, such_at, is_behind, may_end, site_at, statements_rows, nest_row, around_behind, left_open, nest_rows, is_end, ends_by_end}
 use Rattle.declaration_laws.proofs.ExpressionFits.{none_of_both}
 use Rattle.declaration_laws.proofs.StatementFits.{statements_formed}
 

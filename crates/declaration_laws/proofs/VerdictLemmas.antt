@@ -1,11 +1,11 @@
 -- The first of some refusals is one of them and not after any; and each set has a verdict.
 use Rattle.std.specs.Prelude.{◌≡◌, List, [], ◌∷◌, Option}
-use Rattle.f_tree.specs.declared.names.Options.{Options}
-use Rattle.f_tree.specs.declared.refusals.Refusal.{Refusal}
-use Rattle.f_tree.specs.declared.units.FileSet.{FileSet}
-use Rattle.f_tree.specs.Setting.{IsIn}
-use Rattle.declaration_rows.specs.SetRows.{set_faults}
-use Rattle.declaration_rows.specs.Verdicts.{storage_faults, shared_faults, first_of, or_else, verdict, IsVerdict, declared_badly, placed_badly, shared_badly, faultless, EachSetHasAVerdict}
+use Rattle.fortran_laws.specs.f_tree.declared.names.Options.{Options}
+use Rattle.fortran_laws.specs.f_tree.declared.refusals.Refusal.{Refusal}
+use Rattle.fortran_laws.specs.f_tree.declared.units.FileSet.{FileSet}
+use Rattle.fortran_laws.specs.f_tree.Setting.{IsIn}
+use Rattle.refusal_order.specs.declaration_rows.SetRows.{set_faults}
+use Rattle.refusal_order.specs.declaration_rows.Verdicts.{storage_faults, shared_faults, first_of, or_else, verdict, IsVerdict, declared_badly, placed_badly, shared_badly, faultless, EachSetHasAVerdict}
 use Rattle.refusal_order.proofs.RefusalOrder.{IsChosen, none_there, first_there, first_is_chosen}
 use Rattle.declaration_laws.proofs.SetFits.{sets_formed}
 

@@ -1,0 +1,1 @@
+pub use Rattle.refusal_order.specs.declaration_rows

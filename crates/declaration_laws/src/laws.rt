@@ -1,10 +1,10 @@
 //! What breaks no row is well typed and well formed, each as the contract of a call that does nothing.
 #![tactic(auto)]
 
-ghost use Rattle.declaration_rows.specs.Fits.{EachFaultlessExpressionIsTyped};
-ghost use Rattle.declaration_rows.specs.Formed.{EachFaultlessStatementIsFormed};
-ghost use Rattle.declaration_rows.specs.SetRows.{EachFaultlessSetIsWellFormed};
-ghost use Rattle.declaration_rows.specs.Verdicts.{EachSetHasAVerdict};
+ghost use Rattle.refusal_order.specs.declaration_rows.Fits.{EachFaultlessExpressionIsTyped};
+ghost use Rattle.refusal_order.specs.declaration_rows.Formed.{EachFaultlessStatementIsFormed};
+ghost use Rattle.refusal_order.specs.declaration_rows.SetRows.{EachFaultlessSetIsWellFormed};
+ghost use Rattle.refusal_order.specs.declaration_rows.Verdicts.{EachSetHasAVerdict};
 
 /// An expression that breaks no row is read as what it is judged to be: as a value, as an actual argument, as a place
 /// or as pieces of text its reading is well typed.

@@ -2,27 +2,27 @@
 -- ANSI X3.9-1978, sections 11.6 to 11.8 (IF blocks), 11.10.8 (DO ranges) and 15.7 (ENTRY).
 use Rattle.std.specs.Prelude.{ℕ, suc, nat_eq, nat_lt, nat_le, Bool, true, false, not, ◌&&◌, ◌||◌, List, [], ◌∷◌, ◌++◌, Option, Some, None, if◌then◌else◌}
 use Rattle.std.specs.List.{list_any}
-use Rattle.f_tree.specs.declared.expressions.Expr.{Expr}
-use Rattle.f_tree.specs.declared.expressions.Expr.TheOpen as expr
-use Rattle.f_tree.specs.declared.refusals.Kind.{Kind}
-use Rattle.f_tree.specs.declared.refusals.Kind.TheVariants.{BranchIntoBlock, BadEntry}
-use Rattle.f_tree.specs.declared.refusals.Refusal.{Refusal}
-use Rattle.f_tree.specs.declared.statements.Body.{Body}
-use Rattle.f_tree.specs.declared.statements.Body.TheOpen as body
-use Rattle.f_tree.specs.declared.statements.Control.{Control}
-use Rattle.f_tree.specs.declared.statements.ControlValue.{ControlValue}
-use Rattle.f_tree.specs.declared.statements.ControlValue.TheVariants as value
-use Rattle.f_tree.specs.declared.statements.ControlWord.{ControlWord}
-use Rattle.f_tree.specs.declared.statements.ControlWord.TheVariants as word
-use Rattle.f_tree.specs.declared.statements.UnitKind.{UnitKind}
-use Rattle.f_tree.specs.declared.statements.UnitKind.TheVariants as kind
-use Rattle.f_tree.specs.declared.statements.Stmt.{Stmt}
-use Rattle.f_tree.specs.declared.units.Unit.{Unit as WrittenUnit}
-use Rattle.f_tree.specs.Values.{Bytes}
-use Rattle.f_tree.specs.Folds.{fold_expr, fold_body, layer_of}
-use Rattle.f_tree.specs.Facts.{Mark, Plain, Opens, Arm, Closes, Attribute, ProgramUnit}
-use Rattle.f_tree.specs.Places.{place_of_label}
-use Rattle.f_tree.specs.Lines.{Naming, is_character, mark_of}
+use Rattle.fortran_text.specs.f_tree.declared.expressions.Expr.{Expr}
+use Rattle.fortran_text.specs.f_tree.declared.expressions.Expr.TheOpen as expr
+use Rattle.fortran_text.specs.f_tree.declared.refusals.Kind.{Kind}
+use Rattle.fortran_text.specs.f_tree.declared.refusals.Kind.TheVariants.{BranchIntoBlock, BadEntry}
+use Rattle.fortran_text.specs.f_tree.declared.refusals.Refusal.{Refusal}
+use Rattle.fortran_text.specs.f_tree.declared.statements.Body.{Body}
+use Rattle.fortran_text.specs.f_tree.declared.statements.Body.TheOpen as body
+use Rattle.fortran_text.specs.f_tree.declared.statements.Control.{Control}
+use Rattle.fortran_text.specs.f_tree.declared.statements.ControlValue.{ControlValue}
+use Rattle.fortran_text.specs.f_tree.declared.statements.ControlValue.TheVariants as value
+use Rattle.fortran_text.specs.f_tree.declared.statements.ControlWord.{ControlWord}
+use Rattle.fortran_text.specs.f_tree.declared.statements.ControlWord.TheVariants as word
+use Rattle.fortran_text.specs.f_tree.declared.statements.UnitKind.{UnitKind}
+use Rattle.fortran_text.specs.f_tree.declared.statements.UnitKind.TheVariants as kind
+use Rattle.fortran_text.specs.f_tree.declared.statements.Stmt.{Stmt}
+use Rattle.fortran_text.specs.f_tree.declared.units.Unit.{Unit as WrittenUnit}
+use Rattle.fortran_text.specs.f_tree.Values.{Bytes}
+use Rattle.fortran_text.specs.f_tree.Folds.{fold_expr, fold_body, layer_of}
+use Rattle.fortran_text.specs.f_tree.Facts.{Mark, Plain, Opens, Arm, Closes, Attribute, ProgramUnit}
+use Rattle.fortran_text.specs.f_tree.Places.{place_of_label}
+use Rattle.fortran_text.specs.f_tree.Lines.{Naming, is_character, mark_of}
 use Rattle.declaration_rows.specs.Judgement.{unless}
 use Rattle.declaration_rows.specs.NameRows.{given_names, stood}
 use Rattle.declaration_rows.specs.UnitRows.{Range, ranges_from}

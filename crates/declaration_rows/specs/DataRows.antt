@@ -1,25 +1,25 @@
 -- The rows that DATA statements break: F34 and F38. ANSI X3.9-1978, sections 9.1 to 9.3 (DATA), 8.3 and 16 (common blocks).
 use Rattle.std.specs.Prelude.{ℕ, suc, ◌+◌, nat_eq, nat_lt, nat_le, pos, int_lt, Bool, true, false, not, ◌&&◌, List, [], ◌∷◌, ◌++◌, map, bytes_eq, Option, Some, None, if◌then◌else◌}
 use Rattle.std.specs.List.{list_any}
-use Rattle.f_tree.specs.declared.names.Basic.{Basic}
-use Rattle.f_tree.specs.declared.names.Basic.TheVariants.{Integer, Logical, Character}
-use Rattle.f_tree.specs.declared.refusals.Kind.TheVariants.{BadData, CommonInitialised}
-use Rattle.f_tree.specs.declared.refusals.Refusal.{Refusal}
-use Rattle.f_tree.specs.declared.expressions.Expr.{Expr}
-use Rattle.f_tree.specs.declared.statements.DataGroup.{DataGroup}
-use Rattle.f_tree.specs.declared.statements.DataValue.{DataValue}
-use Rattle.f_tree.specs.declared.statements.ListItem.{ListItem}
-use Rattle.f_tree.specs.declared.statements.UnitKind.{UnitKind}
-use Rattle.f_tree.specs.declared.statements.UnitKind.TheVariants as kind
-use Rattle.f_tree.specs.declared.statements.Stmt.{Stmt}
-use Rattle.f_tree.specs.declared.units.Unit.{Unit as WrittenUnit}
-use Rattle.f_tree.specs.Values.{Bytes, Spot, Datum, IsInt, IsLog, IsText, Checked, Gives, Fails}
-use Rattle.f_tree.specs.Facts.{Block, Member, Home, ProgramUnit, Facts}
-use Rattle.f_tree.specs.Valuing.{reduce}
-use Rattle.f_tree.specs.Images.{all_places_in}
-use Rattle.f_tree.specs.Attributes.{no_facts, no_frame, value_if_valued}
-use Rattle.f_tree.specs.Lines.{Naming, is_character, is_stored, value_of, data_in, image_of}
-use Rattle.f_tree.specs.Uses.{is_among, Use, uses_of_place}
+use Rattle.fortran_text.specs.f_tree.declared.names.Basic.{Basic}
+use Rattle.fortran_text.specs.f_tree.declared.names.Basic.TheVariants.{Integer, Logical, Character}
+use Rattle.fortran_text.specs.f_tree.declared.refusals.Kind.TheVariants.{BadData, CommonInitialised}
+use Rattle.fortran_text.specs.f_tree.declared.refusals.Refusal.{Refusal}
+use Rattle.fortran_text.specs.f_tree.declared.expressions.Expr.{Expr}
+use Rattle.fortran_text.specs.f_tree.declared.statements.DataGroup.{DataGroup}
+use Rattle.fortran_text.specs.f_tree.declared.statements.DataValue.{DataValue}
+use Rattle.fortran_text.specs.f_tree.declared.statements.ListItem.{ListItem}
+use Rattle.fortran_text.specs.f_tree.declared.statements.UnitKind.{UnitKind}
+use Rattle.fortran_text.specs.f_tree.declared.statements.UnitKind.TheVariants as kind
+use Rattle.fortran_text.specs.f_tree.declared.statements.Stmt.{Stmt}
+use Rattle.fortran_text.specs.f_tree.declared.units.Unit.{Unit as WrittenUnit}
+use Rattle.fortran_text.specs.f_tree.Values.{Bytes, Spot, Datum, IsInt, IsLog, IsText, Checked, Gives, Fails}
+use Rattle.fortran_text.specs.f_tree.Facts.{Block, Member, Home, ProgramUnit, Facts}
+use Rattle.fortran_text.specs.f_tree.Valuing.{reduce}
+use Rattle.fortran_text.specs.f_tree.Images.{all_places_in}
+use Rattle.fortran_text.specs.f_tree.Attributes.{no_facts, no_frame, value_if_valued}
+use Rattle.fortran_text.specs.f_tree.Lines.{Naming, is_character, is_stored, value_of, data_in, image_of}
+use Rattle.fortran_text.specs.f_tree.Uses.{is_among, Use, uses_of_place}
 use Rattle.declaration_rows.specs.Judgement.{unless}
 use Rattle.declaration_rows.specs.NameRows.{stood}
 use Rattle.declaration_rows.specs.PlacingRows.{Placing, Reached, reached_from, first_item, place_in}

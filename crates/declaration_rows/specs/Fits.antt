@@ -2,16 +2,16 @@
 -- or a place, and by its pieces; and that what is known of names is what the unit makes of them.
 -- ANSI X3.9-1978, sections 5, 6 and 15.
 use Rattle.std.specs.Prelude.{◌≡◌, ℕ, Bool, true, false, List, [], ◌∷◌, length, map, Some, None, IsTrue}
-use Rattle.f_tree.specs.declared.names.Basic.{Basic}
-use Rattle.f_tree.specs.declared.names.Basic.TheVariants.{Character}
-use Rattle.f_tree.specs.declared.names.Class.TheVariants as class
-use Rattle.f_tree.specs.declared.expressions.Expr.{Expr}
-use Rattle.f_tree.specs.Values.{Bytes, Datum}
-use Rattle.f_tree.specs.Terms.{Term, terms}
-use Rattle.f_tree.specs.Facts.{Attribute, Facts}
-use Rattle.f_tree.specs.Reading.{Read, read}
-use Rattle.f_tree.specs.Lines.{is_array}
-use Rattle.f_tree.specs.WellTyped.{Sort, ValueOf, PlaceOf, AProcedure, ALabel, IsOf, IsValued, ArePieces, IsVariable, is_variable, is_procedure_name, is_callee, has_size, rank_of, Typed, AreTyped}
+use Rattle.fortran_text.specs.f_tree.declared.names.Basic.{Basic}
+use Rattle.fortran_text.specs.f_tree.declared.names.Basic.TheVariants.{Character}
+use Rattle.fortran_text.specs.f_tree.declared.names.Class.TheVariants as class
+use Rattle.fortran_text.specs.f_tree.declared.expressions.Expr.{Expr}
+use Rattle.fortran_text.specs.f_tree.Values.{Bytes, Datum}
+use Rattle.fortran_text.specs.f_tree.Terms.{Term, terms}
+use Rattle.fortran_text.specs.f_tree.Facts.{Attribute, Facts}
+use Rattle.fortran_text.specs.f_tree.Reading.{Read, read}
+use Rattle.fortran_text.specs.f_tree.Lines.{is_array}
+use Rattle.fortran_text.specs.f_tree.WellTyped.{Sort, ValueOf, PlaceOf, AProcedure, ALabel, IsOf, IsValued, ArePieces, IsVariable, is_variable, is_procedure_name, is_callee, has_size, rank_of, Typed, AreTyped}
 use Rattle.declaration_rows.specs.Judgement.{What, AValue, APlace, AnArray, AProcedureName, AFunctionName, AnExit, NoOperand, Judged, Known, judge}
 
 -- the pieces of a text, of which there is one at least

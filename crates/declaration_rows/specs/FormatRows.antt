@@ -2,24 +2,24 @@
 -- (F44). ANSI X3.9-1978, sections 12.4 (format identifiers), 13.1 (formats) and 13.5 (edit descriptors).
 use Rattle.std.specs.Prelude.{ℕ, Bool, true, false, not, ◌&&◌, ◌||◌, ◌==◌, List, [], ◌∷◌, ◌++◌, Option, Some, None, is_some, if◌then◌else◌}
 use Rattle.std.specs.List.{list_any}
-use Rattle.f_tree.specs.declared.names.Class.TheVariants as class
-use Rattle.f_tree.specs.declared.expressions.Expr.{Expr}
-use Rattle.f_tree.specs.declared.expressions.Expr.TheOpen as expr
-use Rattle.f_tree.specs.declared.refusals.Kind.{Kind}
-use Rattle.f_tree.specs.declared.refusals.Kind.TheVariants.{BadFormat, EditDescriptorNotSupported}
-use Rattle.f_tree.specs.declared.refusals.Refusal.{Refusal}
-use Rattle.f_tree.specs.declared.statements.Body.TheOpen as body
-use Rattle.f_tree.specs.declared.statements.Control.{Control}
-use Rattle.f_tree.specs.declared.statements.ControlValue.{ControlValue}
-use Rattle.f_tree.specs.declared.statements.ControlValue.TheVariants as value
-use Rattle.f_tree.specs.declared.statements.ControlWord.{ControlWord}
-use Rattle.f_tree.specs.declared.statements.ControlWord.TheVariants as word
-use Rattle.f_tree.specs.declared.statements.Stmt.{Stmt}
-use Rattle.f_tree.specs.declared.units.Unit.{Unit as WrittenUnit}
-use Rattle.f_tree.specs.Values.{Bytes}
-use Rattle.f_tree.specs.Folds.{fold_expr, fold_body}
-use Rattle.f_tree.specs.Uses.{heading_of}
-use Rattle.edit_meaning.specs.FormatTexts.{format_of}
+use Rattle.fortran_text.specs.f_tree.declared.names.Class.TheVariants as class
+use Rattle.fortran_text.specs.f_tree.declared.expressions.Expr.{Expr}
+use Rattle.fortran_text.specs.f_tree.declared.expressions.Expr.TheOpen as expr
+use Rattle.fortran_text.specs.f_tree.declared.refusals.Kind.{Kind}
+use Rattle.fortran_text.specs.f_tree.declared.refusals.Kind.TheVariants.{BadFormat, EditDescriptorNotSupported}
+use Rattle.fortran_text.specs.f_tree.declared.refusals.Refusal.{Refusal}
+use Rattle.fortran_text.specs.f_tree.declared.statements.Body.TheOpen as body
+use Rattle.fortran_text.specs.f_tree.declared.statements.Control.{Control}
+use Rattle.fortran_text.specs.f_tree.declared.statements.ControlValue.{ControlValue}
+use Rattle.fortran_text.specs.f_tree.declared.statements.ControlValue.TheVariants as value
+use Rattle.fortran_text.specs.f_tree.declared.statements.ControlWord.{ControlWord}
+use Rattle.fortran_text.specs.f_tree.declared.statements.ControlWord.TheVariants as word
+use Rattle.fortran_text.specs.f_tree.declared.statements.Stmt.{Stmt}
+use Rattle.fortran_text.specs.f_tree.declared.units.Unit.{Unit as WrittenUnit}
+use Rattle.fortran_text.specs.f_tree.Values.{Bytes}
+use Rattle.fortran_text.specs.f_tree.Folds.{fold_expr, fold_body}
+use Rattle.fortran_text.specs.f_tree.Uses.{heading_of}
+use Rattle.fortran_text.specs.edit_meaning.FormatTexts.{format_of}
 use Rattle.fortran_text.specs.CharactersOfText.{counting, behind, after, shown, characters_from}
 use Rattle.fortran_text.specs.declared.characters.Character.{Character}
 use Rattle.fortran_text.specs.declared.characters.Standing.TheVariants.{Outside}

@@ -1,11 +1,11 @@
 -- What it means that what is known where a statement stands is so in its unit; and that a statement that breaks no row is
 -- well formed there. ANSI X3.9-1978, sections 10 to 13 and 15.
 use Rattle.std.specs.Prelude.{◌≡◌, ℕ, [], Option, Some, None, slice_get, IsTrue}
-use Rattle.f_tree.specs.declared.statements.Body.{Body}
-use Rattle.f_tree.specs.Facts.{Line, Facts}
-use Rattle.f_tree.specs.Transfers.{labelled_text}
-use Rattle.f_tree.specs.Lines.{form_of, mark_of}
-use Rattle.f_tree.specs.WellFormed.{HasStatement, HasTerminal, is_given, IsFormed}
+use Rattle.fortran_text.specs.f_tree.declared.statements.Body.{Body}
+use Rattle.fortran_text.specs.f_tree.Facts.{Line, Facts}
+use Rattle.fortran_text.specs.f_tree.Transfers.{labelled_text}
+use Rattle.fortran_text.specs.f_tree.Lines.{form_of, mark_of}
+use Rattle.fortran_text.specs.f_tree.WellFormed.{HasStatement, HasTerminal, is_given, IsFormed}
 use Rattle.declaration_rows.specs.Fits.{Agrees}
 use Rattle.declaration_rows.specs.StatementRows.{Site, broken}
 

@@ -3,34 +3,34 @@
 -- functions), 15.7 (ENTRY) and 18.2 (classes of names).
 use Rattle.std.specs.Prelude.{nat_eq, Bool, true, false, not, ◌&&◌, ◌||◌, List, [], ◌∷◌, ◌++◌, map, bytes_eq, if◌then◌else◌}
 use Rattle.std.specs.List.{list_any}
-use Rattle.f_tree.specs.declared.names.Basic.{Basic}
-use Rattle.f_tree.specs.declared.names.Basic.TheVariants.{Untyped}
-use Rattle.f_tree.specs.declared.names.Class.TheVariants as class
-use Rattle.f_tree.specs.declared.expressions.Expr.{Expr}
-use Rattle.f_tree.specs.declared.expressions.Expr.TheOpen as expr
-use Rattle.f_tree.specs.declared.refusals.Kind.{Kind}
-use Rattle.f_tree.specs.declared.refusals.Kind.TheVariants.{ConflictingAttributes}
-use Rattle.f_tree.specs.declared.refusals.Refusal.{Refusal}
-use Rattle.f_tree.specs.declared.statements.ArrayDeclarator.{ArrayDeclarator}
-use Rattle.f_tree.specs.declared.statements.Body.{Body}
-use Rattle.f_tree.specs.declared.statements.Body.TheOpen as body
-use Rattle.f_tree.specs.declared.statements.ConstantDefinition.{ConstantDefinition}
-use Rattle.f_tree.specs.declared.statements.DataGroup.{DataGroup}
-use Rattle.f_tree.specs.declared.statements.EquivalenceGroup.{EquivalenceGroup}
-use Rattle.f_tree.specs.declared.statements.ListItem.{ListItem}
-use Rattle.f_tree.specs.declared.statements.ListItem.TheOpen as item
-use Rattle.f_tree.specs.declared.statements.SavedItem.{SavedItem}
-use Rattle.f_tree.specs.declared.statements.SavedItem.TheVariants as saved
-use Rattle.f_tree.specs.declared.statements.UnitKind.{UnitKind}
-use Rattle.f_tree.specs.declared.statements.UnitKind.TheVariants as kind
-use Rattle.f_tree.specs.declared.statements.Stmt.{Stmt}
-use Rattle.f_tree.specs.declared.units.Unit.{Unit as WrittenUnit}
-use Rattle.f_tree.specs.Values.{Bytes}
-use Rattle.f_tree.specs.Folds.{fold_expr, fold_item, layer_of}
-use Rattle.f_tree.specs.Facts.{Attribute}
-use Rattle.f_tree.specs.Uses.{is_among}
-use Rattle.f_tree.specs.Attributes.{TypedName, Shaped, Definition, typed_in, shaped_in, constants_in, external_in, intrinsic_in, entry_names_in, entry_dummies_in, named_dummies, members_of, definitions_in, arrays_of, option_list}
-use Rattle.f_tree.specs.Lines.{common_in, equivalence_in, data_in}
+use Rattle.fortran_text.specs.f_tree.declared.names.Basic.{Basic}
+use Rattle.fortran_text.specs.f_tree.declared.names.Basic.TheVariants.{Untyped}
+use Rattle.fortran_text.specs.f_tree.declared.names.Class.TheVariants as class
+use Rattle.fortran_text.specs.f_tree.declared.expressions.Expr.{Expr}
+use Rattle.fortran_text.specs.f_tree.declared.expressions.Expr.TheOpen as expr
+use Rattle.fortran_text.specs.f_tree.declared.refusals.Kind.{Kind}
+use Rattle.fortran_text.specs.f_tree.declared.refusals.Kind.TheVariants.{ConflictingAttributes}
+use Rattle.fortran_text.specs.f_tree.declared.refusals.Refusal.{Refusal}
+use Rattle.fortran_text.specs.f_tree.declared.statements.ArrayDeclarator.{ArrayDeclarator}
+use Rattle.fortran_text.specs.f_tree.declared.statements.Body.{Body}
+use Rattle.fortran_text.specs.f_tree.declared.statements.Body.TheOpen as body
+use Rattle.fortran_text.specs.f_tree.declared.statements.ConstantDefinition.{ConstantDefinition}
+use Rattle.fortran_text.specs.f_tree.declared.statements.DataGroup.{DataGroup}
+use Rattle.fortran_text.specs.f_tree.declared.statements.EquivalenceGroup.{EquivalenceGroup}
+use Rattle.fortran_text.specs.f_tree.declared.statements.ListItem.{ListItem}
+use Rattle.fortran_text.specs.f_tree.declared.statements.ListItem.TheOpen as item
+use Rattle.fortran_text.specs.f_tree.declared.statements.SavedItem.{SavedItem}
+use Rattle.fortran_text.specs.f_tree.declared.statements.SavedItem.TheVariants as saved
+use Rattle.fortran_text.specs.f_tree.declared.statements.UnitKind.{UnitKind}
+use Rattle.fortran_text.specs.f_tree.declared.statements.UnitKind.TheVariants as kind
+use Rattle.fortran_text.specs.f_tree.declared.statements.Stmt.{Stmt}
+use Rattle.fortran_text.specs.f_tree.declared.units.Unit.{Unit as WrittenUnit}
+use Rattle.fortran_text.specs.f_tree.Values.{Bytes}
+use Rattle.fortran_text.specs.f_tree.Folds.{fold_expr, fold_item, layer_of}
+use Rattle.fortran_text.specs.f_tree.Facts.{Attribute}
+use Rattle.fortran_text.specs.f_tree.Uses.{is_among}
+use Rattle.fortran_text.specs.f_tree.Attributes.{TypedName, Shaped, Definition, typed_in, shaped_in, constants_in, external_in, intrinsic_in, entry_names_in, entry_dummies_in, named_dummies, members_of, definitions_in, arrays_of, option_list}
+use Rattle.fortran_text.specs.f_tree.Lines.{common_in, equivalence_in, data_in}
 use Rattle.declaration_rows.specs.Judgement.{unless}
 use Rattle.declaration_rows.specs.NameRows.{given_names, stood, at_both, mentions}
 use Rattle.declaration_rows.specs.GlobalRows.{block_names, global_rows_opened}

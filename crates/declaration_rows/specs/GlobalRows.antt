@@ -2,17 +2,17 @@
 -- (one main program), 18.1 (global names): program units, entries and common blocks.
 use Rattle.std.specs.Prelude.{ℕ, Bool, true, false, not, ◌&&◌, ◌||◌, List, [], ◌∷◌, ◌++◌, map, bytes_eq}
 use Rattle.std.specs.List.{list_any}
-use Rattle.f_tree.specs.declared.refusals.Kind.{Kind}
-use Rattle.f_tree.specs.declared.refusals.Kind.TheVariants.{GlobalNameTwice, TwoMainPrograms}
-use Rattle.f_tree.specs.declared.refusals.Refusal.{Refusal}
-use Rattle.f_tree.specs.declared.statements.CommonGroup.{CommonGroup}
-use Rattle.f_tree.specs.declared.statements.UnitKind.TheVariants as kind
-use Rattle.f_tree.specs.declared.statements.Stmt.{Stmt}
-use Rattle.f_tree.specs.declared.units.Unit.{Unit as WrittenUnit}
-use Rattle.f_tree.specs.declared.units.File.{File}
-use Rattle.f_tree.specs.Values.{Bytes}
-use Rattle.f_tree.specs.Attributes.{option_list, entry_names_in}
-use Rattle.f_tree.specs.Lines.{common_in}
+use Rattle.fortran_text.specs.f_tree.declared.refusals.Kind.{Kind}
+use Rattle.fortran_text.specs.f_tree.declared.refusals.Kind.TheVariants.{GlobalNameTwice, TwoMainPrograms}
+use Rattle.fortran_text.specs.f_tree.declared.refusals.Refusal.{Refusal}
+use Rattle.fortran_text.specs.f_tree.declared.statements.CommonGroup.{CommonGroup}
+use Rattle.fortran_text.specs.f_tree.declared.statements.UnitKind.TheVariants as kind
+use Rattle.fortran_text.specs.f_tree.declared.statements.Stmt.{Stmt}
+use Rattle.fortran_text.specs.f_tree.declared.units.Unit.{Unit as WrittenUnit}
+use Rattle.fortran_text.specs.f_tree.declared.units.File.{File}
+use Rattle.fortran_text.specs.f_tree.Values.{Bytes}
+use Rattle.fortran_text.specs.f_tree.Attributes.{option_list, entry_names_in}
+use Rattle.fortran_text.specs.f_tree.Lines.{common_in}
 use Rattle.declaration_rows.specs.Judgement.{unless}
 
 -- a global name where it stands: that of a unit or an entry, or that of a common block

@@ -2,22 +2,22 @@
 -- of the unit are. What it is never depends on what its operands are, so one operand out of place tells nothing of another.
 -- ANSI X3.9-1978, sections 5.4 and 5.7 (elements and substrings), 6 (expressions), 15.4 (statement functions), 15.5 (functions) and 15.10.
 use Rattle.std.specs.Prelude.{ℕ, suc, nat_eq, Bool, true, false, List, [], ◌∷◌, ◌++◌, length, replicate, Option, Some, None}
-use Rattle.f_tree.specs.declared.names.Basic.{Basic}
-use Rattle.f_tree.specs.declared.names.Basic.TheVariants.{Integer, Logical, Character, Untyped}
-use Rattle.f_tree.specs.declared.names.Class.TheVariants as class
-use Rattle.f_tree.specs.declared.refusals.Kind.{Kind}
-use Rattle.f_tree.specs.declared.refusals.Kind.TheVariants.{SyntaxError, ConflictingAttributes, OperandTypes, NumberOfSubscripts, BadStatementFunction}
-use Rattle.f_tree.specs.declared.expressions.BinaryOp.{BinaryOp}
-use Rattle.f_tree.specs.declared.expressions.BinaryOp.TheVariants as op
-use Rattle.f_tree.specs.declared.expressions.Expr.{Expr}
-use Rattle.f_tree.specs.declared.expressions.Expr.TheOpen as expr
-use Rattle.f_tree.specs.Folds.{fold_expr}
-use Rattle.f_tree.specs.Values.{Bytes}
-use Rattle.f_tree.specs.Terms.{Function, Power, Truncation, Magnitude, Remainder, SignTransfer, PositiveDifference, Largest, Smallest, CharacterCode, CharacterOfCode, TextLength, IndexOf, LexicallyGreaterOrEqual, LexicallyGreater, LexicallyLessOrEqual, LexicallyLess, Front, Fitted, InclusiveOr, LogicalProduct, ExclusiveOr, BitComplement, BitShift, BitTest, BitSet, BitClear}
-use Rattle.f_tree.specs.Facts.{Dimension, Attribute}
-use Rattle.f_tree.specs.Association.{same_basic}
-use Rattle.f_tree.specs.Reading.{function_named}
-use Rattle.f_tree.specs.WellTyped.{has_size}
+use Rattle.fortran_text.specs.f_tree.declared.names.Basic.{Basic}
+use Rattle.fortran_text.specs.f_tree.declared.names.Basic.TheVariants.{Integer, Logical, Character, Untyped}
+use Rattle.fortran_text.specs.f_tree.declared.names.Class.TheVariants as class
+use Rattle.fortran_text.specs.f_tree.declared.refusals.Kind.{Kind}
+use Rattle.fortran_text.specs.f_tree.declared.refusals.Kind.TheVariants.{SyntaxError, ConflictingAttributes, OperandTypes, NumberOfSubscripts, BadStatementFunction}
+use Rattle.fortran_text.specs.f_tree.declared.expressions.BinaryOp.{BinaryOp}
+use Rattle.fortran_text.specs.f_tree.declared.expressions.BinaryOp.TheVariants as op
+use Rattle.fortran_text.specs.f_tree.declared.expressions.Expr.{Expr}
+use Rattle.fortran_text.specs.f_tree.declared.expressions.Expr.TheOpen as expr
+use Rattle.fortran_text.specs.f_tree.Folds.{fold_expr}
+use Rattle.fortran_text.specs.f_tree.Values.{Bytes}
+use Rattle.fortran_text.specs.f_tree.Terms.{Function, Power, Truncation, Magnitude, Remainder, SignTransfer, PositiveDifference, Largest, Smallest, CharacterCode, CharacterOfCode, TextLength, IndexOf, LexicallyGreaterOrEqual, LexicallyGreater, LexicallyLessOrEqual, LexicallyLess, Front, Fitted, InclusiveOr, LogicalProduct, ExclusiveOr, BitComplement, BitShift, BitTest, BitSet, BitClear}
+use Rattle.fortran_text.specs.f_tree.Facts.{Dimension, Attribute}
+use Rattle.fortran_text.specs.f_tree.Association.{same_basic}
+use Rattle.fortran_text.specs.f_tree.Reading.{function_named}
+use Rattle.fortran_text.specs.f_tree.WellTyped.{has_size}
 
 -- what an expression is, whatever its operands are
 pub data What : Type 0 where

@@ -2,30 +2,30 @@
 -- (concatenation), 6.3 (relations), 8.4.2 (CHARACTER), 10.4 (assignment), 15.9.3 (arguments) and 15.10 (intrinsic functions).
 use Rattle.std.specs.Prelude.{ℕ, suc, ◌+◌, nat_lt, ℤ, pos, ◌-ℤ◌, int_lt, nat_abs, Bool, true, false, not, ◌&&◌, ◌||◌, List, [], ◌∷◌, ◌++◌, map, length, Option, Some, None, is_some, if◌then◌else◌}
 use Rattle.std.specs.List.{list_any}
-use Rattle.f_tree.specs.declared.names.Class.TheVariants as class
-use Rattle.f_tree.specs.declared.expressions.Expr.{Expr}
-use Rattle.f_tree.specs.declared.expressions.Expr as whole
-use Rattle.f_tree.specs.declared.expressions.Expr.TheOpen as expr
-use Rattle.f_tree.specs.declared.expressions.BinaryOp.{BinaryOp}
-use Rattle.f_tree.specs.declared.expressions.BinaryOp.TheVariants as op
-use Rattle.f_tree.specs.declared.refusals.Kind.{Kind}
-use Rattle.f_tree.specs.declared.refusals.Kind.TheVariants.{UseOfAssumedLength, StorageTooLarge}
-use Rattle.f_tree.specs.declared.refusals.Refusal.{Refusal}
-use Rattle.f_tree.specs.declared.statements.Body.{Body}
-use Rattle.f_tree.specs.declared.statements.Body.TheOpen as body
-use Rattle.f_tree.specs.declared.statements.Control.{Control}
-use Rattle.f_tree.specs.declared.statements.ControlValue.{ControlValue}
-use Rattle.f_tree.specs.declared.statements.ControlValue.TheVariants as value
-use Rattle.f_tree.specs.declared.statements.ControlWord.{ControlWord}
-use Rattle.f_tree.specs.declared.statements.ControlWord.TheVariants as word
-use Rattle.f_tree.specs.declared.statements.Stmt.{Stmt}
-use Rattle.f_tree.specs.declared.units.Unit.{Unit as WrittenUnit}
-use Rattle.f_tree.specs.Values.{Bytes, Datum, IsInt}
-use Rattle.f_tree.specs.Folds.{fold_expr, fold_body}
-use Rattle.f_tree.specs.Facts.{Attribute}
-use Rattle.f_tree.specs.Attributes.{Constant, constants_of, constant_value, Definition, definitions_in, arrays_of, typed_name, option_list}
-use Rattle.f_tree.specs.Lines.{Naming, is_character, size_of}
-use Rattle.f_tree.specs.Uses.{is_among}
+use Rattle.fortran_text.specs.f_tree.declared.names.Class.TheVariants as class
+use Rattle.fortran_text.specs.f_tree.declared.expressions.Expr.{Expr}
+use Rattle.fortran_text.specs.f_tree.declared.expressions.Expr as whole
+use Rattle.fortran_text.specs.f_tree.declared.expressions.Expr.TheOpen as expr
+use Rattle.fortran_text.specs.f_tree.declared.expressions.BinaryOp.{BinaryOp}
+use Rattle.fortran_text.specs.f_tree.declared.expressions.BinaryOp.TheVariants as op
+use Rattle.fortran_text.specs.f_tree.declared.refusals.Kind.{Kind}
+use Rattle.fortran_text.specs.f_tree.declared.refusals.Kind.TheVariants.{UseOfAssumedLength, StorageTooLarge}
+use Rattle.fortran_text.specs.f_tree.declared.refusals.Refusal.{Refusal}
+use Rattle.fortran_text.specs.f_tree.declared.statements.Body.{Body}
+use Rattle.fortran_text.specs.f_tree.declared.statements.Body.TheOpen as body
+use Rattle.fortran_text.specs.f_tree.declared.statements.Control.{Control}
+use Rattle.fortran_text.specs.f_tree.declared.statements.ControlValue.{ControlValue}
+use Rattle.fortran_text.specs.f_tree.declared.statements.ControlValue.TheVariants as value
+use Rattle.fortran_text.specs.f_tree.declared.statements.ControlWord.{ControlWord}
+use Rattle.fortran_text.specs.f_tree.declared.statements.ControlWord.TheVariants as word
+use Rattle.fortran_text.specs.f_tree.declared.statements.Stmt.{Stmt}
+use Rattle.fortran_text.specs.f_tree.declared.units.Unit.{Unit as WrittenUnit}
+use Rattle.fortran_text.specs.f_tree.Values.{Bytes, Datum, IsInt}
+use Rattle.fortran_text.specs.f_tree.Folds.{fold_expr, fold_body}
+use Rattle.fortran_text.specs.f_tree.Facts.{Attribute}
+use Rattle.fortran_text.specs.f_tree.Attributes.{Constant, constants_of, constant_value, Definition, definitions_in, arrays_of, typed_name, option_list}
+use Rattle.fortran_text.specs.f_tree.Lines.{Naming, is_character, size_of}
+use Rattle.fortran_text.specs.f_tree.Uses.{is_among}
 use Rattle.declaration_rows.specs.Judgement.{unless}
 use Rattle.declaration_rows.specs.NameRows.{given_names, own_attributes, all_names, stood, at_first, mentions, first_statements, is_star}
 use Rattle.declaration_rows.specs.ReferenceRows.{expressions_of_items, expressions_of_controls, expressions_of_control}

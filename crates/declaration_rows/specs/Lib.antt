@@ -18,3 +18,5 @@ pub mod Verdicts
 pub mod LengthRows
 pub mod ExpansionRows
 pub mod GivenRows
+pub use Rattle.fortran_text.specs.f_tree
+pub use Rattle.fortran_text.specs as fortran_text

@@ -2,33 +2,33 @@
 -- of constants (F26), and the definitions of statement functions (F31, F32, F22, F40), given the attributes that all statements of the unit give.
 -- ANSI X3.9-1978, sections 4.1 (types), 5.1 (arrays), 8 (specification statements), 15.4 (statement functions) and 18.
 use Rattle.std.specs.Prelude.{nat_eq, ℤ, int_le, Bool, true, false, not, ◌&&◌, ◌||◌, List, [], ◌∷◌, ◌++◌, map, length, bytes_eq, Option, Some, None, is_some, if◌then◌else◌}
-use Rattle.f_tree.specs.declared.names.Basic.{Basic}
-use Rattle.f_tree.specs.declared.names.Basic.TheVariants.{Integer, Logical, Character}
-use Rattle.f_tree.specs.declared.names.Class.TheVariants as class
-use Rattle.f_tree.specs.declared.refusals.Kind.{Kind}
-use Rattle.f_tree.specs.declared.refusals.Kind.TheVariants.{NameHasTypeReal, ConflictingAttributes, BoundNotConstant, ArrayOfNoElement, BadParameterValue, UseOfAssumedLength, BadStatementFunction}
-use Rattle.f_tree.specs.declared.refusals.Refusal.{Refusal}
-use Rattle.f_tree.specs.declared.expressions.BinaryOp.{BinaryOp}
-use Rattle.f_tree.specs.declared.expressions.BinaryOp.TheVariants as op
-use Rattle.f_tree.specs.declared.expressions.Expr.{Expr}
-use Rattle.f_tree.specs.declared.expressions.Expr.TheOpen as expr
-use Rattle.f_tree.specs.declared.statements.Body.{Body}
-use Rattle.f_tree.specs.declared.statements.Dimension.{Dimension as WrittenDimension}
-use Rattle.f_tree.specs.declared.statements.LengthSpec.{LengthSpec}
-use Rattle.f_tree.specs.declared.statements.LengthSpec.TheVariants as length'
-use Rattle.f_tree.specs.declared.statements.UpperBound.{UpperBound}
-use Rattle.f_tree.specs.declared.statements.UpperBound.TheVariants as upper
-use Rattle.f_tree.specs.declared.statements.UnitKind.TheVariants as kind
-use Rattle.f_tree.specs.declared.statements.Stmt.{Stmt}
-use Rattle.f_tree.specs.declared.units.Unit.{Unit as WrittenUnit}
-use Rattle.f_tree.specs.Folds.{fold_expr}
-use Rattle.f_tree.specs.Values.{Bytes, Datum, IsInt, IsLog, IsText}
-use Rattle.f_tree.specs.Terms.{Term}
-use Rattle.f_tree.specs.Facts.{Bounds, Attribute}
-use Rattle.f_tree.specs.Valuing.{elements_of}
-use Rattle.f_tree.specs.Uses.{is_among, uses_of_body, uses_of_statements}
-use Rattle.f_tree.specs.Attributes.{from_all, Shaped, shaped_in, typed_name, constants_in, dimensions_among, constants_of, Expansion, dummy_among, expanded_as, with_expansions, without_expansion, Definition, definitions_in, expansion_of, expansions_from, arrays_of, all_described, attribute_in, names_of, own_names, all_dummies, external_in, called, is_used_as, with_list}
-use Rattle.f_tree.specs.Lines.{Naming}
+use Rattle.fortran_text.specs.f_tree.declared.names.Basic.{Basic}
+use Rattle.fortran_text.specs.f_tree.declared.names.Basic.TheVariants.{Integer, Logical, Character}
+use Rattle.fortran_text.specs.f_tree.declared.names.Class.TheVariants as class
+use Rattle.fortran_text.specs.f_tree.declared.refusals.Kind.{Kind}
+use Rattle.fortran_text.specs.f_tree.declared.refusals.Kind.TheVariants.{NameHasTypeReal, ConflictingAttributes, BoundNotConstant, ArrayOfNoElement, BadParameterValue, UseOfAssumedLength, BadStatementFunction}
+use Rattle.fortran_text.specs.f_tree.declared.refusals.Refusal.{Refusal}
+use Rattle.fortran_text.specs.f_tree.declared.expressions.BinaryOp.{BinaryOp}
+use Rattle.fortran_text.specs.f_tree.declared.expressions.BinaryOp.TheVariants as op
+use Rattle.fortran_text.specs.f_tree.declared.expressions.Expr.{Expr}
+use Rattle.fortran_text.specs.f_tree.declared.expressions.Expr.TheOpen as expr
+use Rattle.fortran_text.specs.f_tree.declared.statements.Body.{Body}
+use Rattle.fortran_text.specs.f_tree.declared.statements.Dimension.{Dimension as WrittenDimension}
+use Rattle.fortran_text.specs.f_tree.declared.statements.LengthSpec.{LengthSpec}
+use Rattle.fortran_text.specs.f_tree.declared.statements.LengthSpec.TheVariants as length'
+use Rattle.fortran_text.specs.f_tree.declared.statements.UpperBound.{UpperBound}
+use Rattle.fortran_text.specs.f_tree.declared.statements.UpperBound.TheVariants as upper
+use Rattle.fortran_text.specs.f_tree.declared.statements.UnitKind.TheVariants as kind
+use Rattle.fortran_text.specs.f_tree.declared.statements.Stmt.{Stmt}
+use Rattle.fortran_text.specs.f_tree.declared.units.Unit.{Unit as WrittenUnit}
+use Rattle.fortran_text.specs.f_tree.Folds.{fold_expr}
+use Rattle.fortran_text.specs.f_tree.Values.{Bytes, Datum, IsInt, IsLog, IsText}
+use Rattle.fortran_text.specs.f_tree.Terms.{Term}
+use Rattle.fortran_text.specs.f_tree.Facts.{Bounds, Attribute}
+use Rattle.fortran_text.specs.f_tree.Valuing.{elements_of}
+use Rattle.fortran_text.specs.f_tree.Uses.{is_among, uses_of_body, uses_of_statements}
+use Rattle.fortran_text.specs.f_tree.Attributes.{from_all, Shaped, shaped_in, typed_name, constants_in, dimensions_among, constants_of, Expansion, dummy_among, expanded_as, with_expansions, without_expansion, Definition, definitions_in, expansion_of, expansions_from, arrays_of, all_described, attribute_in, names_of, own_names, all_dummies, external_in, called, is_used_as, with_list}
+use Rattle.fortran_text.specs.f_tree.Lines.{Naming}
 use Rattle.declaration_rows.specs.Judgement.{Known, unless, judge}
 use Rattle.declaration_rows.specs.StatementRows.{is_typed, value_rows}
 

@@ -3,21 +3,21 @@
 -- (statement functions), 15.7 (ENTRY), 15.8 (RETURN) and 16 (block data); MIL-STD-1753 for IMPLICIT NONE.
 use Rattle.std.specs.Prelude.{Bool, true, false, not, ◌&&◌, ◌||◌, List, [], ◌∷◌, ◌++◌, map}
 use Rattle.std.specs.List.{list_any}
-use Rattle.f_tree.specs.declared.refusals.Kind.{Kind}
-use Rattle.f_tree.specs.declared.refusals.Kind.TheVariants.{StatementOutOfOrder, BadStatementFunction}
-use Rattle.f_tree.specs.declared.refusals.Refusal.{Refusal}
-use Rattle.f_tree.specs.declared.statements.Body.{Body}
-use Rattle.f_tree.specs.declared.statements.Body.TheOpen as body
-use Rattle.f_tree.specs.declared.statements.Declarator.{Declarator}
-use Rattle.f_tree.specs.declared.statements.ImplicitGroup.{ImplicitGroup}
-use Rattle.f_tree.specs.declared.statements.UnitKind.{UnitKind}
-use Rattle.f_tree.specs.declared.statements.UnitKind.TheVariants as kind
-use Rattle.f_tree.specs.declared.statements.Stmt.{Stmt}
-use Rattle.f_tree.specs.declared.units.Unit.{Unit as WrittenUnit}
-use Rattle.f_tree.specs.Values.{Bytes}
-use Rattle.f_tree.specs.Folds.{fold_body, layer_of}
-use Rattle.f_tree.specs.Uses.{Use, Manner, Declared, is_among, uses_of_body}
-use Rattle.f_tree.specs.Attributes.{constants_in, definitions_in, arrays_of, letter_is_in, is_not_empty}
+use Rattle.fortran_text.specs.f_tree.declared.refusals.Kind.{Kind}
+use Rattle.fortran_text.specs.f_tree.declared.refusals.Kind.TheVariants.{StatementOutOfOrder, BadStatementFunction}
+use Rattle.fortran_text.specs.f_tree.declared.refusals.Refusal.{Refusal}
+use Rattle.fortran_text.specs.f_tree.declared.statements.Body.{Body}
+use Rattle.fortran_text.specs.f_tree.declared.statements.Body.TheOpen as body
+use Rattle.fortran_text.specs.f_tree.declared.statements.Declarator.{Declarator}
+use Rattle.fortran_text.specs.f_tree.declared.statements.ImplicitGroup.{ImplicitGroup}
+use Rattle.fortran_text.specs.f_tree.declared.statements.UnitKind.{UnitKind}
+use Rattle.fortran_text.specs.f_tree.declared.statements.UnitKind.TheVariants as kind
+use Rattle.fortran_text.specs.f_tree.declared.statements.Stmt.{Stmt}
+use Rattle.fortran_text.specs.f_tree.declared.units.Unit.{Unit as WrittenUnit}
+use Rattle.fortran_text.specs.f_tree.Values.{Bytes}
+use Rattle.fortran_text.specs.f_tree.Folds.{fold_body, layer_of}
+use Rattle.fortran_text.specs.f_tree.Uses.{Use, Manner, Declared, is_among, uses_of_body}
+use Rattle.fortran_text.specs.f_tree.Attributes.{constants_in, definitions_in, arrays_of, letter_is_in, is_not_empty}
 use Rattle.declaration_rows.specs.Judgement.{unless}
 use Rattle.declaration_rows.specs.NameRows.{stood}
 

@@ -4,21 +4,21 @@
 use Rattle.std.specs.Ordering.{int_eq}
 use Rattle.std.specs.Prelude.{ℕ, zero, suc, ◌%◌, nat_eq, ℤ, pos, neg_ℤ, ◌+ℤ◌, int_lt, nat_abs, Bool, true, false, not, ◌&&◌, ◌||◌, List, [], ◌∷◌, ◌++◌, map, bytes_eq, Option, Some, None, if◌then◌else◌}
 use Rattle.std.specs.List.{list_any}
-use Rattle.f_tree.specs.declared.refusals.Kind.{Kind}
-use Rattle.f_tree.specs.declared.refusals.Kind.TheVariants.{EquivalenceContradiction, CommonJoinedOrExtended, NumericPlaceNotOnAWord}
-use Rattle.f_tree.specs.declared.refusals.Refusal.{Refusal}
-use Rattle.f_tree.specs.declared.expressions.Expr.{Expr}
-use Rattle.f_tree.specs.declared.statements.Body.{Body}
-use Rattle.f_tree.specs.declared.statements.Body.TheOpen as body
-use Rattle.f_tree.specs.declared.statements.EquivalenceGroup.{EquivalenceGroup}
-use Rattle.f_tree.specs.declared.statements.Stmt.{Stmt}
-use Rattle.f_tree.specs.declared.units.Unit.{Unit as WrittenUnit}
-use Rattle.f_tree.specs.Values.{Bytes}
-use Rattle.f_tree.specs.Folds.{layer_of}
-use Rattle.f_tree.specs.Facts.{Attribute, Member, Block, Tie, ProgramUnit, Facts}
-use Rattle.f_tree.specs.Attributes.{from_all, is_not_empty}
-use Rattle.f_tree.specs.Lines.{Naming, is_character, blocks_from, common_in, equivalence_in, ties_of, tied_of, apart}
-use Rattle.f_tree.specs.Uses.{is_among}
+use Rattle.fortran_text.specs.f_tree.declared.refusals.Kind.{Kind}
+use Rattle.fortran_text.specs.f_tree.declared.refusals.Kind.TheVariants.{EquivalenceContradiction, CommonJoinedOrExtended, NumericPlaceNotOnAWord}
+use Rattle.fortran_text.specs.f_tree.declared.refusals.Refusal.{Refusal}
+use Rattle.fortran_text.specs.f_tree.declared.expressions.Expr.{Expr}
+use Rattle.fortran_text.specs.f_tree.declared.statements.Body.{Body}
+use Rattle.fortran_text.specs.f_tree.declared.statements.Body.TheOpen as body
+use Rattle.fortran_text.specs.f_tree.declared.statements.EquivalenceGroup.{EquivalenceGroup}
+use Rattle.fortran_text.specs.f_tree.declared.statements.Stmt.{Stmt}
+use Rattle.fortran_text.specs.f_tree.declared.units.Unit.{Unit as WrittenUnit}
+use Rattle.fortran_text.specs.f_tree.Values.{Bytes}
+use Rattle.fortran_text.specs.f_tree.Folds.{layer_of}
+use Rattle.fortran_text.specs.f_tree.Facts.{Attribute, Member, Block, Tie, ProgramUnit, Facts}
+use Rattle.fortran_text.specs.f_tree.Attributes.{from_all, is_not_empty}
+use Rattle.fortran_text.specs.f_tree.Lines.{Naming, is_character, blocks_from, common_in, equivalence_in, ties_of, tied_of, apart}
+use Rattle.fortran_text.specs.f_tree.Uses.{is_among}
 use Rattle.declaration_rows.specs.Judgement.{unless}
 use Rattle.declaration_rows.specs.NameRows.{stood, at_first, mentions}
 

@@ -2,28 +2,28 @@
 -- (F42). ANSI X3.9-1978, sections 15.5.2 and 15.6.2 (references), 15.9.3 (actual arguments).
 use Rattle.std.specs.Prelude.{Bool, true, false, not, ◌&&◌, List, [], ◌∷◌, ◌++◌, map, bytes_eq, Option, Some, None, if◌then◌else◌}
 use Rattle.std.specs.List.{list_any}
-use Rattle.f_tree.specs.declared.names.Class.TheVariants as class
-use Rattle.f_tree.specs.declared.expressions.Expr.{Expr}
-use Rattle.f_tree.specs.declared.expressions.Expr.TheOpen as expr
-use Rattle.f_tree.specs.declared.refusals.Kind.{Kind}
-use Rattle.f_tree.specs.declared.refusals.Kind.TheVariants.{CharacterFunctionAsArgument, TwoShapesOfCall}
-use Rattle.f_tree.specs.declared.refusals.Refusal.{Refusal}
-use Rattle.f_tree.specs.declared.statements.Body.{Body}
-use Rattle.f_tree.specs.declared.statements.Body.TheOpen as body
-use Rattle.f_tree.specs.declared.statements.Control.{Control}
-use Rattle.f_tree.specs.declared.statements.ControlValue.{ControlValue}
-use Rattle.f_tree.specs.declared.statements.ControlValue.TheVariants as value
-use Rattle.f_tree.specs.declared.statements.ListItem.{ListItem}
-use Rattle.f_tree.specs.declared.statements.ListItem.TheOpen as item
-use Rattle.f_tree.specs.declared.statements.LoopControl.{LoopControl}
-use Rattle.f_tree.specs.declared.statements.Stmt.{Stmt}
-use Rattle.f_tree.specs.declared.units.Unit.{Unit as WrittenUnit}
-use Rattle.f_tree.specs.Values.{Bytes}
-use Rattle.f_tree.specs.Folds.{fold_expr, fold_item, fold_body}
-use Rattle.f_tree.specs.Facts.{Attribute}
-use Rattle.f_tree.specs.Uses.{Use, Manner, Alone, uses_of_body, uses_of_statements}
-use Rattle.f_tree.specs.Attributes.{Definition, option_list, is_used_as, called, definitions_in, arrays_of}
-use Rattle.f_tree.specs.Lines.{is_character}
+use Rattle.fortran_text.specs.f_tree.declared.names.Class.TheVariants as class
+use Rattle.fortran_text.specs.f_tree.declared.expressions.Expr.{Expr}
+use Rattle.fortran_text.specs.f_tree.declared.expressions.Expr.TheOpen as expr
+use Rattle.fortran_text.specs.f_tree.declared.refusals.Kind.{Kind}
+use Rattle.fortran_text.specs.f_tree.declared.refusals.Kind.TheVariants.{CharacterFunctionAsArgument, TwoShapesOfCall}
+use Rattle.fortran_text.specs.f_tree.declared.refusals.Refusal.{Refusal}
+use Rattle.fortran_text.specs.f_tree.declared.statements.Body.{Body}
+use Rattle.fortran_text.specs.f_tree.declared.statements.Body.TheOpen as body
+use Rattle.fortran_text.specs.f_tree.declared.statements.Control.{Control}
+use Rattle.fortran_text.specs.f_tree.declared.statements.ControlValue.{ControlValue}
+use Rattle.fortran_text.specs.f_tree.declared.statements.ControlValue.TheVariants as value
+use Rattle.fortran_text.specs.f_tree.declared.statements.ListItem.{ListItem}
+use Rattle.fortran_text.specs.f_tree.declared.statements.ListItem.TheOpen as item
+use Rattle.fortran_text.specs.f_tree.declared.statements.LoopControl.{LoopControl}
+use Rattle.fortran_text.specs.f_tree.declared.statements.Stmt.{Stmt}
+use Rattle.fortran_text.specs.f_tree.declared.units.Unit.{Unit as WrittenUnit}
+use Rattle.fortran_text.specs.f_tree.Values.{Bytes}
+use Rattle.fortran_text.specs.f_tree.Folds.{fold_expr, fold_item, fold_body}
+use Rattle.fortran_text.specs.f_tree.Facts.{Attribute}
+use Rattle.fortran_text.specs.f_tree.Uses.{Use, Manner, Alone, uses_of_body, uses_of_statements}
+use Rattle.fortran_text.specs.f_tree.Attributes.{Definition, option_list, is_used_as, called, definitions_in, arrays_of}
+use Rattle.fortran_text.specs.f_tree.Lines.{is_character}
 use Rattle.declaration_rows.specs.Judgement.{What, AProcedureName, AFunctionName, AnExit, Judged, Known, unless, layer_judged}
 use Rattle.declaration_rows.specs.NameRows.{given_names, own_attributes, all_names, signatures_of, known_in, known_within, stood, at_first, mentions, first_statements}
 

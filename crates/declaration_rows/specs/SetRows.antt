@@ -1,15 +1,15 @@
 -- Which rows a set of files breaks, and that a set that breaks none is well formed, whatever its setting.
 -- ANSI X3.9-1978, sections 2.4 and 3.5.
 use Rattle.std.specs.Prelude.{List, [], ◌∷◌, ◌++◌}
-use Rattle.f_tree.specs.declared.names.Options.{Options}
-use Rattle.f_tree.specs.declared.refusals.Refusal.{Refusal}
-use Rattle.f_tree.specs.declared.units.Unit.{Unit as WrittenUnit}
-use Rattle.f_tree.specs.declared.units.File.{File}
-use Rattle.f_tree.specs.declared.units.FileSet.{FileSet}
-use Rattle.f_tree.specs.Setting.{Setting, IsSetting, IsIn}
-use Rattle.f_tree.specs.Meaning.{units_of}
-use Rattle.f_tree.specs.WellFormed.{AreWellFormed}
-use Rattle.f_tree.specs.Lines.{unit_read}
+use Rattle.fortran_text.specs.f_tree.declared.names.Options.{Options}
+use Rattle.fortran_text.specs.f_tree.declared.refusals.Refusal.{Refusal}
+use Rattle.fortran_text.specs.f_tree.declared.units.Unit.{Unit as WrittenUnit}
+use Rattle.fortran_text.specs.f_tree.declared.units.File.{File}
+use Rattle.fortran_text.specs.f_tree.declared.units.FileSet.{FileSet}
+use Rattle.fortran_text.specs.f_tree.Setting.{Setting, IsSetting, IsIn}
+use Rattle.fortran_text.specs.f_tree.Meaning.{units_of}
+use Rattle.fortran_text.specs.f_tree.WellFormed.{AreWellFormed}
+use Rattle.fortran_text.specs.f_tree.Lines.{unit_read}
 use Rattle.declaration_rows.specs.UnitRows.{unit_rows}
 use Rattle.declaration_rows.specs.UndeclaredRows.{undeclared_rows_opened, unit_undeclared_rows}
 use Rattle.declaration_rows.specs.OrderRows.{order_rows_opened, unit_order_rows}

@@ -2,17 +2,17 @@
 -- data) and 17.1.
 use Rattle.std.specs.Prelude.{ℕ, ◌+◌, nat_eq, nat_lt, ℤ, ◌-ℤ◌, nat_abs, max, Bool, true, not, List, [], ◌∷◌, ◌++◌, bytes_eq, Option, Some, None, if◌then◌else◌}
 use Rattle.std.specs.List.{list_any}
-use Rattle.f_tree.specs.declared.names.Options.{Options}
-use Rattle.f_tree.specs.declared.refusals.Kind.TheVariants.{CommonLengthsDiffer, StorageTooLarge, CommonInitialisedTwice}
-use Rattle.f_tree.specs.declared.refusals.Refusal.{Refusal}
-use Rattle.f_tree.specs.declared.statements.Body.{Body}
-use Rattle.f_tree.specs.declared.statements.Stmt.{Stmt}
-use Rattle.f_tree.specs.declared.units.Unit.{Unit as WrittenUnit}
-use Rattle.f_tree.specs.Values.{Bytes}
-use Rattle.f_tree.specs.Facts.{Member, Block, ProgramUnit}
-use Rattle.f_tree.specs.Attributes.{option_list}
-use Rattle.f_tree.specs.Lines.{Naming, size_of, is_stored, unit_read, common_in, data_in}
-use Rattle.f_tree.specs.Uses.{is_among}
+use Rattle.fortran_text.specs.f_tree.declared.names.Options.{Options}
+use Rattle.fortran_text.specs.f_tree.declared.refusals.Kind.TheVariants.{CommonLengthsDiffer, StorageTooLarge, CommonInitialisedTwice}
+use Rattle.fortran_text.specs.f_tree.declared.refusals.Refusal.{Refusal}
+use Rattle.fortran_text.specs.f_tree.declared.statements.Body.{Body}
+use Rattle.fortran_text.specs.f_tree.declared.statements.Stmt.{Stmt}
+use Rattle.fortran_text.specs.f_tree.declared.units.Unit.{Unit as WrittenUnit}
+use Rattle.fortran_text.specs.f_tree.Values.{Bytes}
+use Rattle.fortran_text.specs.f_tree.Facts.{Member, Block, ProgramUnit}
+use Rattle.fortran_text.specs.f_tree.Attributes.{option_list}
+use Rattle.fortran_text.specs.f_tree.Lines.{Naming, size_of, is_stored, unit_read, common_in, data_in}
+use Rattle.fortran_text.specs.f_tree.Uses.{is_among}
 use Rattle.declaration_rows.specs.Judgement.{unless}
 use Rattle.declaration_rows.specs.NameRows.{stood, at_first, mentions}
 use Rattle.declaration_rows.specs.GlobalRows.{block_names}

@@ -3,30 +3,30 @@
 -- guarded definitions (F40), and statements that no text spells (F11).
 -- ANSI X3.9-1978, sections 10 (assignments), 11 (control), 12 (transfers), 13.1 (formats) and 15.6 (CALL).
 use Rattle.std.specs.Prelude.{ℕ, Bool, true, false, ◌||◌, List, [], ◌∷◌, ◌++◌, Option, Some, None, if◌then◌else◌}
-use Rattle.f_tree.specs.declared.names.Basic.{Basic}
-use Rattle.f_tree.specs.declared.names.Basic.TheVariants.{Integer, Logical, Character, Untyped}
-use Rattle.f_tree.specs.declared.refusals.Kind.{Kind}
-use Rattle.f_tree.specs.declared.refusals.Kind.TheVariants.{SyntaxError, ConflictingAttributes, LabelMissingOrTwice, BadDoNest, OperandTypes, NumberOfSubscripts, NotAssignable, BadStatementFunction, BadFormat}
-use Rattle.f_tree.specs.declared.expressions.Expr.{Expr}
-use Rattle.f_tree.specs.declared.statements.Body.{Body}
-use Rattle.f_tree.specs.declared.statements.Body.TheOpen as body
-use Rattle.f_tree.specs.declared.statements.ListItem.{ListItem}
-use Rattle.f_tree.specs.declared.statements.ListItem.TheOpen as item
-use Rattle.f_tree.specs.declared.statements.LoopControl.{LoopControl}
-use Rattle.f_tree.specs.declared.statements.Control.{Control}
-use Rattle.f_tree.specs.declared.statements.ControlValue.{ControlValue}
-use Rattle.f_tree.specs.declared.statements.ControlValue.TheVariants as value
-use Rattle.f_tree.specs.declared.statements.ControlWord.{ControlWord}
-use Rattle.f_tree.specs.declared.statements.ControlWord.TheVariants as word
-use Rattle.f_tree.specs.declared.statements.Direction.{Direction}
-use Rattle.f_tree.specs.declared.statements.Direction.TheVariants as way
-use Rattle.f_tree.specs.Folds.{fold_item, fold_body}
-use Rattle.f_tree.specs.Values.{Bytes}
-use Rattle.f_tree.specs.Association.{same_basic}
-use Rattle.f_tree.specs.Uses.{heading_of}
-use Rattle.f_tree.specs.Attributes.{has_function}
-use Rattle.f_tree.specs.Lines.{is_statement_function}
-use Rattle.f_tree.specs.WellTyped.{is_callee}
+use Rattle.fortran_text.specs.f_tree.declared.names.Basic.{Basic}
+use Rattle.fortran_text.specs.f_tree.declared.names.Basic.TheVariants.{Integer, Logical, Character, Untyped}
+use Rattle.fortran_text.specs.f_tree.declared.refusals.Kind.{Kind}
+use Rattle.fortran_text.specs.f_tree.declared.refusals.Kind.TheVariants.{SyntaxError, ConflictingAttributes, LabelMissingOrTwice, BadDoNest, OperandTypes, NumberOfSubscripts, NotAssignable, BadStatementFunction, BadFormat}
+use Rattle.fortran_text.specs.f_tree.declared.expressions.Expr.{Expr}
+use Rattle.fortran_text.specs.f_tree.declared.statements.Body.{Body}
+use Rattle.fortran_text.specs.f_tree.declared.statements.Body.TheOpen as body
+use Rattle.fortran_text.specs.f_tree.declared.statements.ListItem.{ListItem}
+use Rattle.fortran_text.specs.f_tree.declared.statements.ListItem.TheOpen as item
+use Rattle.fortran_text.specs.f_tree.declared.statements.LoopControl.{LoopControl}
+use Rattle.fortran_text.specs.f_tree.declared.statements.Control.{Control}
+use Rattle.fortran_text.specs.f_tree.declared.statements.ControlValue.{ControlValue}
+use Rattle.fortran_text.specs.f_tree.declared.statements.ControlValue.TheVariants as value
+use Rattle.fortran_text.specs.f_tree.declared.statements.ControlWord.{ControlWord}
+use Rattle.fortran_text.specs.f_tree.declared.statements.ControlWord.TheVariants as word
+use Rattle.fortran_text.specs.f_tree.declared.statements.Direction.{Direction}
+use Rattle.fortran_text.specs.f_tree.declared.statements.Direction.TheVariants as way
+use Rattle.fortran_text.specs.f_tree.Folds.{fold_item, fold_body}
+use Rattle.fortran_text.specs.f_tree.Values.{Bytes}
+use Rattle.fortran_text.specs.f_tree.Association.{same_basic}
+use Rattle.fortran_text.specs.f_tree.Uses.{heading_of}
+use Rattle.fortran_text.specs.f_tree.Attributes.{has_function}
+use Rattle.fortran_text.specs.f_tree.Lines.{is_statement_function}
+use Rattle.fortran_text.specs.f_tree.WellTyped.{is_callee}
 use Rattle.declaration_rows.specs.Judgement.{What, AValue, APlace, AnArray, AFunctionName, AnExit, NoOperand, Judged, Known, wants_one, unless, wants, name_judged, judge}
 
 -- what is known where a statement stands

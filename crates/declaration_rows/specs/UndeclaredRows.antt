@@ -2,16 +2,16 @@
 -- ANSI X3.9-1978, sections 4.1.2 (types by the first letter), 8.4 (type statements) and 15.5.1 (FUNCTION with a type); MIL-STD-1753.
 use Rattle.std.specs.Prelude.{Bool, true, false, not, ◌||◌, List, [], ◌∷◌, ◌++◌, is_some, if◌then◌else◌}
 use Rattle.std.specs.List.{list_any}
-use Rattle.f_tree.specs.declared.names.Class.TheVariants as class
-use Rattle.f_tree.specs.declared.names.Options.{Options}
-use Rattle.f_tree.specs.declared.refusals.Kind.{Kind}
-use Rattle.f_tree.specs.declared.refusals.Kind.TheVariants.{NameNotDeclared}
-use Rattle.f_tree.specs.declared.refusals.Refusal.{Refusal}
-use Rattle.f_tree.specs.declared.statements.Stmt.{Stmt}
-use Rattle.f_tree.specs.declared.units.Unit.{Unit as WrittenUnit}
-use Rattle.f_tree.specs.Values.{Bytes}
-use Rattle.f_tree.specs.Facts.{Attribute}
-use Rattle.f_tree.specs.Attributes.{Definition, from_all, typed_in, type_among, heading_type, definitions_in, arrays_of}
+use Rattle.fortran_text.specs.f_tree.declared.names.Class.TheVariants as class
+use Rattle.fortran_text.specs.f_tree.declared.names.Options.{Options}
+use Rattle.fortran_text.specs.f_tree.declared.refusals.Kind.{Kind}
+use Rattle.fortran_text.specs.f_tree.declared.refusals.Kind.TheVariants.{NameNotDeclared}
+use Rattle.fortran_text.specs.f_tree.declared.refusals.Refusal.{Refusal}
+use Rattle.fortran_text.specs.f_tree.declared.statements.Stmt.{Stmt}
+use Rattle.fortran_text.specs.f_tree.declared.units.Unit.{Unit as WrittenUnit}
+use Rattle.fortran_text.specs.f_tree.Values.{Bytes}
+use Rattle.fortran_text.specs.f_tree.Facts.{Attribute}
+use Rattle.fortran_text.specs.f_tree.Attributes.{Definition, from_all, typed_in, type_among, heading_type, definitions_in, arrays_of}
 use Rattle.declaration_rows.specs.Judgement.{unless}
 use Rattle.declaration_rows.specs.NameRows.{given_names, all_names, is_referenced, stood, at_first, mentions, first_statements}
 use Rattle.declaration_rows.specs.OrderRows.{is_implicit_none}

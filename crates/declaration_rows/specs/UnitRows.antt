@@ -2,20 +2,20 @@
 -- nest of its IF blocks (F30), of DO ranges that cross (F29), of labels that stand twice (F27), of its END (F11), of its names and of its definitions.
 -- ANSI X3.9-1978, sections 3.5 and 3.6 (order and labels), 11 (control) and 15.7 (ENTRY).
 use Rattle.std.specs.Prelude.{ℕ, suc, nat_eq, nat_lt, Bool, true, false, not, ◌&&◌, ◌||◌, List, [], ◌∷◌, ◌++◌, length, Option, Some, None, slice_get, if◌then◌else◌}
-use Rattle.f_tree.specs.declared.refusals.Kind.TheVariants.{SyntaxError, LabelMissingOrTwice, BadDoNest, BadIfNest}
-use Rattle.f_tree.specs.declared.refusals.Refusal.{Refusal}
-use Rattle.f_tree.specs.declared.names.Options.{Options}
-use Rattle.f_tree.specs.declared.statements.Body.{Body}
-use Rattle.f_tree.specs.declared.statements.Body.TheOpen as body
-use Rattle.f_tree.specs.declared.statements.Stmt.{Stmt}
-use Rattle.f_tree.specs.declared.units.Unit.{Unit as WrittenUnit}
-use Rattle.f_tree.specs.Folds.{layer_of}
-use Rattle.f_tree.specs.Facts.{Mark, Plain, Opens, Arm, Closes, ProgramUnit}
-use Rattle.f_tree.specs.Places.{has_label, place_of_label, terminal_of}
-use Rattle.f_tree.specs.Transfers.{labelled_text}
-use Rattle.f_tree.specs.WellFormed.{is_given}
-use Rattle.f_tree.specs.Attributes.{arrays_of}
-use Rattle.f_tree.specs.Lines.{formats_of, mark_of, unit_read}
+use Rattle.fortran_text.specs.f_tree.declared.refusals.Kind.TheVariants.{SyntaxError, LabelMissingOrTwice, BadDoNest, BadIfNest}
+use Rattle.fortran_text.specs.f_tree.declared.refusals.Refusal.{Refusal}
+use Rattle.fortran_text.specs.f_tree.declared.names.Options.{Options}
+use Rattle.fortran_text.specs.f_tree.declared.statements.Body.{Body}
+use Rattle.fortran_text.specs.f_tree.declared.statements.Body.TheOpen as body
+use Rattle.fortran_text.specs.f_tree.declared.statements.Stmt.{Stmt}
+use Rattle.fortran_text.specs.f_tree.declared.units.Unit.{Unit as WrittenUnit}
+use Rattle.fortran_text.specs.f_tree.Folds.{layer_of}
+use Rattle.fortran_text.specs.f_tree.Facts.{Mark, Plain, Opens, Arm, Closes, ProgramUnit}
+use Rattle.fortran_text.specs.f_tree.Places.{has_label, place_of_label, terminal_of}
+use Rattle.fortran_text.specs.f_tree.Transfers.{labelled_text}
+use Rattle.fortran_text.specs.f_tree.WellFormed.{is_given}
+use Rattle.fortran_text.specs.f_tree.Attributes.{arrays_of}
+use Rattle.fortran_text.specs.f_tree.Lines.{formats_of, mark_of, unit_read}
 use Rattle.declaration_rows.specs.Judgement.{unless}
 use Rattle.declaration_rows.specs.StatementRows.{Site, broken}
 use Rattle.declaration_rows.specs.NameRows.{given_names, own_attributes, all_names, known_in, stood, defined_rows, names_rows}

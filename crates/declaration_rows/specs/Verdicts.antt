@@ -1,17 +1,17 @@
 -- The first refusal of a set of files by the rows of its declarations, of the storage of each unit, and of what its units share: by phase, then
 -- file, then card, then number. ANSI X3.9-1978, sections 2.4, 3.5, 8, 9, 17.1 and 18.
 use Rattle.std.specs.Prelude.{◌≡◌, nat_lt, nat_eq, Bool, ◌&&◌, ◌||◌, List, [], ◌∷◌, ◌++◌, Option, Some, None, if◌then◌else◌}
-use Rattle.f_tree.specs.declared.names.Options.{Options}
-use Rattle.f_tree.specs.declared.refusals.Refusal.{Refusal}
-use Rattle.f_tree.specs.declared.units.Unit.{Unit as WrittenUnit}
-use Rattle.f_tree.specs.declared.units.FileSet.{FileSet}
-use Rattle.f_tree.specs.Facts.{ProgramUnit}
-use Rattle.f_tree.specs.Lines.{unit_read}
-use Rattle.f_tree.specs.RefusalRows.{number_of}
-use Rattle.f_tree.specs.RefusalRows.{IsNotAfter}
-use Rattle.f_tree.specs.Setting.{Setting, IsSetting, IsIn}
-use Rattle.f_tree.specs.Meaning.{units_of}
-use Rattle.f_tree.specs.WellFormed.{AreWellFormed}
+use Rattle.fortran_text.specs.f_tree.declared.names.Options.{Options}
+use Rattle.fortran_text.specs.f_tree.declared.refusals.Refusal.{Refusal}
+use Rattle.fortran_text.specs.f_tree.declared.units.Unit.{Unit as WrittenUnit}
+use Rattle.fortran_text.specs.f_tree.declared.units.FileSet.{FileSet}
+use Rattle.fortran_text.specs.f_tree.Facts.{ProgramUnit}
+use Rattle.fortran_text.specs.f_tree.Lines.{unit_read}
+use Rattle.fortran_text.specs.f_tree.RefusalRows.{number_of}
+use Rattle.fortran_text.specs.f_tree.RefusalRows.{IsNotAfter}
+use Rattle.fortran_text.specs.f_tree.Setting.{Setting, IsSetting, IsIn}
+use Rattle.fortran_text.specs.f_tree.Meaning.{units_of}
+use Rattle.fortran_text.specs.f_tree.WellFormed.{AreWellFormed}
 use Rattle.declaration_rows.specs.GlobalRows.{all_units, units_global_rows, global_rows_opened}
 use Rattle.declaration_rows.specs.PlacingRows.{placing_of, is_sound, unit_placing_rows, placing_rows_opened}
 use Rattle.declaration_rows.specs.DataRows.{unit_data_rows, data_rows_opened}

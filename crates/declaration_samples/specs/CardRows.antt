@@ -1,9 +1,9 @@
 -- The rows that small programs break, each by its card and its number.
 use Rattle.std.specs.Prelude.{ℕ, List, [], ◌∷◌, ◌++◌, map}
-use Rattle.f_tree.specs.declared.refusals.Refusal.{Refusal}
-use Rattle.f_tree.specs.declared.units.FileSet.{FileSet}
-use Rattle.f_tree.specs.RefusalRows.{number_of}
-use Rattle.f_tree.specs.Runs.{no_options}
+use Rattle.declaration_rows.specs.f_tree.declared.refusals.Refusal.{Refusal}
+use Rattle.declaration_rows.specs.f_tree.declared.units.FileSet.{FileSet}
+use Rattle.declaration_rows.specs.f_tree.RefusalRows.{number_of}
+use Rattle.declaration_rows.specs.f_tree.Runs.{no_options}
 use Rattle.declaration_rows.specs.SetRows.{set_faults}
 use Rattle.declaration_rows.specs.Verdicts.{storage_faults, shared_faults}
 

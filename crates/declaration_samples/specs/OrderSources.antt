@@ -1,19 +1,19 @@
 -- Small programs that break rows of order, of blocks, of formats, of references and of names, and others that do not quite.
 use Rattle.std.specs.Prelude.{ℕ, suc, true, List, [], ◌∷◌, codes, Some, None}
-use Rattle.f_tree.specs.declared.expressions.Expr.{Expr}
-use Rattle.f_tree.specs.declared.expressions.Expr as expr
-use Rattle.f_tree.specs.declared.statements.Body.{Body}
-use Rattle.f_tree.specs.declared.statements.Body as body
-use Rattle.f_tree.specs.declared.statements.ListItem as item
-use Rattle.f_tree.specs.declared.statements.ControlValue.TheVariants as value
-use Rattle.f_tree.specs.declared.statements.ControlWord.TheVariants as word
-use Rattle.f_tree.specs.declared.statements.Direction.TheVariants as way
-use Rattle.f_tree.specs.declared.statements.SavedItem.TheVariants as saved
-use Rattle.f_tree.specs.declared.statements.UnitKind.TheVariants as kind
-use Rattle.f_tree.specs.declared.statements.Stmt.{Stmt}
-use Rattle.f_tree.specs.declared.names.Basic.TheVariants.{Character}
-use Rattle.f_tree.specs.declared.units.Unit.{Unit as WrittenUnit}
-use Rattle.f_tree.specs.declared.units.FileSet.{FileSet}
+use Rattle.declaration_rows.specs.f_tree.declared.expressions.Expr.{Expr}
+use Rattle.declaration_rows.specs.f_tree.declared.expressions.Expr as expr
+use Rattle.declaration_rows.specs.f_tree.declared.statements.Body.{Body}
+use Rattle.declaration_rows.specs.f_tree.declared.statements.Body as body
+use Rattle.declaration_rows.specs.f_tree.declared.statements.ListItem as item
+use Rattle.declaration_rows.specs.f_tree.declared.statements.ControlValue.TheVariants as value
+use Rattle.declaration_rows.specs.f_tree.declared.statements.ControlWord.TheVariants as word
+use Rattle.declaration_rows.specs.f_tree.declared.statements.Direction.TheVariants as way
+use Rattle.declaration_rows.specs.f_tree.declared.statements.SavedItem.TheVariants as saved
+use Rattle.declaration_rows.specs.f_tree.declared.statements.UnitKind.TheVariants as kind
+use Rattle.declaration_rows.specs.f_tree.declared.statements.Stmt.{Stmt}
+use Rattle.declaration_rows.specs.f_tree.declared.names.Basic.TheVariants.{Character}
+use Rattle.declaration_rows.specs.f_tree.declared.units.Unit.{Unit as WrittenUnit}
+use Rattle.declaration_rows.specs.f_tree.declared.units.FileSet.{FileSet}
 use Rattle.fortran_rows.specs.WorkedSources.{on_card, labelled, main_program, unit_of, one_file, integer_type, num, up_to, scalar, from_to, I, J}
 
 -- statements on cards of their own, from one on

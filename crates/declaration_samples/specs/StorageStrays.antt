@@ -1,19 +1,19 @@
 -- Small programs that break rows of storage, and others that do not quite.
 use Rattle.std.specs.Prelude.{ℕ, List, [], ◌∷◌, codes, Option, Some, None}
-use Rattle.f_tree.specs.declared.expressions.Expr.{Expr}
-use Rattle.f_tree.specs.declared.expressions.Expr as expr
-use Rattle.f_tree.specs.declared.expressions.BinaryOp.TheVariants as op
-use Rattle.f_tree.specs.declared.statements.ArrayDeclarator.{ArrayDeclarator}
-use Rattle.f_tree.specs.declared.statements.Body.{Body}
-use Rattle.f_tree.specs.declared.statements.Body as body
-use Rattle.f_tree.specs.declared.statements.DataGroup.{DataGroup}
-use Rattle.f_tree.specs.declared.statements.DataValue.{DataValue}
-use Rattle.f_tree.specs.declared.statements.LengthSpec.TheVariants as length'
-use Rattle.f_tree.specs.declared.statements.ListItem as item
-use Rattle.f_tree.specs.declared.statements.UnitKind.TheVariants as kind
-use Rattle.f_tree.specs.declared.names.Basic.TheVariants.{Character}
-use Rattle.f_tree.specs.declared.units.Unit.{Unit as WrittenUnit}
-use Rattle.f_tree.specs.declared.units.FileSet.{FileSet}
+use Rattle.declaration_rows.specs.f_tree.declared.expressions.Expr.{Expr}
+use Rattle.declaration_rows.specs.f_tree.declared.expressions.Expr as expr
+use Rattle.declaration_rows.specs.f_tree.declared.expressions.BinaryOp.TheVariants as op
+use Rattle.declaration_rows.specs.f_tree.declared.statements.ArrayDeclarator.{ArrayDeclarator}
+use Rattle.declaration_rows.specs.f_tree.declared.statements.Body.{Body}
+use Rattle.declaration_rows.specs.f_tree.declared.statements.Body as body
+use Rattle.declaration_rows.specs.f_tree.declared.statements.DataGroup.{DataGroup}
+use Rattle.declaration_rows.specs.f_tree.declared.statements.DataValue.{DataValue}
+use Rattle.declaration_rows.specs.f_tree.declared.statements.LengthSpec.TheVariants as length'
+use Rattle.declaration_rows.specs.f_tree.declared.statements.ListItem as item
+use Rattle.declaration_rows.specs.f_tree.declared.statements.UnitKind.TheVariants as kind
+use Rattle.declaration_rows.specs.f_tree.declared.names.Basic.TheVariants.{Character}
+use Rattle.declaration_rows.specs.f_tree.declared.units.Unit.{Unit as WrittenUnit}
+use Rattle.declaration_rows.specs.f_tree.declared.units.FileSet.{FileSet}
 use Rattle.fortran_rows.specs.WorkedSources.{on_card, one_file, unit_of, integer_type, num, up_to, scalar, array, text, I, J}
 use Rattle.declaration_samples.specs.OrderSources.{main_of, two_units}
 

@@ -1,9 +1,9 @@
 -- Small programs that break a row though they would be well formed, and one whose function has no type.
 use Rattle.std.specs.Prelude.{[], ◌∷◌, codes, Some}
-use Rattle.f_tree.specs.declared.expressions.Expr as expr
-use Rattle.f_tree.specs.declared.statements.Body as body
-use Rattle.f_tree.specs.declared.statements.UpperBound.TheVariants as upper
-use Rattle.f_tree.specs.declared.units.FileSet.{FileSet}
+use Rattle.declaration_rows.specs.f_tree.declared.expressions.Expr as expr
+use Rattle.declaration_rows.specs.f_tree.declared.statements.Body as body
+use Rattle.declaration_rows.specs.f_tree.declared.statements.UpperBound.TheVariants as upper
+use Rattle.declaration_rows.specs.f_tree.declared.units.FileSet.{FileSet}
 use Rattle.fortran_rows.specs.WorkedSources.{on_card, main_program, one_file, integer_type, num, array, from_to, I, J}
 
 -- `DO 10 I=1,2`, `DO 20 J=1,2`, `10 CONTINUE`, `20 CONTINUE`, `END`

@@ -3,7 +3,7 @@
 #![tactic(auto)]
 
 ghost use Rattle.std.specs.Prelude.{◌∷◌, [], ◌≡◌, codes, Some};
-ghost use Rattle.f_tree.specs.declared.expressions.Expr as expr;
+ghost use Rattle.declaration_rows.specs.f_tree.declared.expressions.Expr as expr;
 ghost use Rattle.fortran_rows.specs.WorkedSources.{num, text};
 ghost use Rattle.declaration_samples.specs.CardRows.{at_card, rows_of, shared_rows_of};
 ghost use Rattle.declaration_samples.specs.OrderSources.{assignment_in_block_data, branch_into_a_loop, branch_out_of_an_arm, branch_within_a_loop, character_function_passed, common_saved, computed_branch_into_an_arm, constant_shaped, constant_typed_too_late, constants_among_implicits, definition_too_late, dummy_twice, external_and_intrinsic, saved_and_typed, shaped_twice, typed_twice, dimension_too_late, entry_in_a_loop, entry_of_a_main_program, format_of_text, implicit_too_late, implicit_twice, return_of_a_main_program, second_call, small_main, small_subroutine, two_units, variable_declared, variable_not_declared, with_block, written_by};

@@ -2,7 +2,7 @@
 #![tactic(auto)]
 
 ghost use Rattle.std.specs.Prelude.{◌∷◌, [], ◌≡◌, codes, Some, None};
-ghost use Rattle.f_tree.specs.declared.expressions.Expr as expr;
+ghost use Rattle.declaration_rows.specs.f_tree.declared.expressions.Expr as expr;
 ghost use Rattle.fortran_rows.specs.WorkedSources.{I, arrays_equivalenced, common_seen_twice, constants_and_bounds, num, text, types_equivalenced, values_from_data};
 ghost use Rattle.fortran_rows.specs.StorageSources.{arrays_over_their_file, block_named_external, common_made_longer, common_that_differs_by_unit, locals_that_stay, overlay_in_a_chain, overlay_of_a_matrix, texts_that_overlap, values_before_the_run, values_of_a_block};
 ghost use Rattle.declaration_samples.specs.CardRows.{at_card, rows_of, storage_rows_of, shared_rows_of, later_rows_of_all};

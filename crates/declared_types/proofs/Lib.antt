@@ -2,3 +2,4 @@ pub mod TypeLemmas
 pub mod TypeForms
 pub mod ShapeLemmas
 pub mod ImpliedLemmas
+pub use Rattle.name_uses.proofs as name_uses

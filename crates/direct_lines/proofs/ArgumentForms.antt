@@ -5,7 +5,7 @@ use Rattle.f_tree.specs.Values.{Bytes}
 use Rattle.f_tree.specs.declared.expressions.Expr.{Expr}
 use Rattle.f_tree.specs.declared.expressions.Expr as tree
 use Rattle.f_tree.specs.Uses.{Heading, heading_of, alone_in, is_among}
-use Rattle.name_table.proofs.Texts.{bytes_eq_flip}
+use Rattle.name_uses.proofs.name_table.Texts.{bytes_eq_flip}
 use Rattle.name_uses.proofs.Headings.{heading-Apply}
 use Rattle.direct_lines.specs.Definitions.{is_same, is_name, names_alone}
 

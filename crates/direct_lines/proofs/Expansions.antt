@@ -15,7 +15,7 @@ use Rattle.f_tree.specs.Reading.{read}
 use Rattle.f_tree.specs.Uses.{heading_of, is_among, defines_function}
 use Rattle.f_tree.specs.Attributes.{from_all, Expansion, expansion_among, within_function, with_expansions, result_term, Definition, definition_by, definitions_in, expansion_of, expansions_from, arrays_of}
 use Rattle.f_tree.specs.Lines.{Naming}
-use Rattle.declaration_rows.specs.NameRows.{own_attributes}
+use Rattle.name_facts.specs.declaration_rows.NameRows.{own_attributes}
 use Rattle.direct_lines.specs.Definitions.{is_same, assigns_with_list, expansions_in}
 
 -- ## Expansions of several definitions

@@ -21,11 +21,11 @@ use Rattle.f_tree.specs.Reading.{read}
 use Rattle.f_tree.specs.Uses.{Use, Declared, heading_of, is_among, without, defines_function, uses_of, uses_of_assignment, layer_uses_of_body, uses_of_body, all_of, uses_of_statements, first_seen, seen_from}
 use Rattle.f_tree.specs.Attributes.{from_all, Shaped, shaped_in, dimensions_among, array_names, is_not_empty, own_class, Signs, class_by, class_of, signs_of, option_list, named_dummies, Constant, Expansion, expansion_among, bound_term, dummy_among, expanded_as, within_function, with_expansions, with_dimensions, with_class, without_expansion, arrays_of, attribute_of, described, attribute_in, bare, names_of, all_described}
 use Rattle.f_tree.specs.Lines.{Naming}
-use Rattle.declaration_rows.specs.NameRows.{given_names, own_attributes, all_names}
-use Rattle.fortran_laws.proofs.SimpleAttributes.{described_name, used_is_seen}
+use Rattle.name_facts.specs.declaration_rows.NameRows.{given_names, own_attributes, all_names}
+use Rattle.lowering_laws.proofs.fortran_laws.SimpleAttributes.{described_name, used_is_seen}
 use Rattle.name_facts.specs.declared.table.NameFacts.{NameFacts}
 use Rattle.name_facts.specs.GivenFacts.{AreNameFacts, fact_in}
-use Rattle.name_table.proofs.Texts.{bytes_eq_flip}
+use Rattle.name_uses.proofs.name_table.Texts.{bytes_eq_flip}
 use Rattle.direct_lines.specs.Definitions.{is_same, is_name, names_alone, assigns_with_list, expansions_in}
 use Rattle.direct_lines.specs.References.{has_reference, is_function_class, term_refers, expansion_refers, class_in, stands_for_reference, known_by}
 use Rattle.direct_lines.proofs.ArgumentForms.{among-alone}

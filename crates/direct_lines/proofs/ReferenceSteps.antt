@@ -13,7 +13,7 @@ use Rattle.f_tree.specs.Values.{Bytes}
 use Rattle.f_tree.specs.Reading.{read}
 use Rattle.f_tree.specs.Uses.{heading_of}
 use Rattle.f_tree.specs.Lines.{is_statement_function, is_text}
-use Rattle.declaration_rows.specs.NameRows.{given_names}
+use Rattle.name_facts.specs.declaration_rows.NameRows.{given_names}
 use Rattle.name_facts.specs.declared.table.NameFacts.{NameFacts}
 use Rattle.name_facts.specs.GivenFacts.{AreNameFacts, fact_in}
 use Rattle.direct_lines.specs.Assignments.{is_definition, is_text_target, is_direct_assignment}

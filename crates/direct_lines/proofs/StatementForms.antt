@@ -27,7 +27,7 @@ use Rattle.f_tree.specs.declared.names.Options.{Options}
 use Rattle.f_tree.specs.declared.statements.Stmt.{Stmt}
 use Rattle.f_tree.specs.declared.units.Unit.{Unit as WrittenUnit}
 use Rattle.f_tree.specs.Attributes.{from_all, all_described, attribute_in}
-use Rattle.declaration_rows.specs.NameRows.{given_names}
+use Rattle.name_facts.specs.declaration_rows.NameRows.{given_names}
 use Rattle.f_tree.specs.Folds.{folds_opened, fold_item, layer_of}
 use Rattle.f_tree.specs.Terms.{refers, terms}
 use Rattle.f_tree.specs.Facts.{Direction, Layout, Form, Passes, On, ToSetText}

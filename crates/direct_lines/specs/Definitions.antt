@@ -8,7 +8,7 @@ use Rattle.f_tree.specs.Folds.{layer_of}
 use Rattle.f_tree.specs.Values.{Bytes}
 use Rattle.f_tree.specs.Uses.{heading_of, alone_in}
 use Rattle.f_tree.specs.Attributes.{Expansion, from_all, definitions_in, expansions_from, arrays_of}
-use Rattle.declaration_rows.specs.NameRows.{own_attributes}
+use Rattle.name_facts.specs.declaration_rows.NameRows.{own_attributes}
 
 -- it is the name that is there
 unfoldable pub is_same : Bytes → Option Bytes → Bool

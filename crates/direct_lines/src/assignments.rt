@@ -2,7 +2,7 @@
 
 ghost use Rattle.std.specs.Prelude.{◌≡◌};
 ghost use Rattle.f_tree.specs.Lines as lines;
-ghost use Rattle.declaration_rows.specs.NameRows.{given_names};
+ghost use Rattle.name_facts.specs.declaration_rows.NameRows.{given_names};
 ghost use Rattle.name_facts.specs.GivenFacts.{AreNameFacts};
 ghost use Rattle.direct_lines.specs.Assignments as spec;
 

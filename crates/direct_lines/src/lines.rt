@@ -3,7 +3,7 @@
 ghost use Rattle.std.specs.Prelude.{◌≡◌, ◌&&◌};
 ghost use Rattle.f_tree.specs.declared.names.Options.{Options as GivenOptions};
 ghost use Rattle.f_tree.specs.Lines.{unit_read};
-ghost use Rattle.declaration_rows.specs.NameRows.{given_names};
+ghost use Rattle.name_facts.specs.declaration_rows.NameRows.{given_names};
 ghost use Rattle.lowering_laws.specs.Layout.{are_direct, has_end};
 ghost use Rattle.name_facts.specs.GivenFacts.{AreNameFacts};
 ghost use Rattle.direct_lines.specs.DirectStatements as spec;

@@ -3,7 +3,7 @@
 ghost use Rattle.std.specs.Prelude.{◌≡◌};
 ghost use Rattle.std.specs.List.{list_all};
 ghost use Rattle.f_tree.specs.Lines.{form_of};
-ghost use Rattle.declaration_rows.specs.NameRows.{given_names};
+ghost use Rattle.name_facts.specs.declaration_rows.NameRows.{given_names};
 ghost use Rattle.lowering_laws.specs.Layout as law;
 ghost use Rattle.name_facts.specs.GivenFacts.{AreNameFacts};
 ghost use Rattle.direct_lines.specs.DirectStatements as spec;

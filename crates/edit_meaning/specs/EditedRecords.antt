@@ -45,9 +45,11 @@ abbrev pub moved_to : ℕ → Output → Output
 moved_to columns out =
     if nat_le columns 1024 then record out { before = columns } else record out { halted = Some (Number 5) }
 
--- characters at a position of a record; a gap before them is blanks
+-- characters at a position of a record; a gap before them is blanks. An empty text writes nothing, so that no gap is filled before it
 abbrev pub written_at : ℕ → List ℕ → List ℕ → List ℕ
-written_at columns text line = take columns line ++ replicate (columns - length line) 32 ++ text ++ drop (columns + length text) line
+written_at columns [] line = line
+written_at columns (first ∷ text) line =
+    take columns line ++ replicate (columns - length line) 32 ++ (first ∷ text) ++ drop (columns + length (first ∷ text)) line
 
 -- characters at the position, which moves behind them; a record past its last column is error number 5
 abbrev pub with_text : Sheet → List ℕ → Output → Output

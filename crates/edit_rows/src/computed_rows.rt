@@ -1,5 +1,6 @@
 //! Rows of both directions of a formatted transfer, computed. A function here does nothing, and its contract is the law.
 ghost use Rattle.std.specs.Prelude.{◌≡◌, map};
+ghost use Rattle.edit_rows.specs.EmptyTextRows as empty_rows;
 ghost use Rattle.edit_rows.specs.InputRows as input_rows;
 ghost use Rattle.edit_rows.specs.ListErrorRows as list_rows;
 ghost use Rattle.edit_rows.specs.ReadBackRows as back_rows;
@@ -19,4 +20,10 @@ pub fn values_that_stand_whole()
 /// 13.6.1).
 pub fn errors_of_list_input()
     ensures { map list_rows.found list_rows.rows ≡ map list_rows.wanted list_rows.rows }
+{}
+
+/// An empty text under A without a width writes nothing and extends no record, wherever the position is, and what is written behind it fills
+/// the gap. A position past the last column is refused all the same.
+pub fn empty_texts_write_nothing()
+    ensures { map empty_rows.found empty_rows.rows ≡ map empty_rows.wanted empty_rows.rows }
 {}

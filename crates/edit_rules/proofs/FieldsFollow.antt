@@ -1,13 +1,12 @@
 -- Values whose fields follow one another stand whole.
-use Rattle.std.proofs.Common.{◌≡◌, ℕ, ◌+◌, ◌-◌, ◌≤◌, nat_le, Bool, true, false, if◌then◌else◌, Option, None, Some, List, [], ◌∷◌, ◌++◌, length, replicate, refl, sym, ap, subst, arith, length-append, IsTrue}
+use Rattle.std.proofs.Common.{◌≡◌, ℕ, ◌+◌, ◌-◌, ◌≤◌, nat_le, Bool, true, false, if◌then◌else◌, Option, None, Some, List, [], ◌∷◌, ◌++◌, length, refl, sym, ap, subst, arith, length-append, IsTrue}
 use Rattle.std.proofs.lemmas.Bool.{and_parts, and_from, le-leb}
-use Rattle.std.proofs.lemmas.List.{length-replicate}
 use Rattle.edit_meaning.specs.EditedRecords.{Sheet, Output, has_record, with_control, with_field, field_of, written_at, output_start}
 use Rattle.edit_meaning.specs.Formats.{Control, Literal, ToColumn, LeftBy, RightBy, NextRecord, PlusSigns, ZeroBlanks, Format, Edit, Item, Act, Stop, Served, edits_for}
 use Rattle.edit_meaning.specs.Halts.{Number, EndOfRecords}
 use Rattle.edit_meaning.specs.Listed.{ListedValue}
 use Rattle.edit_meaning.specs.ReadBack.{is_wide_enough, has_place_on_input, goes_right, plus_behind, fields_follow, fields_hold, follow_one_another, stand_whole}
-use Rattle.edit_rules.proofs.RecordsBack.{written_behind}
+use Rattle.edit_rules.proofs.RecordsBack.{gap_before, gap_fits, written_behind}
 
 has_place : (c : Control) → goes_right c ≡ true → has_place_on_input c ≡ true
 has_place (Literal t) h = h
@@ -37,8 +36,8 @@ next_one false plus now e = record { behind = omega arith; sign = e }
 text : (b : Bool) (field : List ℕ) (plus : Bool) (now : Output) → IsBehind plus now
     → IsBehind plus (if b then record now { making = written_at now.before field now.making; before = now.before + length field } else record now { halted = Some (Number 5) })
 text true field plus now i =
-    let gap : List ℕ = replicate (now.before - length now.making) 32 in
-    let g : length gap ≡ now.before - length now.making = length-replicate (now.before - length now.making) 32 in
+    let gap : List ℕ = gap_before now.before field now.making in
+    let g : length gap ≤ now.before - length now.making = gap_fits now.before field now.making in
     let w : length now.making ≤ now.before = i.behind in
     let l : length (written_at now.before field now.making) ≡ length (now.making ++ (gap ++ field)) = ap length (written_behind now.before field now.making w) in
     record { behind = omega (arith, length-append now.making (gap ++ field), length-append gap field); sign = i.sign }

@@ -107,18 +107,36 @@ record_by : (b : Bool) (now last : Output) (more : List Value) (go other : Input
 record_by true now last more go other s n e r = next_record now last more go other s e r
 record_by false now last more go other s n e r = absurd (let x : Some EndOfRecords ≡ None = n in cc x)
 
+-- the blanks that fill the gap before a text; none before an empty one, which writes nothing
+abbrev pub gap_before : ℕ → List ℕ → List ℕ → List ℕ
+gap_before columns [] line = []
+gap_before columns (first ∷ text) line = replicate (columns - length line) 32
+
+pub gap_fits : (columns : ℕ) (text line : List ℕ) → length (gap_before columns text line) ≤ columns - length line
+gap_fits columns [] line = omega arith
+gap_fits columns (first ∷ text) line = omega (arith, length-replicate {A = ℕ} (columns - length line) 32)
+
 -- a field behind all that stands in a record
-pub written_behind : (columns : ℕ) (text line : List ℕ) → length line ≤ columns → written_at columns text line ≡ line ++ (replicate (columns - length line) 32 ++ text)
-written_behind columns text line h =
-    let past : length line ≤ columns + length text = omega arith in
-    ap (λ z. z ++ replicate (columns - length line) 32 ++ text ++ drop (columns + length text) line) (take_all columns line h)
-    ∙ ap (λ z. line ++ replicate (columns - length line) 32 ++ text ++ z) (drop_of_length-le line past)
-    ∙ append-nil (line ++ replicate (columns - length line) 32 ++ text) ∙ append_assoc line (replicate (columns - length line) 32) text
+pub written_behind : (columns : ℕ) (text line : List ℕ) → length line ≤ columns → written_at columns text line ≡ line ++ (gap_before columns text line ++ text)
+written_behind columns [] line h = sym (append-nil line)
+written_behind columns (first ∷ text) line h =
+    let whole : List ℕ = first ∷ text in
+    let past : length line ≤ columns + length whole = omega arith in
+    ap (λ z. z ++ replicate (columns - length line) 32 ++ whole ++ drop (columns + length whole) line) (take_all columns line h)
+    ∙ ap (λ z. line ++ replicate (columns - length line) 32 ++ whole ++ z) (drop_of_length-le line past)
+    ∙ append-nil (line ++ replicate (columns - length line) 32 ++ whole) ∙ append_assoc line (replicate (columns - length line) 32) whole
+
+-- no columns are no characters
+no_columns : (columns : ℕ) (line : List ℕ) → columns_of columns 0 line ≡ []
+no_columns columns line =
+    let none : 0 - length (drop columns line) ≡ 0 = omega arith in ap (λ n. replicate n 32) none
 
 -- and its columns
 columns_behind : (columns : ℕ) (text line rest : List ℕ) → length line ≤ columns
-    → columns_of columns (length text) ((line ++ (replicate (columns - length line) 32 ++ text)) ++ rest) ≡ text
-columns_behind columns text line rest h =
+    → columns_of columns (length text) ((line ++ (gap_before columns text line ++ text)) ++ rest) ≡ text
+columns_behind columns [] line rest h = no_columns columns ((line ++ []) ++ rest)
+columns_behind columns (first ∷ tail) line rest h =
+    let text : List ℕ = first ∷ tail in
     let gap : List ℕ = replicate (columns - length line) 32 in
     let g : length gap ≡ columns - length line = length-replicate (columns - length line) 32 in
     let l : length (line ++ gap) ≡ length line + length gap = length-append line gap in
@@ -173,7 +191,7 @@ module _ (sheet : Sheet) (narrow : sheet.columns ≤ 1024) where
       → Reads (if b then record now { making = written_at now.before field now.making; before = now.before + length field } else record now { halted = Some (Number 5) }) last more go
       → Reads now last (v ∷ more) other
   valued_by true field v now last more go other t w n e r =
-      let gap : List ℕ = replicate (now.before - length now.making) 32 in
+      let gap : List ℕ = gap_before now.before field now.making in
       let rest : List ℕ = gap ++ (field ++ r.rest) in
       let made_line : written_at now.before field now.making ≡ now.making ++ (gap ++ field) = written_behind now.before field now.making w in
       let whole : written_at now.before field now.making ++ r.rest ≡ now.making ++ rest =
@@ -287,8 +305,8 @@ module _ (sheet : Sheet) (narrow : sheet.columns ≤ 1024) where
       → (let next : Output = if b then record now { making = written_at now.before field now.making; before = now.before + length field } else record now { halted = Some (Number 5) } in length next.making) ≤ 1024
   text_short_by false field now t w s = s
   text_short_by true field now t w s =
-      let gap : List ℕ = replicate (now.before - length now.making) 32 in
-      let g : length gap ≡ now.before - length now.making = length-replicate (now.before - length now.making) 32 in
+      let gap : List ℕ = gap_before now.before field now.making in
+      let g : length gap ≤ now.before - length now.making = gap_fits now.before field now.making in
       let l : length (written_at now.before field now.making) ≡ length (now.making ++ (gap ++ field)) = ap length (written_behind now.before field now.making w) in
       let fits : now.before + length field ≤ sheet.columns = leb-true _ _ t in
       omega (arith, length-append now.making (gap ++ field), length-append gap field)

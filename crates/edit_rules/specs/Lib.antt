@@ -10,3 +10,4 @@ pub mod Reader
 pub mod TakeErrors
 pub mod Walks
 pub mod Writer
+pub use Rattle.edit_meaning.specs as edit_meaning

@@ -1,31 +1,31 @@
 -- The names in emitted items.
-use Rattle.std.specs.Prelude.{◌≡◌, ℕ, zero, suc, ◌+◌, ◌-◌, ℤ, pos, Bool, true, false, ◌&&◌, List, [], ◌∷◌, ◌++◌, map, Option, Some, None, option_map, option_and_then, codes, if◌then◌else◌}
+use Rattle.std.specs.Prelude.{◌≡◌, ℕ, zero, suc, ◌+◌, ◌-◌, ℤ, pos, Bool, true, false, ◌&&◌, List, [], ◌∷◌, ◌++◌, map, length, Option, Some, None, option_map, option_and_then, codes, if◌then◌else◌}
 use Rattle.std.proofs.Common.{refl, sym, ◌∙◌, subst}
 use Rattle.std.proofs.lemmas.List.{append-nil}
-use Rattle.f_tree.specs.Values.{Bytes, Datum, IsInt, IsLog, in_range}
-use Rattle.f_tree.specs.Facts as facts
-use Rattle.f_tree.specs.Facts.{Output, Listed, Controls, UnitKind}
-use Rattle.l_core.specs.Pures.{Pure, Constant, Temporary, Load, Pures, NoPure, AndPure}
-use Rattle.l_core.specs.Steps as step
-use Rattle.l_core.specs.Steps.{Step}
-use Rattle.c_tree.specs.declared.types.CastType.TheVariants as to
-use Rattle.c_tree.specs.declared.types.ListType.TheVariants as list_type
-use Rattle.c_tree.specs.declared.expression.UnaryOp.TheVariants as prefix
-use Rattle.c_tree.specs.Access.{ToNumber, ToChar, ToList}
-use Rattle.c_tree.specs.Terms as c
-use Rattle.c_tree.specs.Terms.{Term}
-use Rattle.c_tree.specs.Flat.{Flat, Assign, Branch, Jump, Invoke, Kept, Direct, Return, Nothing}
-use Rattle.c_tree.specs.Drafts.{Scope}
-use Rattle.c_structure.specs.Expressions.{Names, strings_in, strings_in_all}
-use Rattle.c_structure.specs.Statements.{strings_of_item}
+use Rattle.c_emit.specs.f_tree.Values.{Bytes, Datum, IsInt, IsLog, in_range}
+use Rattle.c_emit.specs.f_tree.Facts as facts
+use Rattle.c_emit.specs.f_tree.Facts.{Output, Listed, Controls, UnitKind}
+use Rattle.c_emit.specs.l_core.Pures.{Pure, Constant, Temporary, Load, Pures, NoPure, AndPure}
+use Rattle.c_emit.specs.l_core.Steps as step
+use Rattle.c_emit.specs.l_core.Steps.{Step}
+use Rattle.c_structure_laws.specs.c_tree.declared.types.CastType.TheVariants as to
+use Rattle.c_structure_laws.specs.c_tree.declared.types.ListType.TheVariants as list_type
+use Rattle.c_structure_laws.specs.c_tree.declared.expression.UnaryOp.TheVariants as prefix
+use Rattle.c_structure_laws.specs.c_tree.Access.{ToNumber, ToChar, ToList}
+use Rattle.c_structure_laws.specs.c_tree.Terms as c
+use Rattle.c_structure_laws.specs.c_tree.Terms.{Term}
+use Rattle.c_structure_laws.specs.c_tree.Flat.{Flat, Assign, Branch, Select, Jump, Invoke, Kept, Direct, Return, Nothing, CaseAt}
+use Rattle.c_structure_laws.specs.c_tree.Drafts.{Scope}
+use Rattle.c_structure_laws.specs.c_structure.Expressions.{Names, strings_in, strings_in_all}
+use Rattle.c_structure_laws.specs.c_structure.Statements.{strings_of_item}
 use Rattle.c_structure_laws.specs.Fitting.{Knows, KnowsAll, KnowsItem}
-use Rattle.c_emit.specs.Numbers.{Writing, one_more, if_number, value_term, place_term}
+use Rattle.c_emit.specs.Numbers.{Writing, constant_value, one_more, if_number, value_term, place_term}
 use Rattle.c_emit.specs.LibraryFunctions.{LibraryFunction, library_function}
 use Rattle.c_emit.specs.Types.{type_of}
 use Rattle.c_emit.specs.Calls.{call_of, address_of, is_plain, start_on, start_item, if_held, constant_held, held_term, held_terms, routine_of, computed_item, kind_number, item_by, takes_item, finish_item, stop_item}
-use Rattle.c_emit.specs.Flats.{assigned, jump_to, returned_by, flat_of}
+use Rattle.c_emit.specs.Flats.{assigned, jump_to, cases_to, cases_for, switch_to, returned_by, flat_of}
 use Rattle.emitted_names.specs.KnownNames.{IsPlain, IsKnownBy, Calls, CallsFunction, KnowsStep, strings_of_step, ItemIsKnown, EmittedNamesAreKnown}
-use Rattle.emitted_names.proofs.TermNames.{some_same, ArePlain, no_terms, and_term, prefixed_plain, cast_plain, held_plain, value_plain, target_plain}
+use Rattle.emitted_names.proofs.TermNames.{some_same, ArePlain, no_terms, and_term, prefixed_plain, cast_plain, held_plain, datum_plain, value_plain, target_plain}
 
 module _ (scope : Scope) (names : Names) where
   -- an item without strings
@@ -52,6 +52,11 @@ module _ (scope : Scope) (names : Names) where
   unfolding strings_of_item
   branch_plain on off (Some t) item h one = subst IsPlainItem (some_same (Branch t on off) item h) (record { knows = (one t refl).knows; no_strings = (one t refl).no_strings })
   branch_plain on off None item h one = absurd (cc)
+
+  select_plain : (cases : List CaseAt) (otherwise : ℕ) (x : Option Term) (item : Flat) → option_map (λ value. Select value cases otherwise) x ≡ Some item → ((t : Term) → x ≡ Some t → IsPlain scope names t) → IsPlainItem item
+  unfolding strings_of_item
+  select_plain cases otherwise (Some t) item h one = subst IsPlainItem (some_same (Select t cases otherwise) item h) (record { knows = (one t refl).knows; no_strings = (one t refl).no_strings })
+  select_plain cases otherwise None item h one = absurd (cc)
 
   jump_plain : (position : ℕ) → IsPlainItem (Jump position)
   unfolding strings_of_item
@@ -188,8 +193,10 @@ module _ (scope : Scope) (names : Names) where
     plainly n st item none is = record { knows = is.knows; strings = is.no_strings ∙ sym none }
 
     whole : (place : ℕ → ℕ) (label : ℕ → Option ℕ) (n : ℕ) (st : Step) (item : Flat) → KnowsStep scope names w n st → flat_of w place label n st ≡ Some item → ItemIsKnown scope names w n st item
-    unfolding flat_of
+    unfolding flat_of switch_to
     whole place label n (step.Put target p) item knows h = plainly n (step.Put target p) item refl (assigned_plain (place_term w target) (value_term w p) item h (target_plain scope names w known target) (value_plain scope names w known p))
+    whole place label n (step.PutLabel target l) item knows h =
+        plainly n (step.PutLabel target l) item refl (assigned_plain (place_term w target) (constant_value (IsInt (pos l))) item h (target_plain scope names w known target) (datum_plain scope names (IsInt (pos l))))
     whole place label n (step.Keep k p) item knows h =
         plainly n (step.Keep k p) item refl (assigned_plain (if_number (w.is_number k) (Some (c.Variable (w.naming.temporary k) ToNumber))) (value_term w p) item h
         (λ t is. held_plain scope names (w.is_number k) (c.Variable (w.naming.temporary k) ToNumber) t is (known.temporaries k)) (value_plain scope names w known p))
@@ -201,6 +208,12 @@ module _ (scope : Scope) (names : Names) where
     whole place label n (step.Skip m) item knows h = plainly n (step.Skip m) item refl (subst IsPlainItem (some_same (Jump (place (suc n + m))) item h) (jump_plain (place (suc n + m))))
     whole place label n (step.Again m) item knows h = plainly n (step.Again m) item refl (subst IsPlainItem (some_same (Jump (place (n - m))) item h) (jump_plain (place (n - m))))
     whole place label n (step.Jump l) item knows h = plainly n (step.Jump l) item refl (goto_plain place (label l) item h)
+    whole place label n (step.Select p count) item knows h =
+        plainly n (step.Select p count) item refl (select_plain (cases_to place 1 (suc n) count) (place (suc n + count)) (value_term w p) item h (value_plain scope names w known p))
+    whole place label n (step.JumpBy p []) item knows h = absurd (cc)
+    whole place label n (step.JumpBy p (l ∷ ls)) item knows h =
+        plainly n (step.JumpBy p (l ∷ ls)) item refl
+        (select_plain (cases_for place (suc n) (l ∷ ls)) (place (suc n + length (l ∷ ls))) (place_term w p) item h (target_plain scope names w known p))
     whole place label n step.Pass item knows h = plainly n step.Pass item refl (subst IsPlainItem (some_same Nothing item h) nothing_plain)
     whole place label n step.Back item knows h = plainly n step.Back item refl (return_plain w.facts.program.kind item h)
     whole place label n (step.Acts (step.Starts Output Listed controls) ps m) item knows h = plainly n (step.Acts (step.Starts Output Listed controls) ps m) item refl (started n controls ps item h knows.0 knows.1)

@@ -1,23 +1,23 @@
 -- The names in the C expressions of values and places.
 use Rattle.std.specs.Prelude.{◌≡◌, ℕ, zero, suc, ◌+◌, ◌/◌, nat_eq, ℤ, pos, negsuc, Bool, true, false, List, [], ◌∷◌, ◌++◌, Option, Some, None, option_map, if◌then◌else◌}
 use Rattle.std.proofs.Common.{refl, sym, subst}
-use Rattle.f_tree.specs.Values as fortran
-use Rattle.f_tree.specs.Values.{Bytes, Datum, IsInt, IsLog, IsText, IsSpot, in_range}
-use Rattle.f_tree.specs.Terms as terms
-use Rattle.l_core.specs.Pures.{Pure, Constant, Temporary, Load, Name, AllOf, ElementOf, FirstOf, Substring, Prefixed, Operated, Applied, Chosen, Concatenated, Pures, NoPure, AndPure}
-use Rattle.c_tree.specs.declared.expression.BinaryOp.{BinaryOp}
-use Rattle.c_tree.specs.declared.expression.BinaryOp.TheVariants as op
-use Rattle.c_tree.specs.declared.expression.UnaryOp.TheVariants as prefix
-use Rattle.c_tree.specs.declared.expression.Extreme.{Extreme}
-use Rattle.c_tree.specs.declared.expression.Extreme.TheVariants as extreme
-use Rattle.c_tree.specs.Access.{ToNumber, ToPointer}
-use Rattle.c_tree.specs.Terms as c
-use Rattle.c_tree.specs.Terms.{Term}
-use Rattle.c_tree.specs.Drafts.{Scope}
-use Rattle.c_image.specs.Addresses.{Address, Alone, Inside, InTexts, Through, number_term, element_term}
-use Rattle.c_image.specs.Elements.{Step, sum_term, difference_term, product_term, quantity_term, index_term}
-use Rattle.c_image.specs.Operations.{constant_term, negative_term, prefix_for, operator_for, extreme_term, function_term}
-use Rattle.c_structure.specs.Expressions.{Names, strings_in}
+use Rattle.c_emit.specs.f_tree.Values as fortran
+use Rattle.c_emit.specs.f_tree.Values.{Bytes, Datum, IsInt, IsLog, IsText, IsSpot, in_range}
+use Rattle.c_emit.specs.f_tree.Terms as terms
+use Rattle.c_emit.specs.l_core.Pures.{Pure, Constant, Temporary, Load, Name, AllOf, ElementOf, FirstOf, Substring, Prefixed, Operated, Applied, Chosen, Concatenated, Pures, NoPure, AndPure}
+use Rattle.c_structure_laws.specs.c_tree.declared.expression.BinaryOp.{BinaryOp}
+use Rattle.c_structure_laws.specs.c_tree.declared.expression.BinaryOp.TheVariants as op
+use Rattle.c_structure_laws.specs.c_tree.declared.expression.UnaryOp.TheVariants as prefix
+use Rattle.c_structure_laws.specs.c_tree.declared.expression.Extreme.{Extreme}
+use Rattle.c_structure_laws.specs.c_tree.declared.expression.Extreme.TheVariants as extreme
+use Rattle.c_structure_laws.specs.c_tree.Access.{ToNumber, ToPointer}
+use Rattle.c_structure_laws.specs.c_tree.Terms as c
+use Rattle.c_structure_laws.specs.c_tree.Terms.{Term}
+use Rattle.c_structure_laws.specs.c_tree.Drafts.{Scope}
+use Rattle.c_emit.specs.c_image.Addresses.{Address, Alone, Inside, InTexts, Through, number_term, element_term}
+use Rattle.c_emit.specs.c_image.Elements.{Step, sum_term, difference_term, product_term, quantity_term, index_term}
+use Rattle.c_emit.specs.c_image.Operations.{constant_term, negative_term, prefix_for, operator_for, extreme_term, function_term}
+use Rattle.c_structure_laws.specs.c_structure.Expressions.{Names, strings_in}
 use Rattle.c_emit.specs.Numbers.{Writing, is_scalar, is_array, constant_value, with_two, with_three, one_more, steps_from, element_value, applied_value, if_number, value_term, place_term, value_terms}
 use Rattle.emitted_names.specs.KnownNames.{IsPlain, array_of, StartIsPlain, IsKnownBy}
 
@@ -162,7 +162,7 @@ module _ (scope : Scope) (names : Names) where
   if_plain true x term h one = one refl h
   if_plain false x term h one = absurd (cc)
 
-  datum_plain : (d : Datum) (term : Term) → constant_value d ≡ Some term → IsPlain scope names term
+  pub datum_plain : (d : Datum) (term : Term) → constant_value d ≡ Some term → IsPlain scope names term
   unfolding constant_value
   datum_plain (IsInt z) term h = by (in_range z) h
     where

@@ -1,18 +1,18 @@
 -- That each name in an emitted item is known where what the function goes by is: its variables, temporaries, constants, lists, texts and what it calls of
 -- the library. C89, 3.1.2.1.
 use Rattle.std.specs.Prelude.{◌≡◌, ℕ, ◌+◌, ℤ, true, List, [], position, Option, Some, None, unwrap_or, bytes_eq, codes}
-use Rattle.f_tree.specs.Values.{Bytes}
-use Rattle.l_core.specs.Steps.{Starts, Takes, Finishes, Step, Compute, Acts, Halt}
-use Rattle.c_tree.specs.declared.types.ListType.TheVariants as list_type
-use Rattle.c_tree.specs.Access.{ToNumber, ToChar, ToList, ToPointer}
-use Rattle.c_tree.specs.Terms.{Term, Variable, Array, Routine}
-use Rattle.c_tree.specs.Flat.{Flat}
-use Rattle.c_tree.specs.Builtins.{builtin_names}
-use Rattle.c_tree.specs.Drafts.{Scope}
-use Rattle.c_image.specs.Addresses.{Address, Alone, Inside, InTexts, Through, number_term}
-use Rattle.c_image.specs.Elements.{quantity_term}
-use Rattle.c_structure.specs.Expressions.{Names, strings_in}
-use Rattle.c_structure.specs.Statements.{strings_of_item}
+use Rattle.c_emit.specs.f_tree.Values.{Bytes}
+use Rattle.c_emit.specs.l_core.Steps.{Starts, Takes, Finishes, Step, Compute, Acts, Halt}
+use Rattle.c_structure_laws.specs.c_tree.declared.types.ListType.TheVariants as list_type
+use Rattle.c_structure_laws.specs.c_tree.Access.{ToNumber, ToChar, ToList, ToPointer}
+use Rattle.c_structure_laws.specs.c_tree.Terms.{Term, Variable, Array, Routine}
+use Rattle.c_structure_laws.specs.c_tree.Flat.{Flat}
+use Rattle.c_structure_laws.specs.c_tree.Builtins.{builtin_names}
+use Rattle.c_structure_laws.specs.c_tree.Drafts.{Scope}
+use Rattle.c_emit.specs.c_image.Addresses.{Address, Alone, Inside, InTexts, Through, number_term}
+use Rattle.c_emit.specs.c_image.Elements.{quantity_term}
+use Rattle.c_structure_laws.specs.c_structure.Expressions.{Names, strings_in}
+use Rattle.c_structure_laws.specs.c_structure.Statements.{strings_of_item}
 use Rattle.c_structure_laws.specs.Fitting.{Knows, KnowsItem}
 use Rattle.c_emit.specs.Numbers.{Writing, is_scalar, is_array}
 use Rattle.c_emit.specs.LibraryFunctions.{LibraryFunction, library_function}

@@ -1,47 +1,47 @@
 -- What a procedure answers: nothing, the number of an alternate return, or the value of its result.
 use Rattle.std.specs.Prelude.{◌≡◌, ◌≢◌, ℕ, ℤ, pos, true, List, [], ◌∷◌, take, Option, Some, None, option_map, Ok, slice_get}
 use Rattle.std.proofs.Common.{refl, sym, ap, ◌∙◌, subst}
-use Rattle.simulation.specs.Machine.{Answers}
-use Rattle.simulation.specs.LocalSimulation.{last, Meets}
-use Rattle.f_tree.specs.declared.names.Basic.{Basic}
-use Rattle.f_tree.specs.declared.names.Basic.TheVariants as basic
-use Rattle.f_tree.specs.declared.names.Class.TheVariants as class
-use Rattle.f_tree.specs.Values.{Spot, Datum, IsInt, IsLog, IsText, IsSpot, IsProc, IsLabel, Nothing, NoMeaning, Checked, Gives, Fails, in_range, given_that}
-use Rattle.f_tree.specs.Terms.{Wanted, AsSubroutine, AsFunction}
-use Rattle.f_tree.specs.Store.{Store, Whole, Number as ANumber, Truth, fetch}
-use Rattle.f_tree.specs.Facts.{Attribute, UnitKind, MainProgram, SubroutineUnit, FunctionUnit, BlockDataUnit, EntryPoint, Facts, Frame}
-use Rattle.f_tree.specs.Setting.{IsIn, first_in, later_in}
-use Rattle.f_tree.specs.World as fortran
-use Rattle.f_tree.specs.Valuing.{stored_at, if_bound, if_there, named_as, whole, fetched}
-use Rattle.f_tree.specs.Association.{same_basic, same_width, serves, cut_to, alternate_of, result_given, result_from, answer}
-use Rattle.l_core.specs.Pures.{Pure, Load, Name, meant}
-use Rattle.l_core.specs.Steps.{Step, Back, BackBy, Text}
-use Rattle.l_core.specs.Machine.{View, Doing, resting, answering, answering_by, done, step}
-use Rattle.l_core.specs.Costs.{cost}
-use Rattle.c_tree.specs.declared.outcome.CValue.TheVariants.{Number}
-use Rattle.c_tree.specs.Objects as c_objects
-use Rattle.c_tree.specs.Terms.{Term, Constant}
-use Rattle.c_tree.specs.Flat as flat
-use Rattle.c_tree.specs.Flat.{Flat}
-use Rattle.c_tree.specs.Values as c_values
-use Rattle.c_tree.specs.Values.{value_of}
-use Rattle.c_tree.specs.World as c
-use Rattle.c_tree.specs.Steps as c_steps
-use Rattle.c_tree.specs.Steps.{deed, given_by}
-use Rattle.c_laws.proofs.StepLaws.{step_at, return_answers}
-use Rattle.c_laws.proofs.ValueLaws.{value_of-number}
-use Rattle.faithful.specs.StorageImage.{number_for}
-use Rattle.c_image.specs.Standing.{Stands}
-use Rattle.c_image.specs.Held.{whole_for}
-use Rattle.c_image_laws.proofs.Growing.{cut_stands, extends_itself}
-use Rattle.c_emit.specs.Numbers.{is_numeric, value_term, place_term}
-use Rattle.c_emit.specs.Types.{HasType, if_numeric, type_at, type_of}
-use Rattle.c_emit.specs.Flats.{returned_by}
-use Rattle.c_emit_laws.proofs.Choices.{mapped_by, some_same}
-use Rattle.c_emit_laws.proofs.NumberLaws.{numbers_are_emitted}
-use Rattle.c_emit_laws.proofs.StepLaws.{numbers_fit}
-use Rattle.c_emit_laws.proofs.TypeLaws.{types_are_right}
-use Rattle.emitted_texts.specs.SecondLayer.{Surroundings, Emission}
+use Rattle.procedure_emission.specs.simulation.Machine.{Answers}
+use Rattle.procedure_emission.specs.simulation.LocalSimulation.{last, Meets}
+use Rattle.procedure_emission.specs.f_tree.declared.names.Basic.{Basic}
+use Rattle.procedure_emission.specs.f_tree.declared.names.Basic.TheVariants as basic
+use Rattle.procedure_emission.specs.f_tree.declared.names.Class.TheVariants as class
+use Rattle.procedure_emission.specs.f_tree.Values.{Spot, Datum, IsInt, IsLog, IsText, IsSpot, IsProc, IsLabel, Nothing, NoMeaning, Checked, Gives, Fails, in_range, given_that}
+use Rattle.procedure_emission.specs.f_tree.Terms.{Wanted, AsSubroutine, AsFunction}
+use Rattle.procedure_emission.specs.f_tree.Store.{Store, Whole, Number as ANumber, Truth, fetch}
+use Rattle.procedure_emission.specs.f_tree.Facts.{Attribute, UnitKind, MainProgram, SubroutineUnit, FunctionUnit, BlockDataUnit, EntryPoint, Facts, Frame}
+use Rattle.procedure_emission.specs.f_tree.Setting.{IsIn, first_in, later_in}
+use Rattle.procedure_emission.specs.f_tree.World as fortran
+use Rattle.procedure_emission.specs.f_tree.Valuing.{stored_at, if_bound, if_there, named_as, whole, fetched}
+use Rattle.procedure_emission.specs.f_tree.Association.{same_basic, same_width, serves, cut_to, alternate_of, result_given, result_from, answer}
+use Rattle.procedure_emission.specs.l_core.Pures.{Pure, Load, Name, meant}
+use Rattle.procedure_emission.specs.l_core.Steps.{Step, Back, BackBy, Text}
+use Rattle.procedure_emission.specs.l_core.Machine.{View, Doing, resting, answering, answering_by, done, step}
+use Rattle.procedure_emission.specs.l_core.Costs.{cost}
+use Rattle.procedure_emission.specs.c_tree.declared.outcome.CValue.TheVariants.{Number}
+use Rattle.procedure_emission.specs.c_tree.Objects as c_objects
+use Rattle.procedure_emission.specs.c_tree.Terms.{Term, Constant}
+use Rattle.procedure_emission.specs.c_tree.Flat as flat
+use Rattle.procedure_emission.specs.c_tree.Flat.{Flat}
+use Rattle.procedure_emission.specs.c_tree.Values as c_values
+use Rattle.procedure_emission.specs.c_tree.Values.{value_of}
+use Rattle.procedure_emission.specs.c_tree.World as c
+use Rattle.procedure_emission.specs.c_tree.Steps as c_steps
+use Rattle.procedure_emission.specs.c_tree.Steps.{deed, given_by}
+use Rattle.procedure_emission.proofs.c_laws.StepLaws.{step_at, return_answers}
+use Rattle.procedure_emission.proofs.c_laws.ValueLaws.{value_of-number}
+use Rattle.procedure_emission.specs.faithful.StorageImage.{number_for}
+use Rattle.procedure_emission.specs.c_image.Standing.{Stands}
+use Rattle.procedure_emission.specs.c_image.Held.{whole_for}
+use Rattle.procedure_emission.proofs.c_image_laws.Growing.{cut_stands, extends_itself}
+use Rattle.procedure_emission.specs.c_emit.Numbers.{is_numeric, value_term, place_term}
+use Rattle.procedure_emission.specs.c_emit.Types.{HasType, if_numeric, type_at, type_of}
+use Rattle.procedure_emission.specs.c_emit.Flats.{returned_by}
+use Rattle.procedure_emission.proofs.c_emit_laws.Choices.{mapped_by, some_same}
+use Rattle.procedure_emission.proofs.c_emit_laws.NumberLaws.{numbers_are_emitted}
+use Rattle.procedure_emission.proofs.c_emit_laws.StepLaws.{numbers_fit}
+use Rattle.procedure_emission.proofs.c_emit_laws.TypeLaws.{types_are_right}
+use Rattle.procedure_emission.specs.emitted_texts.SecondLayer.{Surroundings, Emission}
 use Rattle.procedure_emission.specs.ProcedureItems.{result_term, back_item, back_by_item, procedure_item}
 use Rattle.procedure_emission.specs.Reading.{numbers_kept}
 use Rattle.procedure_emission.specs.CallLayer.{CallWorld, IsGivenBack, IsAnswer, IsActive, IsStaged, IsAtStep, call_couple}

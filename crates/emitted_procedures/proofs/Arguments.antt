@@ -1,43 +1,43 @@
 -- The C expressions for actual arguments have the values that are passed for them.
 use Rattle.std.specs.Prelude.{◌≡◌, ℕ, ℤ, pos, Bool, true, false, List, [], ◌∷◌, map, Option, Some, None, option_map, Ok, slice_get}
 use Rattle.std.proofs.Common.{refl, sym, ap, ◌∙◌, subst}
-use Rattle.f_tree.specs.declared.names.Basic.{Basic}
-use Rattle.f_tree.specs.declared.names.Basic.TheVariants as basic
-use Rattle.f_tree.specs.declared.names.Class.{Class}
-use Rattle.f_tree.specs.declared.names.Class.TheVariants as class
-use Rattle.f_tree.specs.Values.{Bytes, Spot, Datum, IsInt, IsLog, IsText, IsSpot, IsProc, IsLabel, Nothing, NoMeaning, Gives, Fails}
-use Rattle.f_tree.specs.Store.{Store, Whole, Truth}
-use Rattle.f_tree.specs.Facts.{Frame}
-use Rattle.f_tree.specs.Valuing.{stored_at, if_bound, if_there, named_as, whole}
-use Rattle.f_tree.specs.World.{Procedure}
-use Rattle.l_core.specs.Pures.{Pure, Constant, Temporary, Load, Name, AllOf, ElementOf, FirstOf, Substring, Concatenated, Prefixed, Operated, Applied, Chosen, Pures, NoPure, AndPure, Temporaries, if_kept, meant, all_meant}
-use Rattle.c_tree.specs.declared.types.CastType.TheVariants as to
-use Rattle.c_tree.specs.declared.types.FunctionType.TheVariants as pointer
-use Rattle.c_tree.specs.declared.outcome.CValue.{CValue}
-use Rattle.c_tree.specs.declared.outcome.CValue.TheVariants.{Pointer, Function}
-use Rattle.c_tree.specs.Faults.{after}
-use Rattle.c_tree.specs.Access.{Access, ToNumber, ToPointer, ToFunction}
-use Rattle.c_tree.specs.Objects.{Object, bytes_of_number, read_object, fetched}
-use Rattle.c_tree.specs.Terms as c_term
-use Rattle.c_tree.specs.Terms.{Term}
-use Rattle.c_tree.specs.Values as c_values
-use Rattle.c_tree.specs.Values.{value_of, values_of}
-use Rattle.c_laws.proofs.ValueLaws.{values_of-cons, address_of_variable}
-use Rattle.faithful.specs.StorageImage.{number_for}
-use Rattle.c_image.specs.World.{World}
-use Rattle.c_image.specs.Standing.{Stands}
-use Rattle.c_image.specs.Held.{whole_for, Holds}
-use Rattle.c_image.specs.Addresses.{Address, Alone, Inside, InTexts, Through, access_to, pointer_object, Reaches, IsSound}
-use Rattle.c_image.specs.Passing.{Argument}
-use Rattle.c_image_laws.specs.Meanings.{Points}
-use Rattle.c_image_laws.proofs.AddressValues.{Array-points, Address-points, Parameter-points}
-use Rattle.c_image_laws.proofs.PlaceValues.{reached_object, number_place}
-use Rattle.c_emit.specs.Numbers.{Writing, is_variable, is_numeric, has_number, has_bounds, one_more, if_number, place_term}
-use Rattle.c_emit.specs.Calls.{address_of, if_held, constant_held, held_term}
-use Rattle.c_emit_laws.specs.EmittedNumbers.{IsKnown}
-use Rattle.c_emit_laws.proofs.Choices.{got, mapped_by, some_same}
-use Rattle.c_emit_laws.proofs.NumberLaws.{places_are_emitted}
-use Rattle.emitted_texts.specs.SecondLayer.{Surroundings}
+use Rattle.procedure_emission.specs.f_tree.declared.names.Basic.{Basic}
+use Rattle.procedure_emission.specs.f_tree.declared.names.Basic.TheVariants as basic
+use Rattle.procedure_emission.specs.f_tree.declared.names.Class.{Class}
+use Rattle.procedure_emission.specs.f_tree.declared.names.Class.TheVariants as class
+use Rattle.procedure_emission.specs.f_tree.Values.{Bytes, Spot, Datum, IsInt, IsLog, IsText, IsSpot, IsProc, IsLabel, Nothing, NoMeaning, Gives, Fails}
+use Rattle.procedure_emission.specs.f_tree.Store.{Store, Whole, Truth}
+use Rattle.procedure_emission.specs.f_tree.Facts.{Frame}
+use Rattle.procedure_emission.specs.f_tree.Valuing.{stored_at, if_bound, if_there, named_as, whole}
+use Rattle.procedure_emission.specs.f_tree.World.{Procedure}
+use Rattle.procedure_emission.specs.l_core.Pures.{Pure, Constant, Temporary, Load, Name, AllOf, ElementOf, FirstOf, Substring, Concatenated, Prefixed, Operated, Applied, Chosen, Pures, NoPure, AndPure, Temporaries, if_kept, meant, all_meant}
+use Rattle.procedure_emission.specs.c_tree.declared.types.CastType.TheVariants as to
+use Rattle.procedure_emission.specs.c_tree.declared.types.FunctionType.TheVariants as pointer
+use Rattle.procedure_emission.specs.c_tree.declared.outcome.CValue.{CValue}
+use Rattle.procedure_emission.specs.c_tree.declared.outcome.CValue.TheVariants.{Pointer, Function}
+use Rattle.procedure_emission.specs.c_tree.Faults.{after}
+use Rattle.procedure_emission.specs.c_tree.Access.{Access, ToNumber, ToPointer, ToFunction}
+use Rattle.procedure_emission.specs.c_tree.Objects.{Object, bytes_of_number, read_object, fetched}
+use Rattle.procedure_emission.specs.c_tree.Terms as c_term
+use Rattle.procedure_emission.specs.c_tree.Terms.{Term}
+use Rattle.procedure_emission.specs.c_tree.Values as c_values
+use Rattle.procedure_emission.specs.c_tree.Values.{value_of, values_of}
+use Rattle.procedure_emission.proofs.c_laws.ValueLaws.{values_of-cons, address_of_variable}
+use Rattle.procedure_emission.specs.faithful.StorageImage.{number_for}
+use Rattle.procedure_emission.specs.c_image.World.{World}
+use Rattle.procedure_emission.specs.c_image.Standing.{Stands}
+use Rattle.procedure_emission.specs.c_image.Held.{whole_for, Holds}
+use Rattle.procedure_emission.specs.c_image.Addresses.{Address, Alone, Inside, InTexts, Through, access_to, pointer_object, Reaches, IsSound}
+use Rattle.procedure_emission.specs.c_image.Passing.{Argument}
+use Rattle.procedure_emission.specs.c_image_laws.Meanings.{Points}
+use Rattle.procedure_emission.proofs.c_image_laws.AddressValues.{Array-points, Address-points, Parameter-points}
+use Rattle.procedure_emission.proofs.c_image_laws.PlaceValues.{reached_object, number_place}
+use Rattle.procedure_emission.specs.c_emit.Numbers.{Writing, is_variable, is_numeric, has_number, has_bounds, one_more, if_number, place_term}
+use Rattle.procedure_emission.specs.c_emit.Calls.{address_of, if_held, constant_held, held_term}
+use Rattle.procedure_emission.specs.c_emit_laws.EmittedNumbers.{IsKnown}
+use Rattle.procedure_emission.proofs.c_emit_laws.Choices.{got, mapped_by, some_same}
+use Rattle.procedure_emission.proofs.c_emit_laws.NumberLaws.{places_are_emitted}
+use Rattle.procedure_emission.specs.emitted_texts.SecondLayer.{Surroundings}
 use Rattle.procedure_emission.specs.CallLayer.{function_object}
 use Rattle.procedure_emission.specs.Reading.{IsPlain, plain_number, plain_truth, plain_nothing, number_kept, numbers_kept}
 use Rattle.procedure_emission.specs.ProcedureItems.{pointer_term, procedure_argument, routine_term, name_argument, argument_term, argument_terms}

@@ -1,13 +1,13 @@
 -- How a procedure with one entry begins.
 use Rattle.std.specs.Prelude.{◌≡◌, ℕ, Bool, true, false, List, [], ◌∷◌, length, bytes_eq, Option, Some, None, if◌then◌else◌}
 use Rattle.std.proofs.Common.{refl, sym, ap, ◌∙◌}
-use Rattle.simulation.specs.Machine.{Entry, Enters, Refused}
-use Rattle.f_tree.specs.Values.{Disagreement, Checked, Gives, Fails}
-use Rattle.f_tree.specs.Facts.{Bounds, UnitKind, MainProgram, SubroutineUnit, FunctionUnit, BlockDataUnit, EntryPoint, ProgramUnit, Facts, Frame}
-use Rattle.f_tree.specs.World as fortran
-use Rattle.f_tree.specs.World.{World, Turning, Doing, Waits, Returning, Called, TheMain, Procedure, Passed, fortran_sorts, entered}
-use Rattle.f_tree.specs.Places.{Landing, at_range_end, landed, arrived}
-use Rattle.f_tree.specs.Association.{Bindings, bounds_for, bind_all, all_dimensions_by, result_of, with_result, frame_of, begun_with, begun_bound, begun_at, entry_of, serves, start}
+use Rattle.procedure_emission.specs.simulation.Machine.{Entry, Enters, Refused}
+use Rattle.procedure_emission.specs.f_tree.Values.{Disagreement, Checked, Gives, Fails}
+use Rattle.procedure_emission.specs.f_tree.Facts.{Bounds, UnitKind, MainProgram, SubroutineUnit, FunctionUnit, BlockDataUnit, EntryPoint, ProgramUnit, Facts, Frame}
+use Rattle.procedure_emission.specs.f_tree.World as fortran
+use Rattle.procedure_emission.specs.f_tree.World.{World, Turning, Doing, Waits, Returning, Called, TheMain, Procedure, Passed, fortran_sorts, entered}
+use Rattle.procedure_emission.specs.f_tree.Places.{Landing, at_range_end, landed, arrived}
+use Rattle.procedure_emission.specs.f_tree.Association.{Bindings, bounds_for, bind_all, all_dimensions_by, result_of, with_result, frame_of, begun_with, begun_bound, begun_at, entry_of, serves, start}
 
 -- ## The view
 

@@ -2,62 +2,62 @@
 use Rattle.std.specs.Prelude.{◌≡◌, ℕ, zero, suc, ◌+◌, ◌-◌, ◌≤◌, nat_eq, nat_lt, ℤ, pos, negsuc, Bool, true, false, List, [], ◌++◌, length, take, Option, Some, None, option_map, Ok, slice_get, slice_set, if◌then◌else◌}
 use Rattle.std.proofs.Common.{refl, sym, ap, ◌∙◌, subst}
 use Rattle.std.proofs.lemmas.List.{length-set, append-nil}
-use Rattle.simulation.specs.Machine.{Calls, Breaks, Enters}
-use Rattle.simulation.specs.LocalSimulation.{last, Meets, Resumed}
-use Rattle.f_tree.specs.declared.names.Basic.{Basic}
-use Rattle.f_tree.specs.declared.names.Basic.TheVariants as basic
-use Rattle.f_tree.specs.declared.names.Class.{Class}
-use Rattle.f_tree.specs.declared.names.Class.TheVariants as class
-use Rattle.f_tree.specs.Values.{Bytes, Datum, IsInt, IsLog, IsProc, Nothing, Act, NoMeaning, Checked, Gives, Fails, in_range}
-use Rattle.f_tree.specs.Terms.{Wanted, AsSubroutine, AsFunction, Callee}
-use Rattle.f_tree.specs.Store.{Store, Whole, Number as ANumber, Truth}
-use Rattle.f_tree.specs.Facts.{Attribute, Facts, Frame}
-use Rattle.f_tree.specs.Setting.{IsIn, first_in}
-use Rattle.f_tree.specs.World as fortran
-use Rattle.f_tree.specs.World.{Called, Procedure, Returning}
-use Rattle.f_tree.specs.Association.{Passing, passing, ready_for, passed_procedure, procedure_named, called_as, call, cut_to, alternate_of}
-use Rattle.l_core.specs.Pures.{Pures, Temporaries, with_kept, all_meant}
-use Rattle.l_core.specs.Steps.{Step, CallFor, CallSub, Text}
-use Rattle.l_core.specs.Machine.{View, Doing, lowered_sorts, resting, waiting, calling, done, step, gone_on, resumed_at}
-use Rattle.l_core.specs.Machine as lower
-use Rattle.l_core.specs.Costs.{cost}
-use Rattle.c_tree.specs.declared.outcome.CValue.{CValue}
-use Rattle.c_tree.specs.declared.outcome.CValue.TheVariants.{Pointer, Function}
-use Rattle.c_tree.specs.Faults.{after}
-use Rattle.c_tree.specs.Access.{ToNumber, ToFunction}
-use Rattle.c_tree.specs.Objects as objects_of
-use Rattle.c_tree.specs.Objects.{Object, Place, stored}
-use Rattle.c_tree.specs.Terms as c_term
-use Rattle.c_tree.specs.Terms.{Term}
-use Rattle.c_tree.specs.Values as c_values
-use Rattle.c_tree.specs.Values.{values_of}
-use Rattle.c_tree.specs.Flat as flat
-use Rattle.c_tree.specs.Flat.{Flat, Use, Ignored, Kept, Invoke}
-use Rattle.c_tree.specs.World as c
-use Rattle.c_tree.specs.Linking as linking
-use Rattle.c_tree.specs.Builtins.{signatures}
-use Rattle.c_tree.specs.Steps as c_steps
-use Rattle.c_tree.specs.Steps.{Wants, WantsNothing, WantsValue, wanted, callee_of, called, library_called, given_that, deed, taken, past, entering}
-use Rattle.c_laws.proofs.StepLaws.{step_at}
-use Rattle.faithful.specs.StorageImage.{number_for}
-use Rattle.c_image.specs.World.{World, changed, with_held}
-use Rattle.c_image.specs.Standing.{Stands}
-use Rattle.c_image.specs.Addresses.{Address, Alone, Inside, InTexts, Through}
-use Rattle.c_image.specs.Held.{whole_for, BeginWith, Holds}
-use Rattle.c_image.specs.Knowing.{Knows, IsApart}
-use Rattle.c_image.specs.Passing.{Argument, with_arguments}
-use Rattle.c_image_laws.proofs.CallsStand.{passed_stands, extends_passed}
-use Rattle.c_image_laws.proofs.Growing.{cut_stands, extends_itself, extends_through}
-use Rattle.c_image_laws.proofs.IdleFrames.{idle_beside_object}
-use Rattle.c_image_laws.proofs.Keeping as keeping_laws
-use Rattle.c_image_laws.proofs.Knowledge.{knows_kept}
-use Rattle.c_emit.specs.Numbers.{Writing, if_number}
-use Rattle.c_emit.specs.Types.{HasType}
-use Rattle.c_emit_laws.specs.EmittedNumbers.{IsKnown}
-use Rattle.c_emit_laws.proofs.Choices.{mapped_by, some_same}
-use Rattle.emitted_texts.specs.SecondLayer.{Surroundings, Emission, TransfersStand}
-use Rattle.emitted_texts.specs.Emitted.{leads, stage_behind}
-use Rattle.emitted_texts.proofs.Worlds.{extends_changed}
+use Rattle.procedure_emission.specs.simulation.Machine.{Calls, Breaks, Enters}
+use Rattle.procedure_emission.specs.simulation.LocalSimulation.{last, Meets, Resumed}
+use Rattle.procedure_emission.specs.f_tree.declared.names.Basic.{Basic}
+use Rattle.procedure_emission.specs.f_tree.declared.names.Basic.TheVariants as basic
+use Rattle.procedure_emission.specs.f_tree.declared.names.Class.{Class}
+use Rattle.procedure_emission.specs.f_tree.declared.names.Class.TheVariants as class
+use Rattle.procedure_emission.specs.f_tree.Values.{Bytes, Datum, IsInt, IsLog, IsProc, Nothing, Act, NoMeaning, Checked, Gives, Fails, in_range}
+use Rattle.procedure_emission.specs.f_tree.Terms.{Wanted, AsSubroutine, AsFunction, Callee}
+use Rattle.procedure_emission.specs.f_tree.Store.{Store, Whole, Number as ANumber, Truth}
+use Rattle.procedure_emission.specs.f_tree.Facts.{Attribute, Facts, Frame}
+use Rattle.procedure_emission.specs.f_tree.Setting.{IsIn, first_in}
+use Rattle.procedure_emission.specs.f_tree.World as fortran
+use Rattle.procedure_emission.specs.f_tree.World.{Called, Procedure, Returning}
+use Rattle.procedure_emission.specs.f_tree.Association.{Passing, passing, ready_for, passed_procedure, procedure_named, called_as, call, cut_to, alternate_of}
+use Rattle.procedure_emission.specs.l_core.Pures.{Pures, Temporaries, with_kept, all_meant}
+use Rattle.procedure_emission.specs.l_core.Steps.{Step, CallFor, CallSub, Text}
+use Rattle.procedure_emission.specs.l_core.Machine.{View, Doing, lowered_sorts, resting, waiting, calling, done, step, gone_on, resumed_at}
+use Rattle.procedure_emission.specs.l_core.Machine as lower
+use Rattle.procedure_emission.specs.l_core.Costs.{cost}
+use Rattle.procedure_emission.specs.c_tree.declared.outcome.CValue.{CValue}
+use Rattle.procedure_emission.specs.c_tree.declared.outcome.CValue.TheVariants.{Pointer, Function}
+use Rattle.procedure_emission.specs.c_tree.Faults.{after}
+use Rattle.procedure_emission.specs.c_tree.Access.{ToNumber, ToFunction}
+use Rattle.procedure_emission.specs.c_tree.Objects as objects_of
+use Rattle.procedure_emission.specs.c_tree.Objects.{Object, Place, stored}
+use Rattle.procedure_emission.specs.c_tree.Terms as c_term
+use Rattle.procedure_emission.specs.c_tree.Terms.{Term}
+use Rattle.procedure_emission.specs.c_tree.Values as c_values
+use Rattle.procedure_emission.specs.c_tree.Values.{values_of}
+use Rattle.procedure_emission.specs.c_tree.Flat as flat
+use Rattle.procedure_emission.specs.c_tree.Flat.{Flat, Use, Ignored, Kept, Invoke}
+use Rattle.procedure_emission.specs.c_tree.World as c
+use Rattle.procedure_emission.specs.c_tree.Linking as linking
+use Rattle.procedure_emission.specs.c_tree.Builtins.{signatures}
+use Rattle.procedure_emission.specs.c_tree.Steps as c_steps
+use Rattle.procedure_emission.specs.c_tree.Steps.{Wants, WantsNothing, WantsValue, wanted, callee_of, called, library_called, given_that, deed, taken, past, entering}
+use Rattle.procedure_emission.proofs.c_laws.StepLaws.{step_at}
+use Rattle.procedure_emission.specs.faithful.StorageImage.{number_for}
+use Rattle.procedure_emission.specs.c_image.World.{World, changed, with_held}
+use Rattle.procedure_emission.specs.c_image.Standing.{Stands}
+use Rattle.procedure_emission.specs.c_image.Addresses.{Address, Alone, Inside, InTexts, Through}
+use Rattle.procedure_emission.specs.c_image.Held.{whole_for, BeginWith, Holds}
+use Rattle.procedure_emission.specs.c_image.Knowing.{Knows, IsApart}
+use Rattle.procedure_emission.specs.c_image.Passing.{Argument, with_arguments}
+use Rattle.procedure_emission.proofs.c_image_laws.CallsStand.{passed_stands, extends_passed}
+use Rattle.procedure_emission.proofs.c_image_laws.Growing.{cut_stands, extends_itself, extends_through}
+use Rattle.procedure_emission.proofs.c_image_laws.IdleFrames.{idle_beside_object}
+use Rattle.procedure_emission.proofs.c_image_laws.Keeping as keeping_laws
+use Rattle.procedure_emission.proofs.c_image_laws.Knowledge.{knows_kept}
+use Rattle.procedure_emission.specs.c_emit.Numbers.{Writing, if_number}
+use Rattle.procedure_emission.specs.c_emit.Types.{HasType}
+use Rattle.procedure_emission.specs.c_emit_laws.EmittedNumbers.{IsKnown}
+use Rattle.procedure_emission.proofs.c_emit_laws.Choices.{mapped_by, some_same}
+use Rattle.procedure_emission.specs.emitted_texts.SecondLayer.{Surroundings, Emission, TransfersStand}
+use Rattle.procedure_emission.specs.emitted_texts.Emitted.{leads, stage_behind}
+use Rattle.procedure_emission.proofs.emitted_texts.Worlds.{extends_changed}
 use Rattle.procedure_emission.specs.ProcedureItems.{argument_terms, callee_for, function_called, call_item, basic_wanted, kept_item, call_for_item, procedure_item}
 use Rattle.procedure_emission.specs.Reading.{IsPlain, plain_number, plain_truth, plain_nothing, kind_after, number_kept, numbers_kept}
 use Rattle.procedure_emission.specs.CallLayer.{CallWorld, function_object, ResultIsPassed, IsAnswer, AnswersAlike, IsActive, IsStaged, IsAtStep, call_couple}

@@ -2,26 +2,26 @@
 use Rattle.std.specs.Prelude.{◌≡◌, ℕ, suc, ◌+◌, nat_le, Bool, true, false, ◌&&◌, ◌||◌, List, [], ◌∷◌, ◌++◌, length, bytes_eq, Some, None, slice_get, if◌then◌else◌}
 use Rattle.std.proofs.Common.{refl, sym, ap, ◌∙◌, subst, arith}
 use Rattle.std.proofs.lemmas.Slice.Eq.{bytes_eq-Decides}
-use Rattle.f_tree.specs.declared.names.Basic.{Basic}
-use Rattle.f_tree.specs.declared.names.Basic.TheVariants.{Integer, Logical, Character, Untyped}
-use Rattle.f_tree.specs.declared.names.Class.TheVariants as class
-use Rattle.f_tree.specs.Values.{Bytes, Spot, Datum, IsSpot, IsProc, IsLabel, Nothing, Disagreement, Gives, Fails}
-use Rattle.f_tree.specs.Store.{Store}
-use Rattle.f_tree.specs.Facts.{Bounds, Attribute, Formal, Frame}
-use Rattle.f_tree.specs.Setting.{IsIn, first_in, later_in}
-use Rattle.f_tree.specs.World.{Procedure}
-use Rattle.f_tree.specs.Association.{Bindings, value_for, length_for, length_of, same_basic, is_array_dummy, bound_as, agreed, bind_all, dimensions_by, all_dimensions_by, bounds_for}
-use Rattle.l_core.specs.Steps.{Text}
-use Rattle.c_tree.specs.declared.outcome.CValue.{CValue}
-use Rattle.c_tree.specs.declared.outcome.CValue.TheVariants.{Pointer, Function}
-use Rattle.c_tree.specs.declared.types.ParameterType.{ParameterType}
-use Rattle.c_tree.specs.declared.types.ParameterType.TheVariants as parameter
-use Rattle.c_tree.specs.Steps.{fits, all_fit}
-use Rattle.c_image.specs.World.{World}
-use Rattle.c_image.specs.Addresses.{HasShape, IsSound}
-use Rattle.c_emit.specs.Numbers.{is_numeric}
-use Rattle.c_emit_laws.proofs.Choices.{got, some_same}
-use Rattle.emitted_texts.specs.SecondLayer.{Surroundings, Emission, length_of_text, lengths_of}
+use Rattle.procedure_emission.specs.f_tree.declared.names.Basic.{Basic}
+use Rattle.procedure_emission.specs.f_tree.declared.names.Basic.TheVariants.{Integer, Logical, Character, Untyped}
+use Rattle.procedure_emission.specs.f_tree.declared.names.Class.TheVariants as class
+use Rattle.procedure_emission.specs.f_tree.Values.{Bytes, Spot, Datum, IsSpot, IsProc, IsLabel, Nothing, Disagreement, Gives, Fails}
+use Rattle.procedure_emission.specs.f_tree.Store.{Store}
+use Rattle.procedure_emission.specs.f_tree.Facts.{Bounds, Attribute, Formal, Frame}
+use Rattle.procedure_emission.specs.f_tree.Setting.{IsIn, first_in, later_in}
+use Rattle.procedure_emission.specs.f_tree.World.{Procedure}
+use Rattle.procedure_emission.specs.f_tree.Association.{Bindings, value_for, length_for, length_of, same_basic, is_array_dummy, bound_as, agreed, bind_all, dimensions_by, all_dimensions_by, bounds_for}
+use Rattle.procedure_emission.specs.l_core.Steps.{Text}
+use Rattle.procedure_emission.specs.c_tree.declared.outcome.CValue.{CValue}
+use Rattle.procedure_emission.specs.c_tree.declared.outcome.CValue.TheVariants.{Pointer, Function}
+use Rattle.procedure_emission.specs.c_tree.declared.types.ParameterType.{ParameterType}
+use Rattle.procedure_emission.specs.c_tree.declared.types.ParameterType.TheVariants as parameter
+use Rattle.procedure_emission.specs.c_tree.Steps.{fits, all_fit}
+use Rattle.procedure_emission.specs.c_image.World.{World}
+use Rattle.procedure_emission.specs.c_image.Addresses.{HasShape, IsSound}
+use Rattle.procedure_emission.specs.c_emit.Numbers.{is_numeric}
+use Rattle.procedure_emission.proofs.c_emit_laws.Choices.{got, some_same}
+use Rattle.procedure_emission.specs.emitted_texts.SecondLayer.{Surroundings, Emission, length_of_text, lengths_of}
 use Rattle.procedure_emission.specs.CallLayer.{ArePassed, none_passed, place_passed, procedure_passed, label_passed, nothing_passed, labels_passed}
 use Rattle.procedure_emission.specs.EmittedUnits.{is_number_pointer, IsParameter, is_function_pointer, IsProcedureParameter, AreParameters, no_parameters, named, named_procedure, alternate}
 

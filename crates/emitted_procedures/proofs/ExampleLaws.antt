@@ -4,28 +4,28 @@ use Rattle.std.specs.Ordering.{int_eq}
 use Rattle.std.proofs.Common.{refl, sym, ap, ◌∙◌, subst, arith}
 use Rattle.std.proofs.lemmas.Bool.{eqb-true}
 use Rattle.std.proofs.lemmas.Bool.Decides.{Decides-int_eq}
-use Rattle.f_tree.specs.declared.names.Basic.{Basic}
-use Rattle.f_tree.specs.declared.names.Basic.TheVariants as basic
-use Rattle.f_tree.specs.declared.names.Class.TheVariants as class
-use Rattle.f_tree.specs.Values.{Bytes, Spot, Datum, IsInt, IsSpot, Checked, Gives, in_range}
-use Rattle.f_tree.specs.Facts.{Bounds, MainProgram, FunctionUnit, BlockDataUnit, Frame}
-use Rattle.f_tree.specs.Setting.{IsIn, first_in, later_in}
-use Rattle.f_tree.specs.Valuing.{stored_at, extent_of, elements_of, named_as, whole}
-use Rattle.f_tree.specs.World.{Called, TheMain, Procedure}
-use Rattle.f_tree.specs.Association.{dimensions_by}
-use Rattle.l_core.specs.Pures.{Pure, Pures}
-use Rattle.l_core.specs.Steps.{Acting, Starts, Step, Keep, Halt, Acts}
-use Rattle.l_core.specs.Costs.{cost}
-use Rattle.c_tree.specs.declared.types.FunctionType.TheVariants as to
-use Rattle.c_tree.specs.declared.types.ParameterType.TheVariants as parameter
-use Rattle.c_tree.specs.Objects.{bytes_of_number}
-use Rattle.c_image.specs.Held.{Holds, number_object}
-use Rattle.c_image.specs.Addresses.{Address, Alone, Through, Reaches, IsSound}
-use Rattle.c_emit.specs.Numbers.{numbers_opened, is_numeric}
-use Rattle.c_emit.specs.Types.{types_opened}
-use Rattle.c_emit.specs.Calls.{calls_opened}
-use Rattle.c_emit.specs.Flats.{flats_opened}
-use Rattle.emitted_texts.specs.Emitted.{leads, stage_behind, is_of_output}
+use Rattle.procedure_emission.specs.f_tree.declared.names.Basic.{Basic}
+use Rattle.procedure_emission.specs.f_tree.declared.names.Basic.TheVariants as basic
+use Rattle.procedure_emission.specs.f_tree.declared.names.Class.TheVariants as class
+use Rattle.procedure_emission.specs.f_tree.Values.{Bytes, Spot, Datum, IsInt, IsSpot, Checked, Gives, in_range}
+use Rattle.procedure_emission.specs.f_tree.Facts.{Bounds, MainProgram, FunctionUnit, BlockDataUnit, Frame}
+use Rattle.procedure_emission.specs.f_tree.Setting.{IsIn, first_in, later_in}
+use Rattle.procedure_emission.specs.f_tree.Valuing.{stored_at, extent_of, elements_of, named_as, whole}
+use Rattle.procedure_emission.specs.f_tree.World.{Called, TheMain, Procedure}
+use Rattle.procedure_emission.specs.f_tree.Association.{dimensions_by}
+use Rattle.procedure_emission.specs.l_core.Pures.{Pure, Pures}
+use Rattle.procedure_emission.specs.l_core.Steps.{Acting, Starts, Step, Keep, Halt, Acts}
+use Rattle.procedure_emission.specs.l_core.Costs.{cost}
+use Rattle.procedure_emission.specs.c_tree.declared.types.FunctionType.TheVariants as to
+use Rattle.procedure_emission.specs.c_tree.declared.types.ParameterType.TheVariants as parameter
+use Rattle.procedure_emission.specs.c_tree.Objects.{bytes_of_number}
+use Rattle.procedure_emission.specs.c_image.Held.{Holds, number_object}
+use Rattle.procedure_emission.specs.c_image.Addresses.{Address, Alone, Through, Reaches, IsSound}
+use Rattle.procedure_emission.specs.c_emit.Numbers.{numbers_opened, is_numeric}
+use Rattle.procedure_emission.specs.c_emit.Types.{types_opened}
+use Rattle.procedure_emission.specs.c_emit.Calls.{calls_opened}
+use Rattle.procedure_emission.specs.c_emit.Flats.{flats_opened}
+use Rattle.procedure_emission.specs.emitted_texts.Emitted.{leads, stage_behind, is_of_output}
 use Rattle.procedure_emission.specs.ProcedureItems.{procedure_items_opened}
 use Rattle.procedure_emission.specs.Reading.{reading_opened, kind_after}
 use Rattle.procedure_emission.specs.EmittedUnits.{leads_on, is_number_pointer, is_function_pointer, number_result, IsItem, StepsFit, IsOfRoom, IsParameter, IsProcedureParameter, no_parameters, named, named_procedure, ResultIsMade, IsEmittedUnit}

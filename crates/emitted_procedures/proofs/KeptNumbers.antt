@@ -1,10 +1,10 @@
 -- What temporaries keep of numbers, behind steps that give them others.
 use Rattle.std.specs.Prelude.{◌≡◌, ℕ, nat_eq, Bool, true, false, ◌&&◌, Option, Some, None, if◌then◌else◌}
 use Rattle.std.proofs.Common.{refl, sym, ◌∙◌}
-use Rattle.f_tree.specs.Values.{Datum, IsInt, IsLog}
-use Rattle.f_tree.specs.Store.{Whole}
-use Rattle.l_core.specs.Pures.{Temporaries, with_kept}
-use Rattle.c_image.specs.Held.{whole_for}
+use Rattle.procedure_emission.specs.f_tree.Values.{Datum, IsInt, IsLog}
+use Rattle.procedure_emission.specs.f_tree.Store.{Whole}
+use Rattle.procedure_emission.specs.l_core.Pures.{Temporaries, with_kept}
+use Rattle.procedure_emission.specs.c_image.Held.{whole_for}
 use Rattle.procedure_emission.specs.Reading.{number_kept, numbers_kept}
 
 pub left_true : (a b : Bool) → a && b ≡ true → a ≡ true

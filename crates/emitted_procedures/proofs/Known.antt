@@ -1,24 +1,24 @@
 -- What the function of a procedure knows of its names, given what its dummies and its result are.
 use Rattle.std.specs.Prelude.{◌≡◌, ◌≢◌, ℕ, suc, ◌<◌, ℤ, true, ◌&&◌, List, length, Option, Some, None, slice_get}
 use Rattle.std.proofs.Common.{refl, sym, ap, ◌∙◌, subst}
-use Rattle.f_tree.specs.declared.names.Basic.{Basic}
-use Rattle.f_tree.specs.declared.names.Basic.TheVariants.{Character}
-use Rattle.f_tree.specs.declared.names.Class.{Class}
-use Rattle.f_tree.specs.declared.names.Class.TheVariants as class
-use Rattle.f_tree.specs.Values.{Bytes, Spot, Datum, IsSpot, IsProc, NoMeaning, Checked, Gives, Fails}
-use Rattle.f_tree.specs.Facts.{Bounds, Attribute, Home, Facts, Frame}
-use Rattle.f_tree.specs.Valuing.{stored_at, if_bound, if_there, named_as, whole, bounds_of}
-use Rattle.l_core.specs.Steps.{Text}
-use Rattle.faithful.specs.FrameImage.{HasLength}
-use Rattle.c_image.specs.World.{World, Extends}
-use Rattle.c_image.specs.Addresses.{Reaches, IsSound}
-use Rattle.c_image.specs.Elements.{Quantity}
-use Rattle.c_image.specs.Knowing.{IsQuantity}
-use Rattle.c_image_laws.proofs.Knowledge.{reaches_later}
-use Rattle.c_image_laws.proofs.SoundPlaces.{sound_later}
-use Rattle.c_emit.specs.Numbers.{is_variable, is_numeric, has_number}
-use Rattle.c_emit_laws.specs.EmittedNumbers.{IsKnown}
-use Rattle.emitted_texts.specs.SecondLayer.{Surroundings, Emission}
+use Rattle.procedure_emission.specs.f_tree.declared.names.Basic.{Basic}
+use Rattle.procedure_emission.specs.f_tree.declared.names.Basic.TheVariants.{Character}
+use Rattle.procedure_emission.specs.f_tree.declared.names.Class.{Class}
+use Rattle.procedure_emission.specs.f_tree.declared.names.Class.TheVariants as class
+use Rattle.procedure_emission.specs.f_tree.Values.{Bytes, Spot, Datum, IsSpot, IsProc, NoMeaning, Checked, Gives, Fails}
+use Rattle.procedure_emission.specs.f_tree.Facts.{Bounds, Attribute, Home, Facts, Frame}
+use Rattle.procedure_emission.specs.f_tree.Valuing.{stored_at, if_bound, if_there, named_as, whole, bounds_of}
+use Rattle.procedure_emission.specs.l_core.Steps.{Text}
+use Rattle.procedure_emission.specs.faithful.FrameImage.{HasLength}
+use Rattle.procedure_emission.specs.c_image.World.{World, Extends}
+use Rattle.procedure_emission.specs.c_image.Addresses.{Reaches, IsSound}
+use Rattle.procedure_emission.specs.c_image.Elements.{Quantity}
+use Rattle.procedure_emission.specs.c_image.Knowing.{IsQuantity}
+use Rattle.procedure_emission.proofs.c_image_laws.Knowledge.{reaches_later}
+use Rattle.procedure_emission.proofs.c_image_laws.SoundPlaces.{sound_later}
+use Rattle.procedure_emission.specs.c_emit.Numbers.{is_variable, is_numeric, has_number}
+use Rattle.procedure_emission.specs.c_emit_laws.EmittedNumbers.{IsKnown}
+use Rattle.procedure_emission.specs.emitted_texts.SecondLayer.{Surroundings, Emission}
 use Rattle.procedure_emission.specs.EmittedUnits.{IsEmittedUnit}
 
 -- ## What a name stands for

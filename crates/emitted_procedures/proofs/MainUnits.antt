@@ -1,14 +1,14 @@
 -- The function of a main program is that of a unit.
 use Rattle.std.specs.Prelude.{◌≡◌, ℕ, ◌≤◌, true, List, [], length, Some, None, slice_get}
 use Rattle.std.proofs.Common.{refl, sym, ap, ◌∙◌, subst, arith}
-use Rattle.f_tree.specs.Facts.{MainProgram, FunctionUnit, BlockDataUnit, Formal, Facts}
-use Rattle.f_tree.specs.Setting.{IsIn}
-use Rattle.l_core.specs.Steps.{Step, Keep, Put, PutText, PutLabel, Compute, Unless, AgainIf, Skip, Again, Jump, Select, JumpBy, Pass, CallFor, CallSub, Branch, Back, BackBy, Halt, Acts, Text}
-use Rattle.c_tree.specs.declared.types.ParameterType.{ParameterType}
-use Rattle.c_tree.specs.Flat.{Flat}
-use Rattle.c_emit.specs.Flats.{returned_by, flat_of}
-use Rattle.emitted_texts.specs.SecondLayer.{Surroundings, Emission}
-use Rattle.emitted_texts.specs.Emitted.{leads, kind_behind, IsEmittedMain}
+use Rattle.procedure_emission.specs.f_tree.Facts.{MainProgram, FunctionUnit, BlockDataUnit, Formal, Facts}
+use Rattle.procedure_emission.specs.f_tree.Setting.{IsIn}
+use Rattle.procedure_emission.specs.l_core.Steps.{Step, Keep, Put, PutText, PutLabel, Compute, Unless, AgainIf, Skip, Again, Jump, Select, JumpBy, Pass, CallFor, CallSub, Branch, Back, BackBy, Halt, Acts, Text}
+use Rattle.procedure_emission.specs.c_tree.declared.types.ParameterType.{ParameterType}
+use Rattle.procedure_emission.specs.c_tree.Flat.{Flat}
+use Rattle.procedure_emission.specs.c_emit.Flats.{returned_by, flat_of}
+use Rattle.procedure_emission.specs.emitted_texts.SecondLayer.{Surroundings, Emission}
+use Rattle.procedure_emission.specs.emitted_texts.Emitted.{leads, kind_behind, IsEmittedMain}
 use Rattle.procedure_emission.specs.ProcedureItems.{back_item, procedure_item}
 use Rattle.procedure_emission.specs.Reading.{kind_after}
 use Rattle.procedure_emission.specs.EmittedUnits.{IsItem, leads_on, is_return, AreParameters, no_parameters, IsEmittedUnit}
@@ -41,7 +41,7 @@ module _ (s : Surroundings) (number : ℕ) (u : Text) (costs : List ℕ) (e : Em
   emitted n (Skip m) item h = h
   emitted n (Again m) item h = h
   emitted n (Jump label) item h = h
-  emitted n (Select p labels) item h = h
+  emitted n (Select p count) item h = h
   emitted n (JumpBy p labels) item h = h
   emitted n Pass item h = h
   emitted n (Branch k) item h = h
@@ -68,7 +68,7 @@ module _ (s : Surroundings) (number : ℕ) (u : Text) (costs : List ℕ) (e : Em
   leads_same n (Skip m) item h = refl
   leads_same n (Again m) item h = refl
   leads_same n (Jump label) item h = refl
-  leads_same n (Select p labels) item h = refl
+  leads_same n (Select p count) item h = refl
   leads_same n (JumpBy p labels) item h = refl
   leads_same n Pass item h = refl
   leads_same n (Branch k) item h = refl
@@ -91,7 +91,7 @@ module _ (s : Surroundings) (number : ℕ) (u : Text) (costs : List ℕ) (e : Em
   kinds_same n (Skip m) k item h = refl
   kinds_same n (Again m) k item h = refl
   kinds_same n (Jump label) k item h = refl
-  kinds_same n (Select p labels) k item h = refl
+  kinds_same n (Select p count) k item h = refl
   kinds_same n (JumpBy p labels) k item h = refl
   kinds_same n Pass k item h = refl
   kinds_same n (Branch j) k item h = refl

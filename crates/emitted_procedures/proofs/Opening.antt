@@ -3,48 +3,48 @@ use Rattle.std.specs.Prelude.{◌≡◌, ◌≢◌, ℕ, ◌+◌, ◌<◌, ◌�
 use Rattle.std.proofs.Common.{refl, sym, ap, ◌∙◌, subst, arith}
 use Rattle.std.proofs.lemmas.List.{append-nil, length-take-le, length-drop, length-append}
 use Rattle.std.proofs.lemmas.Option.{slice_get_within}
-use Rattle.simulation.specs.Machine.{Entry, Enters, Refused}
-use Rattle.simulation.specs.LocalSimulation.{Opened}
-use Rattle.f_tree.specs.declared.names.Basic.{Basic}
-use Rattle.f_tree.specs.declared.names.Basic.TheVariants as basic
-use Rattle.f_tree.specs.declared.names.Class.TheVariants as class
-use Rattle.f_tree.specs.Values.{Bytes, Spot, Datum, IsProc}
-use Rattle.f_tree.specs.Terms.{Wanted, AsSubroutine, AsFunction}
-use Rattle.f_tree.specs.Store.{Store, undefined_units}
-use Rattle.f_tree.specs.Facts.{Bounds, Attribute, UnitKind, MainProgram, SubroutineUnit, FunctionUnit, BlockDataUnit, EntryPoint, Facts, Frame}
-use Rattle.f_tree.specs.Setting.{IsIn, first_in}
-use Rattle.f_tree.specs.Valuing.{either_bounds, bounds_of}
-use Rattle.f_tree.specs.World as fortran
-use Rattle.f_tree.specs.World.{Called, Procedure, Passed, fortran_sorts}
-use Rattle.f_tree.specs.Association as association
-use Rattle.f_tree.specs.Association.{same_basic, same_width, serves, value_for, length_for, bounds_for, result_of, with_result, frame_of}
-use Rattle.l_core.specs.Steps.{Text}
-use Rattle.l_core.specs.Machine.{begun}
-use Rattle.c_tree.specs.declared.outcome.CValue.{CValue}
-use Rattle.c_tree.specs.declared.outcome.CValue.TheVariants.{Pointer, Function}
-use Rattle.c_tree.specs.declared.outcome.CFault.TheVariants.{Disagree}
-use Rattle.c_tree.specs.Faults.{Faults}
-use Rattle.c_tree.specs.Access.{ToNumber, ToPointer, ToFunction}
-use Rattle.c_tree.specs.Declarations.{unset_values}
-use Rattle.c_tree.specs.Objects as objects_of
-use Rattle.c_tree.specs.Objects.{Object}
-use Rattle.c_tree.specs.Linking as linking
-use Rattle.c_tree.specs.World as c
-use Rattle.c_tree.specs.Steps as c_steps
-use Rattle.c_tree.specs.Steps.{first_view, with_frame, all_bound, all_fit, bound}
-use Rattle.c_image.specs.World.{World, changed, with_held, with_sequence, framed, Extends, IsIdle}
-use Rattle.c_image.specs.Standing.{Stands}
-use Rattle.c_image.specs.Addresses.{Through, access_to, pointer_object, HasShape, Reaches}
-use Rattle.c_image_laws.proofs.CallsStand.{length-all_bound, begins_stand, result_stands}
-use Rattle.c_image_laws.proofs.Growing.{changed_there, changed_elsewhere, extends_through, extends_grown, extends_framed}
-use Rattle.c_image_laws.proofs.IdleFrames.{idle_beside_sequence, idle_beside_frame, idle_beside_object}
-use Rattle.c_image_laws.proofs.ListLaws.{by_equal}
-use Rattle.c_image_laws.proofs.Parameters.{parameter_at, temporary_at}
-use Rattle.c_image_laws.proofs.SoundPlaces.{sound_later}
-use Rattle.c_emit.specs.Numbers.{is_numeric}
-use Rattle.c_emit_laws.proofs.Choices.{some_same}
-use Rattle.emitted_texts.specs.SecondLayer.{Room, Surroundings, Emission, IsFree, IsTemporary, TransfersStand}
-use Rattle.emitted_texts.proofs.Worlds.{extends_changed}
+use Rattle.procedure_emission.specs.simulation.Machine.{Entry, Enters, Refused}
+use Rattle.procedure_emission.specs.simulation.LocalSimulation.{Opened}
+use Rattle.procedure_emission.specs.f_tree.declared.names.Basic.{Basic}
+use Rattle.procedure_emission.specs.f_tree.declared.names.Basic.TheVariants as basic
+use Rattle.procedure_emission.specs.f_tree.declared.names.Class.TheVariants as class
+use Rattle.procedure_emission.specs.f_tree.Values.{Bytes, Spot, Datum, IsProc}
+use Rattle.procedure_emission.specs.f_tree.Terms.{Wanted, AsSubroutine, AsFunction}
+use Rattle.procedure_emission.specs.f_tree.Store.{Store, undefined_units}
+use Rattle.procedure_emission.specs.f_tree.Facts.{Bounds, Attribute, UnitKind, MainProgram, SubroutineUnit, FunctionUnit, BlockDataUnit, EntryPoint, Facts, Frame}
+use Rattle.procedure_emission.specs.f_tree.Setting.{IsIn, first_in}
+use Rattle.procedure_emission.specs.f_tree.Valuing.{either_bounds, bounds_of}
+use Rattle.procedure_emission.specs.f_tree.World as fortran
+use Rattle.procedure_emission.specs.f_tree.World.{Called, Procedure, Passed, fortran_sorts}
+use Rattle.procedure_emission.specs.f_tree.Association as association
+use Rattle.procedure_emission.specs.f_tree.Association.{same_basic, same_width, serves, value_for, length_for, bounds_for, result_of, with_result, frame_of}
+use Rattle.procedure_emission.specs.l_core.Steps.{Text}
+use Rattle.procedure_emission.specs.l_core.Machine.{begun}
+use Rattle.procedure_emission.specs.c_tree.declared.outcome.CValue.{CValue}
+use Rattle.procedure_emission.specs.c_tree.declared.outcome.CValue.TheVariants.{Pointer, Function}
+use Rattle.procedure_emission.specs.c_tree.declared.outcome.CFault.TheVariants.{Disagree}
+use Rattle.procedure_emission.specs.c_tree.Faults.{Faults}
+use Rattle.procedure_emission.specs.c_tree.Access.{ToNumber, ToPointer, ToFunction}
+use Rattle.procedure_emission.specs.c_tree.Declarations.{unset_values}
+use Rattle.procedure_emission.specs.c_tree.Objects as objects_of
+use Rattle.procedure_emission.specs.c_tree.Objects.{Object}
+use Rattle.procedure_emission.specs.c_tree.Linking as linking
+use Rattle.procedure_emission.specs.c_tree.World as c
+use Rattle.procedure_emission.specs.c_tree.Steps as c_steps
+use Rattle.procedure_emission.specs.c_tree.Steps.{first_view, with_frame, all_bound, all_fit, bound}
+use Rattle.procedure_emission.specs.c_image.World.{World, changed, with_held, with_sequence, framed, Extends, IsIdle}
+use Rattle.procedure_emission.specs.c_image.Standing.{Stands}
+use Rattle.procedure_emission.specs.c_image.Addresses.{Through, access_to, pointer_object, HasShape, Reaches}
+use Rattle.procedure_emission.proofs.c_image_laws.CallsStand.{length-all_bound, begins_stand, result_stands}
+use Rattle.procedure_emission.proofs.c_image_laws.Growing.{changed_there, changed_elsewhere, extends_through, extends_grown, extends_framed}
+use Rattle.procedure_emission.proofs.c_image_laws.IdleFrames.{idle_beside_sequence, idle_beside_frame, idle_beside_object}
+use Rattle.procedure_emission.proofs.c_image_laws.ListLaws.{by_equal}
+use Rattle.procedure_emission.proofs.c_image_laws.Parameters.{parameter_at, temporary_at}
+use Rattle.procedure_emission.proofs.c_image_laws.SoundPlaces.{sound_later}
+use Rattle.procedure_emission.specs.c_emit.Numbers.{is_numeric}
+use Rattle.procedure_emission.proofs.c_emit_laws.Choices.{some_same}
+use Rattle.procedure_emission.specs.emitted_texts.SecondLayer.{Room, Surroundings, Emission, IsFree, IsTemporary, TransfersStand}
+use Rattle.procedure_emission.proofs.emitted_texts.Worlds.{extends_changed}
 use Rattle.procedure_emission.specs.Reading.{number_kept}
 use Rattle.procedure_emission.specs.CallLayer.{CallWorld, function_object, ResultIsPassed, CallsAlike, IsFrameOf, IsStaged, call_couple}
 use Rattle.procedure_emission.specs.EmittedUnits.{IsMadeAnew, IsOfRoom, ResultIsMade, IsEmittedUnit}

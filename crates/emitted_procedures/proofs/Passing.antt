@@ -2,28 +2,28 @@
 use Rattle.std.specs.Prelude.{◌≡◌, ℕ, suc, ◌<◌, nat_eq, ℤ, true, false, Bool, List, [], ◌∷◌, ◌++◌, map, length, Some}
 use Rattle.std.proofs.Common.{refl, sym, ◌∙◌, subst, arith}
 use Rattle.std.proofs.lemmas.List.{length-append}
-use Rattle.f_tree.specs.declared.names.Basic.{Basic}
-use Rattle.f_tree.specs.declared.names.Basic.TheVariants.{Integer, Logical, Character, Untyped}
-use Rattle.f_tree.specs.Values.{Bytes, Spot, Datum, IsInt, IsLog, IsSpot, IsProc, Nothing}
-use Rattle.f_tree.specs.Store.{Store, Sequence, Number, Truth, with_whole}
-use Rattle.f_tree.specs.World.{Procedure}
-use Rattle.f_tree.specs.Association.{sequence_of, basic_of, passing_one, passing_more, passing, made}
-use Rattle.c_tree.specs.declared.outcome.CValue.{CValue}
-use Rattle.c_tree.specs.declared.outcome.CValue.TheVariants.{Pointer, Function}
-use Rattle.c_tree.specs.Access.{ToNumber}
-use Rattle.c_image.specs.World.{World, with_sequence, Extends}
-use Rattle.c_image.specs.Held.{Holds}
-use Rattle.c_image.specs.Addresses.{access_to, IsSound}
-use Rattle.c_image.specs.Passing.{Argument, with_arguments, AreHeld, none_held, value_held, no_value}
-use Rattle.c_image_laws.specs.DerivedPlaces.{HasCharacter, value_place}
-use Rattle.c_image_laws.specs.Statements.{IsOutside}
-use Rattle.c_image_laws.proofs.Growing.{extends_grown}
-use Rattle.c_image_laws.proofs.CallsStand.{extends_passed}
-use Rattle.c_image_laws.proofs.IdleFrames.{idle_beside_sequence}
-use Rattle.c_image_laws.proofs.Knowledge.{holds_later}
-use Rattle.c_image_laws.proofs.Parameters.{value_at, value_sound}
-use Rattle.c_image_laws.proofs.SoundPlaces.{sound_later}
-use Rattle.emitted_texts.specs.SecondLayer.{Surroundings, IsFree, length_of_text, lengths_of}
+use Rattle.procedure_emission.specs.f_tree.declared.names.Basic.{Basic}
+use Rattle.procedure_emission.specs.f_tree.declared.names.Basic.TheVariants.{Integer, Logical, Character, Untyped}
+use Rattle.procedure_emission.specs.f_tree.Values.{Bytes, Spot, Datum, IsInt, IsLog, IsSpot, IsProc, Nothing}
+use Rattle.procedure_emission.specs.f_tree.Store.{Store, Sequence, Number, Truth, with_whole}
+use Rattle.procedure_emission.specs.f_tree.World.{Procedure}
+use Rattle.procedure_emission.specs.f_tree.Association.{sequence_of, basic_of, passing_one, passing_more, passing, made}
+use Rattle.procedure_emission.specs.c_tree.declared.outcome.CValue.{CValue}
+use Rattle.procedure_emission.specs.c_tree.declared.outcome.CValue.TheVariants.{Pointer, Function}
+use Rattle.procedure_emission.specs.c_tree.Access.{ToNumber}
+use Rattle.procedure_emission.specs.c_image.World.{World, with_sequence, Extends}
+use Rattle.procedure_emission.specs.c_image.Held.{Holds}
+use Rattle.procedure_emission.specs.c_image.Addresses.{access_to, IsSound}
+use Rattle.procedure_emission.specs.c_image.Passing.{Argument, with_arguments, AreHeld, none_held, value_held, no_value}
+use Rattle.procedure_emission.specs.c_image_laws.DerivedPlaces.{HasCharacter, value_place}
+use Rattle.procedure_emission.specs.c_image_laws.Statements.{IsOutside}
+use Rattle.procedure_emission.proofs.c_image_laws.Growing.{extends_grown}
+use Rattle.procedure_emission.proofs.c_image_laws.CallsStand.{extends_passed}
+use Rattle.procedure_emission.proofs.c_image_laws.IdleFrames.{idle_beside_sequence}
+use Rattle.procedure_emission.proofs.c_image_laws.Knowledge.{holds_later}
+use Rattle.procedure_emission.proofs.c_image_laws.Parameters.{value_at, value_sound}
+use Rattle.procedure_emission.proofs.c_image_laws.SoundPlaces.{sound_later}
+use Rattle.procedure_emission.specs.emitted_texts.SecondLayer.{Surroundings, IsFree, length_of_text, lengths_of}
 use Rattle.procedure_emission.specs.CallLayer.{ArePassed, none_passed, place_passed, procedure_passed, nothing_passed, labels_passed}
 
 -- an object that is of no frame of another function

@@ -1,25 +1,25 @@
 -- What an emitted value comes to over the numbers that temporaries keep: what it comes to over all that they keep, unless that is no value.
 use Rattle.std.specs.Prelude.{◌≡◌, ℕ, ◌*◌, ◌+◌, nat_abs, ◌-ℤ◌, ℤ, Bool, true, false, List, [], ◌∷◌, Option, Some, None, slice_get, if◌then◌else◌}
 use Rattle.std.proofs.Common.{refl, sym, ap, ◌∙◌, subst}
-use Rattle.f_tree.specs.declared.names.Basic.{Basic}
-use Rattle.f_tree.specs.declared.names.Basic.TheVariants as basic
-use Rattle.f_tree.specs.Values.{Bytes, Spot, Datum, IsInt, IsLog, IsText, IsSpot, IsProc, IsLabel, Nothing, DefinesReadOnly, PastExtent, OutOfBounds, Checked, Gives, Fails, given_that}
-use Rattle.f_tree.specs.Terms.{Prefix, Operator, Function}
-use Rattle.f_tree.specs.Terms as operation
-use Rattle.f_tree.specs.Store.{Store, Sequence, defined_as, stored_in, has_room, define_in, define}
-use Rattle.f_tree.specs.Facts.{Bounds, Frame}
-use Rattle.f_tree.specs.Valuing.{prefixed, operated, Left, Decided, Wants, Wrong, left_of, applied, extreme, int_max, int_min, is_within, size_of_dimension, elements_before, further, element_at, bounds_of, element, whole, fetched}
-use Rattle.l_core.specs.Pures.{Pure, Constant, Temporary, Load, Name, AllOf, ElementOf, FirstOf, Substring, Concatenated, Prefixed, Operated, Applied, Chosen, Pures, NoPure, AndPure, Temporaries, if_kept, where_wanted, chosen, meant, all_meant}
-use Rattle.l_core.specs.Machine.{put_at}
-use Rattle.f_tree.specs.Setting.{IsIn, first_in, later_in}
-use Rattle.c_tree.specs.Terms as c
-use Rattle.c_tree.specs.Terms.{Term}
-use Rattle.c_image.specs.Operations.{prefix_for, operator_for, function_term}
-use Rattle.c_emit.specs.Numbers.{Writing, with_two, with_three, one_more, element_value, applied_value, if_number, is_array, value_term, place_term, value_terms}
-use Rattle.c_emit.specs.Calls.{held_term, held_terms}
-use Rattle.c_emit.specs.Types.{HasType}
-use Rattle.c_emit_laws.proofs.Choices.{got, mapped_by}
-use Rattle.c_emit_laws.proofs.HeldNumbers.{AreIntegers, more_integers}
+use Rattle.procedure_emission.specs.f_tree.declared.names.Basic.{Basic}
+use Rattle.procedure_emission.specs.f_tree.declared.names.Basic.TheVariants as basic
+use Rattle.procedure_emission.specs.f_tree.Values.{Bytes, Spot, Datum, IsInt, IsLog, IsText, IsSpot, IsProc, IsLabel, Nothing, DefinesReadOnly, PastExtent, OutOfBounds, Checked, Gives, Fails, given_that}
+use Rattle.procedure_emission.specs.f_tree.Terms.{Prefix, Operator, Function}
+use Rattle.procedure_emission.specs.f_tree.Terms as operation
+use Rattle.procedure_emission.specs.f_tree.Store.{Store, Sequence, defined_as, stored_in, has_room, define_in, define}
+use Rattle.procedure_emission.specs.f_tree.Facts.{Bounds, Frame}
+use Rattle.procedure_emission.specs.f_tree.Valuing.{prefixed, operated, Left, Decided, Wants, Wrong, left_of, applied, extreme, int_max, int_min, is_within, size_of_dimension, elements_before, further, element_at, bounds_of, element, whole, fetched}
+use Rattle.procedure_emission.specs.l_core.Pures.{Pure, Constant, Temporary, Load, Name, AllOf, ElementOf, FirstOf, Substring, Concatenated, Prefixed, Operated, Applied, Chosen, Pures, NoPure, AndPure, Temporaries, if_kept, where_wanted, chosen, meant, all_meant}
+use Rattle.procedure_emission.specs.l_core.Machine.{put_at}
+use Rattle.procedure_emission.specs.f_tree.Setting.{IsIn, first_in, later_in}
+use Rattle.procedure_emission.specs.c_tree.Terms as c
+use Rattle.procedure_emission.specs.c_tree.Terms.{Term}
+use Rattle.procedure_emission.specs.c_image.Operations.{prefix_for, operator_for, function_term}
+use Rattle.procedure_emission.specs.c_emit.Numbers.{Writing, with_two, with_three, one_more, element_value, applied_value, if_number, is_array, value_term, place_term, value_terms}
+use Rattle.procedure_emission.specs.c_emit.Calls.{held_term, held_terms}
+use Rattle.procedure_emission.specs.c_emit.Types.{HasType}
+use Rattle.procedure_emission.proofs.c_emit_laws.Choices.{got, mapped_by}
+use Rattle.procedure_emission.proofs.c_emit_laws.HeldNumbers.{AreIntegers, more_integers}
 use Rattle.procedure_emission.specs.Reading.{IsPlain, plain_number, plain_truth, plain_nothing, number_kept, numbers_kept}
 
 pub data IsRead (r : Checked Datum) (d : Datum) : Type 0 where

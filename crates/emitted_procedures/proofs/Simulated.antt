@@ -1,24 +1,24 @@
 -- The function of a unit simulates its lowered text.
-use Rattle.std.specs.Prelude.{◌≡◌, ℕ, Bool, true, false, List, Option, Some, None, slice_get}
+use Rattle.std.specs.Prelude.{◌≡◌, ℕ, Bool, true, false, List, [], ◌∷◌, Option, Some, None, slice_get}
 use Rattle.std.proofs.Common.{refl, sym, subst}
-use Rattle.simulation.specs.LocalSimulation.{Meets, Local}
-use Rattle.f_tree.specs.World as fortran
-use Rattle.f_tree.specs.Association as association
-use Rattle.l_core.specs.Steps.{Step, Keep, Put, PutText, PutLabel, Compute, Unless, AgainIf, Skip, Again, Jump, Select, JumpBy, Pass, CallFor, CallSub, Branch, Back, BackBy, Halt, Acts, Text}
-use Rattle.l_core.specs.Machine.{View, done, step}
-use Rattle.l_core.specs.Machine as lower
-use Rattle.l_core.specs.Costs.{cost}
-use Rattle.c_tree.specs.Terms.{Term}
-use Rattle.c_tree.specs.Flat.{Flat}
-use Rattle.c_tree.specs.World as c
-use Rattle.c_tree.specs.Steps as c_steps
-use Rattle.c_emit.specs.Numbers.{Writing, if_number}
-use Rattle.c_emit.specs.LibraryFunctions.{LibraryFunction}
-use Rattle.c_emit.specs.Calls.{computed_item}
-use Rattle.c_emit.specs.Flats.{assigned, flat_of}
-use Rattle.c_emit_laws.specs.EmittedFlats.{by_put, by_test, by_test_back, by_skip, by_return, by_jump, by_pass}
-use Rattle.c_emit_laws.proofs.Choices.{some_same}
-use Rattle.emitted_texts.specs.SecondLayer.{Surroundings, Emission}
+use Rattle.procedure_emission.specs.simulation.LocalSimulation.{Meets, Local}
+use Rattle.procedure_emission.specs.f_tree.World as fortran
+use Rattle.procedure_emission.specs.f_tree.Association as association
+use Rattle.procedure_emission.specs.l_core.Steps.{Step, Keep, Put, PutText, PutLabel, Compute, Unless, AgainIf, Skip, Again, Jump, Select, JumpBy, Pass, CallFor, CallSub, Branch, Back, BackBy, Halt, Acts, Text}
+use Rattle.procedure_emission.specs.l_core.Machine.{View, done, step}
+use Rattle.procedure_emission.specs.l_core.Machine as lower
+use Rattle.procedure_emission.specs.l_core.Costs.{cost}
+use Rattle.procedure_emission.specs.c_tree.Terms.{Term}
+use Rattle.procedure_emission.specs.c_tree.Flat.{Flat}
+use Rattle.procedure_emission.specs.c_tree.World as c
+use Rattle.procedure_emission.specs.c_tree.Steps as c_steps
+use Rattle.procedure_emission.specs.c_emit.Numbers.{Writing, if_number}
+use Rattle.procedure_emission.specs.c_emit.LibraryFunctions.{LibraryFunction}
+use Rattle.procedure_emission.specs.c_emit.Calls.{computed_item}
+use Rattle.procedure_emission.specs.c_emit.Flats.{assigned, switch_to, flat_of}
+use Rattle.procedure_emission.specs.c_emit_laws.EmittedFlats.{by_put, by_label, by_test, by_test_back, by_skip, by_return, by_jump, by_select, by_held, by_pass}
+use Rattle.procedure_emission.proofs.c_emit_laws.Choices.{some_same}
+use Rattle.procedure_emission.specs.emitted_texts.SecondLayer.{Surroundings, Emission}
 use Rattle.procedure_emission.specs.ProcedureItems.{procedure_item}
 use Rattle.procedure_emission.specs.CallLayer.{CallWorld, IsAtStep, call_couple}
 use Rattle.procedure_emission.specs.EmittedUnits.{IsItem, IsEmittedUnit}
@@ -45,13 +45,17 @@ module _ (s : Surroundings) (number : ℕ) (u : Text) (costs : List ℕ) (e : Em
 
   each : (μ : CallWorld) (v : View) (x : fortran.World) (w : c_steps.View) (y : c.World) → IsAtStep s number e μ v x w y → (st : Step) → slice_get u.steps v.at ≡ Some st → IsItem s u e v.at st
       → Meets (call_couple s number u costs e) μ w y (cost costs v.at) (step u v x)
-  unfolding procedure_item flat_of
+  unfolding procedure_item flat_of switch_to
   each μ v x w y now (Put place p) at item = steered s number u costs e is μ v x w y now (Put place p) at item (by_put place p) item.emitted (step u v x) refl
+  each μ v x w y now (PutLabel place label) at item = steered s number u costs e is μ v x w y now (PutLabel place label) at item (by_label place label) item.emitted (step u v x) refl
   each μ v x w y now (Unless p n) at item = steered s number u costs e is μ v x w y now (Unless p n) at item (by_test p n) item.emitted (step u v x) refl
   each μ v x w y now (AgainIf p n) at item = steered s number u costs e is μ v x w y now (AgainIf p n) at item (by_test_back p n) item.emitted (step u v x) refl
   each μ v x w y now (Skip n) at item = steered s number u costs e is μ v x w y now (Skip n) at item (by_skip n) item.emitted (step u v x) refl
   each μ v x w y now (Again n) at item = steered s number u costs e is μ v x w y now (Again n) at item (by_return n) item.emitted (step u v x) refl
   each μ v x w y now (Jump label) at item = steered s number u costs e is μ v x w y now (Jump label) at item (by_jump label) item.emitted (step u v x) refl
+  each μ v x w y now (Select p count) at item = steered s number u costs e is μ v x w y now (Select p count) at item (by_select p count) item.emitted (step u v x) refl
+  each μ v x w y now (JumpBy p (label ∷ labels)) at item =
+      steered s number u costs e is μ v x w y now (JumpBy p (label ∷ labels)) at item (by_held p label labels) item.emitted (step u v x) refl
   each μ v x w y now Pass at item = steered s number u costs e is μ v x w y now Pass at item by_pass item.emitted (step u v x) refl
   each μ v x w y now (Keep k p) at item =
       keeps s number u costs e is μ v x w y now (Keep k p) at item k p refl (numeric_by (e.writing.is_number k) _ _ item.item item.emitted) item.emitted
@@ -60,11 +64,9 @@ module _ (s : Surroundings) (number : ℕ) (u : Text) (costs : List ℕ) (e : Em
   each μ v x w y now (CallFor k callee ps) at item = calls_function s number u costs e is μ v x w y now (CallFor k callee ps) at item k callee ps refl
   each μ v x w y now (CallSub k name ps) at item = calls_subroutine s number u costs e is μ v x w y now (CallSub k name ps) at item k name ps refl
   each μ v x w y now (PutText place ps) at item = none_emitted item.item item.emitted
-  each μ v x w y now (PutLabel place label) at item = none_emitted item.item item.emitted
   each μ v x w y now (Compute k f ps) at item =
       computes s number u costs e is μ v x w y now (Compute k f ps) at item k f ps refl (computed_number e.writing (e.writing.is_number k) _ _ _ item.item item.emitted) item.emitted
-  each μ v x w y now (Select p labels) at item = none_emitted item.item item.emitted
-  each μ v x w y now (JumpBy p labels) at item = none_emitted item.item item.emitted
+  each μ v x w y now (JumpBy p []) at item = none_emitted item.item item.emitted
   each μ v x w y now (Branch k) at item = none_emitted item.item item.emitted
   each μ v x w y now (Halt text) at item = halted s number u costs e is μ v x w y now (Halt text) at item text refl (sym (some_same _ item.item item.emitted))
   each μ v x w y now (Acts act ps n) at item = acted s number u costs e is μ v x w y now (Acts act ps n) at item act ps n refl item.emitted

@@ -4,47 +4,48 @@ use Rattle.std.proofs.Common.{refl, sym, ap, ◌∙◌, subst, arith}
 use Rattle.std.proofs.lemmas.List.{length-set}
 use Rattle.std.proofs.lemmas.Option.{slice_get_within}
 use Rattle.std.proofs.lemmas.Bool.{eqb-true, eq-eqb}
-use Rattle.simulation.specs.Machine.{Goes, Ends, Calls, Answers, Breaks}
-use Rattle.simulation.specs.LocalSimulation.{last, Meets}
-use Rattle.f_tree.specs.declared.names.Basic.{Basic}
-use Rattle.f_tree.specs.Values.{Datum, IsInt, IsLog, IsText, IsSpot, IsProc, IsLabel, Nothing, Checked, Gives, Fails, given_that}
-use Rattle.f_tree.specs.Terms.{Function}
-use Rattle.f_tree.specs.Valuing.{applied}
-use Rattle.f_tree.specs.Store.{Store}
-use Rattle.f_tree.specs.Facts.{Frame}
-use Rattle.f_tree.specs.Setting.{IsIn, first_in}
-use Rattle.f_tree.specs.World as fortran
-use Rattle.l_core.specs.Pures.{Pure, Pures, Temporaries, with_kept, meant, all_meant}
-use Rattle.l_core.specs.Steps.{Step, Keep, Compute, Text}
-use Rattle.l_core.specs.Machine.{View, Doing, onward, past, to, to_place, jump, keeping, storing, testing, done, step}
-use Rattle.l_core.specs.Costs.{cost}
-use Rattle.c_tree.specs.Objects as objects_of
-use Rattle.c_tree.specs.World as c
-use Rattle.c_tree.specs.Steps as c_steps
-use Rattle.c_laws.proofs.StepLaws.{step_at}
-use Rattle.c_image.specs.World.{World, with_held, IsIdle}
-use Rattle.c_image.specs.Standing.{Stands}
-use Rattle.c_image_laws.proofs.Growing.{changed_there, changed_elsewhere}
-use Rattle.c_image_laws.proofs.IdleFrames.{idle_beside_object}
-use Rattle.c_tree.specs.Access.{ToNumber}
-use Rattle.c_tree.specs.Terms.{Variable}
-use Rattle.c_emit.specs.Numbers.{Writing, if_number, value_term}
-use Rattle.c_emit.specs.LibraryFunctions.{library_function, library_type}
-use Rattle.c_emit.specs.Calls.{held_terms}
-use Rattle.c_emit.specs.Flats.{flat_of}
-use Rattle.c_emit.specs.Types.{HasType, type_of}
-use Rattle.c_emit_laws.specs.EmittedNumbers.{IsKnown}
-use Rattle.c_emit_laws.specs.EmittedTypes.{AreTyped}
-use Rattle.c_emit_laws.specs.EmittedFlats.{KeepsAlike, CallsLibrary, Steers, by_put, by_test, by_test_back, by_skip, by_return, by_jump, by_pass}
-use Rattle.c_emit_laws.proofs.Choices.{got, some_same}
-use Rattle.c_emit_laws.proofs.ComputedNumbers.{computed_by, integers_of, library_types_are_right}
-use Rattle.c_emit_laws.proofs.FlatLaws.{to_by, assigned_by, flats_go_on}
-use Rattle.c_emit_laws.proofs.KeptLaws.{called_by, kept_flats_go_on, computed_flats_go_on}
-use Rattle.c_emit_laws.proofs.TypeLaws.{types_are_right}
-use Rattle.emitted_texts.specs.SecondLayer.{Room, Surroundings, Emission, IsFree, IsTemporary, TransfersStand}
-use Rattle.emitted_texts.specs.Emitted.{leads, stage_behind}
-use Rattle.emitted_texts.proofs.Worlds.{plain_length, extends_changed}
-use Rattle.emitted_texts.proofs.Steps.{GoesOrBreaks, steering_goes, keeping_goes, steering_shared, steering_plain, steering_leads, steering_stages, kept_by, output_on}
+use Rattle.procedure_emission.specs.simulation.Machine.{Goes, Ends, Calls, Answers, Breaks}
+use Rattle.procedure_emission.specs.simulation.LocalSimulation.{last, Meets}
+use Rattle.procedure_emission.specs.f_tree.declared.names.Basic.{Basic}
+use Rattle.procedure_emission.specs.f_tree.Values.{Datum, IsInt, IsLog, IsText, IsSpot, IsProc, IsLabel, Nothing, Checked, Gives, Fails, given_that}
+use Rattle.procedure_emission.specs.f_tree.Terms.{Function}
+use Rattle.procedure_emission.specs.f_tree.Valuing.{applied}
+use Rattle.procedure_emission.specs.f_tree.Store.{Store}
+use Rattle.procedure_emission.specs.f_tree.Facts.{Frame}
+use Rattle.procedure_emission.specs.f_tree.Setting.{IsIn, first_in}
+use Rattle.procedure_emission.specs.f_tree.World as fortran
+use Rattle.procedure_emission.specs.l_core.Pures.{Pure, Pures, Temporaries, with_kept, meant, all_meant}
+use Rattle.procedure_emission.specs.l_core.Steps.{Step, Keep, Compute, Text}
+use Rattle.procedure_emission.specs.l_core.Machine.{View, Doing, onward, past, to, to_place, jump, passed_before, keeping, storing, testing, done, step}
+use Rattle.procedure_emission.specs.l_core.Costs.{cost}
+use Rattle.procedure_emission.specs.c_tree.Objects as objects_of
+use Rattle.procedure_emission.specs.c_tree.World as c
+use Rattle.procedure_emission.specs.c_tree.Steps as c_steps
+use Rattle.procedure_emission.proofs.c_laws.StepLaws.{step_at}
+use Rattle.procedure_emission.specs.c_image.World.{World, with_held, IsIdle}
+use Rattle.procedure_emission.specs.c_image.Standing.{Stands}
+use Rattle.procedure_emission.proofs.c_image_laws.Growing.{changed_there, changed_elsewhere}
+use Rattle.procedure_emission.proofs.c_image_laws.IdleFrames.{idle_beside_object}
+use Rattle.procedure_emission.specs.c_tree.Access.{ToNumber}
+use Rattle.procedure_emission.specs.c_tree.Terms.{Variable}
+use Rattle.procedure_emission.specs.c_emit.Numbers.{Writing, if_number, value_term}
+use Rattle.procedure_emission.specs.c_emit.LibraryFunctions.{library_function, library_type}
+use Rattle.procedure_emission.specs.c_emit.Calls.{held_terms}
+use Rattle.procedure_emission.specs.c_emit.Flats.{flat_of}
+use Rattle.procedure_emission.specs.c_emit.Types.{HasType, type_of}
+use Rattle.procedure_emission.specs.c_emit_laws.EmittedNumbers.{IsKnown}
+use Rattle.procedure_emission.specs.c_emit_laws.EmittedTypes.{AreTyped}
+use Rattle.procedure_emission.specs.c_emit_laws.EmittedFlats.{KeepsAlike, CallsLibrary, Steers, by_put, by_label, by_test, by_test_back, by_skip, by_return, by_jump, by_select, by_held, by_pass}
+use Rattle.procedure_emission.proofs.c_emit_laws.Choices.{got, some_same}
+use Rattle.procedure_emission.proofs.c_emit_laws.ComputedNumbers.{computed_by, integers_of, library_types_are_right}
+use Rattle.procedure_emission.proofs.c_emit_laws.LabelLaws.{held_by}
+use Rattle.procedure_emission.proofs.c_emit_laws.FlatLaws.{to_by, selected_by, assigned_by, flats_go_on}
+use Rattle.procedure_emission.proofs.c_emit_laws.KeptLaws.{called_by, kept_flats_go_on, computed_flats_go_on}
+use Rattle.procedure_emission.proofs.c_emit_laws.TypeLaws.{types_are_right}
+use Rattle.procedure_emission.specs.emitted_texts.SecondLayer.{Room, Surroundings, Emission, IsFree, IsTemporary, TransfersStand}
+use Rattle.procedure_emission.specs.emitted_texts.Emitted.{leads, stage_behind}
+use Rattle.procedure_emission.proofs.emitted_texts.Worlds.{plain_length, extends_changed}
+use Rattle.procedure_emission.proofs.emitted_texts.Steps.{GoesOrBreaks, steering_goes, keeping_goes, steering_shared, steering_plain, steering_leads, steering_stages, kept_by, output_on}
 use Rattle.procedure_emission.specs.Reading.{IsPlain, kind_after, numbers_kept}
 use Rattle.procedure_emission.specs.CallLayer.{CallWorld, IsFrameOf, AreProceduresHeld, IsActive, IsStaged, IsAtStep, call_couple}
 use Rattle.procedure_emission.specs.EmittedUnits.{leads_on, IsItem, IsMadeAnew, IsOfRoom, IsEmittedUnit}
@@ -57,21 +58,27 @@ use Rattle.emitted_procedures.proofs.Passing.{IsFar}
 steering_kinds : (w : Writing) (n : ℕ) (st : Step) (k : ℕ) → Steers st → kind_after w n st k ≡ w.kind n k
 unfolding kind_after
 steering_kinds w n _ k (by_put place p) = refl
+steering_kinds w n _ k (by_label place label) = refl
 steering_kinds w n _ k (by_test p m) = refl
 steering_kinds w n _ k (by_test_back p m) = refl
 steering_kinds w n _ k (by_skip m) = refl
 steering_kinds w n _ k (by_return m) = refl
 steering_kinds w n _ k (by_jump label) = refl
+steering_kinds w n _ k (by_select p count) = refl
+steering_kinds w n _ k (by_held place label labels) = refl
 steering_kinds w n _ k by_pass = refl
 
 steering_on : (u : Text) (n : ℕ) (st : Step) → Steers st → leads_on u n st ≡ leads u n st
 unfolding leads_on
 steering_on u n _ (by_put place p) = refl
+steering_on u n _ (by_label place label) = refl
 steering_on u n _ (by_test p m) = refl
 steering_on u n _ (by_test_back p m) = refl
 steering_on u n _ (by_skip m) = refl
 steering_on u n _ (by_return m) = refl
 steering_on u n _ (by_jump label) = refl
+steering_on u n _ (by_select p count) = refl
+steering_on u n _ (by_held place label labels) = refl
 steering_on u n _ by_pass = refl
 
 -- the transfer is as it was
@@ -105,11 +112,15 @@ placing_keeps v v' x x' None e = absurd (cc)
 steering_keeps : (u : Text) (v v' : View) (x x' : fortran.World) (st : Step) → Steers st → done u v x (Some st) ≡ Goes v' x' → v'.kept ≡ v.kept
 unfolding done past onward jump
 steering_keeps u v v' x x' _ (by_put place p) e = storing_keeps v v' x x' _ e
+steering_keeps u v v' x x' _ (by_label place label) e = storing_keeps v v' x x' _ e
 steering_keeps u v v' x x' _ (by_test p n) e = testing_keeps (suc v.at) (suc v.at + n) v v' x x' _ e
 steering_keeps u v v' x x' _ (by_test_back p n) e = testing_keeps (v.at - n) (suc v.at) v v' x x' _ e
 steering_keeps u v v' x x' _ (by_skip n) e = ap (λ (z : View). z.kept) (to_by (suc v.at + n) v x v' x' e).view
 steering_keeps u v v' x x' _ (by_return n) e = ap (λ (z : View). z.kept) (to_by (v.at - n) v x v' x' e).view
 steering_keeps u v v' x x' _ (by_jump label) e = placing_keeps v v' x x' (u.position label) e
+steering_keeps u v v' x x' _ (by_select p count) e = ap (λ (z : View). z.kept) (selected_by count v x v' x' _ e).goes.view
+steering_keeps u v v' x x' _ (by_held place label labels) e =
+    let is = held_by u label labels v x v' x' _ e in ap (λ (z : View). z.kept) (to_by (suc v.at + passed_before (label ∷ labels) is.label) v x v' x' is.goes).view
 steering_keeps u v v' x x' _ by_pass e = ap (λ (z : View). z.kept) (to_by (suc v.at) v x v' x' e).view
 
 kept_itself : (k : ℕ) (d : Datum) (m : Temporaries) → with_kept k d m k ≡ Some d

@@ -1,23 +1,25 @@
 -- A step that changes no temporary does the same over the numbers that temporaries keep.
-use Rattle.std.specs.Prelude.{◌≡◌, ℕ, suc, ◌+◌, ◌-◌, Bool, true, false, Option, Some, None}
+use Rattle.std.specs.Prelude.{◌≡◌, ℕ, suc, ◌+◌, ◌-◌, ℤ, pos, Bool, true, false, ◌&&◌, List, ◌∷◌, length, bytes_eq, Option, Some, None, if◌then◌else◌}
 use Rattle.std.proofs.Common.{refl, sym, ap, ◌∙◌}
-use Rattle.simulation.specs.Machine.{Goes}
-use Rattle.f_tree.specs.Values.{Datum, IsInt, IsLog, IsText, IsSpot, IsProc, IsLabel, Nothing, Checked, Gives, Fails, given_that}
-use Rattle.f_tree.specs.Store.{Store}
-use Rattle.f_tree.specs.World as fortran
-use Rattle.l_core.specs.Pures.{Pure, Temporaries, meant}
-use Rattle.l_core.specs.Steps.{Step, Text}
-use Rattle.l_core.specs.Machine.{View, Doing, to, onward, past, storing, put_at, testing, to_place, jump, done}
-use Rattle.c_tree.specs.Terms.{Term}
-use Rattle.c_tree.specs.Flat as flat
-use Rattle.c_tree.specs.Flat.{Flat}
-use Rattle.c_emit.specs.Numbers.{Writing, value_term, place_term}
-use Rattle.c_emit.specs.Flats.{assigned, flat_of}
-use Rattle.c_emit_laws.specs.EmittedFlats.{Steers, by_put, by_test, by_test_back, by_skip, by_return, by_jump, by_pass}
-use Rattle.c_emit_laws.proofs.Choices.{got, mapped_by}
-use Rattle.c_emit_laws.proofs.FlatLaws.{assigned_by}
+use Rattle.procedure_emission.specs.simulation.Machine.{Goes, Breaks}
+use Rattle.procedure_emission.specs.f_tree.Values.{Bytes, Datum, IsInt, IsLog, IsText, IsSpot, IsProc, IsLabel, Nothing, BadAssignedLabel, Act, Checked, Gives, Fails, given_that}
+use Rattle.procedure_emission.specs.f_tree.Store.{Store, Label}
+use Rattle.procedure_emission.specs.f_tree.World as fortran
+use Rattle.procedure_emission.specs.f_tree.Step.{is_allowed, name_of}
+use Rattle.procedure_emission.specs.l_core.Pures.{Pure, Temporaries, meant}
+use Rattle.procedure_emission.specs.l_core.Steps.{Step, Text}
+use Rattle.procedure_emission.specs.l_core.Machine.{View, Doing, to, onward, past, storing, put_at, put_label_at, testing, to_place, jump, selecting, label_held, passed_before, to_held, jumping, done}
+use Rattle.procedure_emission.specs.c_tree.Terms.{Term}
+use Rattle.procedure_emission.specs.c_tree.Flat as flat
+use Rattle.procedure_emission.specs.c_tree.Flat.{Flat}
+use Rattle.procedure_emission.specs.c_emit.Numbers.{Writing, constant_value, value_term, place_term}
+use Rattle.procedure_emission.specs.c_emit.Flats.{assigned, cases_to, cases_for, switch_to, flat_of}
+use Rattle.procedure_emission.specs.c_emit_laws.EmittedFlats.{Steers, by_put, by_label, by_test, by_test_back, by_skip, by_return, by_jump, by_select, by_held, by_pass}
+use Rattle.procedure_emission.proofs.c_emit_laws.Choices.{got, mapped_by}
+use Rattle.procedure_emission.proofs.c_emit_laws.LabelLaws.{held_by}
+use Rattle.procedure_emission.proofs.c_emit_laws.FlatLaws.{assigned_by, selected_by}
 use Rattle.procedure_emission.specs.Reading.{IsPlain, numbers_kept}
-use Rattle.emitted_procedures.proofs.ReadNumbers.{IsRead, the_same, no_value, put_nothing, truth_read, place_read, value_read}
+use Rattle.emitted_procedures.proofs.ReadNumbers.{IsRead, the_same, no_value, put_nothing, truth_read, integer_read, place_read, value_read}
 
 -- the same event with other temporaries
 unfoldable pub with_temporaries : Temporaries → Doing → Doing
@@ -45,6 +47,20 @@ placing_same : (m : Temporaries) (v : View) (x : fortran.World) (r : Option ℕ)
 unfolding with_temporaries to_place to
 placing_same m v x None = refl
 placing_same m v x (Some n) = refl
+
+selecting_same : (m : Temporaries) (count : ℕ) (v : View) (x : fortran.World) (z : ℤ) → selecting count (record v { kept = m }) x (Gives (IsInt z)) ≡ with_temporaries m (selecting count v x (Gives (IsInt z)))
+unfolding with_temporaries selecting past to
+selecting_same m count v x z = refl
+
+chosen_same : (m : Temporaries) (test : Bool) (n : ℕ) (v : View) (x : fortran.World) (act : Act) → (if test then to n (record v { kept = m }) x else Breaks act) ≡ with_temporaries m (if test then to n v x else Breaks act)
+unfolding with_temporaries to
+chosen_same m true n v x act = refl
+chosen_same m false n v x act = refl
+
+jumping_same : (m : Temporaries) (u : Text) (k : ℕ) (ks : List ℕ) (v : View) (x : fortran.World) (owner : Bytes) (l : ℕ)
+    → jumping u (k ∷ ks) (record v { kept = m }) x (Gives (Label owner l)) ≡ with_temporaries m (jumping u (k ∷ ks) v x (Gives (Label owner l)))
+unfolding jumping to_held past
+jumping_same m u k ks v x owner l = chosen_same m (bytes_eq owner (name_of u.facts.program) && is_allowed (k ∷ ks) l) (suc v.at + passed_before (k ∷ ks) l) v x BadAssignedLabel
 
 -- what a step that goes on has
 stored_by : (v v' : View) (x x' : fortran.World) (r : Checked Store) → storing v x r ≡ Goes v' x' → (later : Store) × (r ≡ Gives later)
@@ -94,6 +110,32 @@ module _ (u : Text) (w : Writing) (facts : w.facts ≡ u.facts) (v v' : View) (x
       value_is d r later found gives (the_same is) = is
       value_is d r later found gives (no_value is) = put_nothing x.store later r (ap (put_at x.store r) is ∙ gives)
 
+  put_label_over : (place : Pure) (label : ℕ) (item : Flat) → assigned (place_term w place) (constant_value (IsInt (pos label))) ≡ Some item
+      → storing v x (given_that (meant u.facts v.frame v.kept x.store place) (put_label_at u x.store label)) ≡ Goes v' x'
+      → storing (record v { kept = numbers_kept v.kept }) x (given_that (meant u.facts v.frame (numbers_kept v.kept) x.store place) (put_label_at u x.store label)) ≡ Goes (record v' { kept = numbers_kept v.kept }) x'
+  unfolding given_that with_temporaries
+  put_label_over place label item emitted h =
+      let is = assigned_by (place_term w place) (constant_value (IsInt (pos label))) item emitted in
+      let stored = stored_by v v' x x' (given_that (meant u.facts v.frame v.kept x.store place) (put_label_at u x.store label)) h in
+      let spot = got (meant u.facts v.frame v.kept x.store place) (put_label_at u x.store label) stored.0 stored.1 in
+      let place' = in_text (numbers_kept v.kept) place spot.value (place_read w v.frame v.kept x.store plain place is.target spot.value is.target_is (in_writing v.kept place spot.value spot.is)) in
+      ap (λ r. storing (record v { kept = numbers_kept v.kept }) x (given_that r (put_label_at u x.store label))) place'
+      ∙ ap (storing (record v { kept = numbers_kept v.kept }) x) spot.gives
+      ∙ storing_same (numbers_kept v.kept) v x (Gives stored.0)
+      ∙ ap (with_temporaries (numbers_kept v.kept)) (sym (ap (storing v x) stored.1) ∙ h)
+
+  held_over : (p : Pure) (k : ℕ) (ks : List ℕ) (term : Term) → place_term w p ≡ Some term → jumping u (k ∷ ks) v x (given_that (meant u.facts v.frame v.kept x.store p) (label_held x.store)) ≡ Goes v' x'
+      → jumping u (k ∷ ks) (record v { kept = numbers_kept v.kept }) x (given_that (meant u.facts v.frame (numbers_kept v.kept) x.store p) (label_held x.store)) ≡ Goes (record v' { kept = numbers_kept v.kept }) x'
+  unfolding given_that with_temporaries
+  held_over p k ks term emitted h =
+      let held = held_by u k ks v x v' x' (given_that (meant u.facts v.frame v.kept x.store p) (label_held x.store)) h in
+      let spot = got (meant u.facts v.frame v.kept x.store p) (label_held x.store) (Label held.owner held.label) held.gives in
+      let place' = in_text (numbers_kept v.kept) p spot.value (place_read w v.frame v.kept x.store plain p term spot.value emitted (in_writing v.kept p spot.value spot.is)) in
+      ap (λ r. jumping u (k ∷ ks) (record v { kept = numbers_kept v.kept }) x (given_that r (label_held x.store))) place'
+      ∙ ap (jumping u (k ∷ ks) (record v { kept = numbers_kept v.kept }) x) spot.gives
+      ∙ jumping_same (numbers_kept v.kept) u k ks v x held.owner held.label
+      ∙ ap (with_temporaries (numbers_kept v.kept)) (sym (ap (jumping u (k ∷ ks) v x) held.gives) ∙ h)
+
   test_over : (on off : ℕ) (p : Pure) (term : Term) → value_term w p ≡ Some term → testing on off v x (meant u.facts v.frame v.kept x.store p) ≡ Goes v' x'
       → testing on off (record v { kept = numbers_kept v.kept }) x (meant u.facts v.frame (numbers_kept v.kept) x.store p) ≡ Goes (record v' { kept = numbers_kept v.kept }) x'
   unfolding with_temporaries
@@ -104,10 +146,21 @@ module _ (u : Text) (w : Writing) (facts : w.facts ≡ u.facts) (v v' : View) (x
       ap (testing on off (record v { kept = numbers_kept v.kept }) x) same ∙ testing_same (numbers_kept v.kept) on off v x (Gives (IsLog tested.0))
       ∙ ap (with_temporaries (numbers_kept v.kept)) (sym (ap (testing on off v x) tested.1) ∙ h)
 
+  select_over : (count : ℕ) (p : Pure) (term : Term) → value_term w p ≡ Some term → selecting count v x (meant u.facts v.frame v.kept x.store p) ≡ Goes v' x'
+      → selecting count (record v { kept = numbers_kept v.kept }) x (meant u.facts v.frame (numbers_kept v.kept) x.store p) ≡ Goes (record v' { kept = numbers_kept v.kept }) x'
+  unfolding with_temporaries
+  select_over count p term emitted h =
+      let selected = selected_by count v x v' x' (meant u.facts v.frame v.kept x.store p) h in
+      let same = in_text (numbers_kept v.kept) p (IsInt selected.number)
+      (integer_read (meant w.facts v.frame (numbers_kept v.kept) x.store p) selected.number (value_read w v.frame v.kept x.store plain p term (IsInt selected.number) emitted (in_writing v.kept p (IsInt selected.number) selected.gives))) in
+      ap (selecting count (record v { kept = numbers_kept v.kept }) x) same ∙ selecting_same (numbers_kept v.kept) count v x selected.number
+      ∙ ap (with_temporaries (numbers_kept v.kept)) (sym (ap (selecting count v x) selected.gives) ∙ h)
+
   pub same_done : (place : ℕ → ℕ) (label : ℕ → Option ℕ) (n : ℕ) (st : Step) (item : Flat) → Steers st → flat_of w place label n st ≡ Some item → done u v x (Some st) ≡ Goes v' x'
       → done u (record v { kept = numbers_kept v.kept }) x (Some st) ≡ Goes (record v' { kept = numbers_kept v.kept }) x'
-  unfolding flat_of done past onward to jump with_temporaries
+  unfolding flat_of switch_to done past onward to jump with_temporaries
   same_done place label n _ item (by_put target p) emitted h = put_over target p item emitted h
+  same_done place label n _ item (by_label target l) emitted h = put_label_over target l item emitted h
   same_done place label n _ item (by_test p m) emitted h =
       let is = mapped_by (λ test. flat.Branch test (place (suc n)) (place (suc n + m))) (value_term w p) item emitted in test_over (suc v.at) (suc v.at + m) p is.one is.one_is h
   same_done place label n _ item (by_test_back p m) emitted h =
@@ -115,4 +168,8 @@ module _ (u : Text) (w : Writing) (facts : w.facts ≡ u.facts) (v v' : View) (x
   same_done place label n _ item (by_skip m) emitted h = ap (with_temporaries (numbers_kept v.kept)) h
   same_done place label n _ item (by_return m) emitted h = ap (with_temporaries (numbers_kept v.kept)) h
   same_done place label n _ item (by_jump l) emitted h = placing_same (numbers_kept v.kept) v x (u.position l) ∙ ap (with_temporaries (numbers_kept v.kept)) h
+  same_done place label n _ item (by_select p count) emitted h =
+      let is = mapped_by (λ value. flat.Select value (cases_to place 1 (suc n) count) (place (suc n + count))) (value_term w p) item emitted in select_over count p is.one is.one_is h
+  same_done place label n _ item (by_held p l ls) emitted h =
+      let is = mapped_by (λ value. flat.Select value (cases_for place (suc n) (l ∷ ls)) (place (suc n + length (l ∷ ls)))) (place_term w p) item emitted in held_over p l ls is.one is.one_is h
   same_done place label n _ item by_pass emitted h = ap (with_temporaries (numbers_kept v.kept)) h

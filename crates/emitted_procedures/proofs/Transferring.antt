@@ -2,68 +2,68 @@
 use Rattle.std.specs.Prelude.{◌≡◌, ℕ, zero, suc, ◌+◌, ◌-◌, nat_lt, ℤ, pos, Bool, true, false, ◌&&◌, List, [], ◌∷◌, ◌++◌, length, position, Option, Some, None, is_none, option_and_then, unwrap_or, bytes_eq, Ok, codes, slice_get, if◌then◌else◌}
 use Rattle.std.proofs.Common.{refl, sym, ap, ◌∙◌, subst, arith}
 use Rattle.std.proofs.lemmas.Bool.{ltb-true}
-use Rattle.simulation.specs.Machine.{Goes, Ends, Breaks}
-use Rattle.simulation.specs.LocalSimulation.{last, Meets}
-use Rattle.edit_meaning.specs.Listed.{ListedValue, Int, Logical}
-use Rattle.run_state.specs.Units.{Units, reads_zero_blanks}
-use Rattle.f_tree.specs.declared.names.Basic.{Basic}
-use Rattle.f_tree.specs.declared.names.Basic.TheVariants as basic
-use Rattle.f_tree.specs.Values.{Bytes, Spot, Datum, IsInt, IsLog, IsText, IsSpot, Checked, Gives, Fails, in_range, given_that}
-use Rattle.f_tree.specs.Values as fortran_values
-use Rattle.f_tree.specs.Store.{Whole, Number as ANumber, Truth}
-use Rattle.f_tree.specs.Facts.{Word, UnitWord, Direction, Output, Layout, Listed, Controls}
-use Rattle.f_tree.specs.Setting.{IsIn, first_in}
-use Rattle.f_tree.specs.World as fortran
-use Rattle.f_tree.specs.Courses.{Course}
-use Rattle.f_tree.specs.Transfers.{begins, item_done, finished}
-use Rattle.f_tree.specs.Valuing as valuing
-use Rattle.f_tree.specs.Step.{stop_ending}
-use Rattle.l_core.specs.Pures.{Pure, Constant, Temporary, Load, Name, AllOf, ElementOf, FirstOf, Substring, Concatenated, Prefixed, Operated, Applied, Chosen, Pures, NoPure, AndPure, if_kept, meant, all_meant}
-use Rattle.l_core.specs.Steps.{Acting, Starts, Takes, Finishes, Step, Halt, Acts, Text}
-use Rattle.l_core.specs.Machine.{View, Doing, to, onward, past, course_of, coursing, acting, done, step}
-use Rattle.l_core.specs.Costs.{cost}
-use Rattle.c_tree.specs.declared.outcome.CValue.{CValue}
-use Rattle.c_tree.specs.declared.outcome.CValue.TheVariants.{Number, Pointer}
-use Rattle.c_tree.specs.declared.types.CastType.TheVariants as cast_to
-use Rattle.c_tree.specs.declared.types.ListType.TheVariants as list_type
-use Rattle.c_tree.specs.Faults.{Or, after}
-use Rattle.c_tree.specs.Access.{ToNumber, ToChar, ToList}
-use Rattle.c_tree.specs.Objects.{Object, Bytes as Stored, plain, as_number, fetched}
-use Rattle.c_tree.specs.Terms as c_term
-use Rattle.c_tree.specs.Terms.{Term}
-use Rattle.c_tree.specs.Values as c_values
-use Rattle.c_tree.specs.Values.{values_of, value_of}
-use Rattle.c_tree.specs.Flat.{Flat, Invoke, Ignored, Direct}
-use Rattle.c_tree.specs.World as c
-use Rattle.c_tree.specs.World.{Reply}
-use Rattle.c_tree.specs.Builtins.{Signature, signature, signatures, builtin_names, one_list, ANumber as TakesNumber, APointer, do_lio, s_stop}
-use Rattle.c_tree.specs.LibraryArguments.{number_through, text_at}
-use Rattle.c_tree.specs.Library.{library, stopped, stops}
-use Rattle.c_tree.specs.Steps as c_steps
-use Rattle.c_tree.specs.Steps.{WantsNothing, takes_all, replied}
-use Rattle.c_laws.proofs.StepLaws.{step_at, library_call_replies}
-use Rattle.c_laws.proofs.ValueLaws.{values_of-cons, value_of-number, Size-counts, Length-counts, Constant-counts, address_of_variable}
-use Rattle.faithful.specs.StorageImage.{number_for}
-use Rattle.faithful.specs.SameTransfer.{SameTransfer, neither, both, outputs, listed, on_unit}
-use Rattle.c_image.specs.World.{World}
-use Rattle.c_image.specs.Standing.{Stands}
-use Rattle.c_image.specs.Held.{whole_for, Holds}
-use Rattle.c_image_laws.specs.Meanings.{Means, IsPlace}
-use Rattle.c_image_laws.proofs.AddressValues.{Address-points}
-use Rattle.c_image_laws.proofs.Keeping.{held_number, held_text}
-use Rattle.c_image_laws.proofs.TextValues.{length_is}
-use Rattle.c_emit.specs.Numbers.{Writing, value_term, place_term, if_number}
-use Rattle.c_emit.specs.Types.{HasType, type_of}
-use Rattle.c_emit.specs.Calls.{call_of, address_of, is_unit_alone, is_plain, start_on, start_item, unit_of, if_held, constant_held, held_term, kind_number, item_by, takes_item, finish_item, stop_item}
-use Rattle.c_emit.specs.Flats.{flat_of}
-use Rattle.c_emit_laws.specs.EmittedNumbers.{IsKnown}
-use Rattle.c_emit_laws.proofs.Choices.{got, some_same}
-use Rattle.c_emit_laws.proofs.HeldNumbers.{number_there, value_holds}
-use Rattle.c_emit_laws.proofs.TypeLaws.{types_are_right}
-use Rattle.output_laws.specs.ListedOutputs.{fortran_listing, c_listing, list_object, unit_alone, s_wsle, e_wsle, GoOnOrStop, go_on, stop, EndOrStop, end', stopped as both_stopped, IsItem, an_integer, a_truth}
-use Rattle.output_laws.proofs.ListedActs.{starts_are_alike, items_are_alike, ends_are_alike}
-use Rattle.emitted_texts.specs.SecondLayer.{Surroundings, Emission, OutputIsOn, TransfersStand}
-use Rattle.emitted_texts.specs.Emitted.{leads, stage_behind, is_of_output}
+use Rattle.procedure_emission.specs.simulation.Machine.{Goes, Ends, Breaks}
+use Rattle.procedure_emission.specs.simulation.LocalSimulation.{last, Meets}
+use Rattle.procedure_emission.specs.edit_meaning.Listed.{ListedValue, Int, Logical}
+use Rattle.procedure_emission.specs.run_state.Units.{Units, reads_zero_blanks}
+use Rattle.procedure_emission.specs.f_tree.declared.names.Basic.{Basic}
+use Rattle.procedure_emission.specs.f_tree.declared.names.Basic.TheVariants as basic
+use Rattle.procedure_emission.specs.f_tree.Values.{Bytes, Spot, Datum, IsInt, IsLog, IsText, IsSpot, Checked, Gives, Fails, in_range, given_that}
+use Rattle.procedure_emission.specs.f_tree.Values as fortran_values
+use Rattle.procedure_emission.specs.f_tree.Store.{Whole, Number as ANumber, Truth}
+use Rattle.procedure_emission.specs.f_tree.Facts.{Word, UnitWord, Direction, Output, Layout, Listed, Controls}
+use Rattle.procedure_emission.specs.f_tree.Setting.{IsIn, first_in}
+use Rattle.procedure_emission.specs.f_tree.World as fortran
+use Rattle.procedure_emission.specs.f_tree.Courses.{Course}
+use Rattle.procedure_emission.specs.f_tree.Transfers.{begins, item_done, finished}
+use Rattle.procedure_emission.specs.f_tree.Valuing as valuing
+use Rattle.procedure_emission.specs.f_tree.Step.{stop_ending}
+use Rattle.procedure_emission.specs.l_core.Pures.{Pure, Constant, Temporary, Load, Name, AllOf, ElementOf, FirstOf, Substring, Concatenated, Prefixed, Operated, Applied, Chosen, Pures, NoPure, AndPure, if_kept, meant, all_meant}
+use Rattle.procedure_emission.specs.l_core.Steps.{Acting, Starts, Takes, Finishes, Step, Halt, Acts, Text}
+use Rattle.procedure_emission.specs.l_core.Machine.{View, Doing, to, onward, past, course_of, coursing, acting, done, step}
+use Rattle.procedure_emission.specs.l_core.Costs.{cost}
+use Rattle.procedure_emission.specs.c_tree.declared.outcome.CValue.{CValue}
+use Rattle.procedure_emission.specs.c_tree.declared.outcome.CValue.TheVariants.{Number, Pointer}
+use Rattle.procedure_emission.specs.c_tree.declared.types.CastType.TheVariants as cast_to
+use Rattle.procedure_emission.specs.c_tree.declared.types.ListType.TheVariants as list_type
+use Rattle.procedure_emission.specs.c_tree.Faults.{Or, after}
+use Rattle.procedure_emission.specs.c_tree.Access.{ToNumber, ToChar, ToList}
+use Rattle.procedure_emission.specs.c_tree.Objects.{Object, Bytes as Stored, plain, as_number, fetched}
+use Rattle.procedure_emission.specs.c_tree.Terms as c_term
+use Rattle.procedure_emission.specs.c_tree.Terms.{Term}
+use Rattle.procedure_emission.specs.c_tree.Values as c_values
+use Rattle.procedure_emission.specs.c_tree.Values.{values_of, value_of}
+use Rattle.procedure_emission.specs.c_tree.Flat.{Flat, Invoke, Ignored, Direct}
+use Rattle.procedure_emission.specs.c_tree.World as c
+use Rattle.procedure_emission.specs.c_tree.World.{Reply}
+use Rattle.procedure_emission.specs.c_tree.Builtins.{Signature, signature, signatures, builtin_names, one_list, ANumber as TakesNumber, APointer, do_lio, s_stop}
+use Rattle.procedure_emission.specs.c_tree.LibraryArguments.{number_through, text_at}
+use Rattle.procedure_emission.specs.c_tree.Library.{library, stopped, stops}
+use Rattle.procedure_emission.specs.c_tree.Steps as c_steps
+use Rattle.procedure_emission.specs.c_tree.Steps.{WantsNothing, takes_all, replied}
+use Rattle.procedure_emission.proofs.c_laws.StepLaws.{step_at, library_call_replies}
+use Rattle.procedure_emission.proofs.c_laws.ValueLaws.{values_of-cons, value_of-number, Size-counts, Length-counts, Constant-counts, address_of_variable}
+use Rattle.procedure_emission.specs.faithful.StorageImage.{number_for}
+use Rattle.procedure_emission.specs.faithful.SameTransfer.{SameTransfer, neither, both, outputs, listed, on_unit}
+use Rattle.procedure_emission.specs.c_image.World.{World}
+use Rattle.procedure_emission.specs.c_image.Standing.{Stands}
+use Rattle.procedure_emission.specs.c_image.Held.{whole_for, Holds}
+use Rattle.procedure_emission.specs.c_image_laws.Meanings.{Means, IsPlace}
+use Rattle.procedure_emission.proofs.c_image_laws.AddressValues.{Address-points}
+use Rattle.procedure_emission.proofs.c_image_laws.Keeping.{held_number, held_text}
+use Rattle.procedure_emission.proofs.c_image_laws.TextValues.{length_is}
+use Rattle.procedure_emission.specs.c_emit.Numbers.{Writing, value_term, place_term, if_number}
+use Rattle.procedure_emission.specs.c_emit.Types.{HasType, type_of}
+use Rattle.procedure_emission.specs.c_emit.Calls.{call_of, address_of, is_unit_alone, is_plain, start_on, start_item, unit_of, if_held, constant_held, held_term, kind_number, item_by, takes_item, finish_item, stop_item}
+use Rattle.procedure_emission.specs.c_emit.Flats.{flat_of}
+use Rattle.procedure_emission.specs.c_emit_laws.EmittedNumbers.{IsKnown}
+use Rattle.procedure_emission.proofs.c_emit_laws.Choices.{got, some_same}
+use Rattle.procedure_emission.proofs.c_emit_laws.HeldNumbers.{number_there, value_holds}
+use Rattle.procedure_emission.proofs.c_emit_laws.TypeLaws.{types_are_right}
+use Rattle.procedure_emission.specs.output_laws.ListedOutputs.{fortran_listing, c_listing, list_object, unit_alone, s_wsle, e_wsle, GoOnOrStop, go_on, stop, EndOrStop, end', stopped as both_stopped, IsItem, an_integer, a_truth}
+use Rattle.procedure_emission.proofs.output_laws.ListedActs.{starts_are_alike, items_are_alike, ends_are_alike}
+use Rattle.procedure_emission.specs.emitted_texts.SecondLayer.{Surroundings, Emission, OutputIsOn, TransfersStand}
+use Rattle.procedure_emission.specs.emitted_texts.Emitted.{leads, stage_behind, is_of_output}
 use Rattle.procedure_emission.specs.Reading.{kind_after, numbers_kept}
 use Rattle.procedure_emission.specs.CallLayer.{CallWorld, IsActive, IsStaged, IsAtStep, call_couple}
 use Rattle.procedure_emission.specs.EmittedUnits.{leads_on, IsItem as StandsAt, IsEmittedUnit}

@@ -1,12 +1,12 @@
 -- Transfers that agree do so while the world grows.
 use Rattle.std.specs.Prelude.{◌≡◌, ℕ, ◌<◌, Option, Some}
 use Rattle.std.proofs.Common.{refl, ◌∙◌, arith}
-use Rattle.f_tree.specs.Values.{Spot}
-use Rattle.f_tree.specs.World as fortran
-use Rattle.c_tree.specs.World as c
-use Rattle.faithful.specs.SameTransfer.{SameMedium, on_unit, in_file, SameTransfer, neither, both}
-use Rattle.c_image.specs.World.{World, Extends}
-use Rattle.emitted_texts.specs.SecondLayer.{TransfersStand}
+use Rattle.procedure_emission.specs.f_tree.Values.{Spot}
+use Rattle.procedure_emission.specs.f_tree.World as fortran
+use Rattle.procedure_emission.specs.c_tree.World as c
+use Rattle.procedure_emission.specs.faithful.SameTransfer.{SameMedium, on_unit, in_file, SameTransfer, neither, both}
+use Rattle.procedure_emission.specs.c_image.World.{World, Extends}
+use Rattle.procedure_emission.specs.emitted_texts.SecondLayer.{TransfersStand}
 
 medium_later : (μ ν : World) (behind : ℕ) (m : fortran.Medium) (m' : c.Medium) → Extends μ ν → ((p : Spot) → m ≡ fortran.Internal p → p.sequence < μ.height) → SameMedium μ.homes behind m m' → SameMedium ν.homes behind m m'
 medium_later μ ν behind _ _ grown low (on_unit unit) = on_unit unit

@@ -3,31 +3,31 @@
 -- constant 2, the integer, and the frames of the three.
 use Rattle.std.specs.Prelude.{ℕ, zero, suc, ◌+◌, nat_eq, pos, false, List, [], ◌∷◌, Option, Some, None, bytes_eq, codes, slice_get, if◌then◌else◌}
 use Rattle.std.specs.Ordering.{int_eq}
-use Rattle.f_tree.specs.declared.names.Basic.{Basic}
-use Rattle.f_tree.specs.declared.names.Basic.TheVariants.{Integer}
-use Rattle.f_tree.specs.declared.names.Class.TheVariants as class
-use Rattle.f_tree.specs.Values.{Bytes, IsInt}
-use Rattle.f_tree.specs.Terms.{Add, AsFunction}
-use Rattle.f_tree.specs.Facts.{Attribute, Named, MainProgram, FunctionUnit, UnitKind, EntryPoint, Home, Facts}
-use Rattle.f_tree.specs.World.{Called, TheMain, Procedure}
-use Rattle.l_core.specs.Pures.{Constant, Temporary, Load, Name, Operated, NoPure, AndPure}
-use Rattle.l_core.specs.Steps.{Step, Put, CallFor, Back, Text}
-use Rattle.c_tree.specs.declared.types.FunctionType.TheVariants as to
-use Rattle.c_tree.specs.declared.types.ParameterType.TheVariants as parameter
-use Rattle.c_tree.specs.declared.types.ResultType.TheVariants as result
-use Rattle.c_tree.specs.declared.expression.BinaryOp.TheVariants as op
-use Rattle.c_tree.specs.declared.expression.UnaryOp.TheVariants as prefix
-use Rattle.c_tree.specs.Access.{ToNumber, ToPointer, ToFunction}
-use Rattle.c_tree.specs.Objects.{Object}
-use Rattle.c_tree.specs.Declarations.{unset, unset_values}
-use Rattle.c_tree.specs.Terms as c
-use Rattle.c_tree.specs.Flat.{Flat, Assign, Invoke, Kept, Direct, Through, Return}
-use Rattle.c_image.specs.Held.{number_object}
-use Rattle.c_image.specs.Addresses as address
-use Rattle.c_image.specs.Addresses.{Address, Alone}
-use Rattle.c_image.specs.Elements.{Written}
-use Rattle.c_emit.specs.Calls.{address_of}
-use Rattle.emitted_texts.specs.SecondLayer.{Room, Surroundings, Emission}
+use Rattle.procedure_emission.specs.f_tree.declared.names.Basic.{Basic}
+use Rattle.procedure_emission.specs.f_tree.declared.names.Basic.TheVariants.{Integer}
+use Rattle.procedure_emission.specs.f_tree.declared.names.Class.TheVariants as class
+use Rattle.procedure_emission.specs.f_tree.Values.{Bytes, IsInt}
+use Rattle.procedure_emission.specs.f_tree.Terms.{Add, AsFunction}
+use Rattle.procedure_emission.specs.f_tree.Facts.{Attribute, Named, MainProgram, FunctionUnit, UnitKind, EntryPoint, Home, Facts}
+use Rattle.procedure_emission.specs.f_tree.World.{Called, TheMain, Procedure}
+use Rattle.procedure_emission.specs.l_core.Pures.{Constant, Temporary, Load, Name, Operated, NoPure, AndPure}
+use Rattle.procedure_emission.specs.l_core.Steps.{Step, Put, CallFor, Back, Text}
+use Rattle.procedure_emission.specs.c_tree.declared.types.FunctionType.TheVariants as to
+use Rattle.procedure_emission.specs.c_tree.declared.types.ParameterType.TheVariants as parameter
+use Rattle.procedure_emission.specs.c_tree.declared.types.ResultType.TheVariants as result
+use Rattle.procedure_emission.specs.c_tree.declared.expression.BinaryOp.TheVariants as op
+use Rattle.procedure_emission.specs.c_tree.declared.expression.UnaryOp.TheVariants as prefix
+use Rattle.procedure_emission.specs.c_tree.Access.{ToNumber, ToPointer, ToFunction}
+use Rattle.procedure_emission.specs.c_tree.Objects.{Object}
+use Rattle.procedure_emission.specs.c_tree.Declarations.{unset, unset_values}
+use Rattle.procedure_emission.specs.c_tree.Terms as c
+use Rattle.procedure_emission.specs.c_tree.Flat.{Flat, Assign, Invoke, Kept, Direct, Through, Return}
+use Rattle.procedure_emission.specs.c_image.Held.{number_object}
+use Rattle.procedure_emission.specs.c_image.Addresses as address
+use Rattle.procedure_emission.specs.c_image.Addresses.{Address, Alone}
+use Rattle.procedure_emission.specs.c_image.Elements.{Written}
+use Rattle.procedure_emission.specs.c_emit.Calls.{address_of}
+use Rattle.procedure_emission.specs.emitted_texts.SecondLayer.{Room, Surroundings, Emission}
 use Rattle.procedure_emission.specs.ProcedureItems.{procedure_argument}
 
 abbrev pub the_function : Bytes

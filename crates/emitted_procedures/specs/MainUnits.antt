@@ -1,14 +1,14 @@
 -- LAW: the function of a main program that calls no procedure is that of a unit, where more is said of its steps and its frame stands apart.
 -- ANSI X3.9-1978, section 14.
 use Rattle.std.specs.Prelude.{◌≡◌, ℕ, nat_lt, true, List, Some, None, slice_get}
-use Rattle.f_tree.specs.declared.names.Basic.{Basic}
-use Rattle.f_tree.specs.Setting.{IsIn}
-use Rattle.f_tree.specs.World.{Called}
-use Rattle.l_core.specs.Pures.{Pure}
-use Rattle.l_core.specs.Steps.{Step, Keep, Back, Text}
-use Rattle.c_emit.specs.Types.{type_of}
-use Rattle.emitted_texts.specs.SecondLayer.{Surroundings, Emission}
-use Rattle.emitted_texts.specs.Emitted.{leads, stage_behind, IsEmittedMain}
+use Rattle.procedure_emission.specs.f_tree.declared.names.Basic.{Basic}
+use Rattle.procedure_emission.specs.f_tree.Setting.{IsIn}
+use Rattle.procedure_emission.specs.f_tree.World.{Called}
+use Rattle.procedure_emission.specs.l_core.Pures.{Pure}
+use Rattle.procedure_emission.specs.l_core.Steps.{Step, Keep, Back, Text}
+use Rattle.procedure_emission.specs.c_emit.Types.{type_of}
+use Rattle.procedure_emission.specs.emitted_texts.SecondLayer.{Surroundings, Emission}
+use Rattle.procedure_emission.specs.emitted_texts.Emitted.{leads, stage_behind, IsEmittedMain}
 use Rattle.procedure_emission.specs.EmittedUnits.{RoomIsApart, IsEmittedUnit}
 
 -- what is asked of a unit beside what is asked of a main program

@@ -1,8 +1,8 @@
 -- LAW: the C function of a unit simulates its lowered text. ANSI X3.9-1978, sections 14 and 15; C89, 3.3.2.2 and 3.6.6.4.
 use Rattle.std.specs.Prelude.{ℕ, List}
-use Rattle.simulation.specs.LocalSimulation.{Local}
-use Rattle.l_core.specs.Steps.{Text}
-use Rattle.emitted_texts.specs.SecondLayer.{Surroundings, Emission}
+use Rattle.procedure_emission.specs.simulation.LocalSimulation.{Local}
+use Rattle.procedure_emission.specs.l_core.Steps.{Text}
+use Rattle.procedure_emission.specs.emitted_texts.SecondLayer.{Surroundings, Emission}
 use Rattle.procedure_emission.specs.CallLayer.{call_couple}
 use Rattle.procedure_emission.specs.EmittedUnits.{IsEmittedUnit}
 

@@ -1,14 +1,14 @@
 -- How a main program begins, and what its function knows then.
 use Rattle.std.specs.Prelude.{◌≡◌, ℕ, Bool, true, false, List, [], ◌∷◌, length, bytes_eq, Option, Some, None, if◌then◌else◌}
 use Rattle.std.proofs.Common.{refl, sym, ap, ◌∙◌}
-use Rattle.simulation.specs.Machine.{Entry, Enters, Refused}
-use Rattle.f_tree.specs.Values.{Bytes, Datum, Disagreement, Checked, Gives, Fails}
-use Rattle.f_tree.specs.Terms.{Wanted, AsSubroutine, AsFunction}
-use Rattle.f_tree.specs.Facts.{Bounds, Attribute, Formal, UnitKind, MainProgram, EntryPoint, ProgramUnit, Facts, Frame}
-use Rattle.f_tree.specs.World as fortran
-use Rattle.f_tree.specs.World.{World, Round, Turning, Doing, Waits, Returning, Called, TheMain, Procedure, Passed, fortran_sorts, entered}
-use Rattle.f_tree.specs.Places.{Landing, at_range_end, landed, arrived}
-use Rattle.f_tree.specs.Association.{Bindings, value_for, length_for, bounds_for, bind_all, all_dimensions_by, result_of, with_result, frame_of, begun_with, begun_bound, begun_at, entry_of, serves, start}
+use Rattle.output_laws.specs.simulation.Machine.{Entry, Enters, Refused}
+use Rattle.output_laws.specs.f_tree.Values.{Bytes, Datum, Disagreement, Checked, Gives, Fails}
+use Rattle.output_laws.specs.f_tree.Terms.{Wanted, AsSubroutine, AsFunction}
+use Rattle.output_laws.specs.f_tree.Facts.{Bounds, Attribute, Formal, UnitKind, MainProgram, EntryPoint, ProgramUnit, Facts, Frame}
+use Rattle.output_laws.specs.f_tree.World as fortran
+use Rattle.output_laws.specs.f_tree.World.{World, Round, Turning, Doing, Waits, Returning, Called, TheMain, Procedure, Passed, fortran_sorts, entered}
+use Rattle.output_laws.specs.f_tree.Places.{Landing, at_range_end, landed, arrived}
+use Rattle.output_laws.specs.f_tree.Association.{Bindings, value_for, length_for, bounds_for, bind_all, all_dimensions_by, result_of, with_result, frame_of, begun_with, begun_bound, begun_at, entry_of, serves, start}
 
 -- ## The begin
 

@@ -4,22 +4,22 @@ use Rattle.std.specs.Ordering.{int_eq}
 use Rattle.std.proofs.Common.{refl, sym, ap, ◌∙◌, subst, arith}
 use Rattle.std.proofs.lemmas.Bool.{eqb-true}
 use Rattle.std.proofs.lemmas.Bool.Decides.{Decides-int_eq}
-use Rattle.f_tree.specs.declared.names.Basic.TheVariants as basic
-use Rattle.f_tree.specs.Values.{Bytes, Spot, Datum, IsInt, IsSpot, Checked, Gives, in_range}
-use Rattle.f_tree.specs.Facts.{Direction, Layout, Controls, Frame}
-use Rattle.f_tree.specs.Setting.{IsIn, first_in, later_in}
-use Rattle.f_tree.specs.Valuing.{stored_at, extent_of, elements_of, named_as, whole}
-use Rattle.l_core.specs.Pures.{Pures}
-use Rattle.l_core.specs.Steps.{Starts, Step, Halt, Acts}
-use Rattle.l_core.specs.Costs.{cost}
-use Rattle.c_tree.specs.Objects.{bytes_of_number}
-use Rattle.c_image.specs.Held.{Holds, number_object}
-use Rattle.c_image.specs.Addresses.{Alone, Reaches, IsSound}
-use Rattle.c_emit.specs.Calls.{unit_of}
-use Rattle.c_emit.specs.Flats.{flats_opened}
-use Rattle.c_emit.specs.Numbers.{numbers_opened}
-use Rattle.c_emit.specs.Types.{types_opened}
-use Rattle.c_emit.specs.Calls.{calls_opened}
+use Rattle.output_laws.specs.f_tree.declared.names.Basic.TheVariants as basic
+use Rattle.output_laws.specs.f_tree.Values.{Bytes, Spot, Datum, IsInt, IsSpot, Checked, Gives, in_range}
+use Rattle.output_laws.specs.f_tree.Facts.{Direction, Layout, Controls, Frame}
+use Rattle.output_laws.specs.f_tree.Setting.{IsIn, first_in, later_in}
+use Rattle.output_laws.specs.f_tree.Valuing.{stored_at, extent_of, elements_of, named_as, whole}
+use Rattle.c_emit_laws.specs.l_core.Pures.{Pures}
+use Rattle.c_emit_laws.specs.l_core.Steps.{Starts, Step, Halt, Acts}
+use Rattle.c_emit_laws.specs.l_core.Costs.{cost}
+use Rattle.output_laws.specs.c_tree.Objects.{bytes_of_number}
+use Rattle.c_emit_laws.specs.c_image.Held.{Holds, number_object}
+use Rattle.c_emit_laws.specs.c_image.Addresses.{Alone, Reaches, IsSound}
+use Rattle.c_emit_laws.specs.c_emit.Calls.{unit_of}
+use Rattle.c_emit_laws.specs.c_emit.Flats.{flats_opened}
+use Rattle.c_emit_laws.specs.c_emit.Numbers.{numbers_opened}
+use Rattle.c_emit_laws.specs.c_emit.Types.{types_opened}
+use Rattle.c_emit_laws.specs.c_emit.Calls.{calls_opened}
 use Rattle.c_emit_laws.specs.Example.{one_integer}
 use Rattle.output_laws.specs.ListedOutputs.{list_object}
 use Rattle.emitted_texts.specs.Emitted.{leads, stage_behind, is_of_output, CallsFit, IsItem, IsEmittedMain}

@@ -1,19 +1,19 @@
 -- What the function of a main program knows when it begins.
 use Rattle.std.specs.Prelude.{◌≡◌, ℕ, suc, ◌<◌, ℤ, true, ◌&&◌, List, length, Option, Some, None, slice_get}
 use Rattle.std.proofs.Common.{refl, sym, ap, ◌∙◌, subst}
-use Rattle.f_tree.specs.declared.names.Basic.{Basic}
-use Rattle.f_tree.specs.declared.names.Class.{Class}
-use Rattle.f_tree.specs.declared.names.Class.TheVariants as class
-use Rattle.f_tree.specs.Values.{Bytes, Spot, Datum, IsSpot, IsProc, NoMeaning, Checked, Gives, Fails}
-use Rattle.f_tree.specs.Facts.{Bounds, Attribute, Home, Facts, Frame}
-use Rattle.f_tree.specs.Valuing.{stored_at, if_bound, if_there, named_as, whole, either_bounds, bounds_of}
-use Rattle.l_core.specs.Pures.{none_kept}
-use Rattle.l_core.specs.Steps.{Text}
-use Rattle.c_image.specs.World.{World, Extends}
-use Rattle.c_image.specs.Elements.{Quantity}
-use Rattle.c_image.specs.Knowing.{IsQuantity}
-use Rattle.c_image_laws.proofs.Knowledge.{knows_later}
-use Rattle.c_emit.specs.Numbers.{Writing, is_variable, is_numeric, has_number}
+use Rattle.output_laws.specs.f_tree.declared.names.Basic.{Basic}
+use Rattle.output_laws.specs.f_tree.declared.names.Class.{Class}
+use Rattle.output_laws.specs.f_tree.declared.names.Class.TheVariants as class
+use Rattle.output_laws.specs.f_tree.Values.{Bytes, Spot, Datum, IsSpot, IsProc, NoMeaning, Checked, Gives, Fails}
+use Rattle.output_laws.specs.f_tree.Facts.{Bounds, Attribute, Home, Facts, Frame}
+use Rattle.output_laws.specs.f_tree.Valuing.{stored_at, if_bound, if_there, named_as, whole, either_bounds, bounds_of}
+use Rattle.c_emit_laws.specs.l_core.Pures.{none_kept}
+use Rattle.c_emit_laws.specs.l_core.Steps.{Text}
+use Rattle.c_emit_laws.specs.c_image.World.{World, Extends}
+use Rattle.c_emit_laws.specs.c_image.Elements.{Quantity}
+use Rattle.c_emit_laws.specs.c_image.Knowing.{IsQuantity}
+use Rattle.c_emit_laws.proofs.c_image_laws.Knowledge.{knows_later}
+use Rattle.c_emit_laws.specs.c_emit.Numbers.{Writing, is_variable, is_numeric, has_number}
 use Rattle.c_emit_laws.specs.EmittedNumbers.{IsKnown}
 use Rattle.emitted_texts.specs.SecondLayer.{Surroundings, Emission}
 use Rattle.emitted_texts.specs.Emitted.{IsEmittedMain}

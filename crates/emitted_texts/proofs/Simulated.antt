@@ -4,49 +4,49 @@ use Rattle.std.proofs.Common.{refl, sym, ap, ◌∙◌, subst, arith}
 use Rattle.std.proofs.lemmas.List.{length-set}
 use Rattle.std.proofs.lemmas.Option.{slice_get_within}
 use Rattle.std.proofs.lemmas.Bool.{eqb-true, eq-eqb}
-use Rattle.simulation.specs.Machine.{Goes, Ends, Calls, Answers, Breaks, Entry, Enters, Refused}
-use Rattle.simulation.specs.LocalSimulation.{last, Meets, Opened, Local}
-use Rattle.f_tree.specs.declared.names.Basic.{Basic}
-use Rattle.f_tree.specs.Values.{Datum, Nothing, Checked, Gives, given_that}
-use Rattle.f_tree.specs.Terms.{Function}
-use Rattle.f_tree.specs.Facts.{EntryPoint, Facts}
-use Rattle.f_tree.specs.Setting.{IsIn, first_in}
-use Rattle.f_tree.specs.Valuing.{applied}
-use Rattle.f_tree.specs.World as fortran
-use Rattle.f_tree.specs.World.{Called, Passed, fortran_sorts}
-use Rattle.f_tree.specs.Association as association
-use Rattle.f_tree.specs.Association.{answer}
-use Rattle.l_core.specs.Pures.{Pure, Pures, Temporaries, none_kept, with_kept, meant, all_meant}
-use Rattle.l_core.specs.Steps.{Step, Keep, Put, PutText, PutLabel, Compute, Unless, AgainIf, Skip, Again, Jump, Select, JumpBy, Pass, CallFor, CallSub, Branch, Back, BackBy, Halt, Acts, Text}
-use Rattle.l_core.specs.Machine.{View, Doing, resting, answering, keeping, done, step, begun}
-use Rattle.l_core.specs.Machine as lower
-use Rattle.l_core.specs.Costs.{cost}
-use Rattle.c_tree.specs.declared.outcome.CValue.{CValue}
-use Rattle.c_tree.specs.declared.outcome.CValue.TheVariants.{Number}
-use Rattle.c_tree.specs.declared.outcome.CFault.TheVariants.{Disagree}
-use Rattle.c_tree.specs.Faults.{Faults}
-use Rattle.c_tree.specs.Objects as objects_of
-use Rattle.c_tree.specs.Terms.{Term, Constant}
-use Rattle.c_tree.specs.Flat as flat
-use Rattle.c_tree.specs.Flat.{Flat}
-use Rattle.c_tree.specs.Values as c_values
-use Rattle.c_tree.specs.World as c
-use Rattle.c_tree.specs.Steps as c_steps
-use Rattle.c_tree.specs.Steps.{language, deed, given_by, first_view, with_frame, all_bound, all_fit}
-use Rattle.c_laws.proofs.StepLaws.{step_at, return_answers}
-use Rattle.c_image.specs.World.{World, with_held, framed, Extends, IsIdle}
-use Rattle.c_image_laws.proofs.Growing.{changed_there, changed_elsewhere, extends_through, extends_framed}
-use Rattle.c_image_laws.proofs.CallsStand.{begins_stand}
-use Rattle.c_image_laws.proofs.Parameters.{temporary_at}
-use Rattle.c_emit.specs.Numbers.{Writing, if_number}
-use Rattle.c_emit.specs.LibraryFunctions.{LibraryFunction, library_type}
-use Rattle.c_emit.specs.Calls.{computed_item}
-use Rattle.c_emit.specs.Flats.{assigned, returned_by, flat_of}
-use Rattle.c_emit.specs.Types.{HasType, type_of}
+use Rattle.output_laws.specs.simulation.Machine.{Goes, Ends, Calls, Answers, Breaks, Entry, Enters, Refused}
+use Rattle.output_laws.specs.simulation.LocalSimulation.{last, Meets, Opened, Local}
+use Rattle.output_laws.specs.f_tree.declared.names.Basic.{Basic}
+use Rattle.output_laws.specs.f_tree.Values.{Datum, Nothing, Checked, Gives, given_that}
+use Rattle.output_laws.specs.f_tree.Terms.{Function}
+use Rattle.output_laws.specs.f_tree.Facts.{EntryPoint, Facts}
+use Rattle.output_laws.specs.f_tree.Setting.{IsIn, first_in}
+use Rattle.output_laws.specs.f_tree.Valuing.{applied}
+use Rattle.output_laws.specs.f_tree.World as fortran
+use Rattle.output_laws.specs.f_tree.World.{Called, Passed, fortran_sorts}
+use Rattle.output_laws.specs.f_tree.Association as association
+use Rattle.output_laws.specs.f_tree.Association.{answer}
+use Rattle.c_emit_laws.specs.l_core.Pures.{Pure, Pures, Temporaries, none_kept, with_kept, meant, all_meant}
+use Rattle.c_emit_laws.specs.l_core.Steps.{Step, Keep, Put, PutText, PutLabel, Compute, Unless, AgainIf, Skip, Again, Jump, Select, JumpBy, Pass, CallFor, CallSub, Branch, Back, BackBy, Halt, Acts, Text}
+use Rattle.c_emit_laws.specs.l_core.Machine.{View, Doing, resting, answering, keeping, done, step, begun}
+use Rattle.c_emit_laws.specs.l_core.Machine as lower
+use Rattle.c_emit_laws.specs.l_core.Costs.{cost}
+use Rattle.output_laws.specs.c_tree.declared.outcome.CValue.{CValue}
+use Rattle.output_laws.specs.c_tree.declared.outcome.CValue.TheVariants.{Number}
+use Rattle.output_laws.specs.c_tree.declared.outcome.CFault.TheVariants.{Disagree}
+use Rattle.output_laws.specs.c_tree.Faults.{Faults}
+use Rattle.output_laws.specs.c_tree.Objects as objects_of
+use Rattle.output_laws.specs.c_tree.Terms.{Term, Constant}
+use Rattle.output_laws.specs.c_tree.Flat as flat
+use Rattle.output_laws.specs.c_tree.Flat.{Flat}
+use Rattle.output_laws.specs.c_tree.Values as c_values
+use Rattle.output_laws.specs.c_tree.World as c
+use Rattle.output_laws.specs.c_tree.Steps as c_steps
+use Rattle.output_laws.specs.c_tree.Steps.{language, deed, given_by, first_view, with_frame, all_bound, all_fit}
+use Rattle.c_emit_laws.proofs.c_laws.StepLaws.{step_at, return_answers}
+use Rattle.c_emit_laws.specs.c_image.World.{World, with_held, framed, Extends, IsIdle}
+use Rattle.c_emit_laws.proofs.c_image_laws.Growing.{changed_there, changed_elsewhere, extends_through, extends_framed}
+use Rattle.c_emit_laws.proofs.c_image_laws.CallsStand.{begins_stand}
+use Rattle.c_emit_laws.proofs.c_image_laws.Parameters.{temporary_at}
+use Rattle.c_emit_laws.specs.c_emit.Numbers.{Writing, if_number}
+use Rattle.c_emit_laws.specs.c_emit.LibraryFunctions.{LibraryFunction, library_type}
+use Rattle.c_emit_laws.specs.c_emit.Calls.{computed_item}
+use Rattle.c_emit_laws.specs.c_emit.Flats.{assigned, switch_to, returned_by, flat_of}
+use Rattle.c_emit_laws.specs.c_emit.Types.{HasType, type_of}
 use Rattle.c_emit_laws.specs.EmittedTypes.{AreTyped}
 use Rattle.c_emit_laws.proofs.TypeLaws.{types_are_right}
 use Rattle.c_emit_laws.specs.EmittedNumbers.{IsKnown}
-use Rattle.c_emit_laws.specs.EmittedFlats.{KeepsAlike, CallsLibrary, Steers, by_put, by_test, by_test_back, by_skip, by_return, by_jump, by_pass}
+use Rattle.c_emit_laws.specs.EmittedFlats.{KeepsAlike, CallsLibrary, Steers, by_put, by_label, by_test, by_test_back, by_skip, by_return, by_jump, by_select, by_held, by_pass}
 use Rattle.c_emit_laws.proofs.Choices.{got, some_same}
 use Rattle.c_emit_laws.proofs.ComputedNumbers.{library_types_are_right}
 use Rattle.c_emit_laws.proofs.FlatLaws.{flats_go_on}
@@ -282,22 +282,23 @@ module _ (s : Surroundings) (number : ℕ) (u : Text) (costs : List ℕ) (e : Em
 
   each : (μ : World) (v : View) (x : fortran.World) (w : c_steps.View) (y : c.World) → IsAtStep s number e μ v x w y → (st : Step) → slice_get u.steps v.at ≡ Some st → IsItem u e v.at st
       → Meets (emit_couple s number u costs e) μ w y (cost costs v.at) (step u v x)
-  unfolding flat_of
+  unfolding flat_of switch_to
   each μ v x w y now' (Put place p) at item = steered μ v x w y now' (Put place p) at item (by_put place p) (step u v x) refl
+  each μ v x w y now' (PutLabel place label) at item = steered μ v x w y now' (PutLabel place label) at item (by_label place label) (step u v x) refl
   each μ v x w y now' (Unless p n) at item = steered μ v x w y now' (Unless p n) at item (by_test p n) (step u v x) refl
   each μ v x w y now' (AgainIf p n) at item = steered μ v x w y now' (AgainIf p n) at item (by_test_back p n) (step u v x) refl
   each μ v x w y now' (Skip n) at item = steered μ v x w y now' (Skip n) at item (by_skip n) (step u v x) refl
   each μ v x w y now' (Again n) at item = steered μ v x w y now' (Again n) at item (by_return n) (step u v x) refl
   each μ v x w y now' (Jump label) at item = steered μ v x w y now' (Jump label) at item (by_jump label) (step u v x) refl
+  each μ v x w y now' (Select p count) at item = steered μ v x w y now' (Select p count) at item (by_select p count) (step u v x) refl
+  each μ v x w y now' (JumpBy p (label ∷ labels)) at item = steered μ v x w y now' (JumpBy p (label ∷ labels)) at item (by_held p label labels) (step u v x) refl
   each μ v x w y now' Pass at item = steered μ v x w y now' Pass at item by_pass (step u v x) refl
   each μ v x w y now' (Keep k p) at item =
       keeps μ v x w y now' (Keep k p) at item k p refl (numeric_by (e.writing.is_number k) _ _ item.item item.emitted)
   each μ v x w y now' Back at item = answers μ v x w y now' Back at item refl
   each μ v x w y now' (PutText place ps) at item = none_emitted item.item item.emitted
-  each μ v x w y now' (PutLabel place label) at item = none_emitted item.item item.emitted
   each μ v x w y now' (Compute k f ps) at item = computes μ v x w y now' (Compute k f ps) at item k f ps refl (computed_number e.writing (e.writing.is_number k) _ _ _ item.item item.emitted)
-  each μ v x w y now' (Select p labels) at item = none_emitted item.item item.emitted
-  each μ v x w y now' (JumpBy p labels) at item = none_emitted item.item item.emitted
+  each μ v x w y now' (JumpBy p []) at item = none_emitted item.item item.emitted
   each μ v x w y now' (CallFor k callee ps) at item = none_emitted item.item item.emitted
   each μ v x w y now' (CallSub k name ps) at item = none_emitted item.item item.emitted
   each μ v x w y now' (Branch k) at item = none_emitted item.item item.emitted

@@ -2,60 +2,60 @@
 use Rattle.std.specs.Prelude.{◌≡◌, ℕ, zero, suc, ◌+◌, ◌-◌, nat_lt, ℤ, pos, Bool, true, false, ◌&&◌, List, [], ◌∷◌, ◌++◌, length, position, Option, Some, None, is_none, option_and_then, unwrap_or, bytes_eq, Ok, codes, slice_get, if◌then◌else◌}
 use Rattle.std.proofs.Common.{refl, sym, ap, ◌∙◌, subst, arith}
 use Rattle.std.proofs.lemmas.Bool.{ltb-true}
-use Rattle.simulation.specs.Machine.{Goes, Ends, Breaks}
-use Rattle.simulation.specs.LocalSimulation.{last, Meets}
-use Rattle.edit_meaning.specs.Listed.{ListedValue, Int, Logical}
-use Rattle.run_state.specs.Units.{Units, reads_zero_blanks}
-use Rattle.f_tree.specs.declared.names.Basic.{Basic}
-use Rattle.f_tree.specs.declared.names.Basic.TheVariants as basic
-use Rattle.f_tree.specs.Values.{Bytes, Spot, Datum, IsInt, IsLog, IsText, IsSpot, Checked, Gives, Fails, in_range, given_that}
-use Rattle.f_tree.specs.Values as fortran_values
-use Rattle.f_tree.specs.Store.{Whole, Number as ANumber, Truth}
-use Rattle.f_tree.specs.Facts.{Word, UnitWord, Direction, Output, Layout, Listed, Controls}
-use Rattle.f_tree.specs.Setting.{IsIn, first_in}
-use Rattle.f_tree.specs.World as fortran
-use Rattle.f_tree.specs.Courses.{Course}
-use Rattle.f_tree.specs.Transfers.{begins, item_done, finished}
-use Rattle.f_tree.specs.Valuing as valuing
-use Rattle.f_tree.specs.Step.{stop_ending}
-use Rattle.l_core.specs.Pures.{Pure, Constant, Temporary, Load, Name, AllOf, ElementOf, FirstOf, Substring, Concatenated, Prefixed, Operated, Applied, Chosen, Pures, NoPure, AndPure, if_kept, meant, all_meant}
-use Rattle.l_core.specs.Steps.{Acting, Starts, Takes, Finishes, Step, Halt, Acts, Text}
-use Rattle.l_core.specs.Machine.{View, Doing, to, onward, past, course_of, coursing, acting, done, step}
-use Rattle.l_core.specs.Costs.{cost}
-use Rattle.c_tree.specs.declared.outcome.CValue.{CValue}
-use Rattle.c_tree.specs.declared.outcome.CValue.TheVariants.{Number, Pointer}
-use Rattle.c_tree.specs.declared.types.CastType.TheVariants as cast_to
-use Rattle.c_tree.specs.declared.types.ListType.TheVariants as list_type
-use Rattle.c_tree.specs.Faults.{Or, after}
-use Rattle.c_tree.specs.Access.{ToNumber, ToChar, ToList}
-use Rattle.c_tree.specs.Objects.{Object, Bytes as Stored, plain, as_number, fetched}
-use Rattle.c_tree.specs.Terms as c_term
-use Rattle.c_tree.specs.Terms.{Term}
-use Rattle.c_tree.specs.Values as c_values
-use Rattle.c_tree.specs.Values.{values_of, value_of}
-use Rattle.c_tree.specs.Flat.{Flat, Invoke, Ignored, Direct}
-use Rattle.c_tree.specs.World as c
-use Rattle.c_tree.specs.World.{Reply}
-use Rattle.c_tree.specs.Builtins.{Signature, signature, signatures, builtin_names, one_list, ANumber as TakesNumber, APointer, do_lio, s_stop}
-use Rattle.c_tree.specs.LibraryArguments.{number_through, text_at}
-use Rattle.c_tree.specs.Library.{library, stopped, stops}
-use Rattle.c_tree.specs.Steps as c_steps
-use Rattle.c_tree.specs.Steps.{WantsNothing, takes_all, replied}
-use Rattle.c_laws.proofs.StepLaws.{step_at, library_call_replies}
-use Rattle.c_laws.proofs.ValueLaws.{values_of-cons, value_of-number, Size-counts, Length-counts, Constant-counts, address_of_variable}
-use Rattle.faithful.specs.StorageImage.{number_for}
-use Rattle.faithful.specs.SameTransfer.{SameTransfer, neither, both, outputs, listed, on_unit}
-use Rattle.c_image.specs.World.{World}
-use Rattle.c_image.specs.Standing.{Stands}
-use Rattle.c_image.specs.Held.{whole_for, Holds}
-use Rattle.c_image_laws.specs.Meanings.{Means, IsPlace}
-use Rattle.c_image_laws.proofs.AddressValues.{Address-points}
-use Rattle.c_image_laws.proofs.Keeping.{held_number, held_text}
-use Rattle.c_image_laws.proofs.TextValues.{length_is}
-use Rattle.c_emit.specs.Numbers.{Writing, value_term, place_term, if_number}
-use Rattle.c_emit.specs.Types.{HasType, type_of}
-use Rattle.c_emit.specs.Calls.{call_of, address_of, is_unit_alone, is_plain, start_on, start_item, unit_of, if_held, constant_held, held_term, kind_number, item_by, takes_item, finish_item, stop_item}
-use Rattle.c_emit.specs.Flats.{flat_of}
+use Rattle.output_laws.specs.simulation.Machine.{Goes, Ends, Breaks}
+use Rattle.output_laws.specs.simulation.LocalSimulation.{last, Meets}
+use Rattle.output_laws.specs.edit_meaning.Listed.{ListedValue, Int, Logical}
+use Rattle.output_laws.specs.run_state.Units.{Units, reads_zero_blanks}
+use Rattle.output_laws.specs.f_tree.declared.names.Basic.{Basic}
+use Rattle.output_laws.specs.f_tree.declared.names.Basic.TheVariants as basic
+use Rattle.output_laws.specs.f_tree.Values.{Bytes, Spot, Datum, IsInt, IsLog, IsText, IsSpot, Checked, Gives, Fails, in_range, given_that}
+use Rattle.output_laws.specs.f_tree.Values as fortran_values
+use Rattle.output_laws.specs.f_tree.Store.{Whole, Number as ANumber, Truth}
+use Rattle.output_laws.specs.f_tree.Facts.{Word, UnitWord, Direction, Output, Layout, Listed, Controls}
+use Rattle.output_laws.specs.f_tree.Setting.{IsIn, first_in}
+use Rattle.output_laws.specs.f_tree.World as fortran
+use Rattle.output_laws.specs.f_tree.Courses.{Course}
+use Rattle.output_laws.specs.f_tree.Transfers.{begins, item_done, finished}
+use Rattle.output_laws.specs.f_tree.Valuing as valuing
+use Rattle.output_laws.specs.f_tree.Step.{stop_ending}
+use Rattle.c_emit_laws.specs.l_core.Pures.{Pure, Constant, Temporary, Load, Name, AllOf, ElementOf, FirstOf, Substring, Concatenated, Prefixed, Operated, Applied, Chosen, Pures, NoPure, AndPure, if_kept, meant, all_meant}
+use Rattle.c_emit_laws.specs.l_core.Steps.{Acting, Starts, Takes, Finishes, Step, Halt, Acts, Text}
+use Rattle.c_emit_laws.specs.l_core.Machine.{View, Doing, to, onward, past, course_of, coursing, acting, done, step}
+use Rattle.c_emit_laws.specs.l_core.Costs.{cost}
+use Rattle.output_laws.specs.c_tree.declared.outcome.CValue.{CValue}
+use Rattle.output_laws.specs.c_tree.declared.outcome.CValue.TheVariants.{Number, Pointer}
+use Rattle.output_laws.specs.c_tree.declared.types.CastType.TheVariants as cast_to
+use Rattle.output_laws.specs.c_tree.declared.types.ListType.TheVariants as list_type
+use Rattle.output_laws.specs.c_tree.Faults.{Or, after}
+use Rattle.output_laws.specs.c_tree.Access.{ToNumber, ToChar, ToList}
+use Rattle.output_laws.specs.c_tree.Objects.{Object, Bytes as Stored, plain, as_number, fetched}
+use Rattle.output_laws.specs.c_tree.Terms as c_term
+use Rattle.output_laws.specs.c_tree.Terms.{Term}
+use Rattle.output_laws.specs.c_tree.Values as c_values
+use Rattle.output_laws.specs.c_tree.Values.{values_of, value_of}
+use Rattle.output_laws.specs.c_tree.Flat.{Flat, Invoke, Ignored, Direct}
+use Rattle.output_laws.specs.c_tree.World as c
+use Rattle.output_laws.specs.c_tree.World.{Reply}
+use Rattle.output_laws.specs.c_tree.Builtins.{Signature, signature, signatures, builtin_names, one_list, ANumber as TakesNumber, APointer, do_lio, s_stop}
+use Rattle.output_laws.specs.c_tree.LibraryArguments.{number_through, text_at}
+use Rattle.output_laws.specs.c_tree.Library.{library, stopped, stops}
+use Rattle.output_laws.specs.c_tree.Steps as c_steps
+use Rattle.output_laws.specs.c_tree.Steps.{WantsNothing, takes_all, replied}
+use Rattle.c_emit_laws.proofs.c_laws.StepLaws.{step_at, library_call_replies}
+use Rattle.c_emit_laws.proofs.c_laws.ValueLaws.{values_of-cons, value_of-number, Size-counts, Length-counts, Constant-counts, address_of_variable}
+use Rattle.output_laws.specs.faithful.StorageImage.{number_for}
+use Rattle.output_laws.specs.faithful.SameTransfer.{SameTransfer, neither, both, outputs, listed, on_unit}
+use Rattle.c_emit_laws.specs.c_image.World.{World}
+use Rattle.c_emit_laws.specs.c_image.Standing.{Stands}
+use Rattle.c_emit_laws.specs.c_image.Held.{whole_for, Holds}
+use Rattle.c_emit_laws.specs.c_image_laws.Meanings.{Means, IsPlace}
+use Rattle.c_emit_laws.proofs.c_image_laws.AddressValues.{Address-points}
+use Rattle.c_emit_laws.proofs.c_image_laws.Keeping.{held_number, held_text}
+use Rattle.c_emit_laws.proofs.c_image_laws.TextValues.{length_is}
+use Rattle.c_emit_laws.specs.c_emit.Numbers.{Writing, value_term, place_term, if_number}
+use Rattle.c_emit_laws.specs.c_emit.Types.{HasType, type_of}
+use Rattle.c_emit_laws.specs.c_emit.Calls.{call_of, address_of, is_unit_alone, is_plain, start_on, start_item, unit_of, if_held, constant_held, held_term, kind_number, item_by, takes_item, finish_item, stop_item}
+use Rattle.c_emit_laws.specs.c_emit.Flats.{flat_of}
 use Rattle.c_emit_laws.specs.EmittedNumbers.{IsKnown}
 use Rattle.c_emit_laws.proofs.Choices.{got, some_same}
 use Rattle.c_emit_laws.proofs.HeldNumbers.{number_there, value_holds}

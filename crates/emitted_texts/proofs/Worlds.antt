@@ -2,22 +2,22 @@
 use Rattle.std.specs.Prelude.{◌≡◌, ℕ, ◌+◌, ◌≤◌, List, [], ◌++◌, length, take, drop, Option, Some, None, Ok, Err, slice_get, slice_set}
 use Rattle.std.proofs.Common.{refl, sym, ap, ◌∙◌, subst, arith}
 use Rattle.std.proofs.lemmas.List.{length-set, length-take-le, length-drop, length-append}
-use Rattle.simulation.specs.Machine.{Goes}
-use Rattle.c_tree.specs.declared.outcome.CValue.{CValue}
-use Rattle.c_tree.specs.declared.outcome.CValue.TheVariants.{Number, Pointer, Null, Function}
-use Rattle.c_tree.specs.Faults.{Or, after}
-use Rattle.c_tree.specs.Access.{Access}
-use Rattle.c_tree.specs.Objects.{Object, Place, converted, put_object, store_through, stored}
-use Rattle.c_tree.specs.Terms.{Term}
-use Rattle.c_tree.specs.Values.{value_of, place_named, test_of}
-use Rattle.c_tree.specs.Flat as flat
-use Rattle.c_tree.specs.Flat.{Flat}
-use Rattle.c_tree.specs.World as c
-use Rattle.c_tree.specs.Linking as linking
-use Rattle.c_tree.specs.Steps as c_steps
-use Rattle.c_tree.specs.Steps.{deed, given_that, with_frame, all_bound}
-use Rattle.c_image.specs.World.{World, with_held, Extends}
-use Rattle.c_image_laws.proofs.Growing.{changed_elsewhere}
+use Rattle.output_laws.specs.simulation.Machine.{Goes}
+use Rattle.output_laws.specs.c_tree.declared.outcome.CValue.{CValue}
+use Rattle.output_laws.specs.c_tree.declared.outcome.CValue.TheVariants.{Number, Pointer, Null, Function}
+use Rattle.output_laws.specs.c_tree.Faults.{Or, after}
+use Rattle.output_laws.specs.c_tree.Access.{Access}
+use Rattle.output_laws.specs.c_tree.Objects.{Object, Place, converted, put_object, store_through, stored}
+use Rattle.output_laws.specs.c_tree.Terms.{Term}
+use Rattle.output_laws.specs.c_tree.Values.{value_of, place_named, test_of, number_of}
+use Rattle.output_laws.specs.c_tree.Flat as flat
+use Rattle.output_laws.specs.c_tree.Flat.{Flat, CaseAt}
+use Rattle.output_laws.specs.c_tree.World as c
+use Rattle.output_laws.specs.c_tree.Linking as linking
+use Rattle.output_laws.specs.c_tree.Steps as c_steps
+use Rattle.output_laws.specs.c_tree.Steps.{deed, given_that, with_frame, all_bound}
+use Rattle.c_emit_laws.specs.c_image.World.{World, with_held, Extends}
+use Rattle.c_emit_laws.proofs.c_image_laws.Growing.{changed_elsewhere}
 
 -- ## Objects are as many as they were
 
@@ -67,6 +67,7 @@ world_of w e = w
 pub data IsPlain : Flat → Type 0 where
   assigns : (target value : Term) → IsPlain (flat.Assign target value)
   tests : (test : Term) (on off : ℕ) → IsPlain (flat.Branch test on off)
+  chooses : (value : Term) (cases : List CaseAt) (otherwise : ℕ) → IsPlain (flat.Select value cases otherwise)
   jumps : (position : ℕ) → IsPlain (flat.Jump position)
   nothing : IsPlain flat.Nothing
 
@@ -81,6 +82,9 @@ plain_length function view later world now _ (assigns target value) e =
 plain_length function view later world now _ (tests test on off) e =
     let holds = went (test_of world.objects test) _ later now e in
     sym (ap (λ h. length (world_of now h).objects) holds.goes)
+plain_length function view later world now _ (chooses value cases otherwise) e =
+    let number = went (number_of world.objects value) _ later now e in
+    sym (ap (λ h. length (world_of now h).objects) number.goes)
 plain_length function view later world now _ (jumps position) e = sym (ap (λ h. length (world_of now h).objects) e)
 plain_length function view later world now _ nothing e = sym (ap (λ h. length (world_of now h).objects) e)
 

@@ -1,28 +1,28 @@
 -- When a lowered text of a main program is emitted as a C function, and that the function then simulates it. ANSI X3.9-1978, sections 14 and
 -- 15.8; C89, 3.6.6.4.
-use Rattle.std.specs.Prelude.{◌≡◌, ℕ, suc, ◌+◌, ◌-◌, ◌<◌, ◌≤◌, nat_eq, ℤ, pos, Bool, true, false, List, [], ◌∷◌, length, Option, Some, None, slice_get, if◌then◌else◌}
-use Rattle.simulation.specs.LocalSimulation.{Local}
-use Rattle.f_tree.specs.declared.names.Class.TheVariants as class
-use Rattle.f_tree.specs.declared.names.Basic.{Basic}
-use Rattle.f_tree.specs.Values.{Bytes, Spot, IsInt, IsText, IsSpot, Gives}
-use Rattle.f_tree.specs.Facts.{Direction, Layout, Controls, Bounds, MainProgram, EntryPoint, Frame}
-use Rattle.f_tree.specs.Setting.{IsIn}
-use Rattle.f_tree.specs.Valuing.{whole, size_of_dimension}
-use Rattle.l_core.specs.Pures.{Pures}
-use Rattle.l_core.specs.Steps.{Starts, Takes, Finishes, Step, Keep, Compute, Unless, AgainIf, Skip, Again, Jump, Back, Halt, Acts, Text}
-use Rattle.l_core.specs.Costs.{cost}
-use Rattle.c_tree.specs.declared.types.ResultType.TheVariants as result
-use Rattle.c_tree.specs.Objects as objects_of
-use Rattle.c_tree.specs.Flat.{Flat}
-use Rattle.c_image.specs.Addresses.{Reaches, IsSound}
-use Rattle.c_image.specs.Elements.{Written}
-use Rattle.c_image.specs.Held.{Holds}
-use Rattle.c_image.specs.Knowing.{IsApart}
-use Rattle.c_emit.specs.Numbers.{Writing}
-use Rattle.c_emit.specs.LibraryFunctions.{library_type}
-use Rattle.c_emit.specs.Types.{type_of}
-use Rattle.c_emit.specs.Calls.{unit_of}
-use Rattle.c_emit.specs.Flats.{flat_of}
+use Rattle.std.specs.Prelude.{◌≡◌, ℕ, zero, suc, ◌+◌, ◌-◌, ◌<◌, ◌≤◌, nat_eq, ℤ, pos, Bool, true, false, List, [], ◌∷◌, length, Option, Some, None, slice_get, if◌then◌else◌}
+use Rattle.output_laws.specs.simulation.LocalSimulation.{Local}
+use Rattle.output_laws.specs.f_tree.declared.names.Class.TheVariants as class
+use Rattle.output_laws.specs.f_tree.declared.names.Basic.{Basic}
+use Rattle.output_laws.specs.f_tree.Values.{Bytes, Spot, IsInt, IsText, IsSpot, Gives}
+use Rattle.output_laws.specs.f_tree.Facts.{Direction, Layout, Controls, Bounds, MainProgram, EntryPoint, Frame}
+use Rattle.output_laws.specs.f_tree.Setting.{IsIn}
+use Rattle.output_laws.specs.f_tree.Valuing.{whole, size_of_dimension}
+use Rattle.c_emit_laws.specs.l_core.Pures.{Pures}
+use Rattle.c_emit_laws.specs.l_core.Steps.{Starts, Takes, Finishes, Step, Keep, Compute, Unless, AgainIf, Skip, Again, Jump, Select, JumpBy, Back, Halt, Acts, Text}
+use Rattle.c_emit_laws.specs.l_core.Costs.{cost}
+use Rattle.output_laws.specs.c_tree.declared.types.ResultType.TheVariants as result
+use Rattle.output_laws.specs.c_tree.Objects as objects_of
+use Rattle.output_laws.specs.c_tree.Flat.{Flat}
+use Rattle.c_emit_laws.specs.c_image.Addresses.{Reaches, IsSound}
+use Rattle.c_emit_laws.specs.c_image.Elements.{Written}
+use Rattle.c_emit_laws.specs.c_image.Held.{Holds}
+use Rattle.c_emit_laws.specs.c_image.Knowing.{IsApart}
+use Rattle.c_emit_laws.specs.c_emit.Numbers.{Writing}
+use Rattle.c_emit_laws.specs.c_emit.LibraryFunctions.{library_type}
+use Rattle.c_emit_laws.specs.c_emit.Types.{type_of}
+use Rattle.c_emit_laws.specs.c_emit.Calls.{unit_of}
+use Rattle.c_emit_laws.specs.c_emit.Flats.{flat_of}
 use Rattle.output_laws.specs.ListedOutputs.{list_object}
 use Rattle.c_emit_laws.specs.EmittedNumbers.{BoundFits}
 use Rattle.emitted_texts.specs.SecondLayer.{Surroundings, Emission, emit_couple}
@@ -46,12 +46,19 @@ unfoldable pub labelled : Option ℕ → List ℕ
 labelled None = []
 labelled (Some n) = n ∷ []
 
+-- so many positions, from one on
+unfoldable pub places_from : ℕ → ℕ → List ℕ
+places_from n zero = []
+places_from n (suc count) = n ∷ places_from (suc n) count
+
 unfoldable pub leads : Text → ℕ → Step → List ℕ
 leads u n (Unless p m) = suc n ∷ (suc n + m) ∷ []
 leads u n (AgainIf p m) = (n - m) ∷ suc n ∷ []
 leads u n (Skip m) = (suc n + m) ∷ []
 leads u n (Again m) = (n - m) ∷ []
 leads u n (Jump label) = labelled (u.position label)
+leads u n (Select p count) = suc n ∷ places_from (suc (suc n)) count
+leads u n (JumpBy p labels) = suc n ∷ places_from (suc (suc n)) (length labels)
 leads u n Back = []
 leads u n (Halt text) = []
 leads u n st = suc n ∷ []

@@ -2,22 +2,22 @@
 -- constants, the integer, the control list, and a temporary.
 use Rattle.std.specs.Prelude.{ℕ, zero, suc, ◌+◌, nat_eq, ℤ, pos, false, ◌||◌, List, [], ◌∷◌, Option, Some, None, codes, slice_get, if◌then◌else◌}
 use Rattle.std.specs.Ordering.{int_eq}
-use Rattle.f_tree.specs.Values.{IsInt}
-use Rattle.f_tree.specs.Facts.{Output, Listed}
-use Rattle.l_core.specs.Pures.{Constant, Load, Name, NoPure, AndPure}
-use Rattle.l_core.specs.Steps.{Starts, Takes, Finishes, Step, Put, Back, Acts, Text}
-use Rattle.c_tree.specs.declared.types.CastType.TheVariants as to
-use Rattle.c_tree.specs.declared.types.ListType.TheVariants as list_type
-use Rattle.c_tree.specs.declared.types.ResultType.TheVariants as result
-use Rattle.c_tree.specs.Access.{ToNumber, ToList}
-use Rattle.c_tree.specs.Objects.{Object}
-use Rattle.c_tree.specs.Declarations.{unset}
-use Rattle.c_tree.specs.Terms as c
-use Rattle.c_tree.specs.Flat.{Flat, Assign, Invoke, Ignored, Direct, Return}
-use Rattle.c_image.specs.Held.{number_object}
-use Rattle.c_image.specs.Addresses.{Alone}
-use Rattle.c_image.specs.Elements.{Written}
-use Rattle.c_emit.specs.Calls.{address_of}
+use Rattle.output_laws.specs.f_tree.Values.{IsInt}
+use Rattle.output_laws.specs.f_tree.Facts.{Output, Listed}
+use Rattle.c_emit_laws.specs.l_core.Pures.{Constant, Load, Name, NoPure, AndPure}
+use Rattle.c_emit_laws.specs.l_core.Steps.{Starts, Takes, Finishes, Step, Put, Back, Acts, Text}
+use Rattle.output_laws.specs.c_tree.declared.types.CastType.TheVariants as to
+use Rattle.output_laws.specs.c_tree.declared.types.ListType.TheVariants as list_type
+use Rattle.output_laws.specs.c_tree.declared.types.ResultType.TheVariants as result
+use Rattle.output_laws.specs.c_tree.Access.{ToNumber, ToList}
+use Rattle.output_laws.specs.c_tree.Objects.{Object}
+use Rattle.output_laws.specs.c_tree.Declarations.{unset}
+use Rattle.output_laws.specs.c_tree.Terms as c
+use Rattle.output_laws.specs.c_tree.Flat.{Flat, Assign, Invoke, Ignored, Direct, Return}
+use Rattle.c_emit_laws.specs.c_image.Held.{number_object}
+use Rattle.c_emit_laws.specs.c_image.Addresses.{Alone}
+use Rattle.c_emit_laws.specs.c_image.Elements.{Written}
+use Rattle.c_emit_laws.specs.c_emit.Calls.{address_of}
 use Rattle.c_emit_laws.specs.Example.{one_integer}
 use Rattle.output_laws.specs.ListedOutputs.{list_object, unit_alone}
 use Rattle.emitted_texts.specs.SecondLayer.{Surroundings, Emission}

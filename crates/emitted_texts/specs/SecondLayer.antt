@@ -2,34 +2,34 @@
 -- FORTRAN store stands in the C objects, and what the function knows of its names and temporaries is so.
 -- ANSI X3.9-1978, sections 2.13, 15.8 and 15.9; C89, 3.1.2.4, 3.3.2.2 and 3.6.
 use Rattle.std.specs.Prelude.{◌≡◌, ℕ, ◌<◌, ◌≤◌, nat_eq, ℤ, pos, true, false, Bool, List, [], ◌∷◌, ◌++◌, length, Option, Some, None}
-use Rattle.simulation.specs.LocalSimulation.{Kit, Pairing, Couple}
-use Rattle.f_tree.specs.declared.names.Basic.{Basic}
-use Rattle.f_tree.specs.declared.names.Basic.TheVariants.{Character}
-use Rattle.f_tree.specs.Values.{Bytes, Spot, Datum, IsInt, IsLog, IsText, IsSpot, IsProc, IsLabel, Nothing}
-use Rattle.f_tree.specs.Terms.{AsSubroutine}
-use Rattle.f_tree.specs.Facts.{FunctionUnit, ProgramUnit, Frame}
-use Rattle.f_tree.specs.Setting.{IsIn}
-use Rattle.f_tree.specs.World as fortran
-use Rattle.f_tree.specs.World.{Called, Procedure, Passed}
-use Rattle.l_core.specs.Steps.{Text}
-use Rattle.l_core.specs.Machine.{View, lowered}
-use Rattle.l_core.specs.Costs.{cost}
-use Rattle.c_tree.specs.declared.outcome.CValue.{CValue}
-use Rattle.c_tree.specs.declared.outcome.CValue.TheVariants.{Number, Pointer, Function}
-use Rattle.c_tree.specs.Objects as objects_of
-use Rattle.c_tree.specs.World as c
-use Rattle.c_tree.specs.Linking as linking
-use Rattle.c_tree.specs.Steps as c_steps
-use Rattle.c_tree.specs.Steps.{language}
-use Rattle.f_tree.specs.Store.{Truth}
-use Rattle.faithful.specs.StorageImage.{number_for}
-use Rattle.faithful.specs.SameTransfer.{SameTransfer}
-use Rattle.c_image.specs.World.{World, Extends, IsHomeless, IsIdle}
-use Rattle.c_image.specs.Standing.{Stands}
-use Rattle.c_emit.specs.Numbers.{Writing}
+use Rattle.output_laws.specs.simulation.LocalSimulation.{Kit, Pairing, Couple}
+use Rattle.output_laws.specs.f_tree.declared.names.Basic.{Basic}
+use Rattle.output_laws.specs.f_tree.declared.names.Basic.TheVariants.{Character}
+use Rattle.output_laws.specs.f_tree.Values.{Bytes, Spot, Datum, IsInt, IsLog, IsText, IsSpot, IsProc, IsLabel, Nothing}
+use Rattle.output_laws.specs.f_tree.Terms.{AsSubroutine}
+use Rattle.output_laws.specs.f_tree.Facts.{FunctionUnit, ProgramUnit, Frame}
+use Rattle.output_laws.specs.f_tree.Setting.{IsIn}
+use Rattle.output_laws.specs.f_tree.World as fortran
+use Rattle.output_laws.specs.f_tree.World.{Called, Procedure, Passed}
+use Rattle.c_emit_laws.specs.l_core.Steps.{Text}
+use Rattle.c_emit_laws.specs.l_core.Machine.{View, lowered}
+use Rattle.c_emit_laws.specs.l_core.Costs.{cost}
+use Rattle.output_laws.specs.c_tree.declared.outcome.CValue.{CValue}
+use Rattle.output_laws.specs.c_tree.declared.outcome.CValue.TheVariants.{Number, Pointer, Function}
+use Rattle.output_laws.specs.c_tree.Objects as objects_of
+use Rattle.output_laws.specs.c_tree.World as c
+use Rattle.output_laws.specs.c_tree.Linking as linking
+use Rattle.output_laws.specs.c_tree.Steps as c_steps
+use Rattle.output_laws.specs.c_tree.Steps.{language}
+use Rattle.output_laws.specs.f_tree.Store.{Truth}
+use Rattle.output_laws.specs.faithful.StorageImage.{number_for}
+use Rattle.output_laws.specs.faithful.SameTransfer.{SameTransfer}
+use Rattle.c_emit_laws.specs.c_image.World.{World, Extends, IsHomeless, IsIdle}
+use Rattle.c_emit_laws.specs.c_image.Standing.{Stands}
+use Rattle.c_emit_laws.specs.c_emit.Numbers.{Writing}
 use Rattle.c_emit_laws.specs.EmittedNumbers.{IsKnown}
 use Rattle.c_emit_laws.specs.EmittedTypes.{AreTyped}
-use Rattle.edit_meaning.specs.Listed.{ListedValue}
+use Rattle.output_laws.specs.edit_meaning.Listed.{ListedValue}
 use Rattle.output_laws.specs.ListedOutputs.{IsInProgress}
 
 -- ## What the functions of a program stand in

@@ -10,7 +10,7 @@ use Rattle.f_tree.specs.Values.{Bytes, Datum}
 use Rattle.f_tree.specs.Facts.{Attribute}
 use Rattle.f_tree.specs.Terms.{Function, Before, Negate, Complement, refers}
 use Rattle.f_tree.specs.Reading.{Read, read, valued_only, function_named, function_read, intrinsic_read, name_read, applied_read, binary_read, layer_read}
-use Rattle.l_core.specs.Pures as core
+use Rattle.lowered_tree.specs.l_core.Pures as core
 use Rattle.lowering.specs.Expressions as low
 use Rattle.lowered_tree.specs.declared.steps.Step.{Step}
 use Rattle.name_facts.specs.declared.table.NameFacts.{NameFacts}

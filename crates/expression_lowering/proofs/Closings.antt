@@ -5,8 +5,8 @@ use Rattle.std.proofs.Common.{refl, ap, sym, subst, ◌∙◌, append_assoc, add
 use Rattle.std.proofs.lemmas.List.{append-nil}
 use Rattle.f_tree.specs.Values.{Bytes}
 use Rattle.f_tree.specs.Terms.{Prefix, Operator, Function, Callee}
-use Rattle.l_core.specs.Pures as core
-use Rattle.l_core.specs.Steps as act
+use Rattle.lowered_tree.specs.l_core.Pures as core
+use Rattle.lowered_tree.specs.l_core.Steps as act
 use Rattle.lowering.specs.Expressions as low
 use Rattle.lowering.specs.Expressions.{expressions_opened}
 use Rattle.lowered_tree.specs.declared.steps.Step.{Step}

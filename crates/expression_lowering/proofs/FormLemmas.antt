@@ -5,7 +5,7 @@ use Rattle.std.proofs.Common.{refl, subst}
 use Rattle.f_tree.specs.declared.expressions.Expr.{Expr}
 use Rattle.f_tree.specs.Values.{Bytes}
 use Rattle.f_tree.specs.Terms.{Prefix, Operator, Function, Power}
-use Rattle.l_core.specs.Pures as core
+use Rattle.lowered_tree.specs.l_core.Pures as core
 use Rattle.lowering.specs.Expressions as low
 use Rattle.lowered_tree.specs.declared.steps.Step.{Step}
 use Rattle.lowered_tree.specs.declared.pures.Operator.{Operator as CodeOperator}

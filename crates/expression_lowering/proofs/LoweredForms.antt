@@ -14,7 +14,7 @@ use Rattle.f_tree.specs.Facts.{Attribute}
 use Rattle.f_tree.specs.Terms.{Term, Terms, Operator, Negate, Complement, Between, Function, Power, TextLength, NoMore, More, terms, refers, any_refers, terms_opened}
 use Rattle.f_tree.specs.Terms as term
 use Rattle.f_tree.specs.Reading.{Read, read, valued_only, placed, width_or_zero, function_named, name_read, applied_read, intrinsic_read, function_read, binary_read, layer_read, reading_opened}
-use Rattle.l_core.specs.Pures as core
+use Rattle.lowered_tree.specs.l_core.Pures as core
 use Rattle.lowering.specs.Expressions as low
 use Rattle.lowering.specs.Expressions.{expressions_opened}
 use Rattle.name_facts.specs.declared.table.NameFacts.{NameFacts}

@@ -3,7 +3,7 @@ use Rattle.std.specs.Prelude.{◌≡◌, ℕ, suc, ◌+◌, ◌<◌, ◌≤◌, 
 use Rattle.std.proofs.Common.{refl, ap, sym, subst, ◌∙◌, append_assoc, drop, get_or, drop-cons, add-one}
 use Rattle.std.proofs.lemmas.List.{append-nil, drop_all}
 use Rattle.f_tree.specs.declared.expressions.Expr.{Expr}
-use Rattle.l_core.specs.Pures as core
+use Rattle.lowered_tree.specs.l_core.Pures as core
 use Rattle.lowering.specs.Expressions as low
 use Rattle.lowering.specs.Expressions.{expressions_opened}
 use Rattle.lowered_tree.specs.declared.pures.Pure.{Pure}

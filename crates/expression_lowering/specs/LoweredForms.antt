@@ -8,7 +8,7 @@ use Rattle.f_tree.specs.declared.expressions.Expr.{Expr}
 use Rattle.f_tree.specs.Values.{Bytes, Datum, Nothing}
 use Rattle.f_tree.specs.Terms.{Prefix, Operator, Function, Power, Callee, AsFunction, terms, refers}
 use Rattle.f_tree.specs.Reading.{function_named, width_or_zero}
-use Rattle.l_core.specs.Pures.{Pure, Pures, Constant, Name, NoPure}
+use Rattle.lowered_tree.specs.l_core.Pures.{Pure, Pures, Constant, Name, NoPure}
 use Rattle.lowering.specs.Expressions as low
 use Rattle.lowered_tree.specs.declared.pures.Operator.{Operator as CodeOperator}
 use Rattle.lowered_tree.specs.declared.pures.Operator.TheVariants as operator

@@ -6,8 +6,8 @@ use Rattle.f_tree.specs.Facts.{Attribute}
 use Rattle.f_tree.specs.Values.{Bytes}
 use Rattle.f_tree.specs.Reading.{read}
 use Rattle.f_tree.specs.Terms.{Operator, Power}
-use Rattle.l_core.specs.Pures as core
-use Rattle.l_core.specs.Steps as act
+use Rattle.lowered_tree.specs.l_core.Pures as core
+use Rattle.lowered_tree.specs.l_core.Steps as act
 use Rattle.lowering.specs.Expressions as low
 use Rattle.lowered_tree.specs.declared.steps.Step.{Step}
 use Rattle.lowered_tree.specs.Shapes.{operator_of, pure_of, pures_of, steps_of}

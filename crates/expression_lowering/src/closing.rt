@@ -2,7 +2,7 @@
 
 ghost use Rattle.std.specs.Prelude.{◌≡◌, ◌++◌, ◌∷◌, [], suc, IfOk, OnOk, option_map};
 ghost use Rattle.f_tree.specs.Terms.{Power};
-ghost use Rattle.l_core.specs.Pures as core;
+ghost use Rattle.lowered_tree.specs.l_core.Pures as core;
 ghost use Rattle.lowering.specs.Expressions as low;
 ghost use Rattle.lowered_tree.specs.Shapes.{operator_of, prefix_of, function_of, pure_of, pures_of, steps_of, step_of, callee_of};
 ghost use Rattle.name_facts.specs.GivenFacts.{fact_in, datum_of};

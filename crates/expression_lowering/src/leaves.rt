@@ -2,7 +2,7 @@
 
 ghost use Rattle.std.specs.Prelude.{◌≡◌, IfOk, true, option_map};
 ghost use Rattle.f_tree.specs.Values.{IsInt, IsLog, IsText, IsLabel};
-ghost use Rattle.l_core.specs.Pures as core;
+ghost use Rattle.lowered_tree.specs.l_core.Pures as core;
 ghost use Rattle.lowering.specs.Expressions as low;
 ghost use Rattle.lowered_tree.specs.Shapes as shapes;
 ghost use Rattle.name_facts.specs.GivenFacts.{fact_in, datum_of};

@@ -1,4 +1,6 @@
 mod OriginLemmas
 mod PlaceLemmas
 mod Rows
+mod CheckRowLemmas
 mod SplitRowLemmas
+mod TranslateRowLemmas

@@ -1,5 +1,6 @@
 -- Where the words of a command line let a command read.
 use Rattle.std.proofs.Common.{◌≡◌, ℕ, ◌≤◌, Bool, true, false, List, [], length, refl, sym, ◌∙◌, subst, arith, Option, Some, None}
+use Rattle.std.specs.List.{list_any}
 use Rattle.std.specs.Prelude.{◌&&◌, nat_lt, nat_le, nat_eq, IsSomeAnd, if◌then◌else◌}
 use Rattle.std.proofs.lemmas.Bool.{and_parts}
 use Rattle.std.proofs.lemmas.Bool.Decides.{nat_tests}
@@ -8,10 +9,10 @@ use Rattle.f2c_outside.specs.Shelf.{IsSource}
 use Rattle.f2c_outside.specs.Texts.{word_at, IsName}
 use Rattle.output_names.specs.OutputNames.{has_ending, is_file_word}
 use Rattle.command_words.specs.declared.command.Command.{Command}
-use Rattle.command_words.specs.declared.command.Command.TheVariants.{Split, Help, BadWord}
+use Rattle.command_words.specs.declared.command.Command.TheVariants.{Split, Check, Help, BadWord}
 use Rattle.command_words.specs.declared.command.Origin.{Origin}
 use Rattle.command_words.specs.declared.command.Origin.TheVariants as origin
-use Rattle.command_words.specs.CommandWords.{is_help, is_split, first_other, translation_by, split_by, place_from, command_for, command_of}
+use Rattle.command_words.specs.CommandWords.{is_help, is_split, has_word, check_word, names_a_file, no_options, first_unchecked, check_by, first_other, translation_by, split_by, place_from, command_for, command_of}
 use Rattle.f2c_program.specs.SplitOutcomes.{IsOrigin}
 
 at_least : (n : ℕ) → nat_lt 2 n ≡ true → 3 ≤ n
@@ -45,20 +46,36 @@ no_translation : (words : List (List ℕ)) (other : Option ℕ) (found : Origin)
 no_translation words None found same = cc
 no_translation words (Some number) found same = cc
 
-no_help : (words : List (List ℕ)) (help one : Bool) (other : Option ℕ) (found : Origin)
-    → (if help then (if one then Help else BadWord 2) else translation_by words other) ≡ Split found → ⊥
-no_help words true true other found same = cc
-no_help words true false other found same = cc
-no_help words false one other found same = no_translation words other found same
+no_file_check : (some : Bool) (found : Origin) → (if some then Check no_options else BadWord 1) ≡ Split found → ⊥
+no_file_check true found same = cc
+no_file_check false found same = cc
 
-by_first : (words : List (List ℕ)) (split help one : Bool) (other : Option ℕ) (found : Origin)
-    → (if split then split_by (word_at 2 words) words else (if help then (if one then Help else BadWord 2) else translation_by words other)) ≡ Split found → IsOrigin words found
-by_first words true help one other found same = by_second words (word_at 2 words) found refl same
-by_first words false help one other found same = absurd (no_help words help one other found same)
+no_check : (words : List (List ℕ)) (unchecked : Option ℕ) (found : Origin) → check_by words unchecked ≡ Split found → ⊥
+no_check words None found same = no_file_check (list_any names_a_file words) found same
+no_check words (Some number) found same = cc
+
+no_others : (words : List (List ℕ)) (checked : Bool) (unchecked other : Option ℕ) (found : Origin)
+    → (if checked then check_by words unchecked else translation_by words other) ≡ Split found → ⊥
+no_others words true unchecked other found same = no_check words unchecked found same
+no_others words false unchecked other found same = no_translation words other found same
+
+no_help : (words : List (List ℕ)) (help one checked : Bool) (unchecked other : Option ℕ) (found : Origin)
+    → (if help then (if one then Help else BadWord 2) else (if checked then check_by words unchecked else translation_by words other)) ≡ Split found → ⊥
+no_help words true true checked unchecked other found same = cc
+no_help words true false checked unchecked other found same = cc
+no_help words false one checked unchecked other found same = no_others words checked unchecked other found same
+
+by_first : (words : List (List ℕ)) (split help one checked : Bool) (unchecked other : Option ℕ) (found : Origin)
+    → (if split then split_by (word_at 2 words) words
+    else (if help then (if one then Help else BadWord 2) else (if checked then check_by words unchecked else translation_by words other))) ≡ Split found
+    → IsOrigin words found
+by_first words true help one checked unchecked other found same = by_second words (word_at 2 words) found refl same
+by_first words false help one checked unchecked other found same = absurd (no_help words help one checked unchecked other found same)
 
 by_words : (words : List (List ℕ)) (first : Option (List ℕ)) (found : Origin) → command_for first words ≡ Split found → IsOrigin words found
 by_words words None found same = absurd (no_translation words (first_other 1 [] words) found same)
-by_words words (Some first) found same = by_first words (is_split first) (is_help first) (nat_eq (length words) 1) (first_other 1 [] words) found same
+by_words words (Some first) found same =
+    by_first words (is_split first) (is_help first) (nat_eq (length words) 1) (has_word check_word words) (first_unchecked 1 words) (first_other 1 [] words) found same
 
 pub origin_of : (words : List (List ℕ)) (asked : Command) (found : Origin) → asked ≡ command_of words → asked ≡ Split found → IsOrigin words found
 origin_of words asked found is split = by_words words (word_at 1 words) found (sym is ∙ split)

@@ -1,12 +1,12 @@
 -- The places that words name: a translation can go from each input to each output.
 use Rattle.std.specs.Prelude.{◌≡◌, ℕ, suc, ◌<◌, List, [], ◌∷◌, length, map}
-use Rattle.std.specs.List.{All}
+use Rattle.std.specs.List.{All, filter}
 use Rattle.std.proofs.Common.{refl, ap, arith}
 use Rattle.std.proofs.lemmas.List.Elements.{All-nil, All-cons}
 use Rattle.f2c_outside.specs.declared.shelves.Place.TheVariants.{Input, Output, File}
-use Rattle.f2c_outside.specs.Shelf.{IsSource, IsTarget}
-use Rattle.output_names.specs.OutputNames.{output_name}
-use Rattle.output_names.specs.WordPlaces.{file_words, places_or, inputs_of, outputs_of}
+use Rattle.f2c_outside.specs.Shelf.{IsFile, IsSource, IsTarget}
+use Rattle.output_names.specs.OutputNames.{is_prototype_word, output_name}
+use Rattle.output_names.specs.WordPlaces.{file_words, places_or, files_named, prototypes_named, inputs_of, outputs_of}
 
 some_sources : (words : List (List ℕ)) → All IsSource (map File words)
 some_sources [] = All-nil IsSource
@@ -19,6 +19,10 @@ some_targets (word ∷ words) = All-cons IsTarget (File (output_name word)) (map
 same_count : (words : List (List ℕ)) → length (map (λ word. File (output_name word)) words) ≡ length (map File words)
 same_count [] = refl
 same_count (word ∷ words) = ap suc (same_count words)
+
+some_files : (words : List (List ℕ)) → All IsFile (map File words)
+some_files [] = All-nil IsFile
+some_files (word ∷ words) = All-cons IsFile (File word) (map File words) tt (some_files words)
 
 -- of the words that name files, or the streams
 sources_by : (files : List (List ℕ)) → All IsSource (places_or Input (map File files))
@@ -48,3 +52,10 @@ some_inputs words = some_by (file_words words)
 
 pub as_many_outputs : (words : List (List ℕ)) → length (outputs_of words) ≡ length (inputs_of words)
 as_many_outputs words = pairs_by (file_words words)
+
+-- of a check
+pub sources_named : (words : List (List ℕ)) → All IsSource (files_named words)
+sources_named words = some_sources (file_words words)
+
+pub prototypes_are_files : (words : List (List ℕ)) → All IsFile (prototypes_named words)
+prototypes_are_files words = some_files (filter is_prototype_word words)

@@ -3,17 +3,18 @@ use Rattle.std.proofs.Common.{◌≡◌, ℕ, ◌<◌, List, refl, ap, ◌∙◌
 use Rattle.f2c_outside.specs.Shelf.{ShelfState}
 use Rattle.outcomes.specs.declared.outcome.Outcome.{Outcome}
 use Rattle.outcomes.specs.declared.outcome.Outcome.TheVariants as outcome
-use Rattle.outcomes.specs.Outcomes.{status_of}
+use Rattle.outcomes.specs.Outcomes.{status_of, IsSilent}
 use Rattle.outcomes.specs.Lines.{line_of, bad_word_line}
 use Rattle.outcomes.proofs.ToldLemmas.{gained}
-use Rattle.output_names.specs.WordPlaces.{inputs_of, outputs_of}
+use Rattle.output_names.specs.WordPlaces.{inputs_of, outputs_of, files_named, prototypes_named}
 use Rattle.shelf_texts.specs.Messages.{Said}
-use Rattle.translate_command.proofs.Rows.{rows_translate}
 use Rattle.command_words.specs.declared.command.Command.{Command}
 use Rattle.command_words.specs.declared.command.Command.TheVariants as command
 use Rattle.command_words.specs.CommandWords.{place_from}
 use Rattle.f2c_program.specs.TopCall.{WroteUsage, Ran, Commanded, HelpRows, BadWordRows, BadWordEnded}
+use Rattle.f2c_program.proofs.CheckRowLemmas.{rows_check}
 use Rattle.f2c_program.proofs.SplitRowLemmas.{rows-split}
+use Rattle.f2c_program.proofs.TranslateRowLemmas.{rows_translate}
 
 rows_bad_word :
     (words : List (List ℕ)) (number : ℕ) (b m a : ShelfState) (ended : Outcome)
@@ -32,13 +33,13 @@ rows_help :
     (words : List (List ℕ)) (b m a : ShelfState) (ended : Outcome)
     → WroteUsage b m ended
     → Said (line_of words ended) m a
-    → (ended ≡ outcome.Done → a ≡ m)
+    → (IsSilent ended → a ≡ m)
     → HelpRows b a (status_of ended)
 rows_help words b m a outcome.Done ran said silent =
     record {
       statuses = inl refl;
-      shown = λ is. ap (λ (s : ShelfState). s.told) (silent refl) ∙ ran.whole;
-      quiet = λ is. ap (λ (s : ShelfState). s.faults) (silent refl) ∙ ran.quiet;
+      shown = λ is. ap (λ (s : ShelfState). s.told) (silent tt) ∙ ran.whole;
+      quiet = λ is. ap (λ (s : ShelfState). s.faults) (silent tt) ∙ ran.quiet;
       rose = λ is. absurd (omega arith);
     }
 rows_help words b m a (outcome.Unwritten place) ran said silent =
@@ -50,7 +51,9 @@ rows_help words b m a (outcome.Unwritten place) ran said silent =
           let last = said.later
           in let less : b.faults < m.faults = ran.1.rose (omega arith) in omega arith;
     }
+rows_help words b m a outcome.Disagree ran said silent = absurd ran
 rows_help words b m a (outcome.Refused refusal name) ran said silent = absurd ran
+rows_help words b m a (outcome.NotPrototype name line) ran said silent = absurd ran
 rows_help words b m a (outcome.BadWord number) ran said silent = absurd ran
 rows_help words b m a (outcome.NotThere name) ran said silent = absurd ran
 rows_help words b m a (outcome.Unread place) ran said silent = absurd ran
@@ -61,9 +64,11 @@ pub commanded :
     (words : List (List ℕ)) (asked : Command) (b m a : ShelfState) (ended : Outcome)
     → Ran words asked b m ended
     → Said (line_of words ended) m a
-    → (ended ≡ outcome.Done → a ≡ m)
+    → (IsSilent ended → a ≡ m)
     → Commanded words asked b a (status_of ended)
 commanded words (command.Translate options) b m a ended ran said silent = rows_translate options words (inputs_of words) (outputs_of words) b m a ended ran said silent
 commanded words (command.Split origin) b m a ended ran said silent = rows-split (place_from words origin) words b m a ended ran said silent
+commanded words (command.Check options) b m a ended ran said silent =
+    rows_check options words (files_named words) (prototypes_named words) b m a ended ran said silent
 commanded words command.Help b m a ended ran said silent = rows_help words b m a ended ran said silent
 commanded words (command.BadWord number) b m a ended ran said silent = rows_bad_word words number b m a ended ran said

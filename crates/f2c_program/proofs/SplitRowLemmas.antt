@@ -5,14 +5,14 @@ use Rattle.f2c_outside.specs.declared.shelves.Place.{Place}
 use Rattle.f2c_outside.specs.declared.shelves.Place.TheVariants.{Input, Output, Fault, File}
 use Rattle.f2c_outside.specs.Shelf.{ShelfState, Contents, Rose, Lacks, bytes_of}
 use Rattle.f_tree.specs.declared.refusals.Refusal.{Refusal}
-use Rattle.fortran_text.specs.FirstFault.{too_long}
+use Rattle.split_command.specs.fortran_text.FirstFault.{too_long}
 use Rattle.shelf_texts.specs.Messages.{Said, Gained}
 use Rattle.shelf_texts.specs.ShelfLoops.{Both, IsKept}
-use Rattle.split_pieces.specs.ChosenNames.{chosen_names}
-use Rattle.split_pieces.specs.Pieces.{pieces_of}
-use Rattle.piece_names.specs.Asking.{has}
-use Rattle.piece_choice.specs.NamesOfPieces.{wanted_names, IsInQuestion}
-use Rattle.piece_writer.specs.WrittenPieces.{AreMadeUpTo}
+use Rattle.split_command.specs.split_pieces.ChosenNames.{chosen_names}
+use Rattle.split_command.specs.split_pieces.Pieces.{pieces_of}
+use Rattle.split_command.specs.piece_names.Asking.{has}
+use Rattle.split_command.specs.piece_choice.NamesOfPieces.{wanted_names, IsInQuestion}
+use Rattle.split_command.specs.piece_writer.WrittenPieces.{AreMadeUpTo}
 use Rattle.split_command.specs.Listing.{listing}
 use Rattle.split_command.specs.SplitFiles.{IsSplit, IsHalfListed, IsHalfSplit}
 use Rattle.split_command.specs.SplitFiles as files
@@ -21,7 +21,7 @@ use Rattle.split_command.specs.declared.failing.SplitFail.{SplitFail}
 use Rattle.split_command.specs.declared.failing.SplitFail.TheVariants as fail
 use Rattle.outcomes.specs.declared.outcome.Outcome.{Outcome}
 use Rattle.outcomes.specs.declared.outcome.Outcome.TheVariants as outcome
-use Rattle.outcomes.specs.Outcomes.{status_of}
+use Rattle.outcomes.specs.Outcomes.{status_of, IsSilent}
 use Rattle.outcomes.specs.Lines.{shown, name_of_place, line_of, refusal_line, not_there_line, shelf_fault_line, no_free_name_line, no_memory_line}
 use Rattle.f2c_program.specs.SplitOutcomes.{IsSplitOutcome, SplitRan}
 use Rattle.f2c_program.specs.SplitRows.{lacks, status_by_names, status_by_limit, names_on, split_status, SplitRow, TooLongRow, NoFreeNameRow, IsSplitPart, PartRow, SplitFaultRow, SplitRows}
@@ -291,6 +291,8 @@ by_missing : (from : Place) (words : List (List ℕ)) (b m a : ShelfState) (ende
 by_missing from words b m a (outcome.NotThere name) missing is said = rows-not_there from b m a missing (subst (λ n. Said (not_there_line n) m a) is said)
 by_missing from words b m a outcome.NoMemory missing is said = rows-no_memory from b m a missing.kept said
 by_missing from words b m a outcome.Done missing is said = absurd is
+by_missing from words b m a outcome.Disagree missing is said = absurd is
+by_missing from words b m a (outcome.NotPrototype name line) missing is said = absurd is
 by_missing from words b m a (outcome.Refused refusal name) missing is said = absurd is
 by_missing from words b m a (outcome.BadWord number) missing is said = absurd is
 by_missing from words b m a (outcome.Unread place) missing is said = absurd is
@@ -303,6 +305,8 @@ by_refusal from words bytes refusal b m a (outcome.Refused r name) read long is 
     rows-too_long from bytes refusal b m a read long (subst (λ x. Said (refusal_line (name_of_place from) x) m a) is.0 (subst (λ n. Said (refusal_line n r) m a) is.1 said))
 by_refusal from words bytes refusal b m a outcome.NoMemory read long is said = rows-no_memory from b m a long.kept said
 by_refusal from words bytes refusal b m a outcome.Done read long is said = absurd is
+by_refusal from words bytes refusal b m a outcome.Disagree read long is said = absurd is
+by_refusal from words bytes refusal b m a (outcome.NotPrototype name line) read long is said = absurd is
 by_refusal from words bytes refusal b m a (outcome.BadWord number) read long is said = absurd is
 by_refusal from words bytes refusal b m a (outcome.NotThere name) read long is said = absurd is
 by_refusal from words bytes refusal b m a (outcome.Unread place) read long is said = absurd is
@@ -310,9 +314,9 @@ by_refusal from words bytes refusal b m a (outcome.Unwritten place) read long is
 by_refusal from words bytes refusal b m a (outcome.NoFreeName number) read long is said = absurd is
 
 by_result : (from : Place) (words : List (List ℕ)) (b m a : ShelfState) (result : Result (Unit {0}) SplitFail) (ended : Outcome) → SplitEnded from b m result
-    → IsSplitOutcome from result ended → Said (line_of words ended) m a → (ended ≡ outcome.Done → a ≡ m) → SplitRows from b a (status_of ended)
+    → IsSplitOutcome from result ended → Said (line_of words ended) m a → (IsSilent ended → a ≡ m) → SplitRows from b a (status_of ended)
 by_result from words b m a (Ok done) ended h is said silent =
-    by_outcome from words b m a ended outcome.Done is said (λ line. rows-done from h.0 b m a h.1 h.2 (silent is))
+    by_outcome from words b m a ended outcome.Done is said (λ line. rows-done from h.0 b m a h.1 h.2 (silent (subst IsSilent (sym is) tt)))
 by_result from words b m a (Err fail.NoMemory) ended h is said silent =
     by_outcome from words b m a ended outcome.NoMemory is said (λ line. rows-no_memory from b m a h line)
 by_result from words b m a (Err fail.NotThere) ended h is said silent = by_missing from words b m a ended h is said
@@ -327,5 +331,5 @@ by_result from words b m a (Err (fail.Unwritten place)) ended h is said silent =
     by_outcome from words b m a ended (outcome.Unwritten place) is said (λ line. by_half from h.0 place b m a h.1 h.2 h.2.half line)
 
 pub rows-split : (from : Place) (words : List (List ℕ)) (b m a : ShelfState) (ended : Outcome) → SplitRan from b m ended → Said (line_of words ended) m a
-    → (ended ≡ outcome.Done → a ≡ m) → SplitRows from b a (status_of ended)
+    → (IsSilent ended → a ≡ m) → SplitRows from b a (status_of ended)
 rows-split from words b m a ended ran said silent = by_result from words b m a ran.result ended ran.split ran.outcome_is said silent

@@ -1,4 +1,6 @@
 pub mod Usage
+pub mod TranslateRows
+pub mod CheckRows
 pub mod SplitOutcomes
 pub mod SplitRows
 pub mod TopCall

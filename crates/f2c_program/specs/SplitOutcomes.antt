@@ -25,6 +25,8 @@ abbrev pub IsRefusedAt : Place → Refusal → Outcome → Type 0
 IsRefusedAt place refusal (outcome.Refused r name) = (r ≡ refusal) × (name ≡ name_of_place place)
 IsRefusedAt place refusal outcome.NoMemory = Unit {0}
 IsRefusedAt place refusal outcome.Done = ⊥
+IsRefusedAt place refusal outcome.Disagree = ⊥
+IsRefusedAt place refusal (outcome.NotPrototype name line) = ⊥
 IsRefusedAt place refusal (outcome.BadWord number) = ⊥
 IsRefusedAt place refusal (outcome.NotThere name) = ⊥
 IsRefusedAt place refusal (outcome.Unread other) = ⊥

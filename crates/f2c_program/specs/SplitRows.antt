@@ -4,14 +4,14 @@ use Rattle.f2c_outside.specs.declared.shelves.Place.{Place}
 use Rattle.f2c_outside.specs.declared.shelves.Place.TheVariants.{Input, Output, Fault, File}
 use Rattle.f2c_outside.specs.Shelf.{ShelfState, Contents, Rose, Quiet, IsFile, Lacks, bytes_of}
 use Rattle.f_tree.specs.declared.refusals.Refusal.{Refusal}
-use Rattle.fortran_text.specs.FirstFault.{too_long}
+use Rattle.split_command.specs.fortran_text.FirstFault.{too_long}
 use Rattle.shelf_texts.specs.Messages.{Gained}
 use Rattle.shelf_texts.specs.ShelfLoops.{Both}
-use Rattle.split_pieces.specs.ChosenNames.{chosen_names}
-use Rattle.split_pieces.specs.Pieces.{pieces_of, IsPastLimit}
-use Rattle.piece_names.specs.Asking.{has}
-use Rattle.piece_choice.specs.NamesOfPieces.{wanted_names, IsInQuestion}
-use Rattle.piece_writer.specs.WrittenPieces.{AreMadeUpTo}
+use Rattle.split_command.specs.split_pieces.ChosenNames.{chosen_names}
+use Rattle.split_command.specs.split_pieces.Pieces.{pieces_of, IsPastLimit}
+use Rattle.split_command.specs.piece_names.Asking.{has}
+use Rattle.split_command.specs.piece_choice.NamesOfPieces.{wanted_names, IsInQuestion}
+use Rattle.split_command.specs.piece_writer.WrittenPieces.{AreMadeUpTo}
 use Rattle.split_command.specs.Listing.{listing}
 use Rattle.split_command.specs.SplitEnds.{IsCut}
 use Rattle.split_command.specs.SplitFiles.{IsSplit, IsHalfListed}

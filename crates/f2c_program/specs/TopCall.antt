@@ -2,26 +2,29 @@
 use Rattle.std.specs.Prelude.{◌≡◌, ℕ, ◌⊎◌, List}
 use Rattle.f2c_outside.specs.declared.shelves.Place.TheVariants.{Output}
 use Rattle.f2c_outside.specs.Shelf.{ShelfState, Rose}
-use Rattle.output_names.specs.WordPlaces.{inputs_of, outputs_of}
+use Rattle.output_names.specs.WordPlaces.{inputs_of, outputs_of, files_named, prototypes_named}
 use Rattle.outcomes.specs.declared.outcome.Outcome.{Outcome}
 use Rattle.outcomes.specs.declared.outcome.Outcome.TheVariants as outcome
-use Rattle.outcomes.specs.Outcomes.{status_of}
+use Rattle.outcomes.specs.Outcomes.{status_of, IsSilent}
 use Rattle.outcomes.specs.Lines.{line_of, bad_word_line}
 use Rattle.shelf_texts.specs.ShelfLoops.{Both, IsKept, IsWritten, IsUnwritten, written}
 use Rattle.shelf_texts.specs.Messages.{Said, Gained}
-use Rattle.translate_command.specs.TranslateRows.{TranslateEnded, TranslateRows}
 use Rattle.command_words.specs.declared.command.Command.{Command}
 use Rattle.command_words.specs.declared.command.Command.TheVariants as command
 use Rattle.command_words.specs.CommandWords.{command_of, place_from}
+use Rattle.f2c_program.specs.CheckRows.{CheckEnded, CheckRows}
 use Rattle.f2c_program.specs.SplitOutcomes.{SplitRan}
 use Rattle.f2c_program.specs.SplitRows.{SplitRows}
+use Rattle.f2c_program.specs.TranslateRows.{TranslateEnded, TranslateRows}
 use Rattle.f2c_program.specs.Usage.{usage}
 
 -- the usage was written, or not for a fault
 abbrev pub WroteUsage : ShelfState → ShelfState → Outcome → Type 0
 WroteUsage b a outcome.Done = IsWritten Output usage b a
 WroteUsage b a (outcome.Unwritten place) = (place ≡ Output) × IsUnwritten Output usage b a
+WroteUsage b a outcome.Disagree = ⊥
 WroteUsage b a (outcome.Refused refusal name) = ⊥
+WroteUsage b a (outcome.NotPrototype name line) = ⊥
 WroteUsage b a (outcome.BadWord number) = ⊥
 WroteUsage b a (outcome.NotThere name) = ⊥
 WroteUsage b a (outcome.Unread place) = ⊥
@@ -33,10 +36,12 @@ pub record BadWordEnded (number : ℕ) (b a : ShelfState) (ended : Outcome) : Ty
   pub named : ended ≡ outcome.BadWord number
   pub kept : IsKept b a
 
--- how each command ends, before its message is written: a translation goes from the files that the words name, or Input, to their C files, or Output
+-- how each command ends, before its message is written: a translation goes from the files that the words name, or Input, to their C files, or Output;
+-- a check reads the FORTRAN files and the prototype files that they name
 abbrev pub Ran : List (List ℕ) → Command → ShelfState → ShelfState → Outcome → Type 0
 Ran words (command.Translate options) b a ended = TranslateEnded options (inputs_of words) (outputs_of words) b a ended
 Ran words (command.Split origin) b a ended = SplitRan (place_from words origin) b a ended
+Ran words (command.Check options) b a ended = CheckEnded options (files_named words) (prototypes_named words) b a ended
 Ran words command.Help b a ended = WroteUsage b a ended
 Ran words (command.BadWord number) b a ended = BadWordEnded number b a ended
 
@@ -46,7 +51,7 @@ pub record Concluded (words : List (List ℕ)) (b a : ShelfState) (status : ℕ)
   pub middle : ShelfState
   pub ran : Ran words (command_of words) b middle ended
   pub said : Said (line_of words ended) middle a
-  pub silent : ended ≡ outcome.Done → a ≡ middle
+  pub silent : IsSilent ended → a ≡ middle
   pub status_is : status ≡ status_of ended
 
 -- bad words: status 2, the line on Fault names the word, and nothing else changed
@@ -65,5 +70,6 @@ pub record HelpRows (b a : ShelfState) (status : ℕ) : Type 0 where
 abbrev pub Commanded : List (List ℕ) → Command → ShelfState → ShelfState → ℕ → Type 0
 Commanded words (command.Translate options) b a status = TranslateRows options (inputs_of words) (outputs_of words) b a status
 Commanded words (command.Split origin) b a status = SplitRows (place_from words origin) b a status
+Commanded words (command.Check options) b a status = CheckRows options (files_named words) (prototypes_named words) b a status
 Commanded words command.Help b a status = HelpRows b a status
 Commanded words (command.BadWord number) b a status = BadWordRows words number b a status

@@ -1,9 +1,11 @@
 //! The program f2c, but for its `main`: words, the top call, and the real files and streams around it.
 #![tactic(auto)]
 
+mod checking;
 mod program;
 mod splitting;
 mod top_call;
+mod translating;
 mod usage;
 
 pub use outcomes::Outcome;

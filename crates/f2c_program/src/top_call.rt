@@ -1,22 +1,19 @@
 //! The top call: what the words ask for is done on a shelf, and a message and a status tell how it ended.
 
 ghost use Rattle.std.specs.Prelude.{◌≡◌};
-ghost use Rattle.output_names.specs.WordPlaces.{inputs_of, outputs_of};
-ghost use Rattle.translate_command.specs.TranslateRows.{TranslateEnded};
 ghost use Rattle.command_words.specs.CommandWords.{command_of};
 ghost use Rattle.f2c_program.specs.TopCall.{Ran, Concluded, Commanded};
 
+use crate::checking::check_named;
 use crate::splitting::split;
+use crate::translating::translate_named;
 use crate::usage::write_usage;
 use command_words::{Command, command_of_words};
-use f_tree::names::Options;
 use f2c_outside::shelves::Shelf;
 use f2c_outside::texts::Words;
 use f2c_outside::unit_table::UnitTable;
 use outcomes::{Outcome, say_outcome};
-use output_names::{inputs_of, outputs_of};
 use std::alloc::Global;
-use translate_command::translate;
 
 /// How a call of `f2c` ended.
 #[derive(Drop)]
@@ -27,25 +24,6 @@ pub struct Ended {
     pub units: UnitTable,
 }
 
-/// Translates the files that the words name, or Input.
-#[tactic(auto, using(crate::proofs::PlaceLemmas::sources_of, crate::proofs::PlaceLemmas::targets_of, crate::proofs::PlaceLemmas::some_inputs, crate::proofs::PlaceLemmas::as_many_outputs))]
-fn translate_named<H: Shelf>(
-    alloc: Global,
-    words: &Words,
-    options: &Options,
-    shelf: &mut H,
-) -> Outcome
-    ensures { TranslateEnded options.now (inputs_of words.now) (outputs_of words.now) (H.state shelf.old) (H.state shelf.new) result }
-{
-    let Ok(inputs) = inputs_of(alloc, words) else {
-        return Outcome::NoMemory;
-    };
-    match outputs_of(alloc, words) {
-        Ok(outputs) => translate(alloc, options, shelf, inputs.as_slice(), outputs),
-        Err(_) => Outcome::NoMemory,
-    }
-}
-
 /// Does what the words ask for.
 fn carry_out<H: Shelf>(alloc: Global, words: &Words, shelf: &mut H) -> Outcome
     ensures { Ran words.now (command_of words.now) (H.state shelf.old) (H.state shelf.new) result }
@@ -53,6 +31,7 @@ fn carry_out<H: Shelf>(alloc: Global, words: &Words, shelf: &mut H) -> Outcome
     match command_of_words(words) {
         Command::Translate(options) => translate_named(alloc, words, &options, shelf),
         Command::Split(origin) => split(alloc, words, shelf, origin),
+        Command::Check(options) => check_named(alloc, words, &options, shelf),
         Command::Help => write_usage(shelf),
         Command::BadWord(number) => Outcome::BadWord(number),
     }
@@ -64,13 +43,14 @@ fn carry_out<H: Shelf>(alloc: Global, words: &Words, shelf: &mut H) -> Outcome
 /// them as one set, and, only where all are accepted, writes for each its translation: the C file with its name, `.c` in place of `.f`, in the
 /// current folder. Where no word names a file, it translates Input on Output. Other words are the options of CSTR 149 that `--help` lists. With
 /// `-split` it writes each program unit of Input, or of the file that the next word names, to a new file of its own, and their names on Output; with
-/// the one word `-h` or `--help` it writes the usage there. The status is 0 where that was done, and then no call of the shelf failed; 1 exactly
-/// where the set has a first refusal, which is that it is too long where it is split, and the line on Fault names it and its file; 2 exactly where
-/// the words are others, or two files have one output name, and the line names the first with which no command goes on; 3 only where a file that is
-/// read is not there, and the line names it, or the shelf failed, and the line names the place that was being read or written; 5 where memory ran
-/// out; 13 exactly where no number is free for the name of a piece, and the line says for which. After 1, 2, 5 and 13 nothing but the line on Fault
-/// was put anywhere; where writing a translation failed, the outputs before are whole, the one that failed is unchanged or holds a front of its text,
-/// and later ones are unchanged.
+/// `-check` it reads the files that are named, and the prototype files, which end in `.P`, and lists each call that disagrees with what it calls on
+/// Output; with the one word `-h` or `--help` it writes the usage there. The status is 0 where that was done, and then no call of the shelf failed; 1
+/// exactly where the set has a first refusal, which is that it is too long where it is split, and the line on Fault names it and its file, or where a
+/// prototype file is none; 2 exactly where the words are others, or two files that are translated have one output name, and the line names the first
+/// with which no command goes on; 3 only where a file that is read is not there, and the line names it, or the shelf failed, and the line names the
+/// place that was being read or written; 5 where memory ran out; 11 where all was read and a call, one at least, is listed; 13 exactly where no number
+/// is free for the name of a piece, and the line says for which. After 1, 2, 5 and 13 nothing but the line on Fault was put anywhere; where writing a
+/// translation failed, the outputs before are whole, the one that failed is unchanged or holds a front of its text, and later ones are unchanged.
 pub fn f2c<H: Shelf>(alloc: Global, words: &Words, shelf: &mut H, units: UnitTable) -> Ended
     ensures concluded { Concluded words.now (H.state shelf.old) (H.state shelf.new) result.status }
     ensures commanded { Commanded words.now (command_of words.now) (H.state shelf.old) (H.state shelf.new) result.status }

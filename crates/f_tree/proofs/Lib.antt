@@ -1,0 +1,1 @@
+pub use Rattle.simulation.proofs as simulation

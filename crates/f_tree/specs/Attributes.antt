@@ -1,7 +1,7 @@
 -- What each name of a program unit is: its type, its class, its length and its dimensions, from all the
 -- specification statements of the unit and from how the name is used.
 -- ANSI X3.9-1978, sections 4.1 (types by the first letter), 5.1 (arrays), 8 (specification statements) and 18.
-use Rattle.std.specs.Prelude.{suc, ℕ, nat_le, ℤ, pos, nat_abs, Bool, true, false, ◌&&◌, ◌||◌, not, List, [], ◌∷◌, ◌++◌, map, bytes_eq, Option, Some, None, if◌then◌else◌}
+use Rattle.std.specs.Prelude.{suc, ℕ, nat_le, ℤ, pos, nat_abs, Bool, true, false, ◌&&◌, ◌||◌, not, List, [], ◌∷◌, ◌++◌, map, bytes_eq, Option, Some, None, option_map, if◌then◌else◌}
 use Rattle.f_tree.specs.declared.names.Basic.{Basic}
 use Rattle.f_tree.specs.declared.names.Basic.TheVariants.{Integer, Character, Untyped}
 use Rattle.f_tree.specs.declared.names.Class.{Class}
@@ -326,13 +326,14 @@ integer_if_valued _ = None
 unfoldable pub constant_term : Term → Option ℤ
 constant_term t = integer_if_valued (reduce no_facts no_frame [] [] t)
 
-unfoldable pub bounds_between : Option ℤ → Option ℤ → List Bounds
-bounds_between (Some a) (Some b) = record { lower = a; upper = Some b } ∷ []
+unfoldable pub bounds_between : Option ℤ → Option (Option ℤ) → List Bounds
+bounds_between (Some a) (Some upper) = record { lower = a; upper = upper } ∷ []
 bounds_between _ _ = []
 
-unfoldable pub constant_upper : Option Term → Option ℤ
-constant_upper None = None
-constant_upper (Some t) = constant_term t
+-- an upper bound that is not written is assumed at the call (5.1.2.2); one that is written is constant, or has no value
+unfoldable pub constant_upper : Option Term → Option (Option ℤ)
+constant_upper None = Some None
+constant_upper (Some t) = option_map Some (constant_term t)
 
 unfoldable pub constant_bounds : List Dimension → List Bounds
 constant_bounds [] = []

@@ -24,7 +24,7 @@ pub record Attribute : Type 0 where
   pub width : Option ℕ
   -- no dimensions for what is no array
   pub dimensions : List Dimension
-  -- the same by value, where they are constant
+  -- the same by value, where they are constant; an upper bound may be assumed (5.1.2.2)
   pub bounds : List Bounds
   -- the value of a constant
   pub constant : Option Datum

@@ -31,3 +31,6 @@ pub mod Valuing
 pub mod WellFormed
 pub mod WellTyped
 pub mod World
+pub use Rattle.edit_meaning.specs as edit_meaning
+pub use Rattle.run_state.specs as run_state
+pub use Rattle.simulation.specs as simulation

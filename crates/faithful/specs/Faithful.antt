@@ -1,6 +1,6 @@
 -- When C texts are faithful to the trees of FORTRAN files: what the contract of the top call says of every translation.
 use Rattle.std.specs.Prelude.{◌≡◌, ℕ, ◌*◌, ◌≤◌, nat_eq, Bool, true, List, [], ◌∷◌, Option, Some, None}
-use Rattle.run_state.specs.Units.{Units}
+use Rattle.c_tree.specs.run_state.Units.{Units}
 use Rattle.f_tree.specs.declared.names.Options.{Options}
 use Rattle.f_tree.specs.declared.units.File.{File}
 use Rattle.f_tree.specs.Values.{NoMeaning, Gives}

@@ -2,7 +2,7 @@
 -- parameters, its result in `ret_val` or where `ret_val` points; and the image of storage whole.
 -- Source: CSTR 149; ANSI X3.9-1978, sections 15.5.2, 15.7 and 15.9.
 use Rattle.std.specs.Prelude.{◌≡◌, ℕ, ◌+◌, pos, List, [], ◌∷◌, ◌++◌, map, position, Option, Some, None, option_map, option_and_then, bytes_eq, slice_get}
-use Rattle.simulation.specs.Machine.{Frame, Has}
+use Rattle.c_tree.specs.simulation.Machine.{Frame, Has}
 use Rattle.f_tree.specs.declared.names.Basic.{Basic}
 use Rattle.f_tree.specs.declared.names.Basic.TheVariants.{Character}
 use Rattle.f_tree.specs.declared.names.Class.TheVariants as class

@@ -1,8 +1,8 @@
 -- When a state of the FORTRAN run and a state of the C run are the same: equal units, transfers that agree, the image of storage
 -- and of the active procedures, the functions of these in their order, and both running or both ended in one way.
 use Rattle.std.specs.Prelude.{◌≡◌, ℕ, List, ◌∷◌, map, filter, Option, Some, None, option_and_then, slice_get, is_none, Bool, false}
-use Rattle.simulation.specs.Machine.{State, Runs, Over, Frame, Has, numbers}
-use Rattle.run_state.specs.Endings.{Ending}
+use Rattle.c_tree.specs.simulation.Machine.{State, Runs, Over, Frame, Has, numbers}
+use Rattle.c_tree.specs.run_state.Endings.{Ending}
 use Rattle.f_tree.specs.Facts.{ProgramUnit}
 use Rattle.f_tree.specs.Setting.{Setting}
 use Rattle.f_tree.specs.World as fortran

@@ -1,9 +1,9 @@
 -- When a transfer in progress of the FORTRAN run and one of the C run agree: the same kind and medium, formats that give the same
 -- edits, the same record in the making or being read, and the same values so far. ANSI X3.9-1978, sections 12.8, 12.9 and 13.
 use Rattle.std.specs.Prelude.{◌≡◌, ℕ, ℤ, List, [], ◌∷◌, length, Option, Some, None}
-use Rattle.edit_meaning.specs.Formats.{Format, edits_for}
-use Rattle.edit_meaning.specs.TakenRecords.{Input as Taken, input, input_start}
-use Rattle.edit_meaning.specs.Transfers.{transferred}
+use Rattle.c_tree.specs.edit_meaning.Formats.{Format, edits_for}
+use Rattle.c_tree.specs.edit_meaning.TakenRecords.{Input as Taken, input, input_start}
+use Rattle.c_tree.specs.edit_meaning.Transfers.{transferred}
 use Rattle.f_tree.specs.Values.{Spot}
 use Rattle.f_tree.specs.Facts.{Direction, Input, Output, Layout, Listed, Labelled, Computed}
 use Rattle.f_tree.specs.Records.{record_count}

@@ -1,7 +1,7 @@
 -- What the external units are when a run begins: characters are bytes, unit numbers have 32 bits, and a file stands at one of its
 -- records or behind the last. ANSI X3.9-1978, section 12.2.
 use Rattle.std.specs.Prelude.{◌≡◌, ℕ, ◌<◌, ◌≤◌, ℤ, List, length, Some, true}
-use Rattle.run_state.specs.Units.{Units, UnitState, Offered}
+use Rattle.c_tree.specs.run_state.Units.{Units, UnitState, Offered}
 use Rattle.f_tree.specs.Values.{in_range}
 use Rattle.f_tree.specs.Setting.{IsIn}
 

@@ -3,26 +3,26 @@ use Rattle.std.specs.Prelude.{◌≡◌, ℕ, zero, suc, ◌<◌, ℤ, Bool, tru
 use Rattle.std.proofs.Common.{refl, sym, ap, ◌∙◌, subst, arith}
 use Rattle.std.proofs.lemmas.List.Quantifiers.{position-Some}
 use Rattle.std.proofs.lemmas.Slice.Eq.{bytes_eq-Decides}
-use Rattle.simulation.specs.Machine.{Frame, Has, numbers}
-use Rattle.edit_meaning.specs.Formats.{Format}
-use Rattle.edit_meaning.specs.EditedRecords as edited
-use Rattle.f_tree.specs.declared.names.Basic.{Basic}
-use Rattle.f_tree.specs.declared.names.Basic.TheVariants.{Integer, Logical, Character, Untyped}
-use Rattle.f_tree.specs.Values.{IsSpot, IsProc, Spot}
-use Rattle.f_tree.specs.Store.{Store}
-use Rattle.f_tree.specs.Facts.{Home, Member, Direction, Input, Output, Layout, Listed, Labelled, Computed, Unformatted, Named, ProgramUnit}
-use Rattle.f_tree.specs.Setting.{Setting, HasUnit, IsIn, first_in, later_in, unit_home}
-use Rattle.f_tree.specs.CNames.{external_name, variable_name, made_name, FunctionResult, ResultLength}
-use Rattle.f_tree.specs.Records.{record_count}
-use Rattle.f_tree.specs.Transfers.{sheet_of, made_by, made_of}
-use Rattle.f_tree.specs.World as fortran
-use Rattle.c_tree.specs.declared.file.CFile.{CFile}
-use Rattle.c_tree.specs.declared.file.CFunction.{CFunction}
-use Rattle.c_tree.specs.Objects.{Object}
-use Rattle.c_tree.specs.Linking as linking
-use Rattle.c_tree.specs.TransferOutput as output
-use Rattle.c_tree.specs.World as c
-use Rattle.c_tree.specs.Meaning.{outcome}
+use Rattle.faithful.specs.simulation.Machine.{Frame, Has, numbers}
+use Rattle.faithful.specs.edit_meaning.Formats.{Format}
+use Rattle.faithful.specs.edit_meaning.EditedRecords as edited
+use Rattle.faithful.specs.f_tree.declared.names.Basic.{Basic}
+use Rattle.faithful.specs.f_tree.declared.names.Basic.TheVariants.{Integer, Logical, Character, Untyped}
+use Rattle.faithful.specs.f_tree.Values.{IsSpot, IsProc, Spot}
+use Rattle.faithful.specs.f_tree.Store.{Store}
+use Rattle.faithful.specs.f_tree.Facts.{Home, Member, Direction, Input, Output, Layout, Listed, Labelled, Computed, Unformatted, Named, ProgramUnit}
+use Rattle.faithful.specs.f_tree.Setting.{Setting, HasUnit, IsIn, first_in, later_in, unit_home}
+use Rattle.faithful.specs.f_tree.CNames.{external_name, variable_name, made_name, FunctionResult, ResultLength}
+use Rattle.faithful.specs.f_tree.Records.{record_count}
+use Rattle.faithful.specs.f_tree.Transfers.{sheet_of, made_by, made_of}
+use Rattle.faithful.specs.f_tree.World as fortran
+use Rattle.faithful.specs.c_tree.declared.file.CFile.{CFile}
+use Rattle.faithful.specs.c_tree.declared.file.CFunction.{CFunction}
+use Rattle.faithful.specs.c_tree.Objects.{Object}
+use Rattle.faithful.specs.c_tree.Linking as linking
+use Rattle.faithful.specs.c_tree.TransferOutput as output
+use Rattle.faithful.specs.c_tree.World as c
+use Rattle.faithful.specs.c_tree.Meaning.{outcome}
 use Rattle.faithful.specs.StorageImage.{Homes, block_of, object_for, takes_part, number_named, function_number, function_name, UnitsStand}
 use Rattle.faithful.specs.FrameImage.{Each, none, more, StandsFor, DummyStands, FormalStands, ResultStandsAs, ResultStands, ProcedureStands, FrameStands, Image, HasNumber, frame_object}
 use Rattle.faithful.specs.SameTransfer as transfer

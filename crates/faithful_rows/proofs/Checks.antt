@@ -2,18 +2,18 @@
 use Rattle.std.specs.Prelude.{◌≡◌, ℕ, zero, suc, ◌+◌, nat_eq, Bool, true, false, ◌&&◌, List, [], ◌∷◌, Option, Some, None, slice_get, if◌then◌else◌}
 use Rattle.std.proofs.Common.{refl, sym, ap, ◌∙◌, subst, arith}
 use Rattle.std.proofs.lemmas.Bool.{eqb-true}
-use Rattle.simulation.specs.Machine as machine
-use Rattle.f_tree.specs.declared.names.Basic.{Basic}
-use Rattle.f_tree.specs.declared.names.Basic.TheVariants.{Integer, Logical, Character, Untyped}
-use Rattle.f_tree.specs.CNames.{variable_name, made_name, LengthOf}
-use Rattle.f_tree.specs.Values.{Datum}
-use Rattle.f_tree.specs.Store.{Store, Sequence, Cell}
-use Rattle.f_tree.specs.Facts.{Home, Member, ProgramUnit, Frame}
-use Rattle.f_tree.specs.Setting.{Setting, HasUnit, IsIn, first_in, later_in, unit_home}
-use Rattle.f_tree.specs.World as fortran
-use Rattle.c_tree.specs.World as c
-use Rattle.c_tree.specs.declared.file.CFile.{CFile}
-use Rattle.c_tree.specs.Objects.{Object}
+use Rattle.faithful.specs.simulation.Machine as machine
+use Rattle.faithful.specs.f_tree.declared.names.Basic.{Basic}
+use Rattle.faithful.specs.f_tree.declared.names.Basic.TheVariants.{Integer, Logical, Character, Untyped}
+use Rattle.faithful.specs.f_tree.CNames.{variable_name, made_name, LengthOf}
+use Rattle.faithful.specs.f_tree.Values.{Datum}
+use Rattle.faithful.specs.f_tree.Store.{Store, Sequence, Cell}
+use Rattle.faithful.specs.f_tree.Facts.{Home, Member, ProgramUnit, Frame}
+use Rattle.faithful.specs.f_tree.Setting.{Setting, HasUnit, IsIn, first_in, later_in, unit_home}
+use Rattle.faithful.specs.f_tree.World as fortran
+use Rattle.faithful.specs.c_tree.World as c
+use Rattle.faithful.specs.c_tree.declared.file.CFile.{CFile}
+use Rattle.faithful.specs.c_tree.Objects.{Object}
 use Rattle.faithful.specs.StorageImage.{Homes, byte_for, byte_of_object, cell_of, block_of, object_for, takes_part, StandsInItsObject, NamesStand, UnitsStand}
 use Rattle.faithful.specs.FrameImage.{Each, StandsFor, HasLength, HasNumber, DummyStands, FrameStands, frame_object}
 use Rattle.faithful.specs.SameTransfer.{SameTransfer}

@@ -6,13 +6,13 @@ use Rattle.std.proofs.Math.Facts.{Fits-of_z, Fits-lt-pow}
 use Rattle.std.proofs.lemmas.Int.{to_z-of_z}
 use Rattle.std.proofs.lemmas.Nat.{from_le_bytes-to_le_bytes_4}
 use Rattle.std.proofs.lemmas.Bool.{le-leb, leb-true, eq-eqb}
-use Rattle.f_tree.specs.Values.{in_range}
-use Rattle.f_tree.specs.Store.{Store, Cell, Whole, Number, Truth, Label, Part, Chr}
-use Rattle.c_tree.specs.declared.outcome.CValue.TheVariants as value
-use Rattle.c_tree.specs.declared.outcome.CFault.TheVariants.{Outside}
-use Rattle.c_tree.specs.Faults.{after, failing}
-use Rattle.c_tree.specs.Access.{ToNumber, ToByte}
-use Rattle.c_tree.specs.Objects.{Object, Bytes, Values, plain, all_set, bytes_at, number_from, byte_from, bytes_of_number, read_object, fetched}
+use Rattle.faithful.specs.f_tree.Values.{in_range}
+use Rattle.faithful.specs.f_tree.Store.{Store, Cell, Whole, Number, Truth, Label, Part, Chr}
+use Rattle.faithful.specs.c_tree.declared.outcome.CValue.TheVariants as value
+use Rattle.faithful.specs.c_tree.declared.outcome.CFault.TheVariants.{Outside}
+use Rattle.faithful.specs.c_tree.Faults.{after, failing}
+use Rattle.faithful.specs.c_tree.Access.{ToNumber, ToByte}
+use Rattle.faithful.specs.c_tree.Objects.{Object, Bytes, Values, plain, all_set, bytes_at, number_from, byte_from, bytes_of_number, read_object, fetched}
 use Rattle.faithful.specs.StorageImage.{byte_for, byte_of_object, cell_of, number_for}
 use Rattle.faithful_rows.specs.Bullets.{PartsStand, ReadsNumber, ValuesAreRead}
 

@@ -1,27 +1,27 @@
 -- What two states that are the same have in common, bullet by bullet, in the words of the two machines.
 use Rattle.std.specs.Prelude.{◌≡◌, ℕ, ◌+◌, ◌%◌, ◌<◌, ℤ, pos, Bool, true, false, List, ◌∷◌, map, length, Option, Some, None, option_map, Ok, slice_get, if◌then◌else◌}
-use Rattle.simulation.specs.Machine.{State, Runs, Over, Broken, Frame, Has, numbers}
-use Rattle.edit_meaning.specs.Formats.{Format, edits_for}
-use Rattle.run_state.specs.Endings.{Ending}
-use Rattle.f_tree.specs.declared.names.Basic.TheVariants.{Integer, Logical, Character}
-use Rattle.f_tree.specs.Values.{Spot, IsSpot, IsProc, in_range}
-use Rattle.f_tree.specs.Store.{Store, Whole, Number, Truth, Label, Chr, Part}
-use Rattle.f_tree.specs.Facts.{Direction, Input, Output, Layout, Listed, Named, Home, Member, ProgramUnit}
-use Rattle.f_tree.specs.Setting.{Setting, HasUnit, IsIn, unit_home}
-use Rattle.f_tree.specs.CNames.{external_name, variable_name, made_name, FunctionResult, ResultLength, LengthOf}
-use Rattle.f_tree.specs.Records.{record_count}
-use Rattle.f_tree.specs.Transfers.{made_by}
-use Rattle.f_tree.specs.World as fortran
-use Rattle.f_tree.specs.Meaning.{RunState}
-use Rattle.c_tree.specs.declared.file.CFile.{CFile}
-use Rattle.c_tree.specs.declared.outcome.CValue.TheVariants as value
-use Rattle.c_tree.specs.Access.{ToNumber, ToByte}
-use Rattle.c_tree.specs.Objects.{Object, plain, fetched}
-use Rattle.c_tree.specs.Linking as linking
-use Rattle.c_tree.specs.TransferOutput.{made}
-use Rattle.c_tree.specs.World as c
-use Rattle.c_tree.specs.Meaning.{Outcome, outcome, Running, Ended, Meaningless}
-use Rattle.c_tree.specs.Steps.{sorts}
+use Rattle.faithful.specs.simulation.Machine.{State, Runs, Over, Broken, Frame, Has, numbers}
+use Rattle.faithful.specs.edit_meaning.Formats.{Format, edits_for}
+use Rattle.faithful.specs.run_state.Endings.{Ending}
+use Rattle.faithful.specs.f_tree.declared.names.Basic.TheVariants.{Integer, Logical, Character}
+use Rattle.faithful.specs.f_tree.Values.{Spot, IsSpot, IsProc, in_range}
+use Rattle.faithful.specs.f_tree.Store.{Store, Whole, Number, Truth, Label, Chr, Part}
+use Rattle.faithful.specs.f_tree.Facts.{Direction, Input, Output, Layout, Listed, Named, Home, Member, ProgramUnit}
+use Rattle.faithful.specs.f_tree.Setting.{Setting, HasUnit, IsIn, unit_home}
+use Rattle.faithful.specs.f_tree.CNames.{external_name, variable_name, made_name, FunctionResult, ResultLength, LengthOf}
+use Rattle.faithful.specs.f_tree.Records.{record_count}
+use Rattle.faithful.specs.f_tree.Transfers.{made_by}
+use Rattle.faithful.specs.f_tree.World as fortran
+use Rattle.faithful.specs.f_tree.Meaning.{RunState}
+use Rattle.faithful.specs.c_tree.declared.file.CFile.{CFile}
+use Rattle.faithful.specs.c_tree.declared.outcome.CValue.TheVariants as value
+use Rattle.faithful.specs.c_tree.Access.{ToNumber, ToByte}
+use Rattle.faithful.specs.c_tree.Objects.{Object, plain, fetched}
+use Rattle.faithful.specs.c_tree.Linking as linking
+use Rattle.faithful.specs.c_tree.TransferOutput.{made}
+use Rattle.faithful.specs.c_tree.World as c
+use Rattle.faithful.specs.c_tree.Meaning.{Outcome, outcome, Running, Ended, Meaningless}
+use Rattle.faithful.specs.c_tree.Steps.{sorts}
 use Rattle.faithful.specs.StorageImage.{block_of, object_for, takes_part, cell_of, function_name}
 use Rattle.faithful.specs.FrameImage.{HasLength, HasNumber, frame_object, value_in}
 use Rattle.faithful.specs.SameTransfer.{taken_so_far, last_read}

@@ -1,9 +1,9 @@
 -- Two runs of a worked pair, side by side.
 use Rattle.std.specs.Prelude.{ℕ, List}
-use Rattle.f_tree.specs.Facts.{ProgramUnit}
-use Rattle.f_tree.specs.Meaning.{RunState, units_of, ftn}
-use Rattle.f_tree.specs.Runs.{no_options}
-use Rattle.c_tree.specs.Meaning.{meaning}
+use Rattle.faithful.specs.f_tree.Facts.{ProgramUnit}
+use Rattle.faithful.specs.f_tree.Meaning.{RunState, units_of, ftn}
+use Rattle.faithful.specs.f_tree.Runs.{no_options}
+use Rattle.faithful.specs.c_tree.Meaning.{meaning}
 use Rattle.faithful.specs.SameState.{Same}
 use Rattle.faithful.specs.Signatures.{EachHasSignatures}
 use Rattle.faithful_rows.specs.Pairs.{Pair}

@@ -1,34 +1,34 @@
 -- Words in which the trees of the worked pairs are written, FORTRAN and C.
 use Rattle.std.specs.Prelude.{ℕ, pos, false, List, [], ◌∷◌, map, Option, Some, None}
-use Rattle.f_tree.specs.declared.expressions.Expr.{Expr}
-use Rattle.f_tree.specs.declared.expressions.Expr as expr
-use Rattle.f_tree.specs.declared.statements.Body.{Body}
-use Rattle.f_tree.specs.declared.statements.UnitKind.{UnitKind}
-use Rattle.f_tree.specs.declared.statements.UnitKind.TheVariants as kind
-use Rattle.f_tree.specs.declared.statements.DummyArgument.TheVariants as dummy
-use Rattle.f_tree.specs.declared.statements.TypeSpec.{TypeSpec}
-use Rattle.f_tree.specs.declared.statements.Declarator.{Declarator}
-use Rattle.f_tree.specs.declared.statements.LengthSpec.TheVariants as length'
-use Rattle.f_tree.specs.declared.statements.UpperBound.TheVariants as upper
-use Rattle.f_tree.specs.declared.statements.Stmt.{Stmt}
-use Rattle.f_tree.specs.declared.units.Unit.{Unit as WrittenUnit}
-use Rattle.f_tree.specs.declared.units.FileSet.{FileSet}
-use Rattle.f_tree.specs.declared.names.Basic.TheVariants.{Integer, Logical, Character}
-use Rattle.c_tree.specs.declared.types.NumberType.TheVariants as number
-use Rattle.c_tree.specs.declared.types.ResultType.{ResultType}
-use Rattle.c_tree.specs.declared.types.ParameterType.{ParameterType}
-use Rattle.c_tree.specs.declared.types.ArgumentType.TheVariants as argument
-use Rattle.c_tree.specs.declared.expression.UnaryOp.TheVariants as prefix
-use Rattle.c_tree.specs.declared.expression.CExpr.{CExpr}
-use Rattle.c_tree.specs.declared.expression.CExpr.TheVariants as c
-use Rattle.c_tree.specs.declared.expression.CCall.{CCall}
-use Rattle.c_tree.specs.declared.statement.CStmt.{CStmt}
-use Rattle.c_tree.specs.declared.statement.CStmt.TheVariants as stmt
-use Rattle.c_tree.specs.declared.declaration.CLocal.{CLocal}
-use Rattle.c_tree.specs.declared.declaration.CLocal.TheVariants as local
-use Rattle.c_tree.specs.declared.declaration.CParam.{CParam}
-use Rattle.c_tree.specs.declared.file.CFunction.{CFunction}
-use Rattle.c_tree.specs.declared.file.CConstant.{CConstant}
+use Rattle.faithful.specs.f_tree.declared.expressions.Expr.{Expr}
+use Rattle.faithful.specs.f_tree.declared.expressions.Expr as expr
+use Rattle.faithful.specs.f_tree.declared.statements.Body.{Body}
+use Rattle.faithful.specs.f_tree.declared.statements.UnitKind.{UnitKind}
+use Rattle.faithful.specs.f_tree.declared.statements.UnitKind.TheVariants as kind
+use Rattle.faithful.specs.f_tree.declared.statements.DummyArgument.TheVariants as dummy
+use Rattle.faithful.specs.f_tree.declared.statements.TypeSpec.{TypeSpec}
+use Rattle.faithful.specs.f_tree.declared.statements.Declarator.{Declarator}
+use Rattle.faithful.specs.f_tree.declared.statements.LengthSpec.TheVariants as length'
+use Rattle.faithful.specs.f_tree.declared.statements.UpperBound.TheVariants as upper
+use Rattle.faithful.specs.f_tree.declared.statements.Stmt.{Stmt}
+use Rattle.faithful.specs.f_tree.declared.units.Unit.{Unit as WrittenUnit}
+use Rattle.faithful.specs.f_tree.declared.units.FileSet.{FileSet}
+use Rattle.faithful.specs.f_tree.declared.names.Basic.TheVariants.{Integer, Logical, Character}
+use Rattle.faithful.specs.c_tree.declared.types.NumberType.TheVariants as number
+use Rattle.faithful.specs.c_tree.declared.types.ResultType.{ResultType}
+use Rattle.faithful.specs.c_tree.declared.types.ParameterType.{ParameterType}
+use Rattle.faithful.specs.c_tree.declared.types.ArgumentType.TheVariants as argument
+use Rattle.faithful.specs.c_tree.declared.expression.UnaryOp.TheVariants as prefix
+use Rattle.faithful.specs.c_tree.declared.expression.CExpr.{CExpr}
+use Rattle.faithful.specs.c_tree.declared.expression.CExpr.TheVariants as c
+use Rattle.faithful.specs.c_tree.declared.expression.CCall.{CCall}
+use Rattle.faithful.specs.c_tree.declared.statement.CStmt.{CStmt}
+use Rattle.faithful.specs.c_tree.declared.statement.CStmt.TheVariants as stmt
+use Rattle.faithful.specs.c_tree.declared.declaration.CLocal.{CLocal}
+use Rattle.faithful.specs.c_tree.declared.declaration.CLocal.TheVariants as local
+use Rattle.faithful.specs.c_tree.declared.declaration.CParam.{CParam}
+use Rattle.faithful.specs.c_tree.declared.file.CFunction.{CFunction}
+use Rattle.faithful.specs.c_tree.declared.file.CConstant.{CConstant}
 
 -- ## FORTRAN
 

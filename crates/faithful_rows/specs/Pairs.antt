@@ -1,34 +1,34 @@
 -- The worked pairs: small sets of files, one beside the other FORTRAN trees and the C trees of their texts.
 use Rattle.std.specs.Prelude.{ℕ, pos, true, List, [], ◌∷◌, Some, None, codes}
-use Rattle.f_tree.specs.declared.expressions.Expr as expr
-use Rattle.f_tree.specs.declared.expressions.BinaryOp.TheVariants as op
-use Rattle.f_tree.specs.declared.statements.Body as body
-use Rattle.f_tree.specs.declared.statements.ListItem as item
-use Rattle.f_tree.specs.declared.statements.ControlValue.TheVariants as value
-use Rattle.f_tree.specs.declared.statements.ControlWord.TheVariants as word
-use Rattle.f_tree.specs.declared.statements.Direction.TheVariants as way
-use Rattle.f_tree.specs.declared.statements.UnitKind.TheVariants as kind
-use Rattle.f_tree.specs.declared.statements.DummyArgument.TheVariants as dummy
-use Rattle.f_tree.specs.declared.units.FileSet.{FileSet}
-use Rattle.f_tree.specs.Setting.{Setting}
-use Rattle.f_tree.specs.Runs.{standard_units}
-use Rattle.run_state.specs.Units.{Units}
-use Rattle.c_tree.specs.declared.types.NumberType.TheVariants as number
-use Rattle.c_tree.specs.declared.types.ResultType.TheVariants as result
-use Rattle.c_tree.specs.declared.types.ParameterType.TheVariants as parameter
-use Rattle.c_tree.specs.declared.types.ArgumentType.TheVariants as argument
-use Rattle.c_tree.specs.declared.types.ListType.TheVariants as list
-use Rattle.c_tree.specs.declared.types.CastType.TheVariants as to
-use Rattle.c_tree.specs.declared.types.FunctionType.TheVariants as of
-use Rattle.c_tree.specs.declared.expression.BinaryOp.TheVariants as c_op
-use Rattle.c_tree.specs.declared.expression.CExpr.{CExpr}
-use Rattle.c_tree.specs.declared.expression.CExpr.TheVariants as c
-use Rattle.c_tree.specs.declared.statement.CStmt.TheVariants as stmt
-use Rattle.c_tree.specs.declared.declaration.CLocal.{CLocal}
-use Rattle.c_tree.specs.declared.declaration.CLocal.TheVariants as local
-use Rattle.c_tree.specs.declared.declaration.CField.TheVariants as given
-use Rattle.c_tree.specs.declared.file.CObject.TheVariants as object
-use Rattle.c_tree.specs.declared.file.CFile.{CFile}
+use Rattle.faithful.specs.f_tree.declared.expressions.Expr as expr
+use Rattle.faithful.specs.f_tree.declared.expressions.BinaryOp.TheVariants as op
+use Rattle.faithful.specs.f_tree.declared.statements.Body as body
+use Rattle.faithful.specs.f_tree.declared.statements.ListItem as item
+use Rattle.faithful.specs.f_tree.declared.statements.ControlValue.TheVariants as value
+use Rattle.faithful.specs.f_tree.declared.statements.ControlWord.TheVariants as word
+use Rattle.faithful.specs.f_tree.declared.statements.Direction.TheVariants as way
+use Rattle.faithful.specs.f_tree.declared.statements.UnitKind.TheVariants as kind
+use Rattle.faithful.specs.f_tree.declared.statements.DummyArgument.TheVariants as dummy
+use Rattle.faithful.specs.f_tree.declared.units.FileSet.{FileSet}
+use Rattle.faithful.specs.f_tree.Setting.{Setting}
+use Rattle.faithful.specs.f_tree.Runs.{standard_units}
+use Rattle.faithful.specs.run_state.Units.{Units}
+use Rattle.faithful.specs.c_tree.declared.types.NumberType.TheVariants as number
+use Rattle.faithful.specs.c_tree.declared.types.ResultType.TheVariants as result
+use Rattle.faithful.specs.c_tree.declared.types.ParameterType.TheVariants as parameter
+use Rattle.faithful.specs.c_tree.declared.types.ArgumentType.TheVariants as argument
+use Rattle.faithful.specs.c_tree.declared.types.ListType.TheVariants as list
+use Rattle.faithful.specs.c_tree.declared.types.CastType.TheVariants as to
+use Rattle.faithful.specs.c_tree.declared.types.FunctionType.TheVariants as of
+use Rattle.faithful.specs.c_tree.declared.expression.BinaryOp.TheVariants as c_op
+use Rattle.faithful.specs.c_tree.declared.expression.CExpr.{CExpr}
+use Rattle.faithful.specs.c_tree.declared.expression.CExpr.TheVariants as c
+use Rattle.faithful.specs.c_tree.declared.statement.CStmt.TheVariants as stmt
+use Rattle.faithful.specs.c_tree.declared.declaration.CLocal.{CLocal}
+use Rattle.faithful.specs.c_tree.declared.declaration.CLocal.TheVariants as local
+use Rattle.faithful.specs.c_tree.declared.declaration.CField.TheVariants as given
+use Rattle.faithful.specs.c_tree.declared.file.CObject.TheVariants as object
+use Rattle.faithful.specs.c_tree.declared.file.CFile.{CFile}
 use Rattle.faithful_rows.specs.PairWords.{on_card, num, integers, logicals, characters, any_characters, alone, array_of, main_unit, unit_of, subroutine, function, one_file, c_name, c_num, address_of, pointed, c_call, does_call, returns_zero, extern, static_integer, static_array, param, c_function, constant}
 
 -- files with their setting, their texts, and the external units at the start

@@ -1,7 +1,7 @@
 //! Worked pairs of files and texts, with both runs side by side.
 
 ghost use Rattle.std.specs.Prelude.{[], ◌∷◌, codes};
-ghost use Rattle.f_tree.specs.Runs.{standard_units};
+ghost use Rattle.faithful.specs.f_tree.Runs.{standard_units};
 ghost use Rattle.faithful.specs.UnitsAtStart.{IsUnits};
 ghost use Rattle.faithful_rows.specs.Pairs.{element_passed, entry_called, results_given, storage_shared, numbers_read, columns_read, written_inside, shorter_dummy, columns_written};
 ghost use Rattle.faithful_rows.specs.PairRuns.{AreAlike, AreNamed};

@@ -15,9 +15,9 @@ use Rattle.fortran_text.specs.StatementsOfFile.{statement, before_statements, st
 use Rattle.fortran_text.specs.declared.source.CardKind.{CardKind}
 use Rattle.fortran_text.specs.declared.source.CardKind.TheVariants.{Comment, Initial, Continuation}
 use Rattle.fortran_text.specs.declared.source.Statement.{Statement}
-use Rattle.fortran_lexemes.specs.KindsOfStatements.{kind_of_statement}
-use Rattle.fortran_lexemes.specs.LexicalRows.{first_lexical_row}
-use Rattle.fortran_lexemes.specs.declared.kinds.StmtKind.{StmtKind}
+use Rattle.fortran_grammar.specs.fortran_lexemes.KindsOfStatements.{kind_of_statement}
+use Rattle.fortran_grammar.specs.fortran_lexemes.LexicalRows.{first_lexical_row}
+use Rattle.fortran_grammar.specs.fortran_lexemes.declared.kinds.StmtKind.{StmtKind}
 use Rattle.fortran_grammar.specs.UnitsOfFile.{is_labelled, pieces_of}
 use Rattle.fortran_grammar.specs.SyntaxRows.{RowOfKind, lexical, not_spelled, RowOfStatement, of_no_kind, of_a_kind, first_behind, StandsAt, at_first, behind, FaultOfStatements}
 use Rattle.file_parse.specs.FileTrees.{HasNoFault, IsFirstRow, AreStatementsOf, IsFileTree, IsPartTree}

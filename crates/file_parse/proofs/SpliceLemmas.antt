@@ -14,7 +14,7 @@ use Rattle.fortran_text.specs.declared.source.Statement.{Statement}
 use Rattle.fortran_grammar.specs.SyntaxRows.{first_behind, at_first, behind}
 use Rattle.fortran_grammar.specs.UnitsOfFile.{SpellsStatements, unit_of}
 use Rattle.fortran_grammar.specs.IncludedFiles.{included_by, statements_for, with_parts, unit_with_parts, units_with_parts, part_named, file_with_parts}
-use Rattle.grammar_laws.proofs.FileLemmas.{one_list}
+use Rattle.statement_reader.proofs.grammar_laws.FileLemmas.{one_list}
 use Rattle.file_parse.specs.ReadSoFar.{StopsAt, stops_here, stops_behind, AreClear, AreTrees}
 use Rattle.file_parse.specs.Splices.{StandsFor, AreParts, IsUnder, IsInPlace}
 

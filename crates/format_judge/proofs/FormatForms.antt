@@ -12,12 +12,12 @@ use Rattle.f_tree.specs.declared.statements.Control.{Control}
 use Rattle.f_tree.specs.declared.statements.Direction.{Direction}
 use Rattle.f_tree.specs.declared.statements.ListItem.{ListItem}
 use Rattle.f_tree.specs.declared.statements.Stmt.{Stmt}
-use Rattle.edit_meaning.specs.Formats as formats
+use Rattle.edit_rules.specs.edit_meaning.Formats as formats
 use Rattle.edit_rules.specs.declared.format_check.BadFormat.{BadFormat}
 use Rattle.std.proofs.Common.{Result, Ok, Err, MatchResult}
 use Rattle.std.specs.Result.{is_ok}
-use Rattle.edit_meaning.specs.FormatGrammar.{IsFormat}
-use Rattle.edit_meaning.specs.FormatTexts.{format_of}
+use Rattle.edit_rules.specs.edit_meaning.FormatGrammar.{IsFormat}
+use Rattle.edit_rules.specs.edit_meaning.FormatTexts.{format_of}
 use Rattle.edit_rules.specs.FormatChecks.{IsFront, IsRefusedAt}
 use Rattle.edit_rules.proofs.FormatLaws.{format_of_is, fronts, spelled_front}
 use Rattle.declaration_rows.specs.FormatRows.{format_text_rows}

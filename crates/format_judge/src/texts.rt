@@ -4,7 +4,7 @@
 ghost use Rattle.std.specs.Prelude.{◌≡◌, IfOk, is_some};
 ghost use Rattle.std.specs.List.{list_any};
 ghost use Rattle.f_tree.specs.Attributes.{option_list};
-ghost use Rattle.edit_meaning.specs.FormatTexts.{format_of};
+ghost use Rattle.edit_rules.specs.edit_meaning.FormatTexts.{format_of};
 ghost use Rattle.declaration_rows.specs.FormatRows as rows;
 
 use edit_rules::check_format;

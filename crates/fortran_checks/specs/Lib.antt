@@ -1,0 +1,2 @@
+pub use Rattle.f_tree.specs as f_tree
+pub use Rattle.f_tree.specs.run_state

@@ -3,19 +3,19 @@
 use Rattle.std.specs.Prelude.{ℕ, Bool, true, false, not, ◌&&◌, List, [], ◌∷◌, codes, Option, Some, None, if◌then◌else◌}
 use Rattle.std.specs.List.{list_any, list_all}
 use Rattle.std.specs.Str.{bytes_eq}
-use Rattle.f_tree.specs.declared.expressions.Expr.{Expr}
-use Rattle.f_tree.specs.declared.expressions.Expr as expr
-use Rattle.f_tree.specs.declared.statements.AuxiliaryKind.{AuxiliaryKind}
-use Rattle.f_tree.specs.declared.statements.AuxiliaryKind.TheVariants as auxiliary
-use Rattle.f_tree.specs.declared.statements.Body.{Body}
-use Rattle.f_tree.specs.declared.statements.Body as body
-use Rattle.f_tree.specs.declared.statements.Control.{Control}
-use Rattle.f_tree.specs.declared.statements.ControlValue.{ControlValue}
-use Rattle.f_tree.specs.declared.statements.ControlValue.TheVariants as value
-use Rattle.f_tree.specs.declared.statements.ControlWord.{ControlWord}
-use Rattle.f_tree.specs.declared.statements.ControlWord.TheVariants as word
-use Rattle.f_tree.specs.declared.statements.Direction.TheVariants as way
-use Rattle.f_tree.specs.declared.statements.ListItem.{ListItem}
+use Rattle.fortran_lexemes.specs.f_tree.declared.expressions.Expr.{Expr}
+use Rattle.fortran_lexemes.specs.f_tree.declared.expressions.Expr as expr
+use Rattle.fortran_lexemes.specs.f_tree.declared.statements.AuxiliaryKind.{AuxiliaryKind}
+use Rattle.fortran_lexemes.specs.f_tree.declared.statements.AuxiliaryKind.TheVariants as auxiliary
+use Rattle.fortran_lexemes.specs.f_tree.declared.statements.Body.{Body}
+use Rattle.fortran_lexemes.specs.f_tree.declared.statements.Body as body
+use Rattle.fortran_lexemes.specs.f_tree.declared.statements.Control.{Control}
+use Rattle.fortran_lexemes.specs.f_tree.declared.statements.ControlValue.{ControlValue}
+use Rattle.fortran_lexemes.specs.f_tree.declared.statements.ControlValue.TheVariants as value
+use Rattle.fortran_lexemes.specs.f_tree.declared.statements.ControlWord.{ControlWord}
+use Rattle.fortran_lexemes.specs.f_tree.declared.statements.ControlWord.TheVariants as word
+use Rattle.fortran_lexemes.specs.f_tree.declared.statements.Direction.TheVariants as way
+use Rattle.fortran_lexemes.specs.f_tree.declared.statements.ListItem.{ListItem}
 use Rattle.fortran_lexemes.specs.Lexemes.{Lexeme, Lexemes, Name, Number, Mark}
 use Rattle.fortran_lexemes.specs.declared.signs.Sign.TheVariants as sign
 use Rattle.fortran_grammar.specs.ExpressionSpelling.{SpellsExpression}

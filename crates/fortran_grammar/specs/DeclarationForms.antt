@@ -2,28 +2,28 @@
 -- IMPLICIT NONE. A type is INTEGER, LOGICAL or CHARACTER; the first two may have the length 4 written.
 use Rattle.std.specs.Prelude.{ℕ, Bool, ◌==◌, nat_le, List, [], ◌∷◌, ◌++◌, map, codes, Option, Some, None, if◌then◌else◌}
 use Rattle.std.specs.Str.{bytes_eq}
-use Rattle.f_tree.specs.declared.expressions.Expr.{Expr}
-use Rattle.f_tree.specs.declared.names.Basic.{Basic}
-use Rattle.f_tree.specs.declared.names.Basic.TheVariants as basic
-use Rattle.f_tree.specs.declared.statements.ArrayDeclarator.{ArrayDeclarator}
-use Rattle.f_tree.specs.declared.statements.Body.{Body}
-use Rattle.f_tree.specs.declared.statements.Body as body
-use Rattle.f_tree.specs.declared.statements.CommonGroup.{CommonGroup}
-use Rattle.f_tree.specs.declared.statements.ConstantDefinition.{ConstantDefinition}
-use Rattle.f_tree.specs.declared.statements.Declarator.{Declarator}
-use Rattle.f_tree.specs.declared.statements.Dimension.{Dimension}
-use Rattle.f_tree.specs.declared.statements.DummyArgument.TheVariants as dummy
-use Rattle.f_tree.specs.declared.statements.EquivalenceGroup.{EquivalenceGroup}
-use Rattle.f_tree.specs.declared.statements.ImplicitGroup.{ImplicitGroup}
-use Rattle.f_tree.specs.declared.statements.LengthSpec.{LengthSpec}
-use Rattle.f_tree.specs.declared.statements.LengthSpec.TheVariants as length'
-use Rattle.f_tree.specs.declared.statements.LetterRange.{LetterRange}
-use Rattle.f_tree.specs.declared.statements.SavedItem.TheVariants as saved
-use Rattle.f_tree.specs.declared.statements.SavedItem.{SavedItem}
-use Rattle.f_tree.specs.declared.statements.TypeSpec.{TypeSpec}
-use Rattle.f_tree.specs.declared.statements.UnitKind.TheVariants as unit
-use Rattle.f_tree.specs.declared.statements.UpperBound.{UpperBound}
-use Rattle.f_tree.specs.declared.statements.UpperBound.TheVariants as upper
+use Rattle.fortran_lexemes.specs.f_tree.declared.expressions.Expr.{Expr}
+use Rattle.fortran_lexemes.specs.f_tree.declared.names.Basic.{Basic}
+use Rattle.fortran_lexemes.specs.f_tree.declared.names.Basic.TheVariants as basic
+use Rattle.fortran_lexemes.specs.f_tree.declared.statements.ArrayDeclarator.{ArrayDeclarator}
+use Rattle.fortran_lexemes.specs.f_tree.declared.statements.Body.{Body}
+use Rattle.fortran_lexemes.specs.f_tree.declared.statements.Body as body
+use Rattle.fortran_lexemes.specs.f_tree.declared.statements.CommonGroup.{CommonGroup}
+use Rattle.fortran_lexemes.specs.f_tree.declared.statements.ConstantDefinition.{ConstantDefinition}
+use Rattle.fortran_lexemes.specs.f_tree.declared.statements.Declarator.{Declarator}
+use Rattle.fortran_lexemes.specs.f_tree.declared.statements.Dimension.{Dimension}
+use Rattle.fortran_lexemes.specs.f_tree.declared.statements.DummyArgument.TheVariants as dummy
+use Rattle.fortran_lexemes.specs.f_tree.declared.statements.EquivalenceGroup.{EquivalenceGroup}
+use Rattle.fortran_lexemes.specs.f_tree.declared.statements.ImplicitGroup.{ImplicitGroup}
+use Rattle.fortran_lexemes.specs.f_tree.declared.statements.LengthSpec.{LengthSpec}
+use Rattle.fortran_lexemes.specs.f_tree.declared.statements.LengthSpec.TheVariants as length'
+use Rattle.fortran_lexemes.specs.f_tree.declared.statements.LetterRange.{LetterRange}
+use Rattle.fortran_lexemes.specs.f_tree.declared.statements.SavedItem.TheVariants as saved
+use Rattle.fortran_lexemes.specs.f_tree.declared.statements.SavedItem.{SavedItem}
+use Rattle.fortran_lexemes.specs.f_tree.declared.statements.TypeSpec.{TypeSpec}
+use Rattle.fortran_lexemes.specs.f_tree.declared.statements.UnitKind.TheVariants as unit
+use Rattle.fortran_lexemes.specs.f_tree.declared.statements.UpperBound.{UpperBound}
+use Rattle.fortran_lexemes.specs.f_tree.declared.statements.UpperBound.TheVariants as upper
 use Rattle.fortran_lexemes.specs.Lexemes.{Lexeme, Name, Number, Word}
 use Rattle.fortran_lexemes.specs.declared.kinds.StmtKind.TheVariants as kind
 use Rattle.fortran_grammar.specs.ExpressionSpelling.{SpellsExpression, SpellsPlace}

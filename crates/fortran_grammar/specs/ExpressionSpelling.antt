@@ -4,10 +4,10 @@
 -- `.OR.`, 3 for `.AND.`, 4 for `.NOT.`, 5 for relations, 6 for `//`, 7 for `+` and `-`, also as signs, 8 for `*` and `/`, 9 for `**`, and 10
 -- for primaries.
 use Rattle.std.specs.Prelude.{ℕ, ◌≤◌, suc, Bool, pos, List, [], ◌∷◌, Option, Some, None}
-use Rattle.f_tree.specs.declared.expressions.BinaryOp.{BinaryOp}
-use Rattle.f_tree.specs.declared.expressions.BinaryOp.TheVariants as operator
-use Rattle.f_tree.specs.declared.expressions.Expr.{Expr}
-use Rattle.f_tree.specs.declared.expressions.Expr as expr
+use Rattle.fortran_lexemes.specs.f_tree.declared.expressions.BinaryOp.{BinaryOp}
+use Rattle.fortran_lexemes.specs.f_tree.declared.expressions.BinaryOp.TheVariants as operator
+use Rattle.fortran_lexemes.specs.f_tree.declared.expressions.Expr.{Expr}
+use Rattle.fortran_lexemes.specs.f_tree.declared.expressions.Expr as expr
 use Rattle.fortran_lexemes.specs.Lexemes.{Lexemes, Name, Number, Quoted, Infix, Negation, Truth, Mark}
 use Rattle.fortran_lexemes.specs.declared.signs.Sign.TheVariants as sign
 

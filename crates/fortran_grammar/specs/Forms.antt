@@ -2,7 +2,7 @@
 -- there: `f x before after`, that the pieces from `before` up to `after` say `x`. ANSI X3.9-1978, section 1.5: the
 -- notation for forms of statements.
 use Rattle.std.specs.Prelude.{◌≡◌, ℕ, Bool, true, false, ◌&&◌, nat_le, nat_lt, List, [], ◌∷◌, length, Option, Some, None, ◌⊎◌, if◌then◌else◌}
-use Rattle.f_tree.specs.declared.expressions.BinaryOp.TheVariants as operator
+use Rattle.fortran_lexemes.specs.f_tree.declared.expressions.BinaryOp.TheVariants as operator
 use Rattle.fortran_lexemes.specs.Lexemes.{Lexeme, Lexemes, Name, Number, Quoted, Infix, Negation, Truth, Mark, Word, To, Then, FormatText}
 use Rattle.fortran_lexemes.specs.declared.signs.Sign.TheVariants as sign
 

@@ -1,14 +1,14 @@
 -- What INCLUDE stands for: the statements of the file that it names, in which no INCLUDE is replaced. MIL-STD-1753.
 use Rattle.std.specs.Prelude.{◌≡◌, ℕ, Bool, true, false, List, [], ◌∷◌, ◌++◌, bytes_eq, Option, Some, None, if◌then◌else◌}
-use Rattle.f_tree.specs.declared.statements.Body.{Body}
-use Rattle.f_tree.specs.declared.statements.Body.TheOpen as body
-use Rattle.f_tree.specs.declared.statements.UnitKind.TheVariants as unit_kind
-use Rattle.f_tree.specs.declared.statements.Stmt.{Stmt}
-use Rattle.f_tree.specs.declared.units.Unit.{Unit as ProgramUnit}
-use Rattle.f_tree.specs.declared.units.File.{File}
-use Rattle.f_tree.specs.declared.units.Part.{Part}
-use Rattle.f_tree.specs.Folds.{layer_of}
-use Rattle.fortran_text.specs.declared.source.Statement.{Statement}
+use Rattle.fortran_lexemes.specs.f_tree.declared.statements.Body.{Body}
+use Rattle.fortran_lexemes.specs.f_tree.declared.statements.Body.TheOpen as body
+use Rattle.fortran_lexemes.specs.f_tree.declared.statements.UnitKind.TheVariants as unit_kind
+use Rattle.fortran_lexemes.specs.f_tree.declared.statements.Stmt.{Stmt}
+use Rattle.fortran_lexemes.specs.f_tree.declared.units.Unit.{Unit as ProgramUnit}
+use Rattle.fortran_lexemes.specs.f_tree.declared.units.File.{File}
+use Rattle.fortran_lexemes.specs.f_tree.declared.units.Part.{Part}
+use Rattle.fortran_lexemes.specs.f_tree.Folds.{layer_of}
+use Rattle.fortran_lexemes.specs.fortran_text.declared.source.Statement.{Statement}
 use Rattle.fortran_grammar.specs.UnitsOfFile.{SpellsStatements, unit_of}
 
 -- The statements of an included file spell a part: none of them begins a unit by its type.

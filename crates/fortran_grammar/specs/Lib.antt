@@ -8,3 +8,6 @@ pub mod StatementForms
 pub mod StatementSpelling
 pub mod SyntaxRows
 pub mod UnitsOfFile
+pub use Rattle.fortran_lexemes.specs.f_tree
+pub use Rattle.fortran_lexemes.specs as fortran_lexemes
+pub use Rattle.fortran_lexemes.specs.fortran_text

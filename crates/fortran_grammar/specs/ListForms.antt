@@ -1,13 +1,13 @@
 -- The lists of READ, WRITE, PRINT and DATA, with their implied DO loops. ANSI X3.9-1978, sections 9.1 to 9.3 and 12.8.2.
 use Rattle.std.specs.Prelude.{ℕ, zero, suc, Bool, pos, List, ◌∷◌, Option, Some, None}
-use Rattle.f_tree.specs.declared.expressions.Expr.{Expr}
-use Rattle.f_tree.specs.declared.expressions.Expr as expr
-use Rattle.f_tree.specs.declared.statements.Body.{Body}
-use Rattle.f_tree.specs.declared.statements.Body as body
-use Rattle.f_tree.specs.declared.statements.DataGroup.{DataGroup}
-use Rattle.f_tree.specs.declared.statements.DataValue.{DataValue}
-use Rattle.f_tree.specs.declared.statements.ListItem.{ListItem}
-use Rattle.f_tree.specs.declared.statements.ListItem as item
+use Rattle.fortran_lexemes.specs.f_tree.declared.expressions.Expr.{Expr}
+use Rattle.fortran_lexemes.specs.f_tree.declared.expressions.Expr as expr
+use Rattle.fortran_lexemes.specs.f_tree.declared.statements.Body.{Body}
+use Rattle.fortran_lexemes.specs.f_tree.declared.statements.Body as body
+use Rattle.fortran_lexemes.specs.f_tree.declared.statements.DataGroup.{DataGroup}
+use Rattle.fortran_lexemes.specs.f_tree.declared.statements.DataValue.{DataValue}
+use Rattle.fortran_lexemes.specs.f_tree.declared.statements.ListItem.{ListItem}
+use Rattle.fortran_lexemes.specs.f_tree.declared.statements.ListItem as item
 use Rattle.fortran_lexemes.specs.Lexemes.{Lexeme, Truth}
 use Rattle.fortran_grammar.specs.ExpressionSpelling.{SpellsExpression, SpellsPlace}
 use Rattle.fortran_grammar.specs.Forms.{Form, Piece, After, UpTo, Both, Either, Maybe, Meant, Separated, Many, Enclosed, WithComma, AName, ANumber, AQuoted, Comma, Star, Slash, Plus, Minus}

@@ -1,13 +1,13 @@
 -- The forms of statements that assign, branch, loop, call and end, behind the word that begins each. ANSI X3.9-1978, sections 10, 11 and 15;
 -- MIL-STD-1753: DO WHILE, and DO without a label. INCLUDE, FORMAT and ENTRY stand here too.
 use Rattle.std.specs.Prelude.{ℕ, nat_le, List, [], length, Option, Some, None, if◌then◌else◌}
-use Rattle.f_tree.specs.declared.expressions.Expr.{Expr}
-use Rattle.f_tree.specs.declared.expressions.Expr as expr
-use Rattle.f_tree.specs.declared.statements.Body.{Body}
-use Rattle.f_tree.specs.declared.statements.Body as body
-use Rattle.f_tree.specs.declared.statements.DummyArgument.{DummyArgument}
-use Rattle.f_tree.specs.declared.statements.DummyArgument.TheVariants as dummy
-use Rattle.f_tree.specs.declared.statements.LoopControl.{LoopControl}
+use Rattle.fortran_lexemes.specs.f_tree.declared.expressions.Expr.{Expr}
+use Rattle.fortran_lexemes.specs.f_tree.declared.expressions.Expr as expr
+use Rattle.fortran_lexemes.specs.f_tree.declared.statements.Body.{Body}
+use Rattle.fortran_lexemes.specs.f_tree.declared.statements.Body as body
+use Rattle.fortran_lexemes.specs.f_tree.declared.statements.DummyArgument.{DummyArgument}
+use Rattle.fortran_lexemes.specs.f_tree.declared.statements.DummyArgument.TheVariants as dummy
+use Rattle.fortran_lexemes.specs.f_tree.declared.statements.LoopControl.{LoopControl}
 use Rattle.fortran_lexemes.specs.Lexemes.{Lexeme, Number, Quoted, FormatText}
 use Rattle.fortran_grammar.specs.ExpressionSpelling.{SpellsExpression, SpellsPlace}
 use Rattle.fortran_grammar.specs.Forms.{Form, Said, Piece, After, UpTo, Both, Either, Maybe, Meant, Separated, Enclosed, WithComma, listed, AName, ALabel, AQuoted, Open, Close, Comma, Equals, Star, ToWord, ThenWord}

@@ -1,10 +1,10 @@
 -- Which statement pieces spell: the word that begins them says which form stands behind it, up to the last piece. ANSI X3.9-1978, sections 7 to
 -- 16; MIL-STD-1753: DO WHILE, END DO and INCLUDE.
 use Rattle.std.specs.Prelude.{[], ◌∷◌}
-use Rattle.f_tree.specs.declared.expressions.Expr.{Expr}
-use Rattle.f_tree.specs.declared.statements.AuxiliaryKind.TheVariants as auxiliary
-use Rattle.f_tree.specs.declared.statements.Body.{Body}
-use Rattle.f_tree.specs.declared.statements.Body as body
+use Rattle.fortran_lexemes.specs.f_tree.declared.expressions.Expr.{Expr}
+use Rattle.fortran_lexemes.specs.f_tree.declared.statements.AuxiliaryKind.TheVariants as auxiliary
+use Rattle.fortran_lexemes.specs.f_tree.declared.statements.Body.{Body}
+use Rattle.fortran_lexemes.specs.f_tree.declared.statements.Body as body
 use Rattle.fortran_lexemes.specs.Lexemes.{Lexemes, Word}
 use Rattle.fortran_lexemes.specs.declared.kinds.StmtKind.TheVariants as kind
 use Rattle.fortran_grammar.specs.StatementForms.{AssignmentForm, AssignForm, GotoForm, TestForm, ArithmeticIfForm, BlockIfForm, ElseIfForm, DoForm, DoWhileForm, CallForm, ReturnForm, StopForm, EntryForm, FormatForm, IncludeForm}

@@ -1,16 +1,16 @@
 -- The rows of refusals of statements and their nests: F10 to F17. ANSI X3.9-1978, sections 3.3 and 7 to 16. Of one statement the least row
 -- is told; F11 holds only where none of F12 to F17 does. More than 64 open DO and IF blocks are judged with INCLUDE replaced.
 use Rattle.std.specs.Prelude.{◌≡◌, ℕ, nat_eq, nat_lt, Bool, true, false, ◌&&◌, List, [], ◌∷◌, ◌++◌, length, filter, not, Option, Some, None, if◌then◌else◌}
-use Rattle.f_tree.specs.declared.refusals.Kind.{Kind}
-use Rattle.f_tree.specs.declared.refusals.Kind.TheVariants.{UnknownStatement, SyntaxError, NestingTooDeep}
-use Rattle.f_tree.specs.declared.refusals.Refusal.{Refusal}
-use Rattle.f_tree.specs.declared.statements.Body.{Body}
-use Rattle.f_tree.specs.declared.statements.Body.TheOpen as body
-use Rattle.f_tree.specs.declared.statements.Stmt.{Stmt}
-use Rattle.f_tree.specs.declared.units.Unit.{Unit as ProgramUnit}
-use Rattle.f_tree.specs.Folds.{layer_of}
-use Rattle.fortran_text.specs.CharactersOfText.{is_end}
-use Rattle.fortran_text.specs.declared.source.Statement.{Statement}
+use Rattle.fortran_lexemes.specs.f_tree.declared.refusals.Kind.{Kind}
+use Rattle.fortran_lexemes.specs.f_tree.declared.refusals.Kind.TheVariants.{UnknownStatement, SyntaxError, NestingTooDeep}
+use Rattle.fortran_lexemes.specs.f_tree.declared.refusals.Refusal.{Refusal}
+use Rattle.fortran_lexemes.specs.f_tree.declared.statements.Body.{Body}
+use Rattle.fortran_lexemes.specs.f_tree.declared.statements.Body.TheOpen as body
+use Rattle.fortran_lexemes.specs.f_tree.declared.statements.Stmt.{Stmt}
+use Rattle.fortran_lexemes.specs.f_tree.declared.units.Unit.{Unit as ProgramUnit}
+use Rattle.fortran_lexemes.specs.f_tree.Folds.{layer_of}
+use Rattle.fortran_lexemes.specs.fortran_text.CharactersOfText.{is_end}
+use Rattle.fortran_lexemes.specs.fortran_text.declared.source.Statement.{Statement}
 use Rattle.fortran_lexemes.specs.KindsOfStatements.{kind_of_statement}
 use Rattle.fortran_lexemes.specs.LexicalRows.{first_lexical_row}
 use Rattle.fortran_lexemes.specs.declared.kinds.StmtKind.{StmtKind}

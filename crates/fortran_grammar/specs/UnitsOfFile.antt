@@ -1,17 +1,17 @@
 -- Which trees the statements of a file spell: each statement one, and units up to each END. ANSI X3.9-1978, sections 2.4, 3.3 to 3.5 and 14
 -- to 16; MIL-STD-1753: INCLUDE.
 use Rattle.std.specs.Prelude.{◌≡◌, ℕ, Bool, true, false, ◌&&◌, ◌==◌, not, List, [], ◌∷◌, length, Option, Some, None, is_some, if◌then◌else◌}
-use Rattle.f_tree.specs.declared.statements.Body.{Body}
-use Rattle.f_tree.specs.declared.statements.Body.TheOpen as body
-use Rattle.f_tree.specs.declared.statements.DummyArgument.{DummyArgument}
-use Rattle.f_tree.specs.declared.statements.UnitKind.{UnitKind}
-use Rattle.f_tree.specs.declared.statements.UnitKind.TheVariants as unit_kind
-use Rattle.f_tree.specs.declared.statements.Stmt.{Stmt}
-use Rattle.f_tree.specs.declared.units.Unit.{Unit as ProgramUnit}
-use Rattle.f_tree.specs.declared.units.File.{File}
-use Rattle.f_tree.specs.Folds.{layer_of}
-use Rattle.fortran_text.specs.CharactersOfText.{characters, is_end}
-use Rattle.fortran_text.specs.declared.source.Statement.{Statement}
+use Rattle.fortran_lexemes.specs.f_tree.declared.statements.Body.{Body}
+use Rattle.fortran_lexemes.specs.f_tree.declared.statements.Body.TheOpen as body
+use Rattle.fortran_lexemes.specs.f_tree.declared.statements.DummyArgument.{DummyArgument}
+use Rattle.fortran_lexemes.specs.f_tree.declared.statements.UnitKind.{UnitKind}
+use Rattle.fortran_lexemes.specs.f_tree.declared.statements.UnitKind.TheVariants as unit_kind
+use Rattle.fortran_lexemes.specs.f_tree.declared.statements.Stmt.{Stmt}
+use Rattle.fortran_lexemes.specs.f_tree.declared.units.Unit.{Unit as ProgramUnit}
+use Rattle.fortran_lexemes.specs.f_tree.declared.units.File.{File}
+use Rattle.fortran_lexemes.specs.f_tree.Folds.{layer_of}
+use Rattle.fortran_lexemes.specs.fortran_text.CharactersOfText.{characters, is_end}
+use Rattle.fortran_lexemes.specs.fortran_text.declared.source.Statement.{Statement}
 use Rattle.fortran_lexemes.specs.KindsOfStatements.{kind_of_statement}
 use Rattle.fortran_lexemes.specs.Lexemes.{Lexemes}
 use Rattle.fortran_lexemes.specs.PiecesOfStatements.{pieces}

@@ -12,3 +12,4 @@ pub mod SimpleApart
 pub mod SimpleAttributes
 pub mod SimpleNames
 pub mod SimpleUnits
+pub use Rattle.f_tree.proofs.simulation

@@ -2,9 +2,9 @@
 use Rattle.std.specs.Prelude.{◌≡◌, ℕ, zero, suc, ◌<◌, ◌≤◌, ◌⊎◌, List, Option, Some, None}
 use Rattle.std.proofs.Common.{refl, sym, ap, ◌∙◌, subst, arith, inl, inr}
 use Rattle.std.proofs.lemmas.Bool.{cases_lt}
-use Rattle.simulation.specs.Machine.{Runs, Over, Broken, next, run, machine_opened}
-use Rattle.run_state.specs.Endings.{Report}
-use Rattle.run_state.specs.Units.{Units}
+use Rattle.f_tree.specs.simulation.Machine.{Runs, Over, Broken, next, run, machine_opened}
+use Rattle.f_tree.specs.run_state.Endings.{Report}
+use Rattle.f_tree.specs.run_state.Units.{Units}
 use Rattle.f_tree.specs.Values.{Act}
 use Rattle.f_tree.specs.Facts.{ProgramUnit}
 use Rattle.f_tree.specs.Setting.{Setting}

@@ -1,7 +1,7 @@
 -- What is said of the first range act of a run.
 use Rattle.std.specs.Prelude.{◌≡◌, ℕ, ◌<◌, List, Option, Some}
-use Rattle.run_state.specs.Endings.{Report}
-use Rattle.run_state.specs.Units.{Units}
+use Rattle.f_tree.specs.run_state.Endings.{Report}
+use Rattle.f_tree.specs.run_state.Units.{Units}
 use Rattle.f_tree.specs.Facts.{ProgramUnit}
 use Rattle.f_tree.specs.Setting.{Setting}
 use Rattle.f_tree.specs.RangeActs.{IsFirstRangeAct, range}

@@ -2,7 +2,7 @@
 -- 6: operators. A piece carries what the forms of statements need and no more. A name or a number that is too large, a constant that is not
 -- closed or empty, and a character that begins nothing are pieces of their own, which no form takes.
 use Rattle.std.specs.Prelude.{ℕ, Bool, List}
-use Rattle.f_tree.specs.declared.expressions.BinaryOp.{BinaryOp}
+use Rattle.fortran_text.specs.f_tree.declared.expressions.BinaryOp.{BinaryOp}
 use Rattle.fortran_lexemes.specs.declared.kinds.StmtKind.{StmtKind}
 use Rattle.fortran_lexemes.specs.declared.signs.Sign.{Sign}
 

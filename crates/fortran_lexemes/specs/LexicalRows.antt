@@ -3,9 +3,9 @@
 use Rattle.std.specs.Prelude.{ℕ, ◌+◌, ◌-◌, Bool, true, false, not, ◌||◌, ◌&&◌, ◌==◌, nat_lt, List, [], ◌∷◌, drop, codes, Option, Some, None}
 use Rattle.std.specs.List.{list_any}
 use Rattle.std.specs.Str.{bytes_eq}
-use Rattle.f_tree.specs.declared.expressions.BinaryOp.TheVariants as op
-use Rattle.f_tree.specs.declared.refusals.Kind.{Kind}
-use Rattle.f_tree.specs.declared.refusals.Kind.TheVariants.{IntegerTooLarge, NameTooLong, BadCharacterConstant, TypeNotSupported, StatementOrSpecifierNotSupported, NestingTooDeep}
+use Rattle.fortran_text.specs.f_tree.declared.expressions.BinaryOp.TheVariants as op
+use Rattle.fortran_text.specs.f_tree.declared.refusals.Kind.{Kind}
+use Rattle.fortran_text.specs.f_tree.declared.refusals.Kind.TheVariants.{IntegerTooLarge, NameTooLong, BadCharacterConstant, TypeNotSupported, StatementOrSpecifierNotSupported, NestingTooDeep}
 use Rattle.fortran_lexemes.specs.Lexemes.{Lexeme, Lexemes, Name, LongName, Number, TooLarge, Quoted, BadQuote, Infix, Mark, Word}
 use Rattle.fortran_lexemes.specs.declared.kinds.StmtKind.{StmtKind}
 use Rattle.fortran_lexemes.specs.declared.kinds.StmtKind.TheVariants as kind

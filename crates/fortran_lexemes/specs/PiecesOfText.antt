@@ -4,7 +4,7 @@ use Rattle.std.specs.Prelude.{ℕ, zero, suc, ◌+◌, Bool, true, false, not, �
 use Rattle.std.specs.Char.{is_ascii_digit, is_ascii_lowercase}
 use Rattle.std.specs.List.{prefix_len}
 use Rattle.std.specs.Str.Parse.{digits_value}
-use Rattle.f_tree.specs.declared.expressions.BinaryOp.TheVariants as op
+use Rattle.fortran_text.specs.f_tree.declared.expressions.BinaryOp.TheVariants as op
 use Rattle.fortran_text.specs.declared.characters.Character.{Character}
 use Rattle.fortran_lexemes.specs.Lexemes.{Lexeme, Name, LongName, Number, TooLarge, Quoted, BadQuote, Infix, Negation, Truth, Mark, Other}
 use Rattle.fortran_lexemes.specs.declared.signs.Sign.TheVariants as sign

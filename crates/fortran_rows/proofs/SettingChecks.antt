@@ -1,10 +1,10 @@
 -- A setting that is written out is that of a set where finitely many facts of its names, blocks and ties hold.
 use Rattle.std.proofs.Common.{◌≡◌, ℕ, zero, suc, ◌+◌, ◌≤◌, List, [], ◌∷◌, length, Option, Some, None, refl, sym, ap, ◌∙◌, subst, arith}
 use Rattle.std.specs.Prelude.{map, slice_get, if◌then◌else◌}
-use Rattle.f_tree.specs.Values.{Bytes}
-use Rattle.f_tree.specs.Facts.{Home, Member, Block, Tie, ProgramUnit}
-use Rattle.f_tree.specs.Setting.{Setting, IsSetting, IsIn, first_in, later_in, IsMember, here, there, Spoken, AreTied, itself, back, along, by_block, by_equivalence, HasUnit, StandsAt, unit_home, home_among, homes_at, all_homes, IsNumbered, seen_before, EndToEnd, no_more, one_more}
-use Rattle.f_tree.specs.Lines.{same_block}
+use Rattle.fortran_checks.specs.f_tree.Values.{Bytes}
+use Rattle.fortran_checks.specs.f_tree.Facts.{Home, Member, Block, Tie, ProgramUnit}
+use Rattle.fortran_checks.specs.f_tree.Setting.{Setting, IsSetting, IsIn, first_in, later_in, IsMember, here, there, Spoken, AreTied, itself, back, along, by_block, by_equivalence, HasUnit, StandsAt, unit_home, home_among, homes_at, all_homes, IsNumbered, seen_before, EndToEnd, no_more, one_more}
+use Rattle.fortran_checks.specs.f_tree.Lines.{same_block}
 use Rattle.fortran_laws.proofs.SettingLaws.{home_found}
 
 -- what a setting is about in a unit

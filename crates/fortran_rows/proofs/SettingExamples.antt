@@ -1,9 +1,9 @@
 -- The settings of the programs over COMMON and EQUIVALENCE, checked against what a setting is.
 use Rattle.std.proofs.Common.{[], ◌∷◌, Some, None, codes, refl}
-use Rattle.f_tree.specs.Setting.{IsSetting, setting_opened, first_in, later_in, here, there, none_left, is_next}
-use Rattle.f_tree.specs.Lines.{lines_opened}
-use Rattle.f_tree.specs.Meaning.{everything, units_of}
-use Rattle.f_tree.specs.Runs.{no_options}
+use Rattle.fortran_checks.specs.f_tree.Setting.{IsSetting, setting_opened, first_in, later_in, here, there, none_left, is_next}
+use Rattle.fortran_checks.specs.f_tree.Lines.{lines_opened}
+use Rattle.fortran_checks.specs.f_tree.Meaning.{everything, units_of}
+use Rattle.fortran_checks.specs.f_tree.Runs.{no_options}
 use Rattle.fortran_rows.specs.BitsSources.{character_in_a_number, character_in_a_number_setting, numbers_that_overlap, numbers_that_overlap_setting, bits_sources_opened}
 use Rattle.fortran_rows.specs.StorageSources.{overlay_of_a_matrix, overlay_of_a_matrix_setting, overlay_in_a_chain, overlay_in_a_chain_setting, common_that_differs_by_unit, common_that_differs_by_unit_setting, common_made_longer, common_made_longer_setting, texts_that_overlap, texts_that_overlap_setting, arrays_over_their_file, arrays_over_their_file_setting, values_of_a_block, values_of_a_block_setting, block_named_external, block_named_external_setting, storage_sources_opened}
 use Rattle.fortran_rows.specs.CourseSources.{shifted_by_elements, shifted_by_reversion, shifted_by_slashes, shifted_by_values, shifted_setting, course_sources_opened}

@@ -1,6 +1,6 @@
 -- The worked programs whose stored names each stand in a sequence of their own.
 use Rattle.std.specs.Prelude.{List, [], ◌∷◌, ◌++◌, codes}
-use Rattle.f_tree.specs.declared.units.FileSet.{FileSet}
+use Rattle.fortran_checks.specs.f_tree.declared.units.FileSet.{FileSet}
 use Rattle.fortran_rows.specs.ActsSources.{argument_of_another_type, close_in_a_transfer, descriptor_of_another_type, dimension_past_32_bits, format_that_ends_early, function_of_another_type, item_of_another_type, label_in_a_block, label_of_another_unit, part_past_its_text, record_without_value, remainder_past_32_bits, text_too_short_for_its_dummy, zero_to_a_negative_power}
 use Rattle.fortran_rows.specs.BitsSources.{bits_by_position, bits_by_value, elements_longer_than_the_actual, functions_of_bits, length_of_a_sum_of_texts, longer_elements_past_the_actual, part_of_an_element}
 use Rattle.fortran_rows.specs.ControlSources.{assigned_branches, blocks_in_blocks, branches_by_number, jumps_out_of_loops, jumps_to_the_outer_loop, limits_valued_once, loops_that_share_their_end, returns_into_a_loop}

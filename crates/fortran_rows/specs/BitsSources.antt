@@ -1,15 +1,15 @@
 -- Bit functions (MIL-STD-1753), lengths of texts that are not read, and places that do not hold one value of their type: small programs as
 -- trees, some of them one for one those in examples/fortran.
 use Rattle.std.specs.Prelude.{[], ◌∷◌, codes, List, Some, None}
-use Rattle.f_tree.specs.declared.expressions.Expr.{Expr}
-use Rattle.f_tree.specs.declared.expressions.Expr as expr
-use Rattle.f_tree.specs.declared.expressions.BinaryOp.TheVariants as op
-use Rattle.f_tree.specs.declared.names.Basic.TheVariants.{Character}
-use Rattle.f_tree.specs.declared.statements.Body as body
-use Rattle.f_tree.specs.declared.statements.LengthSpec.TheVariants as length'
-use Rattle.f_tree.specs.declared.units.FileSet.{FileSet}
-use Rattle.f_tree.specs.Values.{Bytes}
-use Rattle.f_tree.specs.Setting.{Setting}
+use Rattle.fortran_checks.specs.f_tree.declared.expressions.Expr.{Expr}
+use Rattle.fortran_checks.specs.f_tree.declared.expressions.Expr as expr
+use Rattle.fortran_checks.specs.f_tree.declared.expressions.BinaryOp.TheVariants as op
+use Rattle.fortran_checks.specs.f_tree.declared.names.Basic.TheVariants.{Character}
+use Rattle.fortran_checks.specs.f_tree.declared.statements.Body as body
+use Rattle.fortran_checks.specs.f_tree.declared.statements.LengthSpec.TheVariants as length'
+use Rattle.fortran_checks.specs.f_tree.declared.units.FileSet.{FileSet}
+use Rattle.fortran_checks.specs.f_tree.Values.{Bytes}
+use Rattle.fortran_checks.specs.f_tree.Setting.{Setting}
 use Rattle.fortran_rows.specs.WorkedSources.{on_card, print, main_program, one_file, subroutine, logical_type, num, up_to, scalar, array, I, J, K, N, minus, text_type, text, part}
 use Rattle.fortran_rows.specs.LoopsSources.{written}
 

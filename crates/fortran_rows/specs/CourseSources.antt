@@ -1,20 +1,20 @@
 -- What a transfer comes to, and in which order: formats with characters that are undefined, and internal files that share
 -- storage with the items written to them. Small programs as trees, each for one worked run.
 use Rattle.std.specs.Prelude.{ℕ, List, [], ◌∷◌, codes, Some, None}
-use Rattle.f_tree.specs.declared.expressions.Expr.{Expr}
-use Rattle.f_tree.specs.declared.expressions.Expr as expr
-use Rattle.f_tree.specs.declared.statements.Body.{Body}
-use Rattle.f_tree.specs.declared.statements.Body as body
-use Rattle.f_tree.specs.declared.statements.Stmt.{Stmt}
-use Rattle.f_tree.specs.declared.statements.ControlValue.TheVariants as value
-use Rattle.f_tree.specs.declared.statements.ControlWord.TheVariants as word
-use Rattle.f_tree.specs.declared.statements.Direction.TheVariants as way
-use Rattle.f_tree.specs.declared.statements.LengthSpec.TheVariants as length'
-use Rattle.f_tree.specs.declared.statements.TypeSpec.{TypeSpec}
-use Rattle.f_tree.specs.declared.names.Basic.TheVariants.{Character}
-use Rattle.f_tree.specs.declared.units.FileSet.{FileSet}
-use Rattle.f_tree.specs.Values.{Bytes}
-use Rattle.f_tree.specs.Setting.{Setting}
+use Rattle.fortran_checks.specs.f_tree.declared.expressions.Expr.{Expr}
+use Rattle.fortran_checks.specs.f_tree.declared.expressions.Expr as expr
+use Rattle.fortran_checks.specs.f_tree.declared.statements.Body.{Body}
+use Rattle.fortran_checks.specs.f_tree.declared.statements.Body as body
+use Rattle.fortran_checks.specs.f_tree.declared.statements.Stmt.{Stmt}
+use Rattle.fortran_checks.specs.f_tree.declared.statements.ControlValue.TheVariants as value
+use Rattle.fortran_checks.specs.f_tree.declared.statements.ControlWord.TheVariants as word
+use Rattle.fortran_checks.specs.f_tree.declared.statements.Direction.TheVariants as way
+use Rattle.fortran_checks.specs.f_tree.declared.statements.LengthSpec.TheVariants as length'
+use Rattle.fortran_checks.specs.f_tree.declared.statements.TypeSpec.{TypeSpec}
+use Rattle.fortran_checks.specs.f_tree.declared.names.Basic.TheVariants.{Character}
+use Rattle.fortran_checks.specs.f_tree.declared.units.FileSet.{FileSet}
+use Rattle.fortran_checks.specs.f_tree.Values.{Bytes}
+use Rattle.fortran_checks.specs.f_tree.Setting.{Setting}
 use Rattle.fortran_rows.specs.WorkedSources.{on_card, items, print, main_program, one_file, integer_type, num, up_to, scalar, array, K, N, text}
 
 abbrev text_of : ℕ → TypeSpec

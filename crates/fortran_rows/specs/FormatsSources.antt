@@ -1,16 +1,16 @@
 -- Formats and internal files: small programs as trees, one for one those in examples/fortran.
 use Rattle.std.specs.Prelude.{true, false, [], ◌∷◌, codes, Some, None}
-use Rattle.f_tree.specs.declared.expressions.Expr.{Expr}
-use Rattle.f_tree.specs.declared.expressions.Expr as expr
-use Rattle.f_tree.specs.declared.statements.Body as body
-use Rattle.f_tree.specs.declared.statements.ListItem as item
-use Rattle.f_tree.specs.declared.statements.ControlValue.TheVariants as value
-use Rattle.f_tree.specs.declared.statements.ControlWord.TheVariants as word
-use Rattle.f_tree.specs.declared.statements.Direction.TheVariants as way
-use Rattle.f_tree.specs.declared.units.FileSet.{FileSet}
-use Rattle.f_tree.specs.declared.statements.UpperBound.TheVariants as upper
-use Rattle.f_tree.specs.declared.statements.LengthSpec.TheVariants as length'
-use Rattle.f_tree.specs.declared.names.Basic.TheVariants.{Integer, Logical, Character}
+use Rattle.fortran_checks.specs.f_tree.declared.expressions.Expr.{Expr}
+use Rattle.fortran_checks.specs.f_tree.declared.expressions.Expr as expr
+use Rattle.fortran_checks.specs.f_tree.declared.statements.Body as body
+use Rattle.fortran_checks.specs.f_tree.declared.statements.ListItem as item
+use Rattle.fortran_checks.specs.f_tree.declared.statements.ControlValue.TheVariants as value
+use Rattle.fortran_checks.specs.f_tree.declared.statements.ControlWord.TheVariants as word
+use Rattle.fortran_checks.specs.f_tree.declared.statements.Direction.TheVariants as way
+use Rattle.fortran_checks.specs.f_tree.declared.units.FileSet.{FileSet}
+use Rattle.fortran_checks.specs.f_tree.declared.statements.UpperBound.TheVariants as upper
+use Rattle.fortran_checks.specs.f_tree.declared.statements.LengthSpec.TheVariants as length'
+use Rattle.fortran_checks.specs.f_tree.declared.names.Basic.TheVariants.{Integer, Logical, Character}
 use Rattle.fortran_rows.specs.WorkedSources.{on_card, labelled, main_program, one_file, num, from_to, I, J, K, M, N, plus, times, text}
 
 -- examples/fortran/reversion_to_the_last_group.f

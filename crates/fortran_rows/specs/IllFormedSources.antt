@@ -1,15 +1,15 @@
 -- Small programs as trees that are not well formed, each by one rule; their runs come to a form without meaning.
 use Rattle.std.specs.Prelude.{true, false, [], ◌∷◌, codes, Some, None}
-use Rattle.f_tree.specs.declared.expressions.Expr as expr
-use Rattle.f_tree.specs.declared.statements.Body as body
-use Rattle.f_tree.specs.declared.statements.ListItem as item
-use Rattle.f_tree.specs.declared.statements.ControlValue.TheVariants as value
-use Rattle.f_tree.specs.declared.statements.ControlWord.TheVariants as word
-use Rattle.f_tree.specs.declared.statements.Direction.TheVariants as way
-use Rattle.f_tree.specs.declared.statements.LengthSpec.TheVariants as length'
-use Rattle.f_tree.specs.declared.statements.UpperBound.TheVariants as upper
-use Rattle.f_tree.specs.declared.names.Basic.TheVariants.{Character}
-use Rattle.f_tree.specs.declared.units.FileSet.{FileSet}
+use Rattle.fortran_checks.specs.f_tree.declared.expressions.Expr as expr
+use Rattle.fortran_checks.specs.f_tree.declared.statements.Body as body
+use Rattle.fortran_checks.specs.f_tree.declared.statements.ListItem as item
+use Rattle.fortran_checks.specs.f_tree.declared.statements.ControlValue.TheVariants as value
+use Rattle.fortran_checks.specs.f_tree.declared.statements.ControlWord.TheVariants as word
+use Rattle.fortran_checks.specs.f_tree.declared.statements.Direction.TheVariants as way
+use Rattle.fortran_checks.specs.f_tree.declared.statements.LengthSpec.TheVariants as length'
+use Rattle.fortran_checks.specs.f_tree.declared.statements.UpperBound.TheVariants as upper
+use Rattle.fortran_checks.specs.f_tree.declared.names.Basic.TheVariants.{Character}
+use Rattle.fortran_checks.specs.f_tree.declared.units.FileSet.{FileSet}
 use Rattle.fortran_rows.specs.WorkedSources.{on_card, print, main_program, one_file, subroutine, integer_type, logical_type, num, up_to, scalar, array, from_to, I, J, K, plus, assigned, text}
 
 -- `I='A'`, `END`

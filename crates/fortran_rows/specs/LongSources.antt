@@ -1,8 +1,8 @@
 -- A program that takes thousands of steps, as a tree.
 use Rattle.std.specs.Prelude.{[], ◌∷◌, Some}
-use Rattle.f_tree.specs.declared.expressions.Expr as expr
-use Rattle.f_tree.specs.declared.statements.Body as body
-use Rattle.f_tree.specs.declared.units.FileSet.{FileSet}
+use Rattle.fortran_checks.specs.f_tree.declared.expressions.Expr as expr
+use Rattle.fortran_checks.specs.f_tree.declared.statements.Body as body
+use Rattle.fortran_checks.specs.f_tree.declared.units.FileSet.{FileSet}
 use Rattle.fortran_rows.specs.WorkedSources.{on_card, labelled, print, main_program, one_file, num, from_to, I, K, plus}
 
 -- `K=0`, `DO 10 I=1,1000`, label 10 `K=K+I`, `PRINT *,K`, `END`

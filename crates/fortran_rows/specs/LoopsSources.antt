@@ -1,15 +1,15 @@
 -- DO WHILE, END DO and IMPLICIT NONE (MIL-STD-1753): small programs as trees, most of them one for one those in examples/fortran.
 use Rattle.std.specs.Prelude.{true, [], ◌∷◌, codes, List, Some, None}
-use Rattle.f_tree.specs.declared.expressions.Expr.{Expr}
-use Rattle.f_tree.specs.declared.expressions.Expr as expr
-use Rattle.f_tree.specs.declared.expressions.BinaryOp.TheVariants as op
-use Rattle.f_tree.specs.declared.statements.Body.{Body}
-use Rattle.f_tree.specs.declared.statements.Body as body
-use Rattle.f_tree.specs.declared.statements.ControlValue.TheVariants as value
-use Rattle.f_tree.specs.declared.statements.ControlWord.TheVariants as word
-use Rattle.f_tree.specs.declared.statements.Direction.TheVariants as way
-use Rattle.f_tree.specs.declared.units.FileSet.{FileSet}
-use Rattle.f_tree.specs.Values.{Bytes}
+use Rattle.fortran_checks.specs.f_tree.declared.expressions.Expr.{Expr}
+use Rattle.fortran_checks.specs.f_tree.declared.expressions.Expr as expr
+use Rattle.fortran_checks.specs.f_tree.declared.expressions.BinaryOp.TheVariants as op
+use Rattle.fortran_checks.specs.f_tree.declared.statements.Body.{Body}
+use Rattle.fortran_checks.specs.f_tree.declared.statements.Body as body
+use Rattle.fortran_checks.specs.f_tree.declared.statements.ControlValue.TheVariants as value
+use Rattle.fortran_checks.specs.f_tree.declared.statements.ControlWord.TheVariants as word
+use Rattle.fortran_checks.specs.f_tree.declared.statements.Direction.TheVariants as way
+use Rattle.fortran_checks.specs.f_tree.declared.units.FileSet.{FileSet}
+use Rattle.fortran_checks.specs.f_tree.Values.{Bytes}
 use Rattle.fortran_rows.specs.WorkedSources.{on_card, labelled, items, print, main_program, one_file, integer_function, integer_type, logical_type, num, up_to, scalar, array, from_to, I, J, K, M, N, plus, minus, times, text}
 
 -- WRITE on the standard unit by a format, and a list

@@ -1,13 +1,13 @@
 -- Loops that are not nested, and branches into a range: small programs as trees. Of a set, its first unit.
 use Rattle.std.specs.Prelude.{[], ◌∷◌, List, Some, None}
-use Rattle.f_tree.specs.declared.expressions.Expr as expr
-use Rattle.f_tree.specs.declared.statements.Body.{Body}
-use Rattle.f_tree.specs.declared.statements.Body as body
-use Rattle.f_tree.specs.declared.units.FileSet.{FileSet}
-use Rattle.f_tree.specs.Attributes.{no_program}
-use Rattle.f_tree.specs.Facts.{ProgramUnit}
-use Rattle.f_tree.specs.Meaning.{units_of}
-use Rattle.f_tree.specs.Runs.{no_options}
+use Rattle.fortran_checks.specs.f_tree.declared.expressions.Expr as expr
+use Rattle.fortran_checks.specs.f_tree.declared.statements.Body.{Body}
+use Rattle.fortran_checks.specs.f_tree.declared.statements.Body as body
+use Rattle.fortran_checks.specs.f_tree.declared.units.FileSet.{FileSet}
+use Rattle.fortran_checks.specs.f_tree.Attributes.{no_program}
+use Rattle.fortran_checks.specs.f_tree.Facts.{ProgramUnit}
+use Rattle.fortran_checks.specs.f_tree.Meaning.{units_of}
+use Rattle.fortran_checks.specs.f_tree.Runs.{no_options}
 use Rattle.fortran_rows.specs.WorkedSources.{on_card, labelled, print, main_program, one_file, num, from_to, I, J}
 
 unfoldable pub first_of : List ProgramUnit → ProgramUnit

@@ -1,15 +1,15 @@
 -- Elements and substrings out of their declared bounds: small programs as trees, and what is told of their runs.
 use Rattle.std.specs.Prelude.{◌≡◌, ℕ, suc, [], ◌∷◌, codes, Some, None}
-use Rattle.run_state.specs.Endings.{Report}
-use Rattle.f_tree.specs.declared.expressions.Expr.{Expr}
-use Rattle.f_tree.specs.declared.expressions.Expr as expr
-use Rattle.f_tree.specs.declared.statements.Body as body
-use Rattle.f_tree.specs.declared.statements.DummyArgument.TheVariants as dummy
-use Rattle.f_tree.specs.declared.units.FileSet.{FileSet}
-use Rattle.f_tree.specs.Values.{Act}
-use Rattle.f_tree.specs.Meaning.{units_of}
-use Rattle.f_tree.specs.RangeActs.{IsFirstRangeAct, range}
-use Rattle.f_tree.specs.Runs.{no_options, setting_apart, standard_units, MeetsApart}
+use Rattle.fortran_checks.specs.run_state.Endings.{Report}
+use Rattle.fortran_checks.specs.f_tree.declared.expressions.Expr.{Expr}
+use Rattle.fortran_checks.specs.f_tree.declared.expressions.Expr as expr
+use Rattle.fortran_checks.specs.f_tree.declared.statements.Body as body
+use Rattle.fortran_checks.specs.f_tree.declared.statements.DummyArgument.TheVariants as dummy
+use Rattle.fortran_checks.specs.f_tree.declared.units.FileSet.{FileSet}
+use Rattle.fortran_checks.specs.f_tree.Values.{Act}
+use Rattle.fortran_checks.specs.f_tree.Meaning.{units_of}
+use Rattle.fortran_checks.specs.f_tree.RangeActs.{IsFirstRangeAct, range}
+use Rattle.fortran_checks.specs.f_tree.Runs.{no_options, setting_apart, standard_units, MeetsApart}
 use Rattle.fortran_rows.specs.WorkedSources.{on_card, print, main_program, one_file, subroutine, integer_type, text_type, num, up_to, scalar, array, I, J, K, N, plus, text}
 
 -- the run of a set whose names stand apart, which reads nothing, reports a place out of bounds at step n + 1

@@ -1,19 +1,19 @@
 -- Substrings: references in the places of one that is assigned, one that is passed, one that is an item or a file, and places
 -- that are out of bounds: small programs as trees. One that names a file stands in examples/fortran too.
 use Rattle.std.specs.Prelude.{ℕ, [], ◌∷◌, codes, Some, None}
-use Rattle.f_tree.specs.declared.expressions.Expr.{Expr}
-use Rattle.f_tree.specs.declared.expressions.Expr as expr
-use Rattle.f_tree.specs.declared.statements.Body.{Body}
-use Rattle.f_tree.specs.declared.statements.Body as body
-use Rattle.f_tree.specs.declared.statements.ListItem as item
-use Rattle.f_tree.specs.declared.statements.Control.{Control}
-use Rattle.f_tree.specs.declared.statements.ControlValue.TheVariants as value
-use Rattle.f_tree.specs.declared.statements.ControlWord.{ControlWord}
-use Rattle.f_tree.specs.declared.statements.ControlWord.TheVariants as word
-use Rattle.f_tree.specs.declared.statements.AuxiliaryKind.TheVariants as auxiliary
-use Rattle.f_tree.specs.declared.statements.Direction.TheVariants as way
-use Rattle.f_tree.specs.declared.units.FileSet.{FileSet}
-use Rattle.f_tree.specs.Setting.{Setting}
+use Rattle.fortran_checks.specs.f_tree.declared.expressions.Expr.{Expr}
+use Rattle.fortran_checks.specs.f_tree.declared.expressions.Expr as expr
+use Rattle.fortran_checks.specs.f_tree.declared.statements.Body.{Body}
+use Rattle.fortran_checks.specs.f_tree.declared.statements.Body as body
+use Rattle.fortran_checks.specs.f_tree.declared.statements.ListItem as item
+use Rattle.fortran_checks.specs.f_tree.declared.statements.Control.{Control}
+use Rattle.fortran_checks.specs.f_tree.declared.statements.ControlValue.TheVariants as value
+use Rattle.fortran_checks.specs.f_tree.declared.statements.ControlWord.{ControlWord}
+use Rattle.fortran_checks.specs.f_tree.declared.statements.ControlWord.TheVariants as word
+use Rattle.fortran_checks.specs.f_tree.declared.statements.AuxiliaryKind.TheVariants as auxiliary
+use Rattle.fortran_checks.specs.f_tree.declared.statements.Direction.TheVariants as way
+use Rattle.fortran_checks.specs.f_tree.declared.units.FileSet.{FileSet}
+use Rattle.fortran_checks.specs.f_tree.Setting.{Setting}
 use Rattle.fortran_rows.specs.WorkedSources.{on_card, print, main_program, one_file, integer_function, subroutine, num, up_to, scalar, array, K, M, times, text_type, text, part}
 
 abbrev pub S : Expr

@@ -1,13 +1,13 @@
 -- Small programs as trees, each of which would write other records under a near but wrong reading of the standard.
 use Rattle.std.specs.Prelude.{[], ◌∷◌, codes, List, Some}
-use Rattle.f_tree.specs.declared.expressions.Expr as expr
-use Rattle.f_tree.specs.declared.expressions.BinaryOp.TheVariants as op
-use Rattle.f_tree.specs.declared.statements.Body.{Body}
-use Rattle.f_tree.specs.declared.statements.Body as body
-use Rattle.f_tree.specs.declared.statements.DummyArgument.TheVariants as dummy
-use Rattle.f_tree.specs.declared.units.FileSet.{FileSet}
-use Rattle.f_tree.specs.Values.{Bytes}
-use Rattle.f_tree.specs.Setting.{Setting}
+use Rattle.fortran_checks.specs.f_tree.declared.expressions.Expr as expr
+use Rattle.fortran_checks.specs.f_tree.declared.expressions.BinaryOp.TheVariants as op
+use Rattle.fortran_checks.specs.f_tree.declared.statements.Body.{Body}
+use Rattle.fortran_checks.specs.f_tree.declared.statements.Body as body
+use Rattle.fortran_checks.specs.f_tree.declared.statements.DummyArgument.TheVariants as dummy
+use Rattle.fortran_checks.specs.f_tree.declared.units.FileSet.{FileSet}
+use Rattle.fortran_checks.specs.f_tree.Values.{Bytes}
+use Rattle.fortran_checks.specs.f_tree.Setting.{Setting}
 use Rattle.fortran_rows.specs.WorkedSources.{on_card, print, main_program, one_file, integer_function, subroutine, integer_type, num, scalar, I, J, K, plus, times, text_type, text}
 
 -- `EQUIVALENCE (I,J)`, `I=1`, `J=2`, `PRINT *,I`, `END`

@@ -1,33 +1,33 @@
 -- Small programs as trees, each for one worked run.
 use Rattle.std.specs.Prelude.{map, true, ℕ, pos, List, [], ◌∷◌, codes, Some, None}
-use Rattle.f_tree.specs.declared.expressions.Expr.{Expr}
-use Rattle.f_tree.specs.declared.expressions.Expr as expr
-use Rattle.f_tree.specs.declared.expressions.BinaryOp.TheVariants as op
-use Rattle.f_tree.specs.declared.statements.Body.{Body}
-use Rattle.f_tree.specs.declared.statements.Body as body
-use Rattle.f_tree.specs.declared.statements.ListItem as item
-use Rattle.f_tree.specs.declared.statements.ListItem.{ListItem}
-use Rattle.f_tree.specs.declared.statements.ControlValue.TheVariants as value
-use Rattle.f_tree.specs.declared.statements.ControlWord.TheVariants as word
-use Rattle.f_tree.specs.declared.statements.Direction.TheVariants as way
-use Rattle.f_tree.specs.declared.statements.UnitKind.{UnitKind}
-use Rattle.f_tree.specs.declared.statements.UnitKind.TheVariants as kind
-use Rattle.f_tree.specs.declared.statements.Stmt.{Stmt}
-use Rattle.f_tree.specs.declared.units.Unit.{Unit as WrittenUnit}
-use Rattle.f_tree.specs.declared.units.FileSet.{FileSet}
-use Rattle.f_tree.specs.declared.statements.DummyArgument.TheVariants as dummy
-use Rattle.f_tree.specs.declared.statements.TypeSpec.{TypeSpec}
-use Rattle.f_tree.specs.declared.statements.Declarator.{Declarator}
-use Rattle.f_tree.specs.declared.statements.Dimension.{Dimension}
-use Rattle.f_tree.specs.declared.statements.UpperBound.TheVariants as upper
-use Rattle.f_tree.specs.declared.statements.LoopControl.{LoopControl}
-use Rattle.f_tree.specs.declared.statements.Control.{Control}
-use Rattle.f_tree.specs.declared.statements.AuxiliaryKind.TheVariants as auxiliary
-use Rattle.f_tree.specs.declared.statements.ArrayDeclarator.{ArrayDeclarator}
-use Rattle.f_tree.specs.declared.statements.LengthSpec.TheVariants as length'
-use Rattle.f_tree.specs.declared.names.Basic.TheVariants.{Integer, Logical, Character}
-use Rattle.f_tree.specs.Values.{Bytes}
-use Rattle.f_tree.specs.Setting.{Setting}
+use Rattle.fortran_checks.specs.f_tree.declared.expressions.Expr.{Expr}
+use Rattle.fortran_checks.specs.f_tree.declared.expressions.Expr as expr
+use Rattle.fortran_checks.specs.f_tree.declared.expressions.BinaryOp.TheVariants as op
+use Rattle.fortran_checks.specs.f_tree.declared.statements.Body.{Body}
+use Rattle.fortran_checks.specs.f_tree.declared.statements.Body as body
+use Rattle.fortran_checks.specs.f_tree.declared.statements.ListItem as item
+use Rattle.fortran_checks.specs.f_tree.declared.statements.ListItem.{ListItem}
+use Rattle.fortran_checks.specs.f_tree.declared.statements.ControlValue.TheVariants as value
+use Rattle.fortran_checks.specs.f_tree.declared.statements.ControlWord.TheVariants as word
+use Rattle.fortran_checks.specs.f_tree.declared.statements.Direction.TheVariants as way
+use Rattle.fortran_checks.specs.f_tree.declared.statements.UnitKind.{UnitKind}
+use Rattle.fortran_checks.specs.f_tree.declared.statements.UnitKind.TheVariants as kind
+use Rattle.fortran_checks.specs.f_tree.declared.statements.Stmt.{Stmt}
+use Rattle.fortran_checks.specs.f_tree.declared.units.Unit.{Unit as WrittenUnit}
+use Rattle.fortran_checks.specs.f_tree.declared.units.FileSet.{FileSet}
+use Rattle.fortran_checks.specs.f_tree.declared.statements.DummyArgument.TheVariants as dummy
+use Rattle.fortran_checks.specs.f_tree.declared.statements.TypeSpec.{TypeSpec}
+use Rattle.fortran_checks.specs.f_tree.declared.statements.Declarator.{Declarator}
+use Rattle.fortran_checks.specs.f_tree.declared.statements.Dimension.{Dimension}
+use Rattle.fortran_checks.specs.f_tree.declared.statements.UpperBound.TheVariants as upper
+use Rattle.fortran_checks.specs.f_tree.declared.statements.LoopControl.{LoopControl}
+use Rattle.fortran_checks.specs.f_tree.declared.statements.Control.{Control}
+use Rattle.fortran_checks.specs.f_tree.declared.statements.AuxiliaryKind.TheVariants as auxiliary
+use Rattle.fortran_checks.specs.f_tree.declared.statements.ArrayDeclarator.{ArrayDeclarator}
+use Rattle.fortran_checks.specs.f_tree.declared.statements.LengthSpec.TheVariants as length'
+use Rattle.fortran_checks.specs.f_tree.declared.names.Basic.TheVariants.{Integer, Logical, Character}
+use Rattle.fortran_checks.specs.f_tree.Values.{Bytes}
+use Rattle.fortran_checks.specs.f_tree.Setting.{Setting}
 
 abbrev pub on_card : ℕ → Body → Stmt
 on_card n b = record { label = None; file = 0; card = n; body = b }

@@ -4,11 +4,11 @@
 #![tactic(auto)]
 
 ghost use Rattle.std.specs.Prelude.{◌∷◌, [], codes, pos};
-ghost use Rattle.f_tree.specs.declared.expressions.Expr as expr;
-ghost use Rattle.f_tree.specs.Values.{BadBit, NoValue, OutOfBounds, PastExtent};
-ghost use Rattle.f_tree.specs.World.{Plain};
-ghost use Rattle.f_tree.specs.Meaning.{units_of};
-ghost use Rattle.f_tree.specs.Runs.{Ends, Meets, MeetsApart, Runs, RunsApart, no_options, setting_apart, units_with};
+ghost use Rattle.fortran_checks.specs.f_tree.declared.expressions.Expr as expr;
+ghost use Rattle.fortran_checks.specs.f_tree.Values.{BadBit, NoValue, OutOfBounds, PastExtent};
+ghost use Rattle.fortran_checks.specs.f_tree.World.{Plain};
+ghost use Rattle.fortran_checks.specs.f_tree.Meaning.{units_of};
+ghost use Rattle.fortran_checks.specs.f_tree.Runs.{Ends, Meets, MeetsApart, Runs, RunsApart, no_options, setting_apart, units_with};
 ghost use Rattle.fortran_rows.specs.BitsSources.{bits_by_position, bits_by_value, character_in_a_number, character_in_a_number_setting, elements_longer_than_the_actual, functions_of_bits, length_of_a_sum_of_texts, longer_elements_past_the_actual, numbers_that_overlap, numbers_that_overlap_setting, of_two, part_of_an_element, printed_values};
 ghost use Rattle.fortran_rows.specs.WorkedSources.{num};
 

@@ -4,12 +4,12 @@
 #![tactic(auto)]
 
 ghost use Rattle.std.specs.Prelude.{◌∷◌, [], codes};
-ghost use Rattle.f_tree.specs.declared.expressions.Expr as expr;
-ghost use Rattle.f_tree.specs.Values.{FormatEndsEarly, NoValue};
-ghost use Rattle.f_tree.specs.World.{Plain};
-ghost use Rattle.f_tree.specs.Meaning.{units_of};
-ghost use Rattle.f_tree.specs.Setting.{IsSetting};
-ghost use Rattle.f_tree.specs.Runs.{Ends, MeetsApart, no_options, setting_apart, units_with};
+ghost use Rattle.fortran_checks.specs.f_tree.declared.expressions.Expr as expr;
+ghost use Rattle.fortran_checks.specs.f_tree.Values.{FormatEndsEarly, NoValue};
+ghost use Rattle.fortran_checks.specs.f_tree.World.{Plain};
+ghost use Rattle.fortran_checks.specs.f_tree.Meaning.{units_of};
+ghost use Rattle.fortran_checks.specs.f_tree.Setting.{IsSetting};
+ghost use Rattle.fortran_checks.specs.f_tree.Runs.{Ends, MeetsApart, no_options, setting_apart, units_with};
 ghost use Rattle.fortran_rows.specs.WorkedSources.{K, M, num};
 ghost use Rattle.fortran_rows.specs.CourseSources.{format_in_an_array, format_in_front, format_wrong_in_front, shifted_by_elements, shifted_by_reversion, shifted_by_slashes, shifted_by_values, shifted_setting, unit_before_undefined_format, without_a_value};
 

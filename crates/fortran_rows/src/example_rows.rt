@@ -3,11 +3,11 @@
 #![tactic(auto)]
 
 ghost use Rattle.std.specs.Prelude.{◌∷◌, [], IsTrue, codes, negsuc, pos};
-ghost use Rattle.f_tree.specs.World.{Io, Plain};
-ghost use Rattle.f_tree.specs.Meaning.{units_of};
-ghost use Rattle.f_tree.specs.Setting.{IsSetting};
-ghost use Rattle.f_tree.specs.Values.{BadAssignedLabel, BadDimension, Disagreement, FormatEndsEarly, NoValue, OutOfBounds, Overflow, TransferInTransfer, WrongDescriptor, ZeroDivide};
-ghost use Rattle.f_tree.specs.Runs.{ApartIsASetting, Ends, all_share_nothing, MeetsApart, no_options, setting_apart, units_with};
+ghost use Rattle.fortran_checks.specs.f_tree.World.{Io, Plain};
+ghost use Rattle.fortran_checks.specs.f_tree.Meaning.{units_of};
+ghost use Rattle.fortran_checks.specs.f_tree.Setting.{IsSetting};
+ghost use Rattle.fortran_checks.specs.f_tree.Values.{BadAssignedLabel, BadDimension, Disagreement, FormatEndsEarly, NoValue, OutOfBounds, Overflow, TransferInTransfer, WrongDescriptor, ZeroDivide};
+ghost use Rattle.fortran_checks.specs.f_tree.Runs.{ApartIsASetting, Ends, all_share_nothing, MeetsApart, no_options, setting_apart, units_with};
 ghost use Rattle.fortran_rows.specs.ApartSources.{sources_apart};
 ghost use Rattle.fortran_rows.specs.ActsSources.{argument_of_another_type, close_in_a_transfer, descriptor_of_another_type, dimension_past_32_bits, format_that_ends_early, function_of_another_type, item_of_another_type, label_in_a_block, label_of_another_unit, part_past_its_text, record_without_value, remainder_past_32_bits, text_too_short_for_its_dummy, zero_to_a_negative_power};
 ghost use Rattle.fortran_rows.specs.BitsSources.{character_in_a_number, character_in_a_number_setting, numbers_that_overlap, numbers_that_overlap_setting};

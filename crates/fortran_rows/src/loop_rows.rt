@@ -3,9 +3,9 @@
 #![tactic(auto)]
 
 ghost use Rattle.std.specs.Prelude.{◌∷◌, [], codes, true};
-ghost use Rattle.f_tree.specs.World.{Plain};
-ghost use Rattle.f_tree.specs.Meaning.{units_of};
-ghost use Rattle.f_tree.specs.Runs.{Ends, RunsApart, no_options, setting_apart, units_with};
+ghost use Rattle.fortran_checks.specs.f_tree.World.{Plain};
+ghost use Rattle.fortran_checks.specs.f_tree.Meaning.{units_of};
+ghost use Rattle.fortran_checks.specs.f_tree.Runs.{Ends, RunsApart, no_options, setting_apart, units_with};
 ghost use Rattle.fortran_rows.specs.LoopsSources.{counted_while, every_name_declared, loops_by_end_do, while_left_by_a_branch, while_that_shares_its_end, while_with_a_function, while_with_label, while_without_label};
 
 /// A DO WHILE is tested at its start and after each turn, whichever statement ends its range; `-onetrip` does not touch it.

@@ -3,9 +3,9 @@
 #![tactic(auto)]
 
 ghost use Rattle.std.specs.Prelude.{◌≡◌, ◌∷◌, [], true, false, Some};
-ghost use Rattle.f_tree.specs.declared.expressions.Expr as expr;
-ghost use Rattle.f_tree.specs.declared.statements.Body as body;
-ghost use Rattle.f_tree.specs.Nests.{AreNested, enters_range, open_at};
+ghost use Rattle.fortran_checks.specs.f_tree.declared.expressions.Expr as expr;
+ghost use Rattle.fortran_checks.specs.f_tree.declared.statements.Body as body;
+ghost use Rattle.fortran_checks.specs.f_tree.Nests.{AreNested, enters_range, open_at};
 ghost use Rattle.fortran_rows.specs.ControlSources.{jumps_out_of_loops};
 ghost use Rattle.fortran_rows.specs.IllFormedSources.{loop_without_its_end};
 ghost use Rattle.fortran_rows.specs.LoopsSources.{loops_by_end_do, while_that_shares_its_end};

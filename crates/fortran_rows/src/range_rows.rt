@@ -3,7 +3,7 @@
 #![tactic(auto)]
 
 ghost use Rattle.std.specs.Prelude.{codes, pos};
-ghost use Rattle.f_tree.specs.Values.{Overflow};
+ghost use Rattle.fortran_checks.specs.f_tree.Values.{Overflow};
 ghost use Rattle.fortran_rows.specs.RangeSources.{Reports, ReportsNone, element_behind_an_entry, element_past_three, first_subscript_past_two, overflow_before_an_element, part_from_zero};
 
 /// The variable, the first subscript or place that is out of bounds, the unit and the card are told.

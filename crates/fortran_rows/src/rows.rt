@@ -3,13 +3,13 @@
 #![tactic(auto)]
 
 ghost use Rattle.std.specs.Prelude.{◌∷◌, [], codes, pos, negsuc, true};
-ghost use Rattle.f_tree.specs.declared.expressions.Expr as expr;
-ghost use Rattle.f_tree.specs.Values.{ActiveProcedure, BadAssignedLabel, BadCharacterCode, BadDimension, DefinedAndReferenced, DefinesReadOnly, Disagreement, LoopVariableChanged, MissingProcedure, NoResult, NoValue, NotOfThisEntry, OutOfBounds, Overflow, PastExtent, TransferInTransfer, ZeroDivide, ZeroStep};
-ghost use Rattle.f_tree.specs.World.{Io, Plain, Stop};
+ghost use Rattle.fortran_checks.specs.f_tree.declared.expressions.Expr as expr;
+ghost use Rattle.fortran_checks.specs.f_tree.Values.{ActiveProcedure, BadAssignedLabel, BadCharacterCode, BadDimension, DefinedAndReferenced, DefinesReadOnly, Disagreement, LoopVariableChanged, MissingProcedure, NoResult, NoValue, NotOfThisEntry, OutOfBounds, Overflow, PastExtent, TransferInTransfer, ZeroDivide, ZeroStep};
+ghost use Rattle.fortran_checks.specs.f_tree.World.{Io, Plain, Stop};
 ghost use Rattle.fortran_rows.specs.LongSources.{sum_of_a_thousand};
-ghost use Rattle.f_tree.specs.Meaning.{units_of, Closed};
-ghost use Rattle.f_tree.specs.Setting.{IsSetting};
-ghost use Rattle.f_tree.specs.Runs.{Runs, RunsApart, Ends, units_with, Meets, MeetsApart, no_options, setting_apart};
+ghost use Rattle.fortran_checks.specs.f_tree.Meaning.{units_of, Closed};
+ghost use Rattle.fortran_checks.specs.f_tree.Setting.{IsSetting};
+ghost use Rattle.fortran_checks.specs.f_tree.Runs.{Runs, RunsApart, Ends, units_with, Meets, MeetsApart, no_options, setting_apart};
 ghost use Rattle.fortran_rows.specs.ErrorSources.{end_is_no_error, files_by_their_names, items_before_an_error, items_with_step_of_zero, numbers_of_errors, record_of_an_error, stopped_without_a_text, text_in_parentheses_moved, unit_before_format};
 ghost use Rattle.fortran_rows.specs.OrderSources.{dimension_of_another_entry, format_fetched_last, items_of_no_turn, label_for_a_variable, pieces_fetched_last, procedure_for_a_variable, right_side_first};
 ghost use Rattle.fortran_rows.specs.StorageSources.{block_named_external};

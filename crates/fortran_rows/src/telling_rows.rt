@@ -3,10 +3,10 @@
 #![tactic(auto)]
 
 ghost use Rattle.std.specs.Prelude.{◌∷◌, [], codes};
-ghost use Rattle.f_tree.specs.World.{Plain};
-ghost use Rattle.f_tree.specs.Meaning.{units_of};
-ghost use Rattle.f_tree.specs.Setting.{IsSetting};
-ghost use Rattle.f_tree.specs.Runs.{Runs, RunsApart, no_options};
+ghost use Rattle.fortran_checks.specs.f_tree.World.{Plain};
+ghost use Rattle.fortran_checks.specs.f_tree.Meaning.{units_of};
+ghost use Rattle.fortran_checks.specs.f_tree.Setting.{IsSetting};
+ghost use Rattle.fortran_checks.specs.f_tree.Runs.{Runs, RunsApart, no_options};
 ghost use Rattle.fortran_rows.specs.TellingSources.{common_after_its_types, common_after_its_types_setting, entry_that_assigns_both_names, numbers_equivalenced, numbers_equivalenced_setting, text_over_a_longer_one};
 
 /// What EQUIVALENCE names is one place; a common block goes by its COMMON statement and not by type statements before it.

@@ -2,7 +2,7 @@
 use Rattle.std.specs.Prelude.{◌≡◌, ℕ, zero, suc, ◌<◌, ◌≤◌, ℤ, pos, negsuc, List, [], ◌∷◌, length, Option, Some, None, slice_get}
 use Rattle.std.proofs.Common.{refl, sym, subst, arith, le_of_eq}
 use Rattle.std.proofs.lemmas.List.{length-take-le}
-use Rattle.simulation.specs.Machine.{Enters}
+use Rattle.f_tree.specs.simulation.Machine.{Enters}
 use Rattle.f_tree.specs.declared.names.Basic.{Basic}
 use Rattle.f_tree.specs.Values.{Spot, Datum, IsSpot, IsLabel, Nothing, NoResult, Checked, Gives, Fails}
 use Rattle.f_tree.specs.Terms.{Wanted, AsSubroutine, AsFunction}

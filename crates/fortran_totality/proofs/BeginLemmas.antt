@@ -1,10 +1,10 @@
 -- READ, WRITE, PRINT, and OPEN and its kin in a well-formed unit: the first item follows, or the statement ends.
 use Rattle.std.specs.Prelude.{◌≡◌, ℕ, suc, ◌<◌, ℤ, pos, Bool, List, length, Option, Some, None, Result, Ok, Err}
 use Rattle.std.proofs.Common.{refl, sym, subst}
-use Rattle.edit_meaning.specs.Formats.{Format}
-use Rattle.run_state.specs.Units.{Units, Closing, open_unit, close_unit, back_unit, end_unit, rewind_unit}
-use Rattle.run_state.specs.declared.refusals.UnitRefusal.{UnitRefusal}
-use Rattle.run_state.specs.declared.refusals.UnitRefusal.TheVariants.{NotConnected, NotOffered, Taken, PastEnd, Failed}
+use Rattle.f_tree.specs.edit_meaning.Formats.{Format}
+use Rattle.f_tree.specs.run_state.Units.{Units, Closing, open_unit, close_unit, back_unit, end_unit, rewind_unit}
+use Rattle.f_tree.specs.run_state.declared.refusals.UnitRefusal.{UnitRefusal}
+use Rattle.f_tree.specs.run_state.declared.refusals.UnitRefusal.TheVariants.{NotConnected, NotOffered, Taken, PastEnd, Failed}
 use Rattle.f_tree.specs.Values.{Spot, Datum, FormatEndsEarly, TransferInTransfer, NoValue, Checked, Gives, Fails}
 use Rattle.f_tree.specs.Terms.{Wanted}
 use Rattle.f_tree.specs.Facts.{Direction, Input, Output, Layout, Controls, AuxiliaryKind, OpenUnit, CloseUnit, BackspaceUnit, EndFileUnit, RewindUnit, Work, Done, ToBegin, ToAuxiliary, LabelledFormat, ProgramUnit, Facts}

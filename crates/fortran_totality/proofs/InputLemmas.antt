@@ -1,13 +1,13 @@
 -- Input takes values of the types of its items, and comes to a transfer that goes on, to a number, or to an act that is named.
 use Rattle.std.specs.Prelude.{◌≡◌, ℕ, zero, suc, ◌+◌, ◌-◌, ◌<◌, ◌/◌, nat_le, min, ℤ, pos, Bool, true, false, if◌then◌else◌, List, [], ◌∷◌, ◌++◌, length, map, take, drop, Option, Some, None, IsTrue}
 use Rattle.std.proofs.Common.{refl, sym, ap, subst}
-use Rattle.edit_meaning.specs.Halts as halts
-use Rattle.edit_meaning.specs.Halts.{Halt}
-use Rattle.edit_meaning.specs.ListInput as list
-use Rattle.edit_meaning.specs.ListInput.{Kind, Place}
-use Rattle.edit_meaning.specs.ListItems as items
-use Rattle.edit_meaning.specs.TakenRecords as taken
-use Rattle.edit_meaning.specs.TakenRecords.{Want}
+use Rattle.f_tree.specs.edit_meaning.Halts as halts
+use Rattle.f_tree.specs.edit_meaning.Halts.{Halt}
+use Rattle.f_tree.specs.edit_meaning.ListInput as list
+use Rattle.f_tree.specs.edit_meaning.ListInput.{Kind, Place}
+use Rattle.f_tree.specs.edit_meaning.ListItems as items
+use Rattle.f_tree.specs.edit_meaning.TakenRecords as taken
+use Rattle.f_tree.specs.edit_meaning.TakenRecords.{Want}
 use Rattle.f_tree.specs.declared.names.Basic.{Basic}
 use Rattle.f_tree.specs.declared.names.Basic.TheVariants.{Integer, Logical, Character}
 use Rattle.f_tree.specs.Values.{Bytes, Spot, Datum, IsInt, IsLog, IsText, IsSpot, Act, WrongDescriptor, Checked, Gives, Fails}

@@ -2,10 +2,10 @@
 -- what follows finds where control goes.
 use Rattle.std.specs.Prelude.{◌≡◌, ℕ, zero, suc, ◌+◌, ◌/◌, ◌<◌, nat_le, nat_lt, ℤ, pos, Bool, true, false, List, [], ◌∷◌, ◌++◌, length, drop, Option, Some, None, Result, Ok, Err, IsTrue, if◌then◌else◌}
 use Rattle.std.proofs.Common.{refl, sym, subst}
-use Rattle.edit_meaning.specs.Halts.{Halt, Number, EndOfRecords, OtherType}
-use Rattle.edit_meaning.specs.Listed as listed
-use Rattle.run_state.specs.Units.{Units, write_unit}
-use Rattle.run_state.specs.declared.refusals.UnitRefusal.{UnitRefusal}
+use Rattle.f_tree.specs.edit_meaning.Halts.{Halt, Number, EndOfRecords, OtherType}
+use Rattle.f_tree.specs.edit_meaning.Listed as listed
+use Rattle.f_tree.specs.run_state.Units.{Units, write_unit}
+use Rattle.f_tree.specs.run_state.declared.refusals.UnitRefusal.{UnitRefusal}
 use Rattle.f_tree.specs.declared.names.Basic.{Basic}
 use Rattle.f_tree.specs.declared.names.Basic.TheVariants.{Character}
 use Rattle.f_tree.specs.Values.{Bytes, Spot, Datum, IsText, IsSpot, Act, WrongDescriptor, Checked, Gives, Fails, given_that}

@@ -2,8 +2,8 @@
 use Rattle.std.specs.Prelude.{◌≡◌, ℕ, zero, suc, ◌+◌, ◌≤◌, Bool, true, false, List, [], ◌∷◌, length, Option, Some, None, IsTrue, slice_get, if◌then◌else◌}
 use Rattle.std.proofs.Common.{refl, sym, ap, ◌∙◌, subst, arith}
 use Rattle.std.proofs.lemmas.List.{length-set, length-map}
-use Rattle.simulation.specs.Machine.{Entry, Frame as Active, Has, Runs, Over, numbers, active as active_among, entering, unless_active, opening, calling, answering, act, next, run, begun}
-use Rattle.run_state.specs.Units.{Units}
+use Rattle.f_tree.specs.simulation.Machine.{Entry, Frame as Active, Has, Runs, Over, numbers, active as active_among, entering, unless_active, opening, calling, answering, act, next, run, begun}
+use Rattle.f_tree.specs.run_state.Units.{Units}
 use Rattle.f_tree.specs.Values.{Spot, Datum, IsLabel, Act, NoMeaning, DefinesReadOnly, PastExtent, MissingProcedure, ActiveProcedure, Checked, Gives, Fails, given_that}
 use Rattle.f_tree.specs.Terms.{Wanted, AsSubroutine}
 use Rattle.f_tree.specs.Store.{Store, Sequence, Cell, undefined_units, defined_as, stored_in, has_room, define_in, define}

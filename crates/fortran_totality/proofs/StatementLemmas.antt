@@ -3,7 +3,7 @@ use Rattle.std.specs.Prelude.{◌≡◌, ℕ, zero, suc, ◌-◌, ◌<◌, ◌�
 use Rattle.std.specs.Ordering.{int_eq}
 use Rattle.std.proofs.Common.{refl, sym, ap, subst, arith}
 use Rattle.std.proofs.lemmas.Option.{slice_get-get_or}
-use Rattle.simulation.specs.Machine.{Breaks}
+use Rattle.f_tree.specs.simulation.Machine.{Breaks}
 use Rattle.f_tree.specs.declared.names.Basic.TheVariants.{Integer, Character}
 use Rattle.f_tree.specs.Values.{Bytes, Spot, Datum, IsInt, IsLog, IsText, IsSpot, IsProc, IsLabel, Nothing, DefinedAndReferenced, BadAssignedLabel, PastExtent, ZeroStep, LoopVariableChanged, Checked, Gives, Fails, given_that, checked}
 use Rattle.f_tree.specs.Terms.{Wanted}

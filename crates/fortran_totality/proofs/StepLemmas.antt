@@ -1,7 +1,7 @@
 -- A step of an active procedure: its statement over its operands, a call for one of them, or the increment of a loop.
 use Rattle.std.specs.Prelude.{◌≡◌, ℕ, suc, ◌<◌, List, [], length, Option}
 use Rattle.std.proofs.Common.{refl, subst}
-use Rattle.simulation.specs.Machine.{Breaks}
+use Rattle.f_tree.specs.simulation.Machine.{Breaks}
 use Rattle.f_tree.specs.Values.{Datum, NoMeaning}
 use Rattle.f_tree.specs.Terms.{Wanted, Terms}
 use Rattle.f_tree.specs.Facts.{Direction, Head, Form, On, Facts}

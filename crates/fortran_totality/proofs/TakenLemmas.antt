@@ -1,17 +1,17 @@
 -- The values that items take are of the types of the items, in a formatted and in a list-directed input.
 use Rattle.std.specs.Prelude.{◌≡◌, ℕ, zero, suc, ◌+◌, ◌-◌, ℤ, nat_le, nat_lt, ◌==◌, Bool, true, false, if◌then◌else◌, Option, None, Some, unwrap_or, Result, Ok, Err, List, [], ◌∷◌, ◌++◌, length, take, drop}
 use Rattle.std.proofs.Common.{refl, sym, subst}
-use Rattle.edit_meaning.specs.Formats as format
-use Rattle.edit_meaning.specs.Formats.{Format, Descriptor, Control, Edit, Served, edits_for}
-use Rattle.edit_meaning.specs.Halts.{Halt, Number}
-use Rattle.edit_meaning.specs.ListInput as list
-use Rattle.edit_meaning.specs.ListInput.{Kind, Place, Given, Sought, Ending, behind_constant, given_number, given_truth, piece_before, piece_by, piece, text_constant, ending, run_length, int_word, logical_word, constant_as, nulls, counted_as, word_length, digit_count, given_behind, count_before, sought, given}
-use Rattle.edit_meaning.specs.ListItems as items
-use Rattle.edit_meaning.specs.ListItems.{Value, Outcome, Item, begun_with_value, begun_with_outcome, begun_with, text_item, text_over, behind_text, item_by, item_at, renewed, item_over}
-use Rattle.edit_meaning.specs.TakenFields.{int_in, logical_in, text_in}
-use Rattle.edit_meaning.specs.TakenRecords as taken
-use Rattle.edit_meaning.specs.TakenRecords.{Want, Input, next_of, with_control, with_field, with_value, with_int, with_logical, moved_to, columns_of, input_start}
-use Rattle.edit_meaning.specs.Transfers.{edited, unserved_by, served_over, transferred}
+use Rattle.f_tree.specs.edit_meaning.Formats as format
+use Rattle.f_tree.specs.edit_meaning.Formats.{Format, Descriptor, Control, Edit, Served, edits_for}
+use Rattle.f_tree.specs.edit_meaning.Halts.{Halt, Number}
+use Rattle.f_tree.specs.edit_meaning.ListInput as list
+use Rattle.f_tree.specs.edit_meaning.ListInput.{Kind, Place, Given, Sought, Ending, behind_constant, given_number, given_truth, piece_before, piece_by, piece, text_constant, ending, run_length, int_word, logical_word, constant_as, nulls, counted_as, word_length, digit_count, given_behind, count_before, sought, given}
+use Rattle.f_tree.specs.edit_meaning.ListItems as items
+use Rattle.f_tree.specs.edit_meaning.ListItems.{Value, Outcome, Item, begun_with_value, begun_with_outcome, begun_with, text_item, text_over, behind_text, item_by, item_at, renewed, item_over}
+use Rattle.f_tree.specs.edit_meaning.TakenFields.{int_in, logical_in, text_in}
+use Rattle.f_tree.specs.edit_meaning.TakenRecords as taken
+use Rattle.f_tree.specs.edit_meaning.TakenRecords.{Want, Input, next_of, with_control, with_field, with_value, with_int, with_logical, moved_to, columns_of, input_start}
+use Rattle.f_tree.specs.edit_meaning.Transfers.{edited, unserved_by, served_over, transferred}
 use Rattle.f_tree.specs.Holding.{IsOutside}
 
 -- a value of the type that an item wants

@@ -1,7 +1,7 @@
 -- A transfer in a well-formed unit: what comes next of its list is well formed, and its end finds where control goes.
 use Rattle.std.specs.Prelude.{◌≡◌, ℕ, suc, ◌<◌, ℤ, pos, negsuc, Bool, true, false, if◌then◌else◌, [], ◌∷◌, length, Option, Some, None, IsTrue}
 use Rattle.std.proofs.Common.{refl, sym, subst}
-use Rattle.simulation.specs.Machine.{Goes}
+use Rattle.f_tree.specs.simulation.Machine.{Goes}
 use Rattle.f_tree.specs.declared.names.Basic.TheVariants.{Integer}
 use Rattle.f_tree.specs.Values.{Spot, IsInt, IsSpot, Act, Checked, Gives, Fails}
 use Rattle.f_tree.specs.Terms.{Wanted, NoMore, More}

@@ -1,9 +1,9 @@
 -- What is done with a unit is refused only for reasons that have a number for IOSTAT.
 use Rattle.std.specs.Prelude.{◌≡◌, ℕ, ℤ, pos, Bool, true, false, List, Option, Some, None, Result, Ok, Err}
 use Rattle.std.proofs.Common.{refl}
-use Rattle.run_state.specs.Units.{Units, UnitState, Picked, with_unit, with_record, unless_ended, write_at, write_unit, one_back, back_at, back_unit, rewind_at, rewind_unit, end_at, end_unit, close_at, close_unit, connect_file, pick, open_at, open_unit}
-use Rattle.run_state.specs.declared.refusals.UnitRefusal.{UnitRefusal}
-use Rattle.run_state.specs.declared.refusals.UnitRefusal.TheVariants.{NotConnected, NotOffered, Taken, PastEnd}
+use Rattle.f_tree.specs.run_state.Units.{Units, UnitState, Picked, with_unit, with_record, unless_ended, write_at, write_unit, one_back, back_at, back_unit, rewind_at, rewind_unit, end_at, end_unit, close_at, close_unit, connect_file, pick, open_at, open_unit}
+use Rattle.f_tree.specs.run_state.declared.refusals.UnitRefusal.{UnitRefusal}
+use Rattle.f_tree.specs.run_state.declared.refusals.UnitRefusal.TheVariants.{NotConnected, NotOffered, Taken, PastEnd}
 use Rattle.f_tree.specs.Values.{Gives}
 use Rattle.f_tree.specs.Statuses.{number_of}
 

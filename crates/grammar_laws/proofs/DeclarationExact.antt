@@ -1,16 +1,16 @@
 -- The readers of specification statements and of the statements that begin a unit are exact.
 use Rattle.std.proofs.Common.{◌≡◌, ℕ, suc, ◌≤◌, inl, inr, true, false, List, ◌∷◌, length, Option, Some, None, refl, arith}
-use Rattle.f_tree.specs.declared.names.Basic.{Basic}
-use Rattle.f_tree.specs.declared.names.Basic.TheVariants as basic
-use Rattle.f_tree.specs.declared.statements.Body.{Body}
-use Rattle.f_tree.specs.declared.statements.Body as body
-use Rattle.f_tree.specs.declared.statements.LengthSpec.{LengthSpec}
-use Rattle.f_tree.specs.declared.statements.LengthSpec.TheVariants as length'
-use Rattle.f_tree.specs.declared.statements.SavedItem.TheVariants as saved
-use Rattle.f_tree.specs.declared.statements.TypeSpec.{TypeSpec}
-use Rattle.f_tree.specs.declared.statements.UnitKind.TheVariants as unit
-use Rattle.f_tree.specs.declared.statements.UpperBound.TheVariants as upper
-use Rattle.fortran_lexemes.specs.Lexemes.{Lexeme, Lexemes, Name, Number, Word}
+use Rattle.fortran_grammar.specs.f_tree.declared.names.Basic.{Basic}
+use Rattle.fortran_grammar.specs.f_tree.declared.names.Basic.TheVariants as basic
+use Rattle.fortran_grammar.specs.f_tree.declared.statements.Body.{Body}
+use Rattle.fortran_grammar.specs.f_tree.declared.statements.Body as body
+use Rattle.fortran_grammar.specs.f_tree.declared.statements.LengthSpec.{LengthSpec}
+use Rattle.fortran_grammar.specs.f_tree.declared.statements.LengthSpec.TheVariants as length'
+use Rattle.fortran_grammar.specs.f_tree.declared.statements.SavedItem.TheVariants as saved
+use Rattle.fortran_grammar.specs.f_tree.declared.statements.TypeSpec.{TypeSpec}
+use Rattle.fortran_grammar.specs.f_tree.declared.statements.UnitKind.TheVariants as unit
+use Rattle.fortran_grammar.specs.f_tree.declared.statements.UpperBound.TheVariants as upper
+use Rattle.fortran_grammar.specs.fortran_lexemes.Lexemes.{Lexeme, Lexemes, Name, Number, Word}
 use Rattle.fortran_grammar.specs.Forms.{sort, behind, Said, Piece, After, Both, Either, Meant, listed, NamePiece, NumberPiece, WordPiece, Open, Comma, Equals, Colon, Star, Slash, TwoSlashes, Minus}
 use Rattle.fortran_grammar.specs.StatementForms.{arguments_of}
 use Rattle.fortran_grammar.specs.DeclarationForms.{dimension_of, without_lower, array_of, name_or_array, four_of, no_length, type_of, spec_of, declarator_of, without_length, function_word, function_header, untyped, Placed, in_block, in_same_block, common_of, equivalence_of, letter_of, range_of, in_order, implicit_of, none_word, constant_of, program_header, block_data_header, LengthOf, DeclaredBy, TypedForm, BoundForm, DimensionForm, DimensionsForm, DimensionStatementForm, LengthForm, TypeForm, CharacterForm, NameForm, FunctionNameForm, FunctionForm, TypeStatementForm, BlockForm, CommonNameForm, BlockNameForm, NextNameForm, CommonForm, EquivalenceForm, LettersForm, ImplicitForm, ParameterForm, ExternalForm, IntrinsicForm, SavedForm, SaveForm, ProgramForm, SubroutineForm, BlockDataForm}

@@ -1,8 +1,8 @@
 -- The readers of expressions and of places are exact, and so pieces spell one expression at most.
 use Rattle.std.proofs.Common.{◌≡◌, refl, sym, ap, ◌∙◌, ◌+◌, ◌≤◌, true, true≢false, [], ◌∷◌, length, Some, le_trans, le_refl, arith}
-use Rattle.f_tree.specs.declared.expressions.Expr.{Expr}
-use Rattle.fortran_lexemes.specs.Lexemes.{Lexemes, Infix, Mark}
-use Rattle.fortran_lexemes.specs.declared.signs.Sign.TheVariants as sign
+use Rattle.fortran_grammar.specs.f_tree.declared.expressions.Expr.{Expr}
+use Rattle.fortran_grammar.specs.fortran_lexemes.Lexemes.{Lexemes, Infix, Mark}
+use Rattle.fortran_grammar.specs.fortran_lexemes.declared.signs.Sign.TheVariants as sign
 use Rattle.fortran_grammar.specs.ExpressionSpelling.{SpellsExpr, SpellsPlace}
 use Rattle.grammar_laws.specs.Exactness.{Reader, Exact, stops}
 use Rattle.grammar_laws.specs.ExpressionReading.{read_expression, read_place, not_applied}

@@ -1,10 +1,10 @@
 -- Facts of the levels of operators and of what stands first in pieces, for the laws of expressions.
 use Rattle.std.proofs.Common.{◌≡◌, refl, sym, ap, subst, ℕ, zero, suc, ◌≤◌, ◌<◌, nat_le, leb-true, leb-false, le-leb, Bool, true, false, true≢false, ◌∷◌, Option, Some, None, if◌then◌else◌, le_trans, le_refl, arith}
 use Rattle.std.proofs.lemmas.Bool.{lt-leb}
-use Rattle.f_tree.specs.declared.expressions.BinaryOp.{BinaryOp}
-use Rattle.f_tree.specs.declared.expressions.BinaryOp.TheVariants as operator
-use Rattle.fortran_lexemes.specs.Lexemes.{Lexemes, Infix, Mark}
-use Rattle.fortran_lexemes.specs.declared.signs.Sign.TheVariants as sign
+use Rattle.fortran_grammar.specs.f_tree.declared.expressions.BinaryOp.{BinaryOp}
+use Rattle.fortran_grammar.specs.f_tree.declared.expressions.BinaryOp.TheVariants as operator
+use Rattle.fortran_grammar.specs.fortran_lexemes.Lexemes.{Lexemes, Infix, Mark}
+use Rattle.fortran_grammar.specs.fortran_lexemes.declared.signs.Sign.TheVariants as sign
 use Rattle.fortran_grammar.specs.ExpressionSpelling.{level, left, right}
 use Rattle.grammar_laws.specs.Exactness.{stops}
 use Rattle.grammar_laws.specs.ExpressionReading.{◌>>=◌, behind_open, behind_close, behind_comma, behind_colon, operator_at}

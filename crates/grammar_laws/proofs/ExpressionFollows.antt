@@ -1,11 +1,11 @@
 -- What stands in an expression's pieces and what it begins with: for the forms that expressions are parts of.
 use Rattle.std.proofs.Common.{◌≡◌, refl, sym, ap, subst, ◌∙◌, ℕ, suc, ◌≤◌, Bool, true, false, true≢false, List, [], ◌∷◌, ◌++◌, append_assoc, length, Option, arith}
-use Rattle.f_tree.specs.declared.expressions.BinaryOp.{BinaryOp}
-use Rattle.f_tree.specs.declared.expressions.BinaryOp.TheVariants as operator
-use Rattle.f_tree.specs.declared.expressions.Expr.{Expr}
-use Rattle.f_tree.specs.declared.expressions.Expr as expr
-use Rattle.fortran_lexemes.specs.Lexemes.{Lexeme, Lexemes, Name, Number, Quoted, Infix, Negation, Truth, Mark}
-use Rattle.fortran_lexemes.specs.declared.signs.Sign.TheVariants as sign
+use Rattle.fortran_grammar.specs.f_tree.declared.expressions.BinaryOp.{BinaryOp}
+use Rattle.fortran_grammar.specs.f_tree.declared.expressions.BinaryOp.TheVariants as operator
+use Rattle.fortran_grammar.specs.f_tree.declared.expressions.Expr.{Expr}
+use Rattle.fortran_grammar.specs.f_tree.declared.expressions.Expr as expr
+use Rattle.fortran_grammar.specs.fortran_lexemes.Lexemes.{Lexeme, Lexemes, Name, Number, Quoted, Infix, Negation, Truth, Mark}
+use Rattle.fortran_grammar.specs.fortran_lexemes.declared.signs.Sign.TheVariants as sign
 use Rattle.fortran_grammar.specs.ExpressionSpelling as spell
 use Rattle.fortran_grammar.specs.ExpressionSpelling.{level, left, right, SpellsExpr, SpellsPlace, SpellsArguments, SpellsBounds, SpellsLast}
 use Rattle.grammar_laws.specs.Exactness.{stops}

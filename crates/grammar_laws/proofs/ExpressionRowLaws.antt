@@ -1,7 +1,7 @@
 -- The rows of expressions, computed by the reader.
 use Rattle.std.proofs.Common.{◌≡◌, refl, sym, ap, ◌∙◌, List, [], ◌∷◌, map, Option, Some, None}
-use Rattle.f_tree.specs.declared.expressions.Expr.{Expr}
-use Rattle.fortran_lexemes.specs.Lexemes.{Lexemes}
+use Rattle.fortran_grammar.specs.f_tree.declared.expressions.Expr.{Expr}
+use Rattle.fortran_grammar.specs.fortran_lexemes.Lexemes.{Lexemes}
 use Rattle.fortran_grammar.specs.ExpressionSpelling.{level, right}
 use Rattle.grammar_laws.specs.Exactness.{stops}
 use Rattle.grammar_laws.specs.ExpressionReading as reading

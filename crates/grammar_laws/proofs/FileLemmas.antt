@@ -1,13 +1,13 @@
 -- The statements of a file spell one tree at most, since those of each statement do.
 use Rattle.std.specs.Prelude.{◌≡◌, ℕ, Bool, true, false, List, [], ◌∷◌, Option, Some}
 use Rattle.std.proofs.Common.{refl, sym, ap, ◌∙◌, subst}
-use Rattle.f_tree.specs.declared.statements.Body.{Body}
-use Rattle.f_tree.specs.declared.statements.Stmt.{Stmt}
-use Rattle.f_tree.specs.declared.units.Unit.{Unit as ProgramUnit}
-use Rattle.f_tree.specs.declared.units.File.{File}
-use Rattle.f_tree.specs.declared.units.Part.{Part}
-use Rattle.fortran_text.specs.declared.source.Statement.{Statement}
-use Rattle.fortran_lexemes.specs.declared.kinds.StmtKind.{StmtKind}
+use Rattle.fortran_grammar.specs.f_tree.declared.statements.Body.{Body}
+use Rattle.fortran_grammar.specs.f_tree.declared.statements.Stmt.{Stmt}
+use Rattle.fortran_grammar.specs.f_tree.declared.units.Unit.{Unit as ProgramUnit}
+use Rattle.fortran_grammar.specs.f_tree.declared.units.File.{File}
+use Rattle.fortran_grammar.specs.f_tree.declared.units.Part.{Part}
+use Rattle.fortran_grammar.specs.fortran_text.declared.source.Statement.{Statement}
+use Rattle.fortran_grammar.specs.fortran_lexemes.declared.kinds.StmtKind.{StmtKind}
 use Rattle.fortran_grammar.specs.UnitsOfFile.{pieces_of, SpellsText, SpellsStatement, SpellsStatements, no_statements, one_statement, statements_of_units, unit_of, SpellsUnits, no_units, one_unit}
 use Rattle.grammar_laws.specs.FileStatements.{EachFileSpellsOneTree, EachPartSpellsOneTree}
 use Rattle.grammar_laws.proofs.StatementLaws.{one_statement as one_statement_law}

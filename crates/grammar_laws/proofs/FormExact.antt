@@ -1,7 +1,7 @@
 -- Each form that is put together keeps that its reader is exact. What may follow, what a form begins with, and what it begins with or leads
 -- on to where it may be empty, are tests of one piece.
 use Rattle.std.proofs.Common.{◌≡◌, ℕ, zero, suc, ◌+◌, ◌≤◌, Bool, true, false, not, ◌||◌, List, [], ◌∷◌, ◌++◌, length, Option, Some, None, if◌then◌else◌, ◌⊎◌, inl, inr, refl, sym, ap, subst, ◌∙◌, arith, append_assoc, append-nil, le_trans, le_refl}
-use Rattle.fortran_lexemes.specs.Lexemes.{Lexeme, Lexemes}
+use Rattle.fortran_grammar.specs.fortran_lexemes.Lexemes.{Lexeme, Lexemes}
 use Rattle.fortran_grammar.specs.Forms.{Sort, sort, behind, says_first, Said, Piece, After, UpTo, Both, Led, Either, Maybe, Meant, Where, Separated, alone, with_more, Many, none, another, Choice, Enclosed, WithComma, Open, Close, Comma}
 use Rattle.grammar_laws.specs.Exactness.{Reader, Exact}
 use Rattle.grammar_laws.specs.FormReading.{is_keyed, same, going_on, otherwise, said, with_rest, piece, after, up_to_piece, up_to, paired, both, led, either, maybe_read, maybe, meant, where_passes, where', items, separated, ended_by, looped_items, looped, choice, rounds, rounds_on, many, enclosed, with_comma}

@@ -1,9 +1,9 @@
 -- What is known of a reader for a form: that it is exact, with the tests of what may follow and of what stands first.
 use Rattle.std.proofs.Common.{◌≡◌, ℕ, suc, ◌≤◌, Bool, true, false, List, [], ◌∷◌, length, Option, Some, None, refl}
-use Rattle.f_tree.specs.declared.expressions.BinaryOp.TheVariants as operator
-use Rattle.f_tree.specs.declared.expressions.Expr.{Expr}
-use Rattle.fortran_lexemes.specs.Lexemes.{Lexeme, Lexemes, Name, Number, Quoted, Infix, Negation, Truth, Mark}
-use Rattle.fortran_lexemes.specs.declared.signs.Sign.TheVariants as sign
+use Rattle.fortran_grammar.specs.f_tree.declared.expressions.BinaryOp.TheVariants as operator
+use Rattle.fortran_grammar.specs.f_tree.declared.expressions.Expr.{Expr}
+use Rattle.fortran_grammar.specs.fortran_lexemes.Lexemes.{Lexeme, Lexemes, Name, Number, Quoted, Infix, Negation, Truth, Mark}
+use Rattle.fortran_grammar.specs.fortran_lexemes.declared.signs.Sign.TheVariants as sign
 use Rattle.fortran_grammar.specs.ExpressionSpelling as spell
 use Rattle.fortran_grammar.specs.ExpressionSpelling.{SpellsExpression, SpellsPlace}
 use Rattle.fortran_grammar.specs.Forms.{Sort, sort, Said, Piece, After, UpTo, Both, Led, Either, Maybe, Meant, Where, Separated, Many, Choice, Enclosed, WithComma, AName, ALabel, ANumber, AQuoted, name_of, label_of, number_of, quoted_of, NamePiece, NumberPiece, QuotedPiece, TruthPiece, NegationPiece, Star, Slash, TwoSlashes, Plus, Minus, OtherOperator, Open, Close, Comma}

@@ -1,18 +1,18 @@
 -- The readers of the lists of READ, WRITE, PRINT and DATA are exact: an implied DO is no expression, since an expression in parentheses ends
 -- where the first comma of the loop stands.
 use Rattle.std.proofs.Common.{◌≡◌, ℕ, zero, suc, ◌≤◌, inl, inr, Bool, true, false, List, [], ◌∷◌, length, Option, Some, None, pos, refl, sym, ap, subst, ◌∙◌, ⊎_elim, le_trans, arith}
-use Rattle.f_tree.specs.declared.expressions.Expr.{Expr}
-use Rattle.f_tree.specs.declared.expressions.Expr as expr
-use Rattle.f_tree.specs.declared.statements.Body.{Body}
-use Rattle.f_tree.specs.declared.statements.Body as body
-use Rattle.f_tree.specs.declared.statements.DataGroup.{DataGroup}
-use Rattle.f_tree.specs.declared.statements.ListItem.{ListItem}
-use Rattle.f_tree.specs.declared.statements.ListItem as item
-use Rattle.f_tree.specs.declared.statements.LoopControl.{LoopControl}
-use Rattle.fortran_lexemes.specs.Lexemes.{Lexeme, Lexemes, Name, Infix, Truth, Mark}
-use Rattle.fortran_lexemes.specs.declared.signs.Sign.TheVariants as sign
-use Rattle.f_tree.specs.declared.expressions.BinaryOp.{BinaryOp}
-use Rattle.f_tree.specs.declared.expressions.BinaryOp.TheVariants as operator
+use Rattle.fortran_grammar.specs.f_tree.declared.expressions.Expr.{Expr}
+use Rattle.fortran_grammar.specs.f_tree.declared.expressions.Expr as expr
+use Rattle.fortran_grammar.specs.f_tree.declared.statements.Body.{Body}
+use Rattle.fortran_grammar.specs.f_tree.declared.statements.Body as body
+use Rattle.fortran_grammar.specs.f_tree.declared.statements.DataGroup.{DataGroup}
+use Rattle.fortran_grammar.specs.f_tree.declared.statements.ListItem.{ListItem}
+use Rattle.fortran_grammar.specs.f_tree.declared.statements.ListItem as item
+use Rattle.fortran_grammar.specs.f_tree.declared.statements.LoopControl.{LoopControl}
+use Rattle.fortran_grammar.specs.fortran_lexemes.Lexemes.{Lexeme, Lexemes, Name, Infix, Truth, Mark}
+use Rattle.fortran_grammar.specs.fortran_lexemes.declared.signs.Sign.TheVariants as sign
+use Rattle.fortran_grammar.specs.f_tree.declared.expressions.BinaryOp.{BinaryOp}
+use Rattle.fortran_grammar.specs.f_tree.declared.expressions.BinaryOp.TheVariants as operator
 use Rattle.grammar_laws.specs.Exactness.{stops}
 use Rattle.grammar_laws.proofs.ExpressionFollows.{name_alone}
 use Rattle.fortran_grammar.specs.ExpressionSpelling as spell

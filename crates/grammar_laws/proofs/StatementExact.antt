@@ -1,13 +1,13 @@
 -- The readers of the statements that assign, branch, loop, call and end are exact.
 use Rattle.std.proofs.Common.{◌≡◌, ℕ, true, List, [], ◌∷◌, Option, Some, None, refl, subst}
 use Rattle.std.specs.Prelude.{ℕ, List, [], ◌∷◌, Option, Some, None}
-use Rattle.f_tree.specs.declared.expressions.Expr.{Expr}
-use Rattle.f_tree.specs.declared.expressions.Expr as expr
-use Rattle.f_tree.specs.declared.statements.Body.{Body}
-use Rattle.f_tree.specs.declared.statements.Body as body
-use Rattle.f_tree.specs.declared.statements.DummyArgument.TheVariants as dummy
-use Rattle.fortran_lexemes.specs.Lexemes.{Lexeme, Number, Quoted, FormatText}
-use Rattle.fortran_lexemes.specs.Lexemes.{Lexemes}
+use Rattle.fortran_grammar.specs.f_tree.declared.expressions.Expr.{Expr}
+use Rattle.fortran_grammar.specs.f_tree.declared.expressions.Expr as expr
+use Rattle.fortran_grammar.specs.f_tree.declared.statements.Body.{Body}
+use Rattle.fortran_grammar.specs.f_tree.declared.statements.Body as body
+use Rattle.fortran_grammar.specs.f_tree.declared.statements.DummyArgument.TheVariants as dummy
+use Rattle.fortran_grammar.specs.fortran_lexemes.Lexemes.{Lexeme, Number, Quoted, FormatText}
+use Rattle.fortran_grammar.specs.fortran_lexemes.Lexemes.{Lexemes}
 use Rattle.fortran_grammar.specs.ExpressionSpelling as spell
 use Rattle.fortran_grammar.specs.ExpressionSpelling.{SpellsExpression, SpellsPlace, SpellsArguments, SpellsBounds}
 use Rattle.fortran_grammar.specs.Forms.{sort, behind, Piece, Meant, UpTo, AName, listed, NumberPiece, QuotedPiece, FormatPiece, Open, Close, Comma, Equals, Star, ToWord, ThenWord}

@@ -1,13 +1,13 @@
 -- The reader of statements is exact, and so pieces spell one statement at most.
 use Rattle.std.proofs.Common.{◌≡◌, ℕ, true, [], ◌∷◌, Option, Some, None, option_map, refl, sym, ap, subst, ◌∙◌}
-use Rattle.f_tree.specs.declared.expressions.Expr.{Expr}
-use Rattle.f_tree.specs.declared.names.Basic.{Basic}
-use Rattle.f_tree.specs.declared.statements.AuxiliaryKind.TheVariants as auxiliary
-use Rattle.f_tree.specs.declared.statements.Body.{Body}
-use Rattle.f_tree.specs.declared.statements.Body as body
-use Rattle.fortran_lexemes.specs.Lexemes.{Lexeme, Lexemes, Word}
-use Rattle.fortran_lexemes.specs.declared.kinds.StmtKind.{StmtKind}
-use Rattle.fortran_lexemes.specs.declared.kinds.StmtKind.TheVariants as kind
+use Rattle.fortran_grammar.specs.f_tree.declared.expressions.Expr.{Expr}
+use Rattle.fortran_grammar.specs.f_tree.declared.names.Basic.{Basic}
+use Rattle.fortran_grammar.specs.f_tree.declared.statements.AuxiliaryKind.TheVariants as auxiliary
+use Rattle.fortran_grammar.specs.f_tree.declared.statements.Body.{Body}
+use Rattle.fortran_grammar.specs.f_tree.declared.statements.Body as body
+use Rattle.fortran_grammar.specs.fortran_lexemes.Lexemes.{Lexeme, Lexemes, Word}
+use Rattle.fortran_grammar.specs.fortran_lexemes.declared.kinds.StmtKind.{StmtKind}
+use Rattle.fortran_grammar.specs.fortran_lexemes.declared.kinds.StmtKind.TheVariants as kind
 use Rattle.fortran_grammar.specs.Forms.{sort, behind, Said, Meant, Both, UpTo, Led, Piece, says_first, NoPiece, NamePiece, NumberPiece, WordPiece, ThenWord}
 use Rattle.fortran_grammar.specs.StatementForms.{if_sign, AssignmentForm, TestForm, SignLabelsForm}
 use Rattle.fortran_grammar.specs.DeclarationForms.{TypeStatementForm, type_of}

@@ -1,7 +1,7 @@
 -- The rows of statements, computed by the reader.
 use Rattle.std.proofs.Common.{◌≡◌, refl, sym, ◌∙◌, List, [], ◌∷◌, map, Option, Some, None}
-use Rattle.f_tree.specs.declared.statements.Body.{Body}
-use Rattle.fortran_lexemes.specs.Lexemes.{Lexemes}
+use Rattle.fortran_grammar.specs.f_tree.declared.statements.Body.{Body}
+use Rattle.fortran_grammar.specs.fortran_lexemes.Lexemes.{Lexemes}
 use Rattle.grammar_laws.specs.FormReading as forms
 use Rattle.grammar_laws.specs.ListReading as lists
 use Rattle.grammar_laws.specs.DeclarationReading as declaration_reading

@@ -1,8 +1,8 @@
 -- The rows of texts, computed by the reader.
 use Rattle.std.proofs.Common.{◌≡◌, ℕ, refl, ap, ◌∙◌, Bool, true, false, List, [], ◌∷◌, map, Option, Some, None}
-use Rattle.f_tree.specs.declared.statements.Body.{Body}
-use Rattle.fortran_lexemes.specs.Lexemes.{Lexemes}
-use Rattle.fortran_lexemes.specs.declared.kinds.StmtKind.{StmtKind}
+use Rattle.fortran_grammar.specs.f_tree.declared.statements.Body.{Body}
+use Rattle.fortran_grammar.specs.fortran_lexemes.Lexemes.{Lexemes}
+use Rattle.fortran_grammar.specs.fortran_lexemes.declared.kinds.StmtKind.{StmtKind}
 use Rattle.grammar_laws.specs.FormReading as forms
 use Rattle.grammar_laws.specs.ListReading as lists
 use Rattle.grammar_laws.specs.DeclarationReading as declaration_reading
@@ -15,10 +15,10 @@ use Rattle.fortran_grammar.specs.ListForms as list_forms
 use Rattle.fortran_grammar.specs.DeclarationForms as declaration_forms
 use Rattle.fortran_grammar.specs.ControlForms as control_forms
 use Rattle.fortran_grammar.specs.ExpressionSpelling as expression_forms
-use Rattle.fortran_lexemes.specs.KindsOfStatements as kinds
-use Rattle.fortran_lexemes.specs.PiecesOfStatements as cutting
-use Rattle.fortran_lexemes.specs.PiecesOfText as cut
-use Rattle.fortran_text.specs.CharactersOfText as text_of
+use Rattle.fortran_grammar.specs.fortran_lexemes.KindsOfStatements as kinds
+use Rattle.fortran_grammar.specs.fortran_lexemes.PiecesOfStatements as cutting
+use Rattle.fortran_grammar.specs.fortran_lexemes.PiecesOfText as cut
+use Rattle.fortran_grammar.specs.fortran_text.CharactersOfText as text_of
 use Rattle.grammar_laws.specs.StatementReader.{read_statement}
 use Rattle.grammar_laws.specs.StatementTexts.{IsStatement, IsNone, AllAre, statement_texts, other_texts}
 use Rattle.grammar_laws.proofs.StatementLaws.{statement_sound, statement_complete}

@@ -1,18 +1,18 @@
 -- The readers of READ, WRITE, PRINT, OPEN, CLOSE, BACKSPACE, ENDFILE and REWIND with their lists of control information.
 use Rattle.std.specs.Prelude.{List, Option}
-use Rattle.f_tree.specs.declared.expressions.Expr.{Expr}
-use Rattle.f_tree.specs.declared.expressions.Expr as expr
-use Rattle.f_tree.specs.declared.statements.AuxiliaryKind.{AuxiliaryKind}
-use Rattle.f_tree.specs.declared.statements.AuxiliaryKind.TheVariants as auxiliary
-use Rattle.f_tree.specs.declared.statements.Body.{Body}
-use Rattle.f_tree.specs.declared.statements.Body as body
-use Rattle.f_tree.specs.declared.statements.Control.{Control}
-use Rattle.f_tree.specs.declared.statements.ControlValue.{ControlValue}
-use Rattle.f_tree.specs.declared.statements.ControlValue.TheVariants as value
-use Rattle.f_tree.specs.declared.statements.ControlWord.{ControlWord}
-use Rattle.f_tree.specs.declared.statements.ControlWord.TheVariants as word
-use Rattle.f_tree.specs.declared.statements.Direction.TheVariants as way
-use Rattle.f_tree.specs.declared.statements.ListItem.{ListItem}
+use Rattle.fortran_grammar.specs.f_tree.declared.expressions.Expr.{Expr}
+use Rattle.fortran_grammar.specs.f_tree.declared.expressions.Expr as expr
+use Rattle.fortran_grammar.specs.f_tree.declared.statements.AuxiliaryKind.{AuxiliaryKind}
+use Rattle.fortran_grammar.specs.f_tree.declared.statements.AuxiliaryKind.TheVariants as auxiliary
+use Rattle.fortran_grammar.specs.f_tree.declared.statements.Body.{Body}
+use Rattle.fortran_grammar.specs.f_tree.declared.statements.Body as body
+use Rattle.fortran_grammar.specs.f_tree.declared.statements.Control.{Control}
+use Rattle.fortran_grammar.specs.f_tree.declared.statements.ControlValue.{ControlValue}
+use Rattle.fortran_grammar.specs.f_tree.declared.statements.ControlValue.TheVariants as value
+use Rattle.fortran_grammar.specs.f_tree.declared.statements.ControlWord.{ControlWord}
+use Rattle.fortran_grammar.specs.f_tree.declared.statements.ControlWord.TheVariants as word
+use Rattle.fortran_grammar.specs.f_tree.declared.statements.Direction.TheVariants as way
+use Rattle.fortran_grammar.specs.f_tree.declared.statements.ListItem.{ListItem}
 use Rattle.fortran_grammar.specs.Forms.{listed, Comma, Equals, Star}
 use Rattle.fortran_grammar.specs.ControlForms.{Constants, is_number_alone, variable_or_element, is_constant, control_word, control, control_of, before_others, fits_read, fits_write, fits_auxiliary, words_of_open, words_of_close, words_of_position, no_constants, constants_of_open, constants_of_close, is_opened, standard_unit, unit_alone}
 use Rattle.grammar_laws.specs.Exactness.{Reader}

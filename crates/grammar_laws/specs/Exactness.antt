@@ -1,8 +1,8 @@
 -- When a reader of pieces is exact for a relation of spelling: what it gives is spelled, and what is spelled before pieces that do not go on
 -- is what it gives.
 use Rattle.std.specs.Prelude.{◌≡◌, ◌≤◌, Bool, true, false, [], ◌∷◌, length, Option, Some}
-use Rattle.fortran_lexemes.specs.Lexemes.{Lexemes, Infix, Mark}
-use Rattle.fortran_lexemes.specs.declared.signs.Sign.TheVariants as sign
+use Rattle.fortran_grammar.specs.fortran_lexemes.Lexemes.{Lexemes, Infix, Mark}
+use Rattle.fortran_grammar.specs.fortran_lexemes.declared.signs.Sign.TheVariants as sign
 
 -- A reader gives what stands first and the pieces that are left.
 abbrev pub Reader : Type 0 → Type 0

@@ -1,12 +1,12 @@
 -- The reader of expressions and of places: what stands first in pieces, and the pieces that are left. ANSI X3.9-1978, section 6. It takes an
 -- operand, and goes on while an operator of the level that is wanted, or of a higher one, follows.
 use Rattle.std.specs.Prelude.{ℕ, zero, suc, ◌+◌, nat_le, Bool, true, false, pos, List, [], ◌∷◌, ◌++◌, length, Option, Some, None, if◌then◌else◌}
-use Rattle.f_tree.specs.declared.expressions.BinaryOp.{BinaryOp}
-use Rattle.f_tree.specs.declared.expressions.BinaryOp.TheVariants as operator
-use Rattle.f_tree.specs.declared.expressions.Expr.{Expr}
-use Rattle.f_tree.specs.declared.expressions.Expr as expr
-use Rattle.fortran_lexemes.specs.Lexemes.{Lexemes, Name, Number, Quoted, Infix, Negation, Truth, Mark}
-use Rattle.fortran_lexemes.specs.declared.signs.Sign.TheVariants as sign
+use Rattle.fortran_grammar.specs.f_tree.declared.expressions.BinaryOp.{BinaryOp}
+use Rattle.fortran_grammar.specs.f_tree.declared.expressions.BinaryOp.TheVariants as operator
+use Rattle.fortran_grammar.specs.f_tree.declared.expressions.Expr.{Expr}
+use Rattle.fortran_grammar.specs.f_tree.declared.expressions.Expr as expr
+use Rattle.fortran_grammar.specs.fortran_lexemes.Lexemes.{Lexemes, Name, Number, Quoted, Infix, Negation, Truth, Mark}
+use Rattle.fortran_grammar.specs.fortran_lexemes.declared.signs.Sign.TheVariants as sign
 use Rattle.fortran_grammar.specs.ExpressionSpelling.{level, right}
 use Rattle.grammar_laws.specs.Exactness.{Reader}
 

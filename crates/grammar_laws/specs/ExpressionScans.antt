@@ -1,9 +1,9 @@
 -- What may stand in the pieces of an expression, and the scan that tells an implied DO list from an expression in parentheses. ANSI X3.9-1978,
 -- sections 6 and 12.8.2.3.
 use Rattle.std.specs.Prelude.{◌≡◌, ℕ, zero, suc, Bool, true, false, [], ◌∷◌}
-use Rattle.f_tree.specs.declared.expressions.BinaryOp.TheVariants as operator
-use Rattle.fortran_lexemes.specs.Lexemes.{Lexeme, Lexemes, Name, Number, Quoted, Infix, Negation, Truth, Mark}
-use Rattle.fortran_lexemes.specs.declared.signs.Sign.TheVariants as sign
+use Rattle.fortran_grammar.specs.f_tree.declared.expressions.BinaryOp.TheVariants as operator
+use Rattle.fortran_grammar.specs.fortran_lexemes.Lexemes.{Lexeme, Lexemes, Name, Number, Quoted, Infix, Negation, Truth, Mark}
+use Rattle.fortran_grammar.specs.fortran_lexemes.declared.signs.Sign.TheVariants as sign
 
 -- A piece that an expression may hold, apart from parentheses; commas and colons stand within parentheses only.
 unfoldable pub may_stand : Bool → Lexeme → Bool

@@ -1,7 +1,7 @@
 -- What the laws of expressions say. ANSI X3.9-1978, section 6.
 use Rattle.std.specs.Prelude.{◌≡◌, []}
-use Rattle.f_tree.specs.declared.expressions.Expr.{Expr}
-use Rattle.fortran_lexemes.specs.Lexemes.{Lexemes}
+use Rattle.fortran_grammar.specs.f_tree.declared.expressions.Expr.{Expr}
+use Rattle.fortran_grammar.specs.fortran_lexemes.Lexemes.{Lexemes}
 use Rattle.fortran_grammar.specs.ExpressionSpelling.{SpellsExpression, SpellsPlace}
 use Rattle.grammar_laws.specs.Exactness.{Exact, stops}
 use Rattle.grammar_laws.specs.ExpressionReading.{read_expression, read_place, not_applied}

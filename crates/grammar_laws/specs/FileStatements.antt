@@ -1,8 +1,8 @@
 -- That the statements of a file spell one tree at most, and an included file one part.
 use Rattle.std.specs.Prelude.{◌≡◌, ℕ, List}
-use Rattle.f_tree.specs.declared.units.File.{File}
-use Rattle.f_tree.specs.declared.units.Part.{Part}
-use Rattle.fortran_text.specs.declared.source.Statement.{Statement}
+use Rattle.fortran_grammar.specs.f_tree.declared.units.File.{File}
+use Rattle.fortran_grammar.specs.f_tree.declared.units.Part.{Part}
+use Rattle.fortran_grammar.specs.fortran_text.declared.source.Statement.{Statement}
 use Rattle.fortran_grammar.specs.UnitsOfFile.{SpellsFile}
 use Rattle.fortran_grammar.specs.IncludedFiles.{SpellsPart}
 

@@ -1,7 +1,7 @@
 -- A reader for each form that is put together: what stands first, and the pieces that are left.
 use Rattle.std.specs.Prelude.{ℕ, zero, suc, ◌+◌, Bool, true, false, List, [], ◌∷◌, ◌++◌, length, Option, Some, None, if◌then◌else◌}
-use Rattle.fortran_lexemes.specs.Lexemes.{Lexeme, Lexemes, Name, Mark}
-use Rattle.fortran_lexemes.specs.declared.signs.Sign.TheVariants as sign
+use Rattle.fortran_grammar.specs.fortran_lexemes.Lexemes.{Lexeme, Lexemes, Name, Mark}
+use Rattle.fortran_grammar.specs.fortran_lexemes.declared.signs.Sign.TheVariants as sign
 use Rattle.fortran_grammar.specs.Forms.{Sort, sort_discrete, sort, behind, says_first, name_of, label_of, number_of, quoted_of, Open, Close, Comma}
 use Rattle.grammar_laws.specs.Exactness.{Reader}
 

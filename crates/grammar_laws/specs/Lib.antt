@@ -13,3 +13,4 @@ pub mod StatementReading
 pub mod StatementRows
 pub mod StatementStatements
 pub mod StatementTexts
+pub use Rattle.fortran_grammar.specs as fortran_grammar

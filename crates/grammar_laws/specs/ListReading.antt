@@ -1,13 +1,13 @@
 -- The readers of the lists of READ, WRITE, PRINT and DATA. An item that is no expression is read as an implied DO.
 use Rattle.std.specs.Prelude.{ℕ, zero, suc, pos, List, length}
-use Rattle.f_tree.specs.declared.expressions.Expr.{Expr}
-use Rattle.f_tree.specs.declared.expressions.Expr as expr
-use Rattle.f_tree.specs.declared.statements.Body.{Body}
-use Rattle.f_tree.specs.declared.statements.Body as body
-use Rattle.f_tree.specs.declared.statements.DataGroup.{DataGroup}
-use Rattle.f_tree.specs.declared.statements.DataValue.{DataValue}
-use Rattle.f_tree.specs.declared.statements.ListItem.{ListItem}
-use Rattle.f_tree.specs.declared.statements.ListItem as item
+use Rattle.fortran_grammar.specs.f_tree.declared.expressions.Expr.{Expr}
+use Rattle.fortran_grammar.specs.f_tree.declared.expressions.Expr as expr
+use Rattle.fortran_grammar.specs.f_tree.declared.statements.Body.{Body}
+use Rattle.fortran_grammar.specs.f_tree.declared.statements.Body as body
+use Rattle.fortran_grammar.specs.f_tree.declared.statements.DataGroup.{DataGroup}
+use Rattle.fortran_grammar.specs.f_tree.declared.statements.DataValue.{DataValue}
+use Rattle.fortran_grammar.specs.f_tree.declared.statements.ListItem.{ListItem}
+use Rattle.fortran_grammar.specs.f_tree.declared.statements.ListItem as item
 use Rattle.fortran_grammar.specs.Forms.{Star, Slash, Plus, Minus}
 use Rattle.fortran_grammar.specs.ListForms.{truth_of, value_of, single, data_group, chained}
 use Rattle.grammar_laws.specs.Exactness.{Reader}

@@ -1,12 +1,12 @@
 -- The reader of statements: the word that begins the pieces says which form is read, up to the last piece.
 use Rattle.std.specs.Prelude.{[], ◌∷◌, Option, Some, None, option_map, if◌then◌else◌}
-use Rattle.f_tree.specs.declared.expressions.Expr.{Expr}
-use Rattle.f_tree.specs.declared.statements.AuxiliaryKind.TheVariants as auxiliary
-use Rattle.f_tree.specs.declared.statements.Body.{Body}
-use Rattle.f_tree.specs.declared.statements.Body as body
-use Rattle.fortran_lexemes.specs.Lexemes.{Lexemes, Word}
-use Rattle.fortran_lexemes.specs.declared.kinds.StmtKind.{StmtKind}
-use Rattle.fortran_lexemes.specs.declared.kinds.StmtKind.TheVariants as kind
+use Rattle.fortran_grammar.specs.f_tree.declared.expressions.Expr.{Expr}
+use Rattle.fortran_grammar.specs.f_tree.declared.statements.AuxiliaryKind.TheVariants as auxiliary
+use Rattle.fortran_grammar.specs.f_tree.declared.statements.Body.{Body}
+use Rattle.fortran_grammar.specs.f_tree.declared.statements.Body as body
+use Rattle.fortran_grammar.specs.fortran_lexemes.Lexemes.{Lexemes, Word}
+use Rattle.fortran_grammar.specs.fortran_lexemes.declared.kinds.StmtKind.{StmtKind}
+use Rattle.fortran_grammar.specs.fortran_lexemes.declared.kinds.StmtKind.TheVariants as kind
 use Rattle.fortran_grammar.specs.Forms.{sort, behind, NumberPiece, ThenWord}
 use Rattle.fortran_grammar.specs.StatementForms.{if_sign}
 use Rattle.grammar_laws.specs.Exactness.{Reader}

@@ -1,12 +1,12 @@
 -- The readers of the statements that assign, branch, loop, call and end: one for each form.
 use Rattle.std.specs.Prelude.{ℕ, List, [], Some, None}
-use Rattle.f_tree.specs.declared.expressions.Expr.{Expr}
-use Rattle.f_tree.specs.declared.expressions.Expr as expr
-use Rattle.f_tree.specs.declared.statements.Body.{Body}
-use Rattle.f_tree.specs.declared.statements.Body as body
-use Rattle.f_tree.specs.declared.statements.DummyArgument.{DummyArgument}
-use Rattle.f_tree.specs.declared.statements.DummyArgument.TheVariants as dummy
-use Rattle.f_tree.specs.declared.statements.LoopControl.{LoopControl}
+use Rattle.fortran_grammar.specs.f_tree.declared.expressions.Expr.{Expr}
+use Rattle.fortran_grammar.specs.f_tree.declared.expressions.Expr as expr
+use Rattle.fortran_grammar.specs.f_tree.declared.statements.Body.{Body}
+use Rattle.fortran_grammar.specs.f_tree.declared.statements.Body as body
+use Rattle.fortran_grammar.specs.f_tree.declared.statements.DummyArgument.{DummyArgument}
+use Rattle.fortran_grammar.specs.f_tree.declared.statements.DummyArgument.TheVariants as dummy
+use Rattle.fortran_grammar.specs.f_tree.declared.statements.LoopControl.{LoopControl}
 use Rattle.fortran_grammar.specs.Forms.{listed, Open, Close, Comma, Equals, Star, ToWord, ThenWord}
 use Rattle.fortran_grammar.specs.StatementForms.{if_sign, loop_of, arguments_of, stop_text, format_text}
 use Rattle.grammar_laws.specs.Exactness.{Reader}

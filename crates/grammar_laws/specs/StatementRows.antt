@@ -1,37 +1,37 @@
 -- Pieces with the statement that they spell, or none. ANSI X3.9-1978, sections 8 to 12 and 15; MIL-STD-1753.
 use Rattle.std.specs.Prelude.{ℕ, pos, true, List, [], ◌∷◌, codes, Option, Some, None}
-use Rattle.f_tree.specs.declared.expressions.BinaryOp.TheVariants as operator
-use Rattle.f_tree.specs.declared.expressions.Expr.{Expr}
-use Rattle.f_tree.specs.declared.expressions.Expr as expr
-use Rattle.f_tree.specs.declared.names.Basic.TheVariants as basic
-use Rattle.f_tree.specs.declared.statements.ArrayDeclarator.{ArrayDeclarator}
-use Rattle.f_tree.specs.declared.statements.AuxiliaryKind.TheVariants as auxiliary
-use Rattle.f_tree.specs.declared.statements.Body.{Body}
-use Rattle.f_tree.specs.declared.statements.Declarator.{Declarator}
-use Rattle.f_tree.specs.declared.statements.DataGroup.{DataGroup}
-use Rattle.f_tree.specs.declared.statements.DataValue.{DataValue}
-use Rattle.f_tree.specs.declared.statements.CommonGroup.{CommonGroup}
-use Rattle.f_tree.specs.declared.statements.LengthSpec.{LengthSpec}
-use Rattle.f_tree.specs.declared.statements.Body as body
-use Rattle.f_tree.specs.declared.statements.Control.{Control}
-use Rattle.f_tree.specs.declared.statements.ControlValue.{ControlValue}
-use Rattle.f_tree.specs.declared.statements.ControlValue.TheVariants as value
-use Rattle.f_tree.specs.declared.statements.ControlWord.{ControlWord}
-use Rattle.f_tree.specs.declared.statements.ControlWord.TheVariants as word
-use Rattle.f_tree.specs.declared.statements.Dimension.{Dimension}
-use Rattle.f_tree.specs.declared.statements.Direction.TheVariants as way
-use Rattle.f_tree.specs.declared.statements.DummyArgument.TheVariants as dummy
-use Rattle.f_tree.specs.declared.statements.LengthSpec.TheVariants as length'
-use Rattle.f_tree.specs.declared.statements.ListItem.{ListItem}
-use Rattle.f_tree.specs.declared.statements.ListItem as item
-use Rattle.f_tree.specs.declared.statements.LoopControl.{LoopControl}
-use Rattle.f_tree.specs.declared.statements.SavedItem.TheVariants as saved
-use Rattle.f_tree.specs.declared.statements.TypeSpec.{TypeSpec}
-use Rattle.f_tree.specs.declared.statements.UnitKind.TheVariants as unit
-use Rattle.f_tree.specs.declared.statements.UpperBound.TheVariants as upper
-use Rattle.fortran_lexemes.specs.Lexemes.{Lexeme, Lexemes, Name, Number, Quoted, Infix, Truth, Mark, Word, To, Then}
-use Rattle.fortran_lexemes.specs.declared.kinds.StmtKind.TheVariants as kind
-use Rattle.fortran_lexemes.specs.declared.signs.Sign.TheVariants as sign
+use Rattle.fortran_grammar.specs.f_tree.declared.expressions.BinaryOp.TheVariants as operator
+use Rattle.fortran_grammar.specs.f_tree.declared.expressions.Expr.{Expr}
+use Rattle.fortran_grammar.specs.f_tree.declared.expressions.Expr as expr
+use Rattle.fortran_grammar.specs.f_tree.declared.names.Basic.TheVariants as basic
+use Rattle.fortran_grammar.specs.f_tree.declared.statements.ArrayDeclarator.{ArrayDeclarator}
+use Rattle.fortran_grammar.specs.f_tree.declared.statements.AuxiliaryKind.TheVariants as auxiliary
+use Rattle.fortran_grammar.specs.f_tree.declared.statements.Body.{Body}
+use Rattle.fortran_grammar.specs.f_tree.declared.statements.Declarator.{Declarator}
+use Rattle.fortran_grammar.specs.f_tree.declared.statements.DataGroup.{DataGroup}
+use Rattle.fortran_grammar.specs.f_tree.declared.statements.DataValue.{DataValue}
+use Rattle.fortran_grammar.specs.f_tree.declared.statements.CommonGroup.{CommonGroup}
+use Rattle.fortran_grammar.specs.f_tree.declared.statements.LengthSpec.{LengthSpec}
+use Rattle.fortran_grammar.specs.f_tree.declared.statements.Body as body
+use Rattle.fortran_grammar.specs.f_tree.declared.statements.Control.{Control}
+use Rattle.fortran_grammar.specs.f_tree.declared.statements.ControlValue.{ControlValue}
+use Rattle.fortran_grammar.specs.f_tree.declared.statements.ControlValue.TheVariants as value
+use Rattle.fortran_grammar.specs.f_tree.declared.statements.ControlWord.{ControlWord}
+use Rattle.fortran_grammar.specs.f_tree.declared.statements.ControlWord.TheVariants as word
+use Rattle.fortran_grammar.specs.f_tree.declared.statements.Dimension.{Dimension}
+use Rattle.fortran_grammar.specs.f_tree.declared.statements.Direction.TheVariants as way
+use Rattle.fortran_grammar.specs.f_tree.declared.statements.DummyArgument.TheVariants as dummy
+use Rattle.fortran_grammar.specs.f_tree.declared.statements.LengthSpec.TheVariants as length'
+use Rattle.fortran_grammar.specs.f_tree.declared.statements.ListItem.{ListItem}
+use Rattle.fortran_grammar.specs.f_tree.declared.statements.ListItem as item
+use Rattle.fortran_grammar.specs.f_tree.declared.statements.LoopControl.{LoopControl}
+use Rattle.fortran_grammar.specs.f_tree.declared.statements.SavedItem.TheVariants as saved
+use Rattle.fortran_grammar.specs.f_tree.declared.statements.TypeSpec.{TypeSpec}
+use Rattle.fortran_grammar.specs.f_tree.declared.statements.UnitKind.TheVariants as unit
+use Rattle.fortran_grammar.specs.f_tree.declared.statements.UpperBound.TheVariants as upper
+use Rattle.fortran_grammar.specs.fortran_lexemes.Lexemes.{Lexeme, Lexemes, Name, Number, Quoted, Infix, Truth, Mark, Word, To, Then}
+use Rattle.fortran_grammar.specs.fortran_lexemes.declared.kinds.StmtKind.TheVariants as kind
+use Rattle.fortran_grammar.specs.fortran_lexemes.declared.signs.Sign.TheVariants as sign
 use Rattle.fortran_grammar.specs.StatementSpelling.{SpellsBody}
 
 pub record Row : Type 0 where

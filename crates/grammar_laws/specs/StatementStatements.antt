@@ -1,7 +1,7 @@
 -- What the laws of statements say. ANSI X3.9-1978, sections 7 to 16.
 use Rattle.std.specs.Prelude.{◌≡◌, Some}
-use Rattle.f_tree.specs.declared.statements.Body.{Body}
-use Rattle.fortran_lexemes.specs.Lexemes.{Lexemes}
+use Rattle.fortran_grammar.specs.f_tree.declared.statements.Body.{Body}
+use Rattle.fortran_grammar.specs.fortran_lexemes.Lexemes.{Lexemes}
 use Rattle.fortran_grammar.specs.StatementSpelling.{SpellsBody}
 use Rattle.grammar_laws.specs.StatementReader.{read_statement}
 

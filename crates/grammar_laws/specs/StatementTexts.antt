@@ -1,11 +1,11 @@
 -- Texts of statements without a label, and whether they spell one. ANSI X3.9-1978, sections 8 to 16; MIL-STD-1753. Blanks mean nothing
 -- outside constants.
 use Rattle.std.specs.Prelude.{◌≡◌, ℕ, true, false, List, [], ◌∷◌, codes, Some}
-use Rattle.f_tree.specs.declared.statements.Body.{Body}
-use Rattle.fortran_lexemes.specs.KindsOfStatements.{kind_of_statement}
-use Rattle.fortran_lexemes.specs.PiecesOfStatements.{pieces}
-use Rattle.fortran_lexemes.specs.declared.kinds.StmtKind.{StmtKind}
-use Rattle.fortran_text.specs.CharactersOfText.{characters}
+use Rattle.fortran_grammar.specs.f_tree.declared.statements.Body.{Body}
+use Rattle.fortran_grammar.specs.fortran_lexemes.KindsOfStatements.{kind_of_statement}
+use Rattle.fortran_grammar.specs.fortran_lexemes.PiecesOfStatements.{pieces}
+use Rattle.fortran_grammar.specs.fortran_lexemes.declared.kinds.StmtKind.{StmtKind}
+use Rattle.fortran_grammar.specs.fortran_text.CharactersOfText.{characters}
 use Rattle.fortran_grammar.specs.StatementSpelling.{SpellsBody}
 
 -- The text of a statement that begins its unit spells a tree.

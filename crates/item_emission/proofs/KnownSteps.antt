@@ -2,13 +2,13 @@
 -- each other have this in common.
 use Rattle.std.specs.Prelude.{◌≡◌, ℕ, zero, suc, ◌+◌, ◌-◌, ℤ, pos, Bool, true, false, ◌&&◌, List, [], ◌∷◌, map, length, Option, Some, None, option_map, option_and_then, slice_get, unwrap_or, codes, if◌then◌else◌}
 use Rattle.std.proofs.Common.{refl, sym, ap, ◌∙◌}
-use Rattle.f_tree.specs.Values.{Bytes, IsInt, IsLog, in_range}
-use Rattle.f_tree.specs.Terms as fortran
-use Rattle.f_tree.specs.Facts.{Bounds, Output, Listed, Controls}
-use Rattle.f_tree.specs.CNames.{made_name, ControlList, ConstantOf}
-use Rattle.l_core.specs.Pures.{Pure, Constant, Temporary, Load, Name, ElementOf, Pures, NoPure, AndPure}
-use Rattle.l_core.specs.Steps as step
-use Rattle.l_core.specs.Steps.{Step}
+use Rattle.main_file.specs.f_tree.Values.{Bytes, IsInt, IsLog, in_range}
+use Rattle.main_file.specs.f_tree.Terms as fortran
+use Rattle.main_file.specs.f_tree.Facts.{Bounds, Output, Listed, Controls}
+use Rattle.main_file.specs.f_tree.CNames.{made_name, ControlList, ConstantOf}
+use Rattle.main_file.specs.l_core.Pures.{Pure, Constant, Temporary, Load, Name, ElementOf, Pures, NoPure, AndPure}
+use Rattle.main_file.specs.l_core.Steps as step
+use Rattle.main_file.specs.l_core.Steps.{Step}
 use Rattle.c_tree.specs.declared.types.CastType.TheVariants as to
 use Rattle.c_tree.specs.declared.expression.CExpr.{CExpr}
 use Rattle.c_tree.specs.declared.expression.CExpr.TheVariants as expr
@@ -16,23 +16,24 @@ use Rattle.c_tree.specs.declared.expression.UnaryOp.TheVariants as prefix
 use Rattle.c_tree.specs.Access.{ToNumber}
 use Rattle.c_tree.specs.Terms as c
 use Rattle.c_tree.specs.Terms.{Term}
-use Rattle.c_tree.specs.Flat.{Branch}
+use Rattle.c_tree.specs.Flat.{Branch, Select, CaseAt}
 use Rattle.c_tree.specs.Builtins.{builtin_names}
-use Rattle.c_structure.specs.Expressions.{Names, number_expr, array_expr, expr_for, one_more, exprs_for}
-use Rattle.c_image.specs.Elements.{quantity_term}
-use Rattle.c_emit.specs.Numbers.{Writing, if_number, value_term, place_term}
-use Rattle.c_emit.specs.LibraryFunctions.{LibraryFunction, pow_ii, i_sign, i_dim, i_or, i_and, i_eor, i_not, i_shft, b_test, b_set, b_clr, library_function}
-use Rattle.c_emit.specs.Types.{if_numeric, type_at, type_of}
-use Rattle.c_emit.specs.Calls.{call_of, is_plain, start_on, start_item, if_held, constant_held, held_term, held_terms, computed_item, kind_number, item_by, takes_item, finish_item, stop_item, address_of, routine_of}
-use Rattle.c_emit.specs.Flats.{assigned, jump_to, flat_of}
+use Rattle.named_items.specs.c_structure.Expressions.{Names, number_expr, array_expr, expr_for, one_more, exprs_for}
+use Rattle.main_file.specs.c_image.Elements.{quantity_term}
+use Rattle.main_file.specs.c_emit.Numbers.{Writing, constant_value, if_number, value_term, place_term}
+use Rattle.main_file.specs.c_emit.LibraryFunctions.{LibraryFunction, pow_ii, i_sign, i_dim, i_or, i_and, i_eor, i_not, i_shft, b_test, b_set, b_clr, library_function}
+use Rattle.main_file.specs.c_emit.Types.{if_numeric, type_at, type_of}
+use Rattle.main_file.specs.c_emit.Calls.{call_of, is_plain, start_on, start_item, if_held, constant_held, held_term, held_terms, computed_item, kind_number, item_by, takes_item, finish_item, stop_item, address_of, routine_of}
+use Rattle.main_file.specs.c_emit.Flats.{assigned, jump_to, cases_to, cases_for, switch_to, flat_of}
 use Rattle.main_file.specs.MainFile.{lower_of, size_of}
+use Rattle.named_items.specs.declared.item.Case.{Case}
 use Rattle.named_items.specs.declared.item.Item.{Item}
 use Rattle.named_items.specs.declared.item.Item.TheVariants as item
 use Rattle.named_items.specs.Items as named_items
-use Rattle.named_items.specs.Items.{by_name, assign_by, set_call_by, item_for}
+use Rattle.named_items.specs.Items.{by_name, assign_by, set_call_by, case_of, item_for}
 use Rattle.item_emission.specs.declared.known.Dimension.{Dimension}
 use Rattle.item_emission.specs.NamedEmission as named
-use Rattle.item_emission.specs.NamedEmission.{Knowledge, constant_expr, dimension_at, variable_expr, expr_if, temporary_expr, value_expr, place_expr, type_in, constant_object, list_object, datum_held, held_expr, held_exprs, computed_step, start_call, start_if, start_step, output_call, output_if, output_by, output_step, finish_step, stop_call, stop_step, branch_step, return_step, acting_step, item_step, address_expr}
+use Rattle.item_emission.specs.NamedEmission.{Knowledge, constant_expr, datum_expr, dimension_at, variable_expr, expr_if, temporary_expr, value_expr, place_expr, type_in, constant_object, list_object, datum_held, held_expr, held_exprs, computed_step, start_call, start_if, start_step, output_call, output_if, output_by, output_step, finish_step, stop_call, stop_step, branch_step, case_to, cases_from, select_step, label_cases, switch_step, return_step, acting_step, item_step, address_expr}
 use Rattle.item_emission.specs.Agreeing.{dimension_of}
 use Rattle.item_emission.proofs.TermNumbers.{constant-agrees}
 use Rattle.item_emission.proofs.ValuesAgree.{IsKnownBy, expr_of, exprs_of, more-agrees, temporary-agrees, value-agrees, place-agrees}
@@ -111,6 +112,22 @@ unfolding item_for jump_to
 jump-agrees names None = refl
 jump-agrees names (Some m) = refl
 
+cases-agree : (number n count : ℕ) → map case_of (cases_to (λ m. m) number n count) ≡ cases_from number n count
+unfolding cases_to cases_from
+cases-agree number n zero = refl
+cases-agree number n (suc count) = ap (λ later. case_to number n ∷ later) (cases-agree (suc number) (suc n) count)
+
+select-by : (cases : List Case) (otherwise : ℕ) (o : Option CExpr) → option_map (λ e. item.Select e cases otherwise) o ≡ select_step o cases otherwise
+unfolding select_step
+select-by cases otherwise None = refl
+select-by cases otherwise (Some e) = refl
+
+select-agrees : (names : Names) (cases : List CaseAt) (otherwise : ℕ) (o : Option Term)
+    → option_and_then (item_for names) (option_map (λ value. Select value cases otherwise) o) ≡ select_step (expr_of names o) (map case_of cases) otherwise
+unfolding item_for select_step
+select-agrees names cases otherwise None = refl
+select-agrees names cases otherwise (Some t) = select-by (map case_of cases) otherwise (expr_for names t)
+
 address-before : (o : Option CExpr) (os : Option (List CExpr)) → one_more (option_map (expr.Unary prefix.Address) o) (option_map (map address_expr) os) ≡ option_map (map address_expr) (one_more o os)
 unfolding one_more
 address-before (Some e) (Some es) = refl
@@ -138,6 +155,18 @@ unfolding computed_step
 no-function (Some e) (Some es) = refl
 no-function (Some e) None = refl
 no-function None os = refl
+
+labels-agree : (n : ℕ) (labels : List ℕ) → map case_of (cases_for (λ m. m) n labels) ≡ label_cases n labels
+unfolding cases_for label_cases
+labels-agree n [] = refl
+labels-agree n (label ∷ labels) = ap (λ later. case_to label n ∷ later) (labels-agree (suc n) labels)
+
+switch-agrees : (names : Names) (n : ℕ) (labels : List ℕ) (o : Option Term) → option_and_then (item_for names) (switch_to (λ m. m) n labels o) ≡ switch_step n labels (expr_of names o)
+unfolding switch_to switch_step
+switch-agrees names n [] o = refl
+switch-agrees names n (label ∷ labels) o =
+    select-agrees names (cases_for (λ m. m) (suc n) (label ∷ labels)) (suc n + length (label ∷ labels)) o
+    ∙ ap (λ cases. select_step (expr_of names o) cases (suc n + length (label ∷ labels))) (labels-agree (suc n) (label ∷ labels))
 
 module _ (names : Names) (w : Writing) (known : Knowledge) (label : ℕ → Option ℕ) (agrees : StepsAreKnownBy names w known label) where
   pub value-known : (p : Pure) → expr_of names (value_term w p) ≡ value_expr known p
@@ -306,10 +335,16 @@ module _ (names : Names) (w : Writing) (known : Knowledge) (label : ℕ → Opti
       function-called f (if_number (w.is_number k) (Some (c.Variable (w.naming.temporary k) ToNumber))) (held_terms w ps)
       ∙ (λ j. computed_step (temporary-known k j) (library_function f) (held-all-known ps j))
 
+  label-known : (l : ℕ) → expr_of names (constant_value (IsInt (pos l))) ≡ constant_expr (pos l)
+  unfolding value_term value_expr datum_expr
+  label-known l = value-known (Constant (IsInt (pos l)))
+
   pub step-known : (n : ℕ) (st : Step) → IsNamedBy names w known n st → option_and_then (item_for names) (flat_of w (λ m. m) label n st) ≡ item_step known (w.kind n) n st
   unfolding flat_of item_step acting_step item_for
   step-known n (step.Put target p) there =
       assign-agrees names (place_term w target) (value_term w p) ∙ (λ j. assign_by (place-known target j) (value-known p j))
+  step-known n (step.PutLabel target l) there =
+      assign-agrees names (place_term w target) (constant_value (IsInt (pos l))) ∙ (λ j. assign_by (place-known target j) (label-known l j))
   step-known n (step.Keep k p) there =
       assign-agrees names (if_number (w.is_number k) (Some (c.Variable (w.naming.temporary k) ToNumber))) (value_term w p)
       ∙ (λ j. assign_by (temporary-known k j) (value-known p j))
@@ -321,6 +356,10 @@ module _ (names : Names) (w : Writing) (known : Knowledge) (label : ℕ → Opti
   step-known n (step.Skip m) there = refl
   step-known n (step.Again m) there = refl
   step-known n (step.Jump l) there = jump-agrees names (label l) ∙ ap (option_map item.Jump) (agrees.labels l)
+  step-known n (step.Select p count) there =
+      select-agrees names (cases_to (λ m. m) 1 (suc n) count) (suc n + count) (value_term w p)
+      ∙ (λ j. select_step (value-known p j) (cases-agree 1 (suc n) count j) (suc n + count))
+  step-known n (step.JumpBy p labels) there = switch-agrees names n labels (place_term w p) ∙ ap (switch_step n labels) (place-known p)
   step-known n step.Pass there = refl
   step-known n (step.Acts (step.Starts Output Listed controls) ps m) there = start-known n there.0 controls ps there.1 there.2
   step-known n (step.Acts step.Takes ps m) there = takes-known n ps

@@ -9,7 +9,7 @@ use Rattle.c_tree.specs.declared.expression.CExpr.{CExpr}
 use Rattle.c_tree.specs.declared.expression.CExpr.TheVariants as expr
 use Rattle.c_tree.specs.declared.expression.UnaryOp.TheVariants as prefix
 use Rattle.c_tree.specs.declared.expression.BinaryOp.TheVariants as op
-use Rattle.c_structure.specs.Expressions.{number_expr}
+use Rattle.named_items.specs.c_structure.Expressions.{number_expr}
 use Rattle.item_emission.specs.NamedEmission.{negative_expr, constant_expr}
 
 pub number-by : (n : ℕ) (b : Bool) → nat_le n 2147483647 ≡ b → number_expr (pos n) ≡ (if b then Some (expr.Number (pos n)) else None)

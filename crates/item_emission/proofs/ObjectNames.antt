@@ -8,8 +8,8 @@ use Rattle.std.proofs.lemmas.Int.{ints}
 use Rattle.std.proofs.lemmas.Bool.Decides.{nat_tests}
 use Rattle.std.proofs.lemmas.List.{length-append, length-map, length-replicate}
 use Rattle.std.proofs.lemmas.Slice.Eq.{bytes_eq-Decides}
-use Rattle.f_tree.specs.Values.{Bytes}
-use Rattle.f_tree.specs.CNames.{variable_name, made_name, NumberTemporary, ControlList, ConstantOf}
+use Rattle.main_file.specs.f_tree.Values.{Bytes}
+use Rattle.main_file.specs.f_tree.CNames.{variable_name, made_name, NumberTemporary, ControlList, ConstantOf}
 use Rattle.main_file.specs.MainFile as main
 use Rattle.main_file.specs.MainFile.{Inventory, Listing, Bases, first_list, first_string, first_temporary, place_of_constant, place_of_variable, place_of_list, place_of_string, place_or_none, constant_names, lasting_names, temporary_names, list_names, function_names, object_name, string_at}
 

@@ -1,18 +1,18 @@
 -- The items of a main program's steps by names are those of their flat items.
 use Rattle.std.specs.Prelude.{◌≡◌, ℕ, ◌+◌, ◌-◌, Bool, true, false, List, [], Option, Some, None, option_map, option_and_then, slice_get, unwrap_or}
 use Rattle.std.proofs.Common.{refl, ap, ◌∙◌, arith}
-use Rattle.f_tree.specs.declared.names.Basic.{Basic}
-use Rattle.f_tree.specs.Values.{Bytes}
-use Rattle.f_tree.specs.Facts.{Facts, UnitKind, MainProgram, SubroutineUnit, FunctionUnit, BlockDataUnit}
-use Rattle.f_tree.specs.CNames.{variable_name}
-use Rattle.l_core.specs.Steps as step
-use Rattle.l_core.specs.Steps.{Step}
+use Rattle.main_file.specs.f_tree.declared.names.Basic.{Basic}
+use Rattle.main_file.specs.f_tree.Values.{Bytes}
+use Rattle.main_file.specs.f_tree.Facts.{Facts, UnitKind, MainProgram, SubroutineUnit, FunctionUnit, BlockDataUnit}
+use Rattle.main_file.specs.f_tree.CNames.{variable_name}
+use Rattle.main_file.specs.l_core.Steps as step
+use Rattle.main_file.specs.l_core.Steps.{Step}
 use Rattle.c_tree.specs.declared.expression.CExpr.{CExpr}
 use Rattle.c_tree.specs.declared.expression.CExpr.TheVariants as expr
 use Rattle.c_tree.specs.Builtins.{builtin_names}
-use Rattle.c_structure.specs.Expressions.{Names, with_two, number_expr, array_expr, expr_for}
-use Rattle.c_emit.specs.Numbers.{is_scalar, is_array, has_number}
-use Rattle.c_emit.specs.Flats.{returned_by, flat_of}
+use Rattle.named_items.specs.c_structure.Expressions.{Names, with_two, number_expr, array_expr, expr_for}
+use Rattle.main_file.specs.c_emit.Numbers.{is_scalar, is_array, has_number}
+use Rattle.main_file.specs.c_emit.Flats.{returned_by, flat_of}
 use Rattle.main_file.specs.MainFile.{Inventory, Bases, place_of_variable, place_or_none, object_name, string_at, names_of, writing_of}
 use Rattle.named_items.specs.Items.{item_for}
 use Rattle.item_emission.specs.NamedEmission.{Knowledge, variable_expr, temporary_expr, value_expr, scalar_expr, argument_exprs, call_step, wants_number, call_for_step, given_expr, alternate_step, return_step, item_step}

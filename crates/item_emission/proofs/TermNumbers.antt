@@ -3,17 +3,17 @@ use Rattle.std.specs.Prelude.{◌≡◌, ℕ, zero, suc, ◌+◌, nat_le, nat_eq
 use Rattle.std.specs.Ordering.{int_eq}
 use Rattle.std.proofs.Common.{refl, sym, ap, ◌∙◌, subst, arith}
 use Rattle.std.proofs.lemmas.Int.{ints}
-use Rattle.f_tree.specs.Values.{Datum, IsInt, IsLog, in_range}
+use Rattle.main_file.specs.f_tree.Values.{Datum, IsInt, IsLog, in_range}
 use Rattle.c_tree.specs.Opened.{trees_opened}
 use Rattle.c_tree.specs.declared.expression.CExpr.{CExpr}
 use Rattle.c_tree.specs.declared.expression.CExpr.TheVariants as expr
 use Rattle.c_tree.specs.declared.expression.UnaryOp.TheVariants as prefix
 use Rattle.c_tree.specs.declared.expression.BinaryOp.TheVariants as op
 use Rattle.c_tree.specs.Terms.{Term, Constant, Variable, Array, Routine, Unknown, Prefixed, Cast, Between, Choice, Element, Field, Size, Most, Magnitude}
-use Rattle.c_structure.specs.Expressions.{Names, with_two, with_three, number_expr, array_expr, expr_for}
-use Rattle.c_image.specs.Operations.{constant_term, negative_term}
-use Rattle.c_image.specs.Elements.{sum_term, difference_term, product_term}
-use Rattle.c_emit.specs.Numbers.{constant_value}
+use Rattle.named_items.specs.c_structure.Expressions.{Names, with_two, with_three, number_expr, array_expr, expr_for}
+use Rattle.main_file.specs.c_image.Operations.{constant_term, negative_term}
+use Rattle.main_file.specs.c_image.Elements.{sum_term, difference_term, product_term}
+use Rattle.main_file.specs.c_emit.Numbers.{constant_value}
 use Rattle.named_items.specs.SamePlaces.{number_in}
 use Rattle.item_emission.specs.NamedEmission.{negative_expr, constant_expr, datum_expr, is_the_number, added_expr, sum_by, sum_expr, difference_expr, product_expr, sum_of}
 use Rattle.item_emission.proofs.Numbers.{number-by, after-past, past-left, past-right}

@@ -1,10 +1,10 @@
 -- The expressions of lowered values by names are those of their linked expressions.
 use Rattle.std.specs.Prelude.{◌≡◌, ℕ, suc, nat_lt, pos, Bool, true, false, List, [], ◌∷◌, Option, Some, None, option_map, option_and_then}
 use Rattle.std.proofs.Common.{refl, sym, ap, ◌∙◌}
-use Rattle.f_tree.specs.Values.{Bytes}
-use Rattle.f_tree.specs.Terms as fortran
-use Rattle.f_tree.specs.CNames.{made_name, NumberTemporary}
-use Rattle.l_core.specs.Pures.{Pure, Constant, Temporary, Load, Name, AllOf, ElementOf, FirstOf, Substring, Concatenated, Prefixed, Operated, Applied, Chosen, Pures, NoPure, AndPure}
+use Rattle.main_file.specs.f_tree.Values.{Bytes}
+use Rattle.main_file.specs.f_tree.Terms as fortran
+use Rattle.main_file.specs.f_tree.CNames.{made_name, NumberTemporary}
+use Rattle.main_file.specs.l_core.Pures.{Pure, Constant, Temporary, Load, Name, AllOf, ElementOf, FirstOf, Substring, Concatenated, Prefixed, Operated, Applied, Chosen, Pures, NoPure, AndPure}
 use Rattle.c_tree.specs.declared.expression.CExpr.{CExpr}
 use Rattle.c_tree.specs.declared.expression.CExpr.TheVariants as expr
 use Rattle.c_tree.specs.declared.expression.BinaryOp.TheVariants as op
@@ -13,12 +13,12 @@ use Rattle.c_tree.specs.declared.expression.Extreme.TheVariants as extreme
 use Rattle.c_tree.specs.Access.{ToNumber}
 use Rattle.c_tree.specs.Terms as c
 use Rattle.c_tree.specs.Terms.{Term}
-use Rattle.c_structure.specs.Expressions.{Names, with_two, with_three, number_expr, expr_for, one_more, exprs_for}
-use Rattle.c_image.specs.Addresses.{number_term, element_term}
-use Rattle.c_image.specs.Elements.{quantity_term, index_term, difference_term, product_term}
-use Rattle.c_image.specs.Operations.{prefix_for, operator_for, extreme_term, function_term}
-use Rattle.c_emit.specs.Numbers as emit
-use Rattle.c_emit.specs.Numbers.{Writing, is_scalar, is_array, steps_from, element_value, applied_value, if_number, value_term, place_term, value_terms}
+use Rattle.named_items.specs.c_structure.Expressions.{Names, with_two, with_three, number_expr, expr_for, one_more, exprs_for}
+use Rattle.main_file.specs.c_image.Addresses.{number_term, element_term}
+use Rattle.main_file.specs.c_image.Elements.{quantity_term, index_term, difference_term, product_term}
+use Rattle.main_file.specs.c_image.Operations.{prefix_for, operator_for, extreme_term, function_term}
+use Rattle.main_file.specs.c_emit.Numbers as emit
+use Rattle.main_file.specs.c_emit.Numbers.{Writing, is_scalar, is_array, steps_from, element_value, applied_value, if_number, value_term, place_term, value_terms}
 use Rattle.item_emission.specs.declared.known.Dimension.{Dimension}
 use Rattle.item_emission.specs.NamedEmission.{Knowledge, constant_expr, difference_expr, product_expr, sum_of, dimension_at, distance_expr, stepped_expr, index_expr, variable_expr, scalar_expr, element_expr, extreme_expr, first_extreme, alone_expr, remainder_expr, function_expr, applied_expr, expr_if, temporary_object, temporary_expr, value_expr, place_expr, value_exprs}
 use Rattle.item_emission.proofs.TermNumbers.{datum-agrees, difference-agrees, product-agrees, sum-agrees}

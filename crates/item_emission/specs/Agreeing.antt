@@ -1,12 +1,12 @@
 -- The items of steps by names are those of the flat items that a main program has for them, with its names for its objects. C89, 3.1.2 and 3.6.
 use Rattle.std.specs.Prelude.{◌≡◌, ℕ, ◌+◌, ◌≤◌, true, false, not, ◌&&◌, map, length, Option, Some, None, is_some, option_and_then}
-use Rattle.f_tree.specs.declared.names.Basic.{Basic}
-use Rattle.f_tree.specs.Values.{Bytes}
-use Rattle.f_tree.specs.Facts.{Bounds, Facts, UnitKind, MainProgram, SubroutineUnit, FunctionUnit, BlockDataUnit}
-use Rattle.f_tree.specs.Valuing.{size_of_dimension}
-use Rattle.l_core.specs.Steps.{Step, Starts, Acts, Halt}
-use Rattle.c_emit.specs.Numbers.{is_numeric, is_variable, has_bounds}
-use Rattle.c_emit.specs.Flats.{flat_of}
+use Rattle.main_file.specs.f_tree.declared.names.Basic.{Basic}
+use Rattle.main_file.specs.f_tree.Values.{Bytes}
+use Rattle.main_file.specs.f_tree.Facts.{Bounds, Facts, UnitKind, MainProgram, SubroutineUnit, FunctionUnit, BlockDataUnit}
+use Rattle.main_file.specs.f_tree.Valuing.{size_of_dimension}
+use Rattle.main_file.specs.l_core.Steps.{Step, Starts, Acts, Halt}
+use Rattle.main_file.specs.c_emit.Numbers.{is_numeric, is_variable, has_bounds}
+use Rattle.main_file.specs.c_emit.Flats.{flat_of}
 use Rattle.main_file.specs.MainFile.{Inventory, Bases, place_of_constant, place_of_variable, place_of_list, place_of_string, names_of, writing_of}
 use Rattle.named_items.specs.Items.{item_for}
 use Rattle.item_emission.specs.declared.known.Dimension.{Dimension}

@@ -3,15 +3,15 @@
 -- its value; a procedure by its function. ANSI X3.9-1978, sections 5.4, 6, 10, 11, 12, 13, 15.5, 15.6, 15.8, 15.9 and 15.10; C89, 3.3 and 3.6.
 use Rattle.std.specs.Prelude.{ℕ, zero, suc, ◌+◌, ◌-◌, nat_eq, nat_lt, ℤ, pos, negsuc, ◌+ℤ◌, Bool, true, false, ◌&&◌, List, [], ◌∷◌, map, length, Option, Some, None, option_map, option_and_then, slice_get, unwrap_or, codes, if◌then◌else◌}
 use Rattle.std.specs.Ordering.{int_eq}
-use Rattle.f_tree.specs.declared.names.Basic.{Basic}
-use Rattle.f_tree.specs.Values.{Bytes, Datum, IsInt, IsLog, in_range}
-use Rattle.f_tree.specs.Terms as fortran
-use Rattle.f_tree.specs.Terms.{Wanted, AsFunction}
-use Rattle.f_tree.specs.Facts.{Output, Listed, Controls}
-use Rattle.f_tree.specs.CNames.{variable_name, made_name, FunctionResult, NumberTemporary, ControlList, ConstantOf}
-use Rattle.l_core.specs.Pures.{Pure, Constant, Temporary, Load, Name, ElementOf, Prefixed, Operated, Applied, Chosen, Pures, NoPure, AndPure}
-use Rattle.l_core.specs.Steps as step
-use Rattle.l_core.specs.Steps.{Step}
+use Rattle.main_file.specs.f_tree.declared.names.Basic.{Basic}
+use Rattle.main_file.specs.f_tree.Values.{Bytes, Datum, IsInt, IsLog, in_range}
+use Rattle.main_file.specs.f_tree.Terms as fortran
+use Rattle.main_file.specs.f_tree.Terms.{Wanted, AsFunction}
+use Rattle.main_file.specs.f_tree.Facts.{Output, Listed, Controls}
+use Rattle.main_file.specs.f_tree.CNames.{variable_name, made_name, FunctionResult, NumberTemporary, ControlList, ConstantOf}
+use Rattle.main_file.specs.l_core.Pures.{Pure, Constant, Temporary, Load, Name, ElementOf, Prefixed, Operated, Applied, Chosen, Pures, NoPure, AndPure}
+use Rattle.main_file.specs.l_core.Steps as step
+use Rattle.main_file.specs.l_core.Steps.{Step}
 use Rattle.c_tree.specs.declared.types.CastType.TheVariants as to
 use Rattle.c_tree.specs.declared.types.FunctionType.TheVariants as pointer
 use Rattle.c_tree.specs.declared.expression.CExpr.{CExpr}
@@ -20,13 +20,14 @@ use Rattle.c_tree.specs.declared.expression.UnaryOp.TheVariants as prefix
 use Rattle.c_tree.specs.declared.expression.BinaryOp.TheVariants as op
 use Rattle.c_tree.specs.declared.expression.Extreme.{Extreme}
 use Rattle.c_tree.specs.declared.expression.Extreme.TheVariants as extreme
-use Rattle.c_structure.specs.Expressions.{number_expr, with_two, with_three, one_more}
-use Rattle.c_image.specs.Operations.{prefix_for, operator_for}
-use Rattle.c_emit.specs.Numbers.{is_numeric}
-use Rattle.c_emit.specs.LibraryFunctions.{LibraryFunction, library_function}
-use Rattle.c_emit.specs.Types.{type_of_datum, type_behind, type_between, type_by, if_numeric}
-use Rattle.c_emit.specs.Calls.{is_plain, kind_number}
+use Rattle.named_items.specs.c_structure.Expressions.{number_expr, with_two, with_three, one_more}
+use Rattle.main_file.specs.c_image.Operations.{prefix_for, operator_for}
+use Rattle.main_file.specs.c_emit.Numbers.{is_numeric}
+use Rattle.main_file.specs.c_emit.LibraryFunctions.{LibraryFunction, library_function}
+use Rattle.main_file.specs.c_emit.Types.{type_of_datum, type_behind, type_between, type_by, if_numeric}
+use Rattle.main_file.specs.c_emit.Calls.{is_plain, kind_number}
 use Rattle.named_items.specs.declared.item.Callee.{Callee}
+use Rattle.named_items.specs.declared.item.Case.{Case}
 use Rattle.named_items.specs.declared.item.Item.{Item}
 use Rattle.named_items.specs.declared.item.Item.TheVariants as item
 use Rattle.named_items.specs.Items.{by_name, assign_by, call_by, set_call_by}
@@ -371,6 +372,30 @@ unfoldable pub branch_step : Option CExpr → ℕ → ℕ → Option Item
 branch_step None on off = None
 branch_step (Some test) on off = Some (item.Branch test on off)
 
+-- a case of a `switch`, by its number and the position of its jump
+abbrev pub case_to : ℕ → ℕ → Case
+case_to number position = record { number = pos number; position = position }
+
+-- the cases of a `switch`, so many as steps behind it each go to a label: the numbers grow by one from a first, and so do the positions
+unfoldable pub cases_from : ℕ → ℕ → ℕ → List Case
+cases_from number position zero = []
+cases_from number position (suc count) = case_to number position ∷ cases_from (suc number) (suc position) count
+
+-- GO TO by a number: a `switch`
+unfoldable pub select_step : Option CExpr → List Case → ℕ → Option Item
+select_step None cases otherwise = None
+select_step (Some value) cases otherwise = Some (item.Select value cases otherwise)
+
+-- the cases of a `switch` whose numbers are labels: a jump to each of these stands behind it
+unfoldable pub label_cases : ℕ → List ℕ → List Case
+label_cases position [] = []
+label_cases position (label ∷ labels) = case_to label position ∷ label_cases (suc position) labels
+
+-- GO TO by the label that a place holds: a `switch`; none where no labels are written
+unfoldable pub switch_step : ℕ → List ℕ → Option CExpr → Option Item
+switch_step n [] value = None
+switch_step n (label ∷ labels) value = select_step value (label_cases (suc n) (label ∷ labels)) (suc n + length (label ∷ labels))
+
 -- END and RETURN
 unfoldable pub return_step : Option CExpr → Option Item
 return_step value = option_map (λ e. item.Return (Some e)) value
@@ -396,6 +421,7 @@ acting_step known kind n what ps m = None
 -- the item of a step, by its position and the types of what temporaries hold before it
 unfoldable pub item_step : Knowledge → Kinds → ℕ → Step → Option Item
 item_step known kind n (step.Put target p) = assign_by (place_expr known target) (value_expr known p)
+item_step known kind n (step.PutLabel target label) = assign_by (place_expr known target) (constant_expr (pos label))
 item_step known kind n (step.Keep k p) = assign_by (temporary_expr known k) (value_expr known p)
 item_step known kind n (step.Compute k f ps) = computed_step (temporary_expr known k) (library_function f) (held_exprs known ps)
 item_step known kind n (step.Unless p m) = branch_step (value_expr known p) (suc n) (suc n + m)
@@ -403,6 +429,8 @@ item_step known kind n (step.AgainIf p m) = branch_step (value_expr known p) (n 
 item_step known kind n (step.Skip m) = Some (item.Jump (suc n + m))
 item_step known kind n (step.Again m) = Some (item.Jump (n - m))
 item_step known kind n (step.Jump l) = option_map item.Jump (known.label l)
+item_step known kind n (step.Select p count) = select_step (value_expr known p) (cases_from 1 (suc n) count) (suc n + count)
+item_step known kind n (step.JumpBy p labels) = switch_step n labels (place_expr known p)
 item_step known kind n step.Pass = Some item.Nothing
 item_step known kind n (step.CallFor k callee ps) = call_for_step (wants_number callee.want) (temporary_expr known k) (known.routine callee.name) (argument_exprs known ps)
 item_step known kind n (step.CallSub k x ps) = call_step (known.routine x) (argument_exprs known ps)
@@ -413,5 +441,5 @@ item_step known kind n (step.Halt text) = stop_step text
 item_step known kind n _ = None
 
 unfoldable pub named_emission_opened : Unit {0}
-unfolding negative_expr constant_expr datum_expr is_the_number added_expr sum_by sum_expr difference_expr product_expr sum_of dimension_at distance_expr stepped_expr index_expr variable_expr result_object scalar_expr element_expr extreme_expr first_extreme alone_expr remainder_expr function_expr applied_expr expr_if temporary_object temporary_expr value_expr place_expr value_exprs type_at type_in constant_object list_object constant_held datum_held held_expr held_exprs computed_step start_call start_if start_step output_call output_if output_by output_step finish_step stop_call stop_step scalar_passed procedure_expr procedure_passed name_passed argument_expr argument_exprs call_step wants_number call_for_step branch_step return_step given_expr alternate_step acting_step item_step
+unfolding negative_expr constant_expr datum_expr is_the_number added_expr sum_by sum_expr difference_expr product_expr sum_of dimension_at distance_expr stepped_expr index_expr variable_expr result_object scalar_expr element_expr extreme_expr first_extreme alone_expr remainder_expr function_expr applied_expr expr_if temporary_object temporary_expr value_expr place_expr value_exprs type_at type_in constant_object list_object constant_held datum_held held_expr held_exprs computed_step start_call start_if start_step output_call output_if output_by output_step finish_step stop_call stop_step scalar_passed procedure_expr procedure_passed name_passed argument_expr argument_exprs call_step wants_number call_for_step branch_step cases_from select_step label_cases switch_step return_step given_expr alternate_step acting_step item_step
 named_emission_opened = tt

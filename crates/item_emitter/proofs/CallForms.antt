@@ -7,9 +7,9 @@ use Rattle.std.proofs.lemmas.Bool.Decides.{nat_tests}
 use Rattle.f_tree.specs.Values.{IsInt, in_range}
 use Rattle.f_tree.specs.Facts as fact
 use Rattle.f_tree.specs.Facts.{Direction, Input, Output, Layout, Listed, Labelled, Computed, Unformatted, Controls, AuxiliaryKind}
-use Rattle.l_core.specs.Pures as core
-use Rattle.l_core.specs.Pures.{Pures, NoPure, AndPure}
-use Rattle.l_core.specs.Steps as step
+use Rattle.lowered_tree.specs.l_core.Pures as core
+use Rattle.lowered_tree.specs.l_core.Pures.{Pures, NoPure, AndPure}
+use Rattle.lowered_tree.specs.l_core.Steps as step
 use Rattle.c_tree.specs.declared.expression.CExpr.{CExpr}
 use Rattle.c_emit.specs.Calls.{is_plain, is_unit_alone, kind_number}
 use Rattle.named_items.specs.declared.item.Item.{Item}

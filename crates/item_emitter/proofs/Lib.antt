@@ -6,3 +6,4 @@ pub mod StepForms
 pub mod CallForms
 pub mod LibraryForms
 pub mod ArgumentForms
+pub mod SelectionWalks

@@ -2,8 +2,8 @@
 use Rattle.std.specs.Prelude.{◌≡◌, List, [], ◌∷◌, map, Option, Some, None, option_map, Result, Ok, Err, IfOk}
 use Rattle.std.specs.declared.alloc.AllocError.{AllocError}
 use Rattle.std.proofs.Common.{refl, sym, ap, ◌∙◌}
-use Rattle.l_core.specs.Pures.{NoPure, AndPure}
-use Rattle.l_core.specs.Pures as core
+use Rattle.lowered_tree.specs.l_core.Pures.{NoPure, AndPure}
+use Rattle.lowered_tree.specs.l_core.Pures as core
 use Rattle.c_tree.specs.declared.expression.CExpr.{CExpr}
 use Rattle.c_structure.specs.Expressions.{one_more}
 use Rattle.c_emit.specs.LibraryFunctions.{LibraryFunction}

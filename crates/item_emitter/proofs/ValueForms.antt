@@ -4,7 +4,7 @@ use Rattle.std.specs.Prelude.{option_map}
 use Rattle.f_tree.specs.Values.{Bytes}
 use Rattle.c_tree.specs.declared.expression.CExpr.TheVariants as expr
 use Rattle.c_structure.specs.Expressions.{with_two, with_three, one_more}
-use Rattle.c_image.specs.Operations.{prefix_for, operator_for}
+use Rattle.c_emit.specs.c_image.Operations.{prefix_for, operator_for}
 use Rattle.lowered_tree.specs.declared.pures.Literal.{Literal}
 use Rattle.lowered_tree.specs.declared.pures.Prefix.{Prefix}
 use Rattle.lowered_tree.specs.declared.pures.Operator.{Operator}

@@ -3,7 +3,7 @@
 use Rattle.std.specs.Prelude.{ℕ, zero, suc, ℤ, ◌&&◌, List, map, Option, Some, None, option_map}
 use Rattle.f_tree.specs.Values.{IsInt, in_range}
 use Rattle.f_tree.specs.Facts.{Direction, Output, Layout, Listed, Controls}
-use Rattle.l_core.specs.Pures.{Pure, Constant, Pures}
+use Rattle.lowered_tree.specs.l_core.Pures.{Pure, Constant, Pures}
 use Rattle.c_tree.specs.declared.expression.CExpr.{CExpr}
 use Rattle.c_emit.specs.LibraryFunctions.{LibraryFunction}
 use Rattle.c_emit.specs.Calls.{is_plain}

@@ -7,7 +7,7 @@ ghost use Rattle.c_emit.specs.Calls as emit;
 ghost use Rattle.c_tree.specs.declared.types.CastType.TheVariants as to;
 ghost use Rattle.named_items.specs.declared.item.Item.TheVariants as item;
 ghost use Rattle.named_items.specs.Items.{by_name};
-ghost use Rattle.l_core.specs.Pures as core;
+ghost use Rattle.lowered_tree.specs.l_core.Pures as core;
 ghost use Rattle.lowered_tree.specs.Shapes.{datum_of, pure_of, pures_of, word_of, controls_of, direction_of, layout_of, acting_of};
 ghost use Rattle.item_emitter.specs.Operands as operands;
 ghost use Rattle.lowered_text.specs.Texts.{kinds_of};

@@ -8,10 +8,13 @@ ghost use Rattle.lowered_text.specs.Texts.{kinds_of};
 ghost use Rattle.item_emitter.specs.Knowing.{known_of};
 ghost use Rattle.item_emission.specs.NamedEmission as spec;
 
+use crate::arithmetic::count;
 use crate::calls::acting;
 use crate::known::Known;
 use crate::library::compute;
+use crate::positions::{following, onward};
 use crate::procedures::{back, back_by, call, call_for};
+use crate::selection::{select, switch};
 use crate::stops::stop;
 use crate::values::{place, temporary, value};
 use c_tree::expression::CExpr;
@@ -19,27 +22,6 @@ use lowered_text::Kept;
 use lowered_tree::{Pure, Step};
 use named_items::Item;
 use std::alloc::{AllocError, Global};
-
-/// The next position. Fails where it has no number.
-fn following(position: usize) -> Result<usize, AllocError>
-    ensures { IfOk result (λ n. n ≡ suc position) }
-{
-    match position.checked_add(1) {
-        Some(next) => Ok(next),
-        None => Err(AllocError),
-    }
-}
-
-/// A position so many steps behind the next one. Fails where it has no number.
-fn onward(position: usize, passed: usize) -> Result<usize, AllocError>
-    ensures { IfOk result (λ n. n ≡ suc position + passed) }
-{
-    let next = following(position)?;
-    match next.checked_add(passed) {
-        Some(place) => Ok(place),
-        None => Err(AllocError),
-    }
-}
 
 /// An assignment, where the place and the value have expressions.
 #[tactic(auto, unfolding(named_items::specs::Items::assign_by))]
@@ -64,6 +46,14 @@ fn branch(test: Option<CExpr>, on: usize, off: usize) -> Option<Item>
     }
 }
 
+/// The number of a label; none where it is too large for one.
+#[tactic(auto, unfolding(item_emission::specs::NamedEmission::constant_expr))]
+fn label_number(label: u32) -> Option<CExpr>
+    ensures { result ≡ spec.constant_expr (pos label) }
+{
+    count(u64::from(label))
+}
+
 /// A place gets a value.
 fn put(
     alloc: Global,
@@ -76,6 +66,19 @@ fn put(
     let target = place(alloc, known, target)?;
     let source = value(alloc, known, source)?;
     Ok(assignment(target, source))
+}
+
+/// A place gets a label.
+fn put_label(
+    alloc: Global,
+    known: &Known,
+    target: &Pure,
+    label: u32,
+) -> Result<Option<Item>, AllocError>
+    ensures { IfOk result (λ i. i ≡ assign_by (spec.place_expr (known_of known.now) (pure_of target.now)) (spec.constant_expr (pos label))) }
+{
+    let target = place(alloc, known, target)?;
+    Ok(assignment(target, label_number(label)))
 }
 
 /// A temporary gets a value.
@@ -144,7 +147,7 @@ fn jump(known: &Known, label: u32) -> Option<Item>
 ///
 /// # Errors
 ///
-/// Want of memory, or a position that has no number.
+/// Want of memory, or a position or a case that has no number.
 #[tactic(auto, unfolding(item_emission::specs::NamedEmission::item_step))]
 pub fn emit_step(
     alloc: Global,
@@ -157,6 +160,7 @@ pub fn emit_step(
 {
     match step {
         Step::Put(target, source) => put(alloc, known, target, source),
+        Step::PutLabel(target, label) => put_label(alloc, known, target, *label),
         Step::Keep(number, source) => keep(alloc, known, *number, source),
         Step::Compute(number, function, operands) => {
             compute(alloc, known, *number, *function, operands.as_slice())
@@ -166,6 +170,10 @@ pub fn emit_step(
         Step::Skip(passed) => skip(position, *passed),
         Step::Again(back) => Ok(Some(Item::Jump(position.saturating_sub(*back)))),
         Step::Jump(label) => Ok(jump(known, *label)),
+        Step::Select(source, count) => select(alloc, known, position, source, *count),
+        Step::JumpBy(source, labels) => {
+            switch(alloc, known, position, source, labels.as_slice())
+        }
         Step::Pass => Ok(Some(Item::Nothing)),
         Step::Back => back(alloc, known),
         Step::BackBy(source) => back_by(alloc, known, source),
@@ -186,9 +194,6 @@ pub fn emit_step(
             *passed,
         ),
         Step::PutText(_, _) => Ok(None),
-        Step::PutLabel(_, _) => Ok(None),
-        Step::Select(_, _) => Ok(None),
-        Step::JumpBy(_, _) => Ok(None),
         Step::Branch(_) => Ok(None),
     }
 }

@@ -3,7 +3,7 @@
 ghost use Rattle.std.specs.Prelude.{◌≡◌, ◌<◌, ◌^◌, Some, option_map, IfOk};
 ghost use Rattle.c_tree.specs.declared.expression.CExpr.TheVariants as expr;
 ghost use Rattle.c_structure.specs.Expressions.{with_two, with_three};
-ghost use Rattle.c_image.specs.Operations.{prefix_for, operator_for};
+ghost use Rattle.c_emit.specs.c_image.Operations.{prefix_for, operator_for};
 ghost use Rattle.lowered_tree.specs.Shapes.{datum_of, prefix_of, operator_of, pure_of, pures_of};
 ghost use Rattle.item_emitter.specs.Knowing.{known_of};
 ghost use Rattle.item_emission.specs.NamedEmission as spec;

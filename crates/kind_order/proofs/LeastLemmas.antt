@@ -5,7 +5,7 @@ use Rattle.std.proofs.lemmas.Bool.Decides.{nat_tests}
 use Rattle.f_tree.specs.declared.refusals.Kind.{Kind}
 use Rattle.f_tree.specs.declared.refusals.Kind.TheVariants.{CharacterOutsideSet, BadLabelField, TooManyContinuations, ContinuationWithoutStatement, TextPastColumn72, NoEnd, FileTooLong, UnknownStatement, SyntaxError, IntegerTooLarge, NameTooLong, BadCharacterConstant, TypeNotSupported, StatementOrSpecifierNotSupported, NestingTooDeep, NameHasTypeReal, NameNotDeclared, ConflictingAttributes, BoundNotConstant, ArrayOfNoElement, StatementOutOfOrder, BadParameterValue, LabelMissingOrTwice, BranchIntoBlock, BadDoNest, BadIfNest, OperandTypes, NumberOfSubscripts, NotAssignable, BadData, EquivalenceContradiction, CommonJoinedOrExtended, CommonInitialised, UseOfAssumedLength, BadStatementFunction, BadEntry, CharacterFunctionAsArgument, TwoShapesOfCall, BadFormat, EditDescriptorNotSupported, NumericPlaceNotOnAWord, EndOrIncludeInAnIncludedFile, CommonLengthsDiffer, GlobalNameTwice, TwoMainPrograms, StorageTooLarge, CommonInitialisedTwice, NotBuiltYet}
 use Rattle.f_tree.specs.RefusalRows.{number_of}
-use Rattle.declaration_rows.specs.Judgement.{unless}
+use Rattle.refusal_order.specs.declaration_rows.Judgement.{unless}
 use Rattle.refusal_order.specs.Earliest.{less, least as lesser, least_of as least}
 use Rattle.refusal_order.proofs.FirstOfBoth.{least_along, least_none, least_of_both}
 use Rattle.kind_order.specs.Unless.{unless_least}

@@ -1,7 +1,7 @@
 -- What the steps of a lowered unit do, as a framed machine over the world of FORTRAN: its storage, its units and the transfer in progress.
 -- ANSI X3.9-1978, sections 10, 11, 12 and 15.
-use Rattle.std.specs.Prelude.{ℕ, suc, ◌+◌, ◌-◌, true, false, bytes_eq, ◌&&◌, List, [], ◌∷◌, length, Option, Some, None, slice_get, if◌then◌else◌}
-use Rattle.simulation.specs.Machine.{Sorts, Event, Goes, Ends, Calls, Answers, Breaks, Entry, Enters, Refused, Lang}
+use Rattle.std.specs.Prelude.{ℕ, ℤ, pos, suc, nat_eq, nat_lt, ◌+◌, ◌-◌, true, false, bytes_eq, ◌&&◌, List, [], ◌∷◌, length, Option, Some, None, slice_get, if◌then◌else◌}
+use Rattle.f_tree.specs.simulation.Machine.{Sorts, Event, Goes, Ends, Calls, Answers, Breaks, Entry, Enters, Refused, Lang}
 use Rattle.f_tree.specs.Values.{Datum, IsInt, IsLog, IsSpot, IsLabel, Nothing, Act, ActiveProcedure, BadAssignedLabel, MissingProcedure, NoMeaning, Checked, Gives, Fails, given_that}
 use Rattle.f_tree.specs.Terms.{AsSubroutine, Callee}
 use Rattle.f_tree.specs.Store.{Store, Whole, Label, define, define_label, label_at}
@@ -14,7 +14,7 @@ use Rattle.f_tree.specs.Association.{call, answer, alternate_of, cut_to}
 use Rattle.f_tree.specs.Association as association
 use Rattle.f_tree.specs.Transfers.{begins, item_done, finished}
 use Rattle.f_tree.specs.UnitStatements.{auxiliary}
-use Rattle.f_tree.specs.Step.{text_set, nth_label, is_allowed, name_of, stop_ending}
+use Rattle.f_tree.specs.Step.{text_set, is_allowed, name_of, stop_ending}
 use Rattle.l_core.specs.Pures.{Temporaries, none_kept, with_kept, meant, all_meant}
 use Rattle.l_core.specs.Steps.{Acting, Starts, Takes, Finishes, Auxiliary, Step, Keep, Put, PutText, PutLabel, Compute, Unless, Skip, Again, AgainIf, Jump, Select, JumpBy, Pass, CallFor, CallSub, Branch, Back, BackBy, Halt, Acts, Text}
 
@@ -76,21 +76,31 @@ to_place (Some n) v w = to n v w
 unfoldable pub jump : Text → ℕ → View → World → Doing
 jump u label v w = to_place (u.position label) v w
 
-unfoldable pub picked : Text → View → World → Option ℕ → Doing
-picked u v w None = onward v w
-picked u v w (Some label) = jump u label v w
+-- how many steps are passed, of so many that stand behind, before the one that a number picks; all of them where it picks none
+unfoldable pub passed_by : ℕ → ℤ → ℕ
+passed_by count (pos (suc n)) = if nat_lt n count then n else count
+passed_by count _ = count
 
-unfoldable pub selecting : Text → List ℕ → View → World → Checked Datum → Doing
-selecting u labels v w (Gives (IsInt z)) = picked u v w (nth_label labels z)
-selecting u labels v w (Gives _) = Breaks NoMeaning
-selecting u labels v w (Fails act) = Breaks act
+unfoldable pub selecting : ℕ → View → World → Checked Datum → Doing
+selecting count v w (Gives (IsInt z)) = past (passed_by count z) v w
+selecting count v w (Gives _) = Breaks NoMeaning
+selecting count v w (Fails act) = Breaks act
 
 unfoldable pub label_held : Store → Datum → Checked Whole
 label_held s (IsSpot p) = label_at s p
 label_held s _ = Fails NoMeaning
 
+-- how many steps are passed, of those that stand behind for each of some labels, before that of a label
+unfoldable pub passed_before : List ℕ → ℕ → ℕ
+passed_before [] l = 0
+passed_before (k ∷ ks) l = if nat_eq k l then 0 else suc (passed_before ks l)
+
+unfoldable pub to_held : Text → List ℕ → ℕ → View → World → Doing
+to_held u [] l v w = jump u l v w
+to_held u (k ∷ ks) l v w = past (passed_before (k ∷ ks) l) v w
+
 unfoldable pub jumping : Text → List ℕ → View → World → Checked Whole → Doing
-jumping u labels v w (Gives (Label owner l)) = if bytes_eq owner (name_of u.facts.program) && is_allowed labels l then jump u l v w else Breaks BadAssignedLabel
+jumping u labels v w (Gives (Label owner l)) = if bytes_eq owner (name_of u.facts.program) && is_allowed labels l then to_held u labels l v w else Breaks BadAssignedLabel
 jumping u labels v w (Gives _) = Breaks NoMeaning
 jumping u labels v w (Fails act) = Breaks act
 
@@ -156,7 +166,7 @@ done u v w (Some (Skip n)) = past n v w
 done u v w (Some (Again n)) = to (v.at - n) v w
 done u v w (Some (AgainIf p n)) = testing (v.at - n) (suc v.at) v w (meant u.facts v.frame v.kept w.store p)
 done u v w (Some (Jump label)) = jump u label v w
-done u v w (Some (Select p labels)) = selecting u labels v w (meant u.facts v.frame v.kept w.store p)
+done u v w (Some (Select p count)) = selecting count v w (meant u.facts v.frame v.kept w.store p)
 done u v w (Some (JumpBy p labels)) = jumping u labels v w (given_that (meant u.facts v.frame v.kept w.store p) (label_held w.store))
 done u v w (Some Pass) = onward v w
 done u v w (Some (CallFor k callee ps)) = calling u v w callee (all_meant u.facts v.frame v.kept w.store ps)
@@ -196,5 +206,5 @@ abbrev pub lowered : Lang Ending
 lowered = record { sorts = lowered_sorts; step = step; start = start; resume = resume; missing = MissingProcedure; busy = ActiveProcedure; plain = fortran.Plain }
 
 unfoldable pub lowered_opened : Unit {0}
-unfolding to onward past keeping storing put_at put_text_at put_label_at testing to_place jump picked selecting label_held jumping branching resting waiting calling answering answering_by course_of coursing acting done step begun start gone_on resumed_at resume
+unfolding to onward past keeping storing put_at put_text_at put_label_at testing to_place jump passed_by selecting label_held passed_before to_held jumping branching resting waiting calling answering answering_by course_of coursing acting done step begun start gone_on resumed_at resume
 lowered_opened = tt

@@ -35,9 +35,9 @@ pub data Step : Type 0 where
   AgainIf : Pure → ℕ → Step
   -- to a label (11.1)
   Jump : ℕ → Step
-  -- to the label that the number picks, or on (11.2)
-  Select : Pure → List ℕ → Step
-  -- to the label that the place holds, of those allowed, if any are written (11.3)
+  -- to the step behind that the number picks, of so many that each go to a label, or past them all (11.2)
+  Select : Pure → ℕ → Step
+  -- to the step behind that goes to the label which the place holds, of those allowed, each with such a step; where none are written, to that label (11.3)
   JumpBy : Pure → List ℕ → Step
   Pass : Step
   -- a temporary gets the answer of a function that is called (15.2, 15.5)

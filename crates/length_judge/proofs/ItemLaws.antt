@@ -1,5 +1,5 @@
 -- The sizes of items past the greatest are told all the same where larger numbers are counted as one more than that, and the rows of one name.
-use Rattle.std.specs.Prelude.{◌≡◌, ℕ, suc, ◌+◌, ◌-◌, ◌*◌, ◌^◌, min, nat_lt, nat_abs, pos, ◌-ℤ◌, ◌+ℤ◌, Bool, true, false, not, ◌&&◌, ◌||◌, List, [], ◌∷◌, ◌++◌, map, Option, Some, None, if◌then◌else◌}
+use Rattle.std.specs.Prelude.{◌≡◌, ℕ, suc, ◌+◌, ◌-◌, ◌*◌, ◌^◌, min, nat_lt, Bool, true, false, not, ◌&&◌, ◌||◌, List, [], ◌∷◌, ◌++◌, map, Option, Some, None, if◌then◌else◌}
 use Rattle.std.proofs.Common.{◌<◌, ◌≤◌, inl, inr, zero, lit<, refl, sym, ap, subst, ◌∙◌, arith}
 use Rattle.std.proofs.lemmas.Bool.{ltb-true, lt-ltb, cases_lt}
 use Rattle.std.proofs.lemmas.List.{append-nil, map-append}
@@ -12,10 +12,10 @@ use Rattle.f_tree.specs.declared.statements.Body.{Body}
 use Rattle.f_tree.specs.declared.statements.Stmt.{Stmt}
 use Rattle.f_tree.specs.declared.units.Unit.{Unit as WrittenUnit}
 use Rattle.f_tree.specs.Values.{Bytes}
-use Rattle.f_tree.specs.Facts.{Attribute}
+use Rattle.f_tree.specs.Facts.{Bounds, Attribute}
 use Rattle.f_tree.specs.Lines.{is_character, size_by, size_of}
 use Rattle.f_tree.specs.Uses.{is_among}
-use Rattle.f_tree.specs.Valuing.{elements_of, extent_of}
+use Rattle.f_tree.specs.Valuing.{elements_of, extent_of, size_of_dimension}
 use Rattle.f_tree.specs.Attributes.{typed_name, own_names, all_dummies}
 use Rattle.declaration_rows.specs.Judgement.{unless}
 use Rattle.declaration_rows.specs.LengthRows as rows
@@ -28,13 +28,15 @@ use Rattle.name_classes.proofs.SignLemmas.{own_listed, dummy_listed}
 use Rattle.name_facts.specs.declared.fact.Bound.{Bound}
 use Rattle.name_facts.specs.declared.fact.NameFact.{NameFact}
 use Rattle.name_facts.specs.declared.table.NameFacts.{NameFacts}
+use Rattle.name_facts.specs.Dimensions.{elements_in}
+use Rattle.name_facts.proofs.ElementLaws.{extent_elements}
 use Rattle.name_facts.specs.GivenFacts.{bounds_of, IsNameFact, AreNameFacts, fact_in, fact_or, no_fact}
 use Rattle.name_places.specs.declared.place.Place.{Place}
 use Rattle.name_places.specs.FirstPlaces.{rows_at}
 use Rattle.name_table.specs.Named.{names_in}
 use Rattle.name_table.proofs.SetLemmas.{among_both}
 use Rattle.name_table.proofs.Texts.{same_tests}
-use Rattle.length_judge.specs.ItemsSeen.{extent, capped, capped_elements, is_large, is_large_array, is_large_width, is_large_fact, is_external_star, rows_of, item_row}
+use Rattle.length_judge.specs.ItemsSeen.{capped, capped_elements, is_large, is_large_array, is_large_width, is_large_fact, is_external_star, rows_of, item_row}
 
 -- NUMBERS
 at_most : (n c : ℕ) → n ≤ c → min n c ≡ n
@@ -80,34 +82,25 @@ saturated_by m x b h = same_tests (nat_lt m (min x b)) (nat_lt m x)
     (λ is. let less : m < x = ltb-true m x is in lt-ltb m (min x b) (omega arith))
 
 -- ELEMENTS
-abbrev product_of : List Bound → ℕ
-product_of [] = 1
-product_of (b ∷ bs) = extent b * product_of bs
-
-elements_are : (bs : List Bound) → elements_of (map bounds_of bs) ≡ Some (product_of bs)
-unfolding elements_of bounds_of extent
-elements_are [] = refl
-elements_are (b ∷ bs) = ap (λ (o : Option ℕ). elim o [ None ↦ None | Some n ↦ Some (nat_abs ((b.upper -ℤ b.lower) +ℤ pos 1) * n) ]) (elements_are bs)
-
 one_capped : 1 ≡ capped 1
 unfolding capped
 one_capped = refl
 
-capped_are : (bs : List Bound) → capped_elements bs ≡ capped (product_of bs)
-unfolding capped_elements
+capped_are : (bs : List Bound) → capped_elements bs ≡ capped (elements_in bs)
+unfolding capped_elements elements_in
 capped_are [] = one_capped
-capped_are (b ∷ bs) = ap (λ n. capped (extent b * n)) (capped_are bs) ∙ times_capped (extent b) (product_of bs)
+capped_are (b ∷ bs) = let size = size_of_dimension (bounds_of b) in ap (λ n. capped (size * n)) (capped_are bs) ∙ times_capped size (elements_in bs)
 
 nothing_large : false ≡ nat_lt most_storage 0
 unfolding most_storage
 nothing_large = refl
 
 array_large : (bs : List Bound) (width : Option ℕ) (a : Attribute) → map bounds_of bs ≡ a.bounds → is_large_array bs width ≡ nat_lt most_storage (size_by a width)
-unfolding is_large_array size_by extent_of is_large
+unfolding is_large_array size_by is_large
 array_large bs None a is = nothing_large
 array_large bs (Some w) a is =
-    ap (λ n. nat_lt most_storage (n * w)) (capped_are bs) ∙ large_capped (product_of bs) w
-    ∙ ap (λ (o : Option ℕ). nat_lt most_storage (extent_of o w)) (sym (elements_are bs) ∙ ap elements_of is)
+    ap (λ n. nat_lt most_storage (n * w)) (capped_are bs) ∙ large_capped (elements_in bs) w
+    ∙ ap (nat_lt most_storage) (sym (extent_elements bs w) ∙ ap (λ (cs : List Bounds). extent_of (elements_of cs) w) is)
 
 -- ONE NAME by its class
 large_class : (bs : List Bound) (a : Attribute) (k : Class) → map bounds_of bs ≡ a.bounds →

@@ -1,5 +1,5 @@
 -- The size of one item, and the rows of one name. ANSI X3.9-1978, sections 5.1, 5.7 and 8.4.2.
-use Rattle.std.specs.Prelude.{ℕ, ◌*◌, min, nat_lt, nat_abs, pos, ◌-ℤ◌, ◌+ℤ◌, Bool, false, not, ◌&&◌, List, [], ◌∷◌, ◌++◌, Option, Some, None}
+use Rattle.std.specs.Prelude.{ℕ, ◌*◌, min, nat_lt, Bool, false, not, ◌&&◌, List, [], ◌∷◌, ◌++◌, Option, Some, None}
 use Rattle.f_tree.specs.declared.names.Class.TheVariants as class
 use Rattle.f_tree.specs.declared.refusals.Kind.TheVariants.{UseOfAssumedLength, StorageTooLarge}
 use Rattle.f_tree.specs.declared.refusals.Refusal.{Refusal}
@@ -12,12 +12,10 @@ use Rattle.declaration_rows.specs.LengthRows.{declared_width}
 use Rattle.declaration_rows.specs.NameRows.{given_names, at_first, mentions, first_statements, is_star}
 use Rattle.declaration_rows.specs.SharedStorageRows.{most_storage}
 use Rattle.f_tree.specs.Attributes.{typed_name}
+use Rattle.f_tree.specs.Valuing.{size_of_dimension}
 use Rattle.name_facts.specs.declared.fact.Bound.{Bound}
 use Rattle.name_facts.specs.declared.fact.NameFact.{NameFact}
-
--- the elements of a dimension
-unfoldable pub extent : Bound → ℕ
-extent b = nat_abs ((b.upper -ℤ b.lower) +ℤ pos 1)
+use Rattle.name_facts.specs.GivenFacts.{bounds_of}
 
 -- numbers past the greatest size count as one more than that
 unfoldable pub capped : ℕ → ℕ
@@ -25,7 +23,7 @@ capped n = min n 67108865
 
 unfoldable pub capped_elements : List Bound → ℕ
 capped_elements [] = 1
-capped_elements (b ∷ bs) = capped (extent b * capped_elements bs)
+capped_elements (b ∷ bs) = capped (size_of_dimension (bounds_of b) * capped_elements bs)
 
 unfoldable pub is_large : ℕ → Bool
 is_large n = nat_lt most_storage n

@@ -25,14 +25,6 @@ use std::alloc::AllocError;
 /// The most elements and units that are counted: one more than the greatest size of an item.
 const PAST_STORAGE: u64 = 67_108_865;
 
-/// The elements of a dimension.
-#[tactic(auto, unfolding(crate::specs::ItemsSeen::extent))]
-fn extent(bound: &Bound) -> u64
-    ensures { result ≡ spec.extent bound.now }
-{
-    (i64::from(bound.upper) - i64::from(bound.lower) + 1).unsigned_abs()
-}
-
 /// A product of elements; numbers past the greatest size count as one more than that.
 #[tactic(auto, unfolding(crate::specs::ItemsSeen::capped))]
 fn capped_product(one: u64, other: u64) -> u64
@@ -47,7 +39,7 @@ fn elements(bounds: &[Bound]) -> u64
     ensures { result ≡ spec.capped_elements bounds.now }
 {
     match bounds {
-        [first, rest @ ..] => capped_product(extent(first), elements(rest)),
+        [first, rest @ ..] => capped_product(first.size(), elements(rest)),
         [] => 1,
     }
 }

@@ -1,7 +1,7 @@
 -- Texts of statements beside their pieces. ANSI X3.9-1978, sections 2.2 and 3.3, and MIL-STD-1753.
 use Rattle.std.specs.Prelude.{ℕ, Bool, true, false, List, [], ◌∷◌, ◌++◌, codes}
-use Rattle.f_tree.specs.declared.expressions.BinaryOp.TheVariants as op
-use Rattle.fortran_text.specs.CharactersOfText.{characters}
+use Rattle.fortran_lexemes.specs.f_tree.declared.expressions.BinaryOp.TheVariants as op
+use Rattle.fortran_lexemes.specs.fortran_text.CharactersOfText.{characters}
 use Rattle.fortran_lexemes.specs.Lexemes.{Lexeme, Lexemes, Name, LongName, Number, TooLarge, Quoted, BadQuote, Infix, Negation, Truth, Mark, Word, To, Then, FormatText, Other}
 use Rattle.fortran_lexemes.specs.PiecesOfStatements.{pieces}
 use Rattle.fortran_lexemes.specs.declared.kinds.StmtKind.{StmtKind}

@@ -1,8 +1,8 @@
 -- Texts of statements beside the first of the rows F12 to F17 that refuses them. ANSI X3.9-1978, sections 2.2, 4.3, 4.8, 8.4, 11 and 12.
 use Rattle.std.specs.Prelude.{ℕ, false, Option, None, Some, List, [], ◌∷◌, ◌++◌, codes, replicate}
-use Rattle.f_tree.specs.declared.refusals.Kind.{Kind}
-use Rattle.f_tree.specs.declared.refusals.Kind.TheVariants as row_is
-use Rattle.fortran_text.specs.CharactersOfText.{characters}
+use Rattle.fortran_lexemes.specs.f_tree.declared.refusals.Kind.{Kind}
+use Rattle.fortran_lexemes.specs.f_tree.declared.refusals.Kind.TheVariants as row_is
+use Rattle.fortran_lexemes.specs.fortran_text.CharactersOfText.{characters}
 use Rattle.fortran_lexemes.specs.LexicalRows.{first_lexical_row}
 use Rattle.fortran_lexemes.specs.PiecesOfStatements.{pieces}
 use Rattle.fortran_lexemes.specs.declared.kinds.StmtKind.{StmtKind}

@@ -1,8 +1,8 @@
 -- Assignments of texts, STOP and the report of a place, once what they stand for is known.
 use Rattle.std.proofs.Common.{◌≡◌, ℕ, List, [], ◌∷◌, Option, refl, ap, sym, ◌∙◌}
 use Rattle.std.specs.Prelude.{Result, Ok, Err}
-use Rattle.run_state.specs.Units.{Units}
-use Rattle.run_state.specs.Endings.{Report}
+use Rattle.c_tree.specs.run_state.Units.{Units}
+use Rattle.c_tree.specs.run_state.Endings.{Report}
 use Rattle.c_tree.specs.declared.outcome.CValue.{CValue}
 use Rattle.c_tree.specs.declared.outcome.CFault.{CFault}
 use Rattle.c_tree.specs.Faults.{Or, after, failing}

@@ -1,7 +1,7 @@
 -- What a call of the library answers, as the meaning of C texts has it (CSTR 149, appendix on the run time library). It changes the objects alone:
 -- whatever the units are and whichever transfer is in progress, they stay.
 use Rattle.std.specs.Prelude.{◌≡◌, List, Option, Result, Ok, Err, MatchResult}
-use Rattle.run_state.specs.Units.{Units}
+use Rattle.c_tree.specs.run_state.Units.{Units}
 use Rattle.c_tree.specs.declared.outcome.CValue.{CValue}
 use Rattle.c_tree.specs.declared.outcome.CFault.{CFault}
 use Rattle.c_tree.specs.Faults.{failing}

@@ -1,6 +1,6 @@
 -- What the arguments of a function stand for, in the order in which they are valued.
 use Rattle.std.specs.Prelude.{ℕ, ℤ, List, Ok}
-use Rattle.run_state.specs.Endings.{Report}
+use Rattle.c_tree.specs.run_state.Endings.{Report}
 use Rattle.c_tree.specs.declared.outcome.CValue.{CValue}
 use Rattle.c_tree.specs.Faults.{Or, after}
 use Rattle.c_tree.specs.Objects.{Object, as_number}

@@ -1,5 +1,5 @@
 -- What is reported of a place outside its declared bounds, as the meaning of C texts has it.
-use Rattle.run_state.specs.Endings.{Report}
+use Rattle.c_tree.specs.run_state.Endings.{Report}
 use Rattle.library_calls.specs.declared.endings.RangeReport.{RangeReport}
 
 abbrev pub report_shown : RangeReport → Report

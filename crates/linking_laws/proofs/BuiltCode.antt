@@ -2,12 +2,12 @@
 use Rattle.std.specs.Prelude.{◌≡◌, ℕ, suc, ◌+◌, ◌<◌, ◌≤◌, nat_eq, Bool, true, false, List, [], ◌∷◌, ◌++◌, length, Option, Some, None, bytes_eq}
 use Rattle.std.proofs.Common.{refl, sym, ap, ◌∙◌, subst, arith}
 use Rattle.std.proofs.lemmas.Bool.{eqb-true, eqb-false}
-use Rattle.c_tree.specs.declared.file.CFunction.{CFunction}
-use Rattle.c_tree.specs.Flat.{Flat}
-use Rattle.c_tree.specs.Drafts.{Scope}
-use Rattle.c_tree.specs.FlatForm.{LabelAt, Labels, Body, position_of, body_of_all, with_return, whole_body, flat_form}
-use Rattle.c_tree.specs.Linking.{Routines, strings_of, linked_function}
-use Rattle.c_structure.specs.Statements.{Outline, strings_of_items}
+use Rattle.c_structure_laws.specs.c_tree.declared.file.CFunction.{CFunction}
+use Rattle.c_structure_laws.specs.c_tree.Flat.{Flat}
+use Rattle.c_structure_laws.specs.c_tree.Drafts.{Scope}
+use Rattle.c_structure_laws.specs.c_tree.FlatForm.{LabelAt, Labels, Body, position_of, body_of_all, with_return, whole_body, flat_form}
+use Rattle.c_structure_laws.specs.c_tree.Linking.{Routines, strings_of, linked_function}
+use Rattle.c_structure_laws.specs.c_structure.Statements.{Outline, strings_of_items}
 use Rattle.c_structure_laws.specs.Fitting.{KnowsItems, AreNumbered, AreBytesOf, mark_at, marks_from, Fits, AreLabels}
 use Rattle.c_structure_laws.proofs.FittingStatements.{statements_are_theirs}
 use Rattle.linking_laws.specs.Linked.{statics, first_string, scope_of, IsBuilt, StringsAreTheirs, CodeIsTheirs}

@@ -2,13 +2,13 @@
 use Rattle.std.specs.Prelude.{◌≡◌, ℕ, zero, suc, ◌+◌, List, [], ◌∷◌, ◌++◌, map, length, Some, slice_get}
 use Rattle.std.proofs.Common.{refl, sym, ap, ◌∙◌, subst, arith}
 use Rattle.std.proofs.lemmas.List.{length-append, length-map}
-use Rattle.c_tree.specs.declared.declaration.CLocal.{CLocal}
-use Rattle.c_tree.specs.declared.declaration.CLocal.TheVariants as local
-use Rattle.c_tree.specs.Objects.{Object}
-use Rattle.c_tree.specs.Drafts.{Scope}
-use Rattle.c_tree.specs.Declarations.{Declared, string_object, declared_statics}
-use Rattle.c_tree.specs.Linking as linking
-use Rattle.c_tree.specs.Linking.{Routines, LinkedFunction, strings_of, objects_of, local_scope, linked_function}
+use Rattle.c_structure_laws.specs.c_tree.declared.declaration.CLocal.{CLocal}
+use Rattle.c_structure_laws.specs.c_tree.declared.declaration.CLocal.TheVariants as local
+use Rattle.c_structure_laws.specs.c_tree.Objects.{Object}
+use Rattle.c_structure_laws.specs.c_tree.Drafts.{Scope}
+use Rattle.c_structure_laws.specs.c_tree.Declarations.{Declared, string_object, declared_statics}
+use Rattle.c_structure_laws.specs.c_tree.Linking as linking
+use Rattle.c_structure_laws.specs.c_tree.Linking.{Routines, LinkedFunction, strings_of, objects_of, local_scope, linked_function}
 use Rattle.linking_laws.specs.Linked.{IsAlways, statics, framed, strings, first_string, frame, scope_of, FunctionsHaveObjects}
 use Rattle.linking_laws.proofs.Places.{some_same, get_front, get_back, map_at, IsAt, in_first, in_second, at_one}
 

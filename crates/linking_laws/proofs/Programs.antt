@@ -2,11 +2,11 @@
 use Rattle.std.specs.Prelude.{◌≡◌, ℕ, zero, suc, ◌+◌, ◌-◌, ◌≤◌, List, [], ◌∷◌, map, length, take, Option, Some, slice_get}
 use Rattle.std.proofs.Common.{refl, sym, ap, ◌∙◌, subst, arith}
 use Rattle.std.proofs.lemmas.List.{length-append, length-map}
-use Rattle.c_tree.specs.declared.file.CFile.{CFile}
-use Rattle.c_tree.specs.declared.file.CFunction.{CFunction}
-use Rattle.c_tree.specs.Objects.{Object}
-use Rattle.c_tree.specs.Drafts.{Scope}
-use Rattle.c_tree.specs.Linking.{Function, Routines, externals, external_object, all_functions, declared_constants, file_scope, objects_of, linked_function, linked_functions, linked_file, linked_files, program}
+use Rattle.c_structure_laws.specs.c_tree.declared.file.CFile.{CFile}
+use Rattle.c_structure_laws.specs.c_tree.declared.file.CFunction.{CFunction}
+use Rattle.c_structure_laws.specs.c_tree.Objects.{Object}
+use Rattle.c_structure_laws.specs.c_tree.Drafts.{Scope}
+use Rattle.c_structure_laws.specs.c_tree.Linking.{Function, Routines, externals, external_object, all_functions, declared_constants, file_scope, objects_of, linked_function, linked_functions, linked_file, linked_files, program}
 use Rattle.linking_laws.specs.Linked.{base_of_function, base_of_file, routines_of, outside_of, own_of, base_at, file_names, function_base, linked_at, functions_before, FunctionsStand, ExternalsStand, ConstantsStand}
 use Rattle.linking_laws.proofs.Places.{some_same, get_front, get_back, map_at}
 use Rattle.linking_laws.proofs.FunctionObjects.{objects_at, objects_count}

@@ -1,11 +1,11 @@
 -- What a name stands for where declarations bring names into scope.
 use Rattle.std.specs.Prelude.{◌≡◌, ℕ, zero, suc, ◌+◌, Bool, true, false, List, [], ◌∷◌, Option, Some, slice_get, bytes_eq, if◌then◌else◌}
 use Rattle.std.proofs.Common.{refl, sym, ap, ◌∙◌, arith}
-use Rattle.c_tree.specs.declared.file.CObject.{CObject}
-use Rattle.c_tree.specs.Drafts.{Scope}
-use Rattle.c_tree.specs.Declarations.{Declared, declared_externs}
-use Rattle.c_tree.specs.Builtins.{builtin_names}
-use Rattle.c_tree.specs.Linking.{Routines, routine, external, external_term, known_objects, known_functions, known_externals, declared_constants, function_names, included}
+use Rattle.c_structure_laws.specs.c_tree.declared.file.CObject.{CObject}
+use Rattle.c_structure_laws.specs.c_tree.Drafts.{Scope}
+use Rattle.c_structure_laws.specs.c_tree.Declarations.{Declared, declared_externs}
+use Rattle.c_structure_laws.specs.c_tree.Builtins.{builtin_names}
+use Rattle.c_structure_laws.specs.c_tree.Linking.{Routines, routine, external, external_term, known_objects, known_functions, known_externals, declared_constants, function_names, included}
 use Rattle.linking_laws.specs.Linked.{AreDistinct, IsNone, names_of, names_of_objects, statics, framed, frame, ScopesAreKnown, FileScopesAreKnown, OwnAreNumbered, BuiltinsAreNumbered}
 use Rattle.linking_laws.proofs.Places.{some_same, map_at, distinct_later, none_later, same_bytes, taken, skipped, first_is_other, first_is_apart, position_front, position_back}
 

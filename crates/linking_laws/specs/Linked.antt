@@ -1,17 +1,17 @@
 -- What linking makes of files and functions, wherever they stand: their numbers, their objects, what their names stand for, and the items of a function
 -- whose statements were built for items. C89, 3.1.2.1, 3.1.2.2, 3.1.2.4, 3.5 and 3.6.
 use Rattle.std.specs.Prelude.{◌≡◌, ℕ, zero, suc, ◌+◌, ◌<◌, true, List, [], ◌∷◌, ◌++◌, map, length, take, position, Option, Some, None, slice_get, bytes_eq}
-use Rattle.c_tree.specs.declared.file.CFile.{CFile}
-use Rattle.c_tree.specs.declared.file.CFunction.{CFunction}
-use Rattle.c_tree.specs.declared.file.CObject.{CObject}
-use Rattle.c_tree.specs.Objects.{Object}
-use Rattle.c_tree.specs.Flat.{Flat}
-use Rattle.c_tree.specs.Drafts.{Scope}
-use Rattle.c_tree.specs.FlatForm.{whole_body, ends}
-use Rattle.c_tree.specs.Declarations.{Declared, string_object, declared_parameters, declared_statics, declared_automatics, declared_externs}
-use Rattle.c_tree.specs.Builtins.{builtin_names}
-use Rattle.c_tree.specs.Linking.{LinkedFunction, External, Routines, externals, external, external_object, external_number, external_term, function_names, all_functions, routines, routine, declared_constants, file_scope, strings_of, local_scope, linked_function, linked_file, program}
-use Rattle.c_structure.specs.Statements.{Outline, strings_of_items, statements_for}
+use Rattle.c_structure_laws.specs.c_tree.declared.file.CFile.{CFile}
+use Rattle.c_structure_laws.specs.c_tree.declared.file.CFunction.{CFunction}
+use Rattle.c_structure_laws.specs.c_tree.declared.file.CObject.{CObject}
+use Rattle.c_structure_laws.specs.c_tree.Objects.{Object}
+use Rattle.c_structure_laws.specs.c_tree.Flat.{Flat}
+use Rattle.c_structure_laws.specs.c_tree.Drafts.{Scope}
+use Rattle.c_structure_laws.specs.c_tree.FlatForm.{whole_body, ends}
+use Rattle.c_structure_laws.specs.c_tree.Declarations.{Declared, string_object, declared_parameters, declared_statics, declared_automatics, declared_externs}
+use Rattle.c_structure_laws.specs.c_tree.Builtins.{builtin_names}
+use Rattle.c_structure_laws.specs.c_tree.Linking.{LinkedFunction, External, Routines, externals, external, external_object, external_number, external_term, function_names, all_functions, routines, routine, declared_constants, file_scope, strings_of, local_scope, linked_function, linked_file, program}
+use Rattle.c_structure_laws.specs.c_structure.Statements.{Outline, strings_of_items, statements_for}
 use Rattle.c_structure_laws.specs.Fitting.{KnowsItems, AreNumbered, AreBytesOf}
 
 -- ## Names

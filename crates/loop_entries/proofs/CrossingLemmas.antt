@@ -11,10 +11,10 @@ use Rattle.f_tree.specs.Facts.{LoopMark, NoLoop, OpensLoop, ClosesLoop, Line, Pr
 use Rattle.f_tree.specs.Nests.{Range, loop_of, is_within, is_contained, each_contained, ranges_of}
 use Rattle.f_tree.specs.Nests as nest
 use Rattle.f_tree.specs.Places.{has_label, label_from, place_of_label, loop_end_from, terminal_of}
-use Rattle.declaration_rows.specs.Judgement.{unless}
-use Rattle.declaration_rows.specs.NameRows.{stood}
-use Rattle.declaration_rows.specs.UnitRows as written
-use Rattle.declaration_rows.specs.UnitRows.{crosses, crosses_any, crosses_at, crossing_rows}
+use Rattle.name_facts.specs.declaration_rows.Judgement.{unless}
+use Rattle.name_facts.specs.declaration_rows.NameRows.{stood}
+use Rattle.name_facts.specs.declaration_rows.UnitRows as written
+use Rattle.name_facts.specs.declaration_rows.UnitRows.{crosses, crosses_any, crosses_at, crossing_rows}
 use Rattle.loop_ranges.specs.OpenRanges.{ranges_at}
 use Rattle.loop_entries.specs.LoopRanges.{terminal_by, terminals_from, terminals_of, ranges_to}
 use Rattle.loop_entries.specs.Walks.{all_from}

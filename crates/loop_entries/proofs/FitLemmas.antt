@@ -10,7 +10,7 @@ use Rattle.f_tree.specs.Lines.{loop_label_in, entries_from, unit_read}
 use Rattle.f_tree.specs.Nests.{is_no_loop}
 use Rattle.lowering_laws.specs.Layout.{has_loops, blocks_are_whole, each_branches_well, enters_outside}
 use Rattle.plain_forms.specs.PlainUnits.{loops_are_nested, loops_are_entered_well, loops_fit}
-use Rattle.declaration_rows.specs.NameRows.{given_names}
+use Rattle.name_facts.specs.declaration_rows.NameRows.{given_names}
 use Rattle.loop_ranges.specs.LoopEnds.{labelled_at}
 use Rattle.loop_ranges.proofs.EndLemmas.{label_places}
 use Rattle.name_table.specs.declared.LabelTable.{LabelTable}

@@ -21,7 +21,7 @@ use Rattle.f_tree.specs.Reading.{read}
 use Rattle.f_tree.specs.Uses.{Use, Heading, is_among, heading_of, defines_function, uses_of, uses_of_statements}
 use Rattle.f_tree.specs.Lines.{Naming}
 use Rattle.f_tree.specs.Attributes.{first_of_two, from_all, bare, Constant, Expansion, expansion_among, bound_term, dummy_among, expanded_as, within_function, with_expansions, without_expansion, result_term, Definition, definition_by, definitions_in, expansion_of, expansions_from, arrays_of, attribute_of, described, attribute_in, all_described, constants_of, names_of}
-use Rattle.declaration_rows.specs.NameRows.{given_names, own_attributes, all_names, definitions_of}
+use Rattle.name_facts.specs.declaration_rows.NameRows.{given_names, own_attributes, all_names, definitions_of}
 use Rattle.lowering_laws.specs.Layer.{may_be_other}
 use Rattle.name_facts.specs.declared.table.NameFacts.{NameFacts}
 use Rattle.name_facts.specs.GivenFacts.{AreNameFacts, datum_of, fact_in}

@@ -20,7 +20,7 @@ use Rattle.f_tree.specs.Attributes.{from_all}
 use Rattle.f_tree.specs.Lines.{Naming, lines_opened, is_text, text_assignment, value_assignment, assignment, is_statement_function, assign_form, form_of, mark_of, loop_label_in, line_of, program_of, with_ties, unit_read}
 use Rattle.f_tree.specs.Nests.{loop_of, loop_at, is_no_loop, ends_by, each_ends}
 use Rattle.lowering_laws.specs.Layout.{has_loops, is_whole_by, blocks_are_whole, branches_well, each_branches_well}
-use Rattle.declaration_rows.specs.NameRows.{given_names}
+use Rattle.name_facts.specs.declaration_rows.NameRows.{given_names}
 use Rattle.loop_entries.specs.LoopRanges.{terminal_by, terminals_from, terminals_of}
 use Rattle.loop_entries.specs.ReadLines.{IsReadAs, loop_in, loop_there}
 use Rattle.loop_entries.specs.Walks.{all_from}

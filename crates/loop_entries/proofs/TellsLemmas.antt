@@ -7,7 +7,7 @@ use Rattle.f_tree.specs.Terms.{Function, Term, Val, At}
 use Rattle.f_tree.specs.Facts.{Attribute}
 use Rattle.f_tree.specs.Reading.{Read, valued_only, placed, name_read, function_named, function_read, intrinsic_read, expanded_read, applied_read}
 use Rattle.f_tree.specs.Uses.{is_among}
-use Rattle.lowering.specs.Statements.{wants_no_value}
+use Rattle.lowering_laws.specs.lowering.Statements.{wants_no_value}
 use Rattle.lowering_laws.specs.Layer.{may_be_other}
 use Rattle.name_facts.specs.declared.fact.ConstantValue.{ConstantValue}
 use Rattle.name_facts.specs.declared.fact.ConstantValue.TheVariants as value

@@ -8,8 +8,8 @@ use Rattle.f_tree.specs.declared.units.Unit.{Unit as WrittenUnit}
 use Rattle.f_tree.specs.Folds.{layer_of}
 use Rattle.f_tree.specs.Facts.{ProgramUnit}
 use Rattle.f_tree.specs.Lines.{unit_read}
-use Rattle.declaration_rows.specs.NameRows.{given_names}
-use Rattle.declaration_rows.specs.UnitRows as written
+use Rattle.name_facts.specs.declaration_rows.NameRows.{given_names}
+use Rattle.name_facts.specs.declaration_rows.UnitRows as written
 use Rattle.loop_entries.specs.LoopRanges.{terminal_by, terminals_from, terminals_of}
 use Rattle.loop_entries.specs.ReadLines.{loop_in}
 use Rattle.loop_entries.proofs.LineLemmas.{unit_reads, terminal_there, terminals_count, lines_count}

@@ -9,7 +9,7 @@ use Rattle.f_tree.specs.declared.units.Unit.{Unit as WrittenUnit}
 use Rattle.f_tree.specs.Values.{Bytes}
 use Rattle.f_tree.specs.Uses.{Use, Declared, all_of, is_among, without, heading_of, defines_function, uses_of, uses_of_assignment, uses_of_body, uses_of_statements, seen_from, first_seen}
 use Rattle.f_tree.specs.Attributes.{option_list, named_dummies, arrays_of, names_of}
-use Rattle.declaration_rows.specs.NameRows.{all_names}
+use Rattle.name_facts.specs.declaration_rows.NameRows.{all_names}
 use Rattle.name_table.proofs.SetLemmas.{among_both, among_none}
 use Rattle.name_uses.proofs.BodyForms.{uses-Assign}
 use Rattle.loop_entries.specs.PassedLabels.{IsStatementOf, use_names}

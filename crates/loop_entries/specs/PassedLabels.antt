@@ -20,7 +20,7 @@ use Rattle.f_tree.specs.Lines.{Naming}
 use Rattle.f_tree.specs.Uses.{Use, is_among, uses_of_body}
 use Rattle.f_tree.specs.Attributes.{Expansion, Definition, expansion_among, expansions_from, arrays_of}
 use Rattle.lowering_laws.specs.Layer.{may_be_other, passes_other}
-use Rattle.declaration_rows.specs.NameRows.{own_attributes, all_names, definitions_of}
+use Rattle.name_facts.specs.declaration_rows.NameRows.{own_attributes, all_names, definitions_of}
 use Rattle.name_facts.specs.declared.fact.ConstantValue.{ConstantValue}
 use Rattle.name_facts.specs.declared.fact.ConstantValue.TheVariants as constant
 use Rattle.name_facts.specs.declared.table.NameFacts.{NameFacts}

@@ -6,10 +6,10 @@ use Rattle.f_tree.specs.declared.refusals.Kind.TheVariants.{BadDoNest}
 use Rattle.f_tree.specs.declared.refusals.Refusal.{Refusal}
 use Rattle.f_tree.specs.declared.statements.Stmt.{Stmt}
 use Rattle.f_tree.specs.Attributes.{first_of_two}
-use Rattle.declaration_rows.specs.Judgement.{unless}
-use Rattle.declaration_rows.specs.NameRows.{stood}
-use Rattle.declaration_rows.specs.UnitRows as written
-use Rattle.declaration_rows.specs.UnitRows.{range_to, crosses_at, crossing_rows}
+use Rattle.found_rows.specs.declaration_rows.Judgement.{unless}
+use Rattle.found_rows.specs.declaration_rows.NameRows.{stood}
+use Rattle.found_rows.specs.declaration_rows.UnitRows as written
+use Rattle.found_rows.specs.declaration_rows.UnitRows.{range_to, crosses_at, crossing_rows}
 use Rattle.loop_ranges.specs.declared.crossing.Range.{Range}
 use Rattle.loop_ranges.specs.declared.crossing.Ranges.{Ranges}
 use Rattle.loop_ranges.specs.FirstLoops.{first_at}

@@ -9,7 +9,7 @@ use Rattle.f_tree.specs.Facts.{LoopMark, NoLoop, OpensLoop, ClosesLoop, Line, Pr
 use Rattle.f_tree.specs.Places.{has_label, label_from, place_of_label, loop_end_from}
 use Rattle.f_tree.specs.Attributes.{from_all, all_described, attribute_in}
 use Rattle.f_tree.specs.Lines.{Naming, loop_label_in, is_loop_label, line_of, program_of, with_ties, unit_read}
-use Rattle.declaration_rows.specs.UnitRows.{range_to, range_in, ranges_from}
+use Rattle.found_rows.specs.declaration_rows.UnitRows.{range_to, range_in, ranges_from}
 use Rattle.loop_ranges.specs.declared.forms.LoopForm.{LoopForm}
 use Rattle.loop_ranges.specs.declared.forms.LoopForm.TheVariants as form
 use Rattle.loop_ranges.specs.LoopForms.{form_of}

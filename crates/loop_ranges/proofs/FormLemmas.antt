@@ -10,7 +10,7 @@ use Rattle.f_tree.specs.Facts.{LoopMark, NoLoop, OpensLoop, ClosesLoop, ProgramU
 use Rattle.f_tree.specs.Places.{place_of_label, loop_end_from, terminal_of}
 use Rattle.f_tree.specs.Attributes.{option_list}
 use Rattle.f_tree.specs.Lines.{loop_label_in, opens_loop, is_loop_label, loop_mark_of}
-use Rattle.declaration_rows.specs.UnitRows.{Range, range_to, range_in}
+use Rattle.found_rows.specs.declaration_rows.UnitRows.{Range, range_to, range_in}
 use Rattle.loop_ranges.specs.declared.forms.LoopForm.{LoopForm}
 use Rattle.loop_ranges.specs.declared.forms.LoopForm.TheVariants as form
 use Rattle.loop_ranges.specs.LoopForms.{begun_by, form_of, named_label}

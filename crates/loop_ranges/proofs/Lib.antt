@@ -4,3 +4,4 @@ pub mod LabelLemmas
 pub mod EndLemmas
 pub mod RangeLemmas
 pub mod CrossingLemmas
+pub use Rattle.found_rows.proofs as found_rows

@@ -4,7 +4,7 @@ use Rattle.std.proofs.lemmas.Bool.{ltb-false, lt-ltb, le-ltb, leb-true, leb-fals
 use Rattle.std.proofs.lemmas.List.{append-nil, append_assoc}
 use Rattle.std.proofs.lemmas.List.Folds.{list_any-append}
 use Rattle.f_tree.specs.Attributes.{first_of_two}
-use Rattle.declaration_rows.specs.UnitRows.{Range, range_to, crosses, crosses_any, crosses_at}
+use Rattle.found_rows.specs.declaration_rows.UnitRows.{Range, range_to, crosses, crosses_any, crosses_at}
 use Rattle.loop_ranges.specs.OpenRanges.{ranges_at, first_ending, is_open_behind, without_ended, has_ended, first_of_innermost, is_before, begins_before, AreNestedBefore}
 use Rattle.loop_ranges.proofs.Conditions.{or_none, or_along, and_none, by_bool, equal_by}
 

@@ -1,8 +1,8 @@
 -- The ranges of loops as the judge of those that cross keeps them, walking from the first statement to the last.
 use Rattle.std.specs.Prelude.{◌≡◌, ℕ, suc, ◌<◌, ◌≤◌, nat_eq, nat_lt, nat_le, Bool, false, ◌&&◌, List, [], ◌∷◌, ◌++◌, map, reverse, length, Option, Some, None, if◌then◌else◌}
 use Rattle.std.specs.List.{list_any}
-use Rattle.declaration_rows.specs.UnitRows as written
-use Rattle.declaration_rows.specs.UnitRows.{range_to, crosses_at}
+use Rattle.found_rows.specs.declaration_rows.UnitRows as written
+use Rattle.found_rows.specs.declaration_rows.UnitRows.{range_to, crosses_at}
 use Rattle.loop_ranges.specs.FirstLoops.{first_at}
 use Rattle.loop_ranges.specs.declared.crossing.Range.{Range}
 use Rattle.loop_ranges.specs.declared.crossing.Ranges.{Ranges}

@@ -5,7 +5,7 @@
 ghost use Rattle.std.specs.Prelude.{◌≡◌, ◌++◌, ℕ, [], OnOk, IfOk, length};
 ghost use Rattle.f_tree.specs.Attributes.{first_of_two};
 ghost use Rattle.loop_ranges.specs.FirstLoops.{first_at};
-ghost use Rattle.declaration_rows.specs.UnitRows.{range_to, crossing_rows};
+ghost use Rattle.found_rows.specs.declaration_rows.UnitRows.{range_to, crossing_rows};
 ghost use Rattle.loop_ranges.specs.OpenRanges as spec;
 ghost use Rattle.loop_ranges.specs.OpenRanges.{innermost_first, ranges_at, Passes, AreRanges};
 

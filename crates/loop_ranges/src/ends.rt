@@ -6,7 +6,7 @@ ghost use Rattle.std.specs.Prelude.{◌≡◌, ◌<◌, ◌∷◌, ℕ, None, On
 ghost use Rattle.f_tree.specs.declared.names.Options.{Options};
 ghost use Rattle.f_tree.specs.declared.statements.Stmt as stmt;
 ghost use Rattle.f_tree.specs.Lines.{unit_read};
-ghost use Rattle.declaration_rows.specs.UnitRows.{range_to, range_in};
+ghost use Rattle.found_rows.specs.declaration_rows.UnitRows.{range_to, range_in};
 ghost use Rattle.name_table.specs.Named.{labelled};
 ghost use Rattle.loop_ranges.specs.LoopForms.{form_of};
 ghost use Rattle.loop_ranges.specs.LoopEnds.{is_named, end_by, closers_by, ends_from, unit_ends};

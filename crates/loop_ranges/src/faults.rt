@@ -4,8 +4,8 @@
 ghost use Rattle.std.specs.Prelude.{◌≡◌, ◌++◌, OnOk, IfOk};
 ghost use Rattle.f_tree.specs.declared.names.Options.{Options};
 ghost use Rattle.f_tree.specs.Lines.{unit_read};
-ghost use Rattle.declaration_rows.specs.Verdicts.{first_of};
-ghost use Rattle.declaration_rows.specs.UnitRows.{ranges_from, crossing_rows};
+ghost use Rattle.found_rows.specs.declaration_rows.Verdicts.{first_of};
+ghost use Rattle.found_rows.specs.declaration_rows.UnitRows.{ranges_from, crossing_rows};
 
 use crate::crossing::add_range_rows;
 use crate::ends::loop_ends;

@@ -2,7 +2,7 @@
 use Rattle.std.specs.Prelude.{◌≡◌, ℕ, nat_eq, Option, Some, None, map, if◌then◌else◌}
 use Rattle.std.specs.HashMap.{get_by}
 use Rattle.f_tree.specs.declared.names.Basic.{Basic}
-use Rattle.l_core.specs.Steps as core
+use Rattle.lowered_tree.specs.l_core.Steps as core
 use Rattle.lowered_tree.specs.Shapes.{steps_of}
 use Rattle.lowered_text.specs.declared.text.Mark.{Mark}
 use Rattle.lowered_text.specs.declared.text.Mark.TheVariants as mark

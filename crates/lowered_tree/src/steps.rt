@@ -112,9 +112,9 @@ pub enum Step {
     AgainIf(Pure, usize),
     /// To a label. Section 11.1.
     Jump(u32),
-    /// To the label that the number picks, or on. Section 11.2.
-    Select(Pure, Items<u32>),
-    /// To the label that the place holds, of those allowed, if any are written. Section 11.3.
+    /// To the step behind that the number picks, of so many that each go to a label, or past them all. Section 11.2.
+    Select(Pure, usize),
+    /// To the step behind that goes to the label which the place holds, of those allowed; where none are written, to that label. Section 11.3.
     JumpBy(Pure, Items<u32>),
     /// Does nothing.
     Pass,

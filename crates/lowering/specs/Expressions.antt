@@ -2,8 +2,8 @@
 -- reference to a function, and the right operand of .AND. and .OR. that takes steps is passed where the left one decides.
 -- ANSI X3.9-1978, sections 5.4, 6, 15.2 to 15.5 and 15.10; MIL-STD-1753 for the bit functions.
 use Rattle.std.specs.Prelude.{ℕ, zero, suc, Bool, true, false, ◌&&◌, ◌||◌, List, [], ◌∷◌, ◌++◌, length}
-use Rattle.f_tree.specs.Values.{Bytes, Nothing}
-use Rattle.f_tree.specs.Terms.{Prefix, Complement, Operator, Both, Either, Function, Power, SignTransfer, PositiveDifference, IndexOf, LexicallyGreaterOrEqual, LexicallyGreater, LexicallyLessOrEqual, LexicallyLess, InclusiveOr, LogicalProduct, ExclusiveOr, BitComplement, BitShift, BitTest, BitSet, BitClear, Callee, Term, Val, Fetch, At, All, Element, Alone, Part, Joined, Before, Between, Intrinsically, Refer, Bind, Bound, Terms, NoMore, More, refers, any_refers}
+use Rattle.l_core.specs.f_tree.Values.{Bytes, Nothing}
+use Rattle.l_core.specs.f_tree.Terms.{Prefix, Complement, Operator, Both, Either, Function, Power, SignTransfer, PositiveDifference, IndexOf, LexicallyGreaterOrEqual, LexicallyGreater, LexicallyLessOrEqual, LexicallyLess, InclusiveOr, LogicalProduct, ExclusiveOr, BitComplement, BitShift, BitTest, BitSet, BitClear, Callee, Term, Val, Fetch, At, All, Element, Alone, Part, Joined, Before, Between, Intrinsically, Refer, Bind, Bound, Terms, NoMore, More, refers, any_refers}
 use Rattle.l_core.specs.Pures.{Pure, Constant, Temporary, Load, Name, AllOf, ElementOf, FirstOf, Substring, Concatenated, Prefixed, Operated, Applied, Pures, NoPure, AndPure}
 use Rattle.l_core.specs.Steps.{Step, Keep, Compute, Unless, CallFor}
 

@@ -1,9 +1,10 @@
 -- The steps of a statement. What a statement needs to know of what stands around it are the first free temporary and how many steps are passed
 -- where its condition does not hold. ANSI X3.9-1978, sections 10, 11, 12.8 and 15; MIL-STD-1753 for DO WHILE.
-use Rattle.std.specs.Prelude.{ℕ, pos, int_lt, Bool, true, false, ◌||◌, List, [], ◌∷◌, ◌++◌, length, Option, Some, None, if◌then◌else◌}
-use Rattle.f_tree.specs.Values.{Bytes, IsInt, IsLabel}
-use Rattle.f_tree.specs.Terms.{Add, IsLess, IsLessOrEqual, IsEqual, IsGreaterOrEqual, Wanted, AsSubroutine, AsFunction, Term, Val, Fetch, Refer, Bind, Terms, NoMore, More, any_refers}
-use Rattle.f_tree.specs.Facts.{Direction, Layout, Controls, AuxiliaryKind, Item, Repeated, Turn, Work, Done, Before, Head, ToSet, ToSetLabel, ToGo, ToPick, ToGoAssigned, ToGoBySign, ToGuard, ToEnterArm, ToLoop, ToTestLoop, ToCall, ToReturn, ToStop, ToBegin, ToAuxiliary, ToEnd, Form, Passes, On}
+use Rattle.std.specs.Prelude.{ℕ, pos, int_lt, Bool, true, false, ◌||◌, List, [], ◌∷◌, ◌++◌, length, map, Option, Some, None, if◌then◌else◌}
+use Rattle.l_core.specs.f_tree.Values.{Bytes, IsInt, IsLabel}
+use Rattle.l_core.specs.f_tree.Terms.{Add, IsLess, IsLessOrEqual, IsEqual, IsGreaterOrEqual, Wanted, AsSubroutine, AsFunction, Term, Val, Fetch, Refer, Bind, Terms, NoMore, More, any_refers}
+use Rattle.l_core.specs.f_tree.Facts.{Direction, Layout, Controls, AuxiliaryKind, Item, Repeated, Turn, Work, Done, Before, Head, ToSet, ToSetLabel, ToGo, ToPick, ToGoAssigned, ToGoBySign, ToGuard, ToEnterArm, ToLoop, ToTestLoop, ToCall, ToReturn, ToStop, ToBegin, ToAuxiliary, ToEnd, Form, Passes, On}
+use Rattle.l_core.specs.f_tree.Step.{contains}
 use Rattle.l_core.specs.Pures.{Pure, Constant, Load, Operated, Chosen, Pures, NoPure, AndPure}
 use Rattle.l_core.specs.Steps.{Starts, Takes, Finishes, Auxiliary, Step, Put, PutLabel, Unless, Again, AgainIf, Jump, Select, JumpBy, CallSub, Branch, Back, BackBy, Halt, Acts}
 use Rattle.lowering.specs.Expressions.{Purpose, ForUse, ForCall, ForLater, Lowered, and_then, ahead, lower, lower_all}
@@ -25,12 +26,19 @@ unfoldable pub put_label_code : ℕ → Pures → Option (List Step)
 put_label_code label (AndPure place NoPure) = Some (PutLabel place label ∷ [])
 put_label_code label ps = None
 
+-- the number picks one of the jumps behind, or passes them all (11.2)
 unfoldable pub select_code : List ℕ → Pures → Option (List Step)
-select_code labels (AndPure p NoPure) = Some (Select p labels ∷ [])
+select_code labels (AndPure p NoPure) = Some (Select p (length labels) ∷ map Jump labels)
 select_code labels ps = None
 
+-- each label of a list once
+unfoldable pub each_once : List ℕ → List ℕ
+each_once [] = []
+each_once (l ∷ ls) = if contains ls l then each_once ls else l ∷ each_once ls
+
+-- the label that the place holds picks one of the jumps behind (11.3)
 unfoldable pub jump_by_code : List ℕ → Pures → Option (List Step)
-jump_by_code labels (AndPure place NoPure) = Some (JumpBy place labels ∷ [])
+jump_by_code labels (AndPure place NoPure) = Some (JumpBy place (each_once labels) ∷ map Jump (each_once labels))
 jump_by_code labels ps = None
 
 -- an arithmetic IF (11.4): its value is kept
@@ -160,5 +168,5 @@ unfoldable mutual
   head_code once k n head operands = None
 
 unfoldable pub statements_opened : Unit {0}
-unfolding behind_operands with_operands put_code put_label_code select_code jump_by_code sign_code unless_code guard_code loop_operands test_by loop_test loop_code back_by turn_code wants_no_value may_be_label passes_label branch_code call_code back_code item_purpose item_code work_code begin_code auxiliary_code form_code head_code
+unfolding behind_operands with_operands put_code put_label_code select_code each_once jump_by_code sign_code unless_code guard_code loop_operands test_by loop_test loop_code back_by turn_code wants_no_value may_be_label passes_label branch_code call_code back_code item_purpose item_code work_code begin_code auxiliary_code form_code head_code
 statements_opened = tt

@@ -2,11 +2,11 @@
 -- statement takes does not depend on where it stands. ANSI X3.9-1978, sections 3.5, 11.6 to 11.10 and 15.7.
 use Rattle.std.specs.List.{list_any}
 use Rattle.std.specs.Prelude.{ℕ, zero, suc, ◌+◌, ◌-◌, nat_eq, Bool, true, false, not, List, [], ◌∷◌, ◌++◌, length, filter, Option, Some, None, slice_get, option_map, if◌then◌else◌}
-use Rattle.f_tree.specs.Terms.{NoMore}
-use Rattle.f_tree.specs.Facts.{ToSetLabel, ToGo, ToPick, ToGoAssigned, ToGoBySign, ToGuard, ToLoop, ToTestLoop, ToBegin, ToAuxiliary, Head, Form, Passes, On, Mark, Plain, Opens, Arm, Closes, Line, ProgramUnit, Facts}
+use Rattle.l_core.specs.f_tree.Terms.{NoMore}
+use Rattle.l_core.specs.f_tree.Facts.{ToSetLabel, ToGo, ToPick, ToGoAssigned, ToGoBySign, ToGuard, ToLoop, ToTestLoop, ToBegin, ToAuxiliary, Head, Form, Passes, On, Mark, Plain, Opens, Arm, Closes, Line, ProgramUnit, Facts}
 use Rattle.l_core.specs.Steps as step
-use Rattle.f_tree.specs.Places.{place_of_label, arm_after}
-use Rattle.f_tree.specs.Nests.{Range, open_at, goes_past}
+use Rattle.l_core.specs.f_tree.Places.{place_of_label, arm_after}
+use Rattle.l_core.specs.f_tree.Nests.{Range, open_at, goes_past}
 use Rattle.l_core.specs.Pures.{Pures}
 use Rattle.l_core.specs.Steps.{Step, Skip, Again, Pass, Card, OpensLoop, OpensLoopOnce, ClosesLoop, OpensWhile, ClosesWhile, OpensArm, NextArm, ClosesArm, Marked, Text}
 use Rattle.lowering.specs.Expressions.{Lowered}

@@ -1,22 +1,22 @@
 -- A call of the text passes what FORTRAN's passes, and behind each answer both go on.
 use Rattle.std.specs.Prelude.{◌≡◌, ℕ, suc, ◌≤◌, Bool, true, false, List, [], ◌∷◌, length, Some, None, slice_get}
 use Rattle.std.proofs.Common.{refl, sym, ap, ◌∙◌, subst, arith}
-use Rattle.simulation.specs.Machine.{Goes, Calls}
-use Rattle.f_tree.specs.declared.names.Basic.TheVariants as basic
-use Rattle.f_tree.specs.Values as value
-use Rattle.f_tree.specs.Values.{Bytes, Datum, IsLabel, Checked, Gives, Fails}
-use Rattle.f_tree.specs.Terms.{Wanted, AsSubroutine, AsFunction, Callee}
-use Rattle.f_tree.specs.Facts.{Line, Frame}
-use Rattle.f_tree.specs.World as fortran
-use Rattle.f_tree.specs.World.{World, Round, Called, Procedure, Passed, proceeding, entered}
-use Rattle.f_tree.specs.Places.{passed, gone_to}
-use Rattle.f_tree.specs.Nests.{loop_of, open_at}
-use Rattle.f_tree.specs.Step.{contains}
-use Rattle.f_tree.specs.Association.{Passing, passing, ready_for, called_as, procedure_named, call, returned, resumed_by, cut_to}
-use Rattle.f_tree.specs.Association as association
-use Rattle.l_core.specs.Pures.{Pures, Temporaries, with_kept}
-use Rattle.l_core.specs.Steps.{CallSub, Branch, Text}
-use Rattle.l_core.specs.Machine.{View, Doing, calling, waiting, resting, resumed_at, gone_on, resume}
+use Rattle.fortran_laws.specs.simulation.Machine.{Goes, Calls}
+use Rattle.fortran_laws.specs.f_tree.declared.names.Basic.TheVariants as basic
+use Rattle.fortran_laws.specs.f_tree.Values as value
+use Rattle.fortran_laws.specs.f_tree.Values.{Bytes, Datum, IsLabel, Checked, Gives, Fails}
+use Rattle.fortran_laws.specs.f_tree.Terms.{Wanted, AsSubroutine, AsFunction, Callee}
+use Rattle.fortran_laws.specs.f_tree.Facts.{Line, Frame}
+use Rattle.fortran_laws.specs.f_tree.World as fortran
+use Rattle.fortran_laws.specs.f_tree.World.{World, Round, Called, Procedure, Passed, proceeding, entered}
+use Rattle.fortran_laws.specs.f_tree.Places.{passed, gone_to}
+use Rattle.fortran_laws.specs.f_tree.Nests.{loop_of, open_at}
+use Rattle.fortran_laws.specs.f_tree.Step.{contains}
+use Rattle.fortran_laws.specs.f_tree.Association.{Passing, passing, ready_for, called_as, procedure_named, call, returned, resumed_by, cut_to}
+use Rattle.fortran_laws.specs.f_tree.Association as association
+use Rattle.lowering.specs.l_core.Pures.{Pures, Temporaries, with_kept}
+use Rattle.lowering.specs.l_core.Steps.{CallSub, Branch, Text}
+use Rattle.lowering.specs.l_core.Machine.{View, Doing, calling, waiting, resting, resumed_at, gone_on, resume}
 use Rattle.lowering.specs.Statements.{branch_code}
 use Rattle.lowering.specs.Units.{free_at}
 use Rattle.lowering_laws.specs.Walks.{Spans, at_step}

@@ -1,16 +1,16 @@
 -- What stands behind the operands of a form does what the form comes to.
 use Rattle.std.specs.Prelude.{◌≡◌, ℕ, suc, Bool, true, false, List, [], ◌∷◌, Some, slice_get}
 use Rattle.std.proofs.Common.{refl, sym, ap, ◌∙◌, subst, arith}
-use Rattle.simulation.specs.Machine.{Goes}
-use Rattle.f_tree.specs.Values.{Bytes, Datum, Checked, Gives, Fails, given_that}
-use Rattle.f_tree.specs.Terms.{Operator, Function, Callee, Term, Val, Terms}
-use Rattle.f_tree.specs.Facts.{Facts, Frame}
-use Rattle.f_tree.specs.Store.{Store}
-use Rattle.f_tree.specs.Valuing.{Red, Valued, Asks, at_once, prefixed, operated, left_of, applied, element, alone, part, pieces, joined, fetched}
-use Rattle.f_tree.specs.World.{World}
-use Rattle.l_core.specs.Pures.{Pure, Temporary, Pures, NoPure, AndPure, Temporaries, with_kept, where_wanted, meant, all_meant}
-use Rattle.l_core.specs.Steps.{Keep, Compute, CallFor, Text}
-use Rattle.l_core.specs.Machine.{to, onward, keeping, done, step}
+use Rattle.fortran_laws.specs.simulation.Machine.{Goes}
+use Rattle.fortran_laws.specs.f_tree.Values.{Bytes, Datum, Checked, Gives, Fails, given_that}
+use Rattle.fortran_laws.specs.f_tree.Terms.{Operator, Function, Callee, Term, Val, Terms}
+use Rattle.fortran_laws.specs.f_tree.Facts.{Facts, Frame}
+use Rattle.fortran_laws.specs.f_tree.Store.{Store}
+use Rattle.fortran_laws.specs.f_tree.Valuing.{Red, Valued, Asks, at_once, prefixed, operated, left_of, applied, element, alone, part, pieces, joined, fetched}
+use Rattle.fortran_laws.specs.f_tree.World.{World}
+use Rattle.lowering.specs.l_core.Pures.{Pure, Temporary, Pures, NoPure, AndPure, Temporaries, with_kept, where_wanted, meant, all_meant}
+use Rattle.lowering.specs.l_core.Steps.{Keep, Compute, CallFor, Text}
+use Rattle.lowering.specs.l_core.Machine.{to, onward, keeping, done, step}
 use Rattle.lowering.specs.Expressions.{Purpose, ForUse, ForCall, ForReading, ForLater, Shape, AsFetch, AsElement, AsAlone, AsPart, AsJoined, AsBefore, AsBetween, AsFunction, AsReference, is_library, for_place, for_fetch, operand_purpose, pure_of, kept_steps, kept_value, kept_free, function_steps, function_value, function_free, closing, closed_value, closed_free, may_decide, and_then, no_operand, plain, lower_all}
 use Rattle.lowering_laws.specs.Walks.{Spans, at_step, IsOrdinary, stays, goes, SameBelow, Lasts, Comes, AllCome, Met}
 use Rattle.lowering_laws.specs.Midway.{finish, Fits, of_fetch, of_element, of_alone, of_part, of_joined, of_before, of_between, of_function, of_reference}

@@ -1,16 +1,16 @@
 -- The code of a statement is its operands' steps and what closes them.
-use Rattle.std.specs.Prelude.{◌≡◌, ℕ, suc, ◌+◌, Bool, true, false, List, [], ◌∷◌, ◌++◌, length, Option, Some, None}
+use Rattle.std.specs.Prelude.{◌≡◌, ℕ, suc, ◌+◌, Bool, true, false, List, [], ◌∷◌, ◌++◌, length, map, Option, Some, None}
 use Rattle.std.proofs.Common.{refl, sym, ap, subst, true≢false, ◌∙◌}
-use Rattle.f_tree.specs.Values.{Bytes}
-use Rattle.f_tree.specs.Terms.{Term, Terms, NoMore, More}
-use Rattle.f_tree.specs.Facts as head
-use Rattle.f_tree.specs.Facts.{Direction, Layout, Controls, AuxiliaryKind, Item, Repeated, Turn, Work, Done, Before, Head, Form, Passes, On}
-use Rattle.f_tree.specs.Transfers.{next_of}
-use Rattle.f_tree.specs.Places.{terminal_of, arm_after}
-use Rattle.l_core.specs.Pures.{Pures, NoPure, AndPure, Pure}
-use Rattle.l_core.specs.Steps.{Starts, Takes, Finishes, Auxiliary, Step, Put, PutLabel, Unless, Jump, Select, JumpBy, CallSub, Back, BackBy, Halt, Acts, Text}
+use Rattle.fortran_laws.specs.f_tree.Values.{Bytes}
+use Rattle.fortran_laws.specs.f_tree.Terms.{Term, Terms, NoMore, More}
+use Rattle.fortran_laws.specs.f_tree.Facts as head
+use Rattle.fortran_laws.specs.f_tree.Facts.{Direction, Layout, Controls, AuxiliaryKind, Item, Repeated, Turn, Work, Done, Before, Head, Form, Passes, On}
+use Rattle.fortran_laws.specs.f_tree.Transfers.{next_of}
+use Rattle.fortran_laws.specs.f_tree.Places.{terminal_of, arm_after}
+use Rattle.lowering.specs.l_core.Pures.{Pures, NoPure, AndPure, Pure}
+use Rattle.lowering.specs.l_core.Steps.{Starts, Takes, Finishes, Auxiliary, Step, Put, PutLabel, Unless, Jump, Select, JumpBy, CallSub, Back, BackBy, Halt, Acts, Text}
 use Rattle.lowering.specs.Expressions.{Purpose, ForUse, ForCall, ForLater, Lowered, plain, no_operand, lower_all}
-use Rattle.lowering.specs.Statements.{behind_operands, with_operands, put_code, put_label_code, select_code, jump_by_code, sign_code, unless_code, guard_code, loop_operands, test_by, loop_test, loop_code, passes_label, branch_code, call_code, back_code, item_purpose, item_code, work_code, begin_code, auxiliary_code, form_code, head_code}
+use Rattle.lowering.specs.Statements.{behind_operands, with_operands, put_code, put_label_code, select_code, each_once, jump_by_code, sign_code, unless_code, guard_code, loop_operands, test_by, loop_test, loop_code, passes_label, branch_code, call_code, back_code, item_purpose, item_code, work_code, begin_code, auxiliary_code, form_code, head_code}
 use Rattle.lowering.specs.Units.{loop_exit, steps_of}
 use Rattle.lowering_laws.specs.Midway.{InOrder, OfLoop}
 use Rattle.lowering_laws.specs.Layer.{ends_of, IsFlat, IsNextArm, IsLoop, by_sign_steps, IsClosing, for_set, for_set_label, for_go, for_pick, for_go_assigned, for_go_by_sign, for_guard, for_arm, for_test, for_call, for_return, for_return_by, for_stop, for_end, for_begin, for_item, for_finish, for_auxiliary, IsCode, no_code, some_code, IsModeOf, for_loop}
@@ -104,13 +104,13 @@ module _ (u : Text) (k : ℕ) (o : Option ℕ) where
   pick_closes : (labels : List ℕ) (ts : Terms) (ps : Pures) (more : List Step) → select_code labels ps ≡ Some more → IsClosing u k o (head.ToPick labels) ts ps more
   unfolding select_code
   pick_closes labels ts NoPure more e = absurd (cc)
-  pick_closes labels ts (AndPure p NoPure) more e = subst (λ z. IsClosing u k o (head.ToPick labels) ts (AndPure p NoPure) z) (let all : Select p labels ∷ [] ≡ more = cc in all) for_pick
+  pick_closes labels ts (AndPure p NoPure) more e = subst (λ z. IsClosing u k o (head.ToPick labels) ts (AndPure p NoPure) z) (let all : Select p (length labels) ∷ map Jump labels ≡ more = cc in all) for_pick
   pick_closes labels ts (AndPure p (AndPure q ps)) more e = absurd (cc)
 
   go_assigned_closes : (labels : List ℕ) (ts : Terms) (ps : Pures) (more : List Step) → jump_by_code labels ps ≡ Some more → IsClosing u k o (head.ToGoAssigned labels) ts ps more
   unfolding jump_by_code
   go_assigned_closes labels ts NoPure more e = absurd (cc)
-  go_assigned_closes labels ts (AndPure p NoPure) more e = subst (λ z. IsClosing u k o (head.ToGoAssigned labels) ts (AndPure p NoPure) z) (let all : JumpBy p labels ∷ [] ≡ more = cc in all) for_go_assigned
+  go_assigned_closes labels ts (AndPure p NoPure) more e = subst (λ z. IsClosing u k o (head.ToGoAssigned labels) ts (AndPure p NoPure) z) (let all : JumpBy p (each_once labels) ∷ map Jump (each_once labels) ≡ more = cc in all) for_go_assigned
   go_assigned_closes labels ts (AndPure p (AndPure q ps)) more e = absurd (cc)
 
   go_by_sign_closes : (below at above : ℕ) (ts : Terms) (ps : Pures) (more : List Step) → sign_code below at above ps ≡ Some more → IsClosing u k o (head.ToGoBySign below at above) ts ps more

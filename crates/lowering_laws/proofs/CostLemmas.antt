@@ -1,16 +1,16 @@
 -- Ways and what they cost.
 use Rattle.std.specs.Prelude.{◌≡◌, ℕ, zero, suc, ◌+◌, ◌-◌, ◌<◌, ◌≤◌, List, [], ◌∷◌, Some, slice_get}
 use Rattle.std.proofs.Common.{refl, sym, ap, ◌∙◌, subst, arith}
-use Rattle.simulation.specs.Machine.{Event, Goes}
-use Rattle.simulation.specs.LocalSimulation.{Does, last, more}
-use Rattle.f_tree.specs.Values as value
-use Rattle.f_tree.specs.Values.{Datum, IsLabel}
-use Rattle.f_tree.specs.World.{World, Ending}
-use Rattle.f_tree.specs.Facts.{Frame}
-use Rattle.l_core.specs.Pures.{Temporaries}
-use Rattle.l_core.specs.Steps.{Skip, Again, Pass, Branch, Text}
-use Rattle.l_core.specs.Machine.{lowered, lowered_sorts, step, done, past, branching, jump, to_place, onward, to}
-use Rattle.l_core.specs.Costs.{cost, rest}
+use Rattle.fortran_laws.specs.simulation.Machine.{Event, Goes}
+use Rattle.fortran_laws.specs.simulation.LocalSimulation.{Does, last, more}
+use Rattle.fortran_laws.specs.f_tree.Values as value
+use Rattle.fortran_laws.specs.f_tree.Values.{Datum, IsLabel}
+use Rattle.fortran_laws.specs.f_tree.World.{World, Ending}
+use Rattle.fortran_laws.specs.f_tree.Facts.{Frame}
+use Rattle.lowering.specs.l_core.Pures.{Temporaries}
+use Rattle.lowering.specs.l_core.Steps.{Skip, Again, Pass, Branch, Text}
+use Rattle.lowering.specs.l_core.Machine.{lowered, lowered_sorts, step, done, past, branching, jump, to_place, onward, to}
+use Rattle.lowering.specs.l_core.Costs.{cost, rest}
 use Rattle.lowering_laws.specs.Walks.{at_step, IsOrdinary, Keeps, stays, goes}
 use Rattle.lowering_laws.specs.Layer.{Leads, there, by_pass, by_skip, BranchesTo, Arrives, plainly, by_branch}
 use Rattle.lowering_laws.proofs.WalkLemmas.{ordinary_by}

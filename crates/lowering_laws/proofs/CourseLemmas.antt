@@ -2,26 +2,26 @@
 -- of ERR or END may be branched to.
 use Rattle.std.specs.Prelude.{◌≡◌, ℕ, ◌++◌, ℤ, pos, negsuc, Bool, true, false, List, [], ◌∷◌, length, drop, Option, Some, None, Result, Ok, Err, if◌then◌else◌}
 use Rattle.std.proofs.Common.{refl, sym, subst}
-use Rattle.edit_meaning.specs.Halts.{Halt, Number, OtherType}
-use Rattle.edit_meaning.specs.Halts as halt
-use Rattle.edit_meaning.specs.Listed.{ListedValue}
-use Rattle.edit_meaning.specs.ListItems as items
-use Rattle.edit_meaning.specs.TakenRecords as taken
-use Rattle.run_state.specs.Units.{Units, Closing, open_unit, close_unit, back_unit, end_unit, rewind_unit}
-use Rattle.run_state.specs.declared.refusals.UnitRefusal.{UnitRefusal}
-use Rattle.run_state.specs.declared.refusals.UnitRefusal.TheVariants as refusal
-use Rattle.f_tree.specs.Values as value
-use Rattle.f_tree.specs.Values.{Bytes, Spot, Datum, IsSpot, Checked, Gives, Fails, given_that}
-use Rattle.f_tree.specs.Store.{Store, fetch, elements}
-use Rattle.f_tree.specs.Facts.{Direction, Input, Output, Layout, Listed, Labelled, Computed, Unformatted, Controls, AuxiliaryKind, OpenUnit, CloseUnit, BackspaceUnit, EndFileUnit, RewindUnit, LabelledFormat, ProgramUnit}
-use Rattle.f_tree.specs.World.{Medium, External, Internal, Transfer, World}
-use Rattle.f_tree.specs.Courses.{Course, Further, IsDone, Branches, StopsWith, NotSaid}
-use Rattle.f_tree.specs.Statuses.{end_of_file, number_of, status_defined, after_error, label_for, failed_with, fails_with, fails_by, ended_with, ends_well}
-use Rattle.f_tree.specs.Records.{Writing, Wrote, StoppedBy, Broken, Beyond, EndOfFile, LongRecord, Unfetched, Supply, supply, world_after}
-use Rattle.f_tree.specs.FormatChoice.{IsFormat, NoFormat, NotDefined, TooShort}
-use Rattle.f_tree.specs.FormatChoice as format
-use Rattle.f_tree.specs.Transfers.{going_on, listed_value, values_of, Made, made_by, halted_by, unless_halted, after_writing, records_put, put_then, values_put, made_before, element_put, value_met, each_put, formatted_put, item_written, output_ended, Taking, Serves, Numbered, Unsaid, ran_out, taking_with, value_stored, front_stored, read_further, value_given, listed_stop, item_listed, listed_taken, values_stored, input_by, input_taken, format_taken, item_taken, counted, taken_then, each_filled, place_filled, closing_taken, input_ended, item_done, finished, is_usable, new_transfer, first_read, started_with, started_by, begun_on, begins, operand_for, is_format_word, medium_of, status_of, format_for}
-use Rattle.f_tree.specs.UnitStatements.{units_changed, closed, opened_as, is_file_word, is_blank_word, file_name, zero_blanks, auxiliary_on, auxiliary}
+use Rattle.fortran_laws.specs.edit_meaning.Halts.{Halt, Number, OtherType}
+use Rattle.fortran_laws.specs.edit_meaning.Halts as halt
+use Rattle.fortran_laws.specs.edit_meaning.Listed.{ListedValue}
+use Rattle.fortran_laws.specs.edit_meaning.ListItems as items
+use Rattle.fortran_laws.specs.edit_meaning.TakenRecords as taken
+use Rattle.fortran_laws.specs.run_state.Units.{Units, Closing, open_unit, close_unit, back_unit, end_unit, rewind_unit}
+use Rattle.fortran_laws.specs.run_state.declared.refusals.UnitRefusal.{UnitRefusal}
+use Rattle.fortran_laws.specs.run_state.declared.refusals.UnitRefusal.TheVariants as refusal
+use Rattle.fortran_laws.specs.f_tree.Values as value
+use Rattle.fortran_laws.specs.f_tree.Values.{Bytes, Spot, Datum, IsSpot, Checked, Gives, Fails, given_that}
+use Rattle.fortran_laws.specs.f_tree.Store.{Store, fetch, elements}
+use Rattle.fortran_laws.specs.f_tree.Facts.{Direction, Input, Output, Layout, Listed, Labelled, Computed, Unformatted, Controls, AuxiliaryKind, OpenUnit, CloseUnit, BackspaceUnit, EndFileUnit, RewindUnit, LabelledFormat, ProgramUnit}
+use Rattle.fortran_laws.specs.f_tree.World.{Medium, External, Internal, Transfer, World}
+use Rattle.fortran_laws.specs.f_tree.Courses.{Course, Further, IsDone, Branches, StopsWith, NotSaid}
+use Rattle.fortran_laws.specs.f_tree.Statuses.{end_of_file, number_of, status_defined, after_error, label_for, failed_with, fails_with, fails_by, ended_with, ends_well}
+use Rattle.fortran_laws.specs.f_tree.Records.{Writing, Wrote, StoppedBy, Broken, Beyond, EndOfFile, LongRecord, Unfetched, Supply, supply, world_after}
+use Rattle.fortran_laws.specs.f_tree.FormatChoice.{IsFormat, NoFormat, NotDefined, TooShort}
+use Rattle.fortran_laws.specs.f_tree.FormatChoice as format
+use Rattle.fortran_laws.specs.f_tree.Transfers.{going_on, listed_value, values_of, Made, made_by, halted_by, unless_halted, after_writing, records_put, put_then, values_put, made_before, element_put, value_met, each_put, formatted_put, item_written, output_ended, Taking, Serves, Numbered, Unsaid, ran_out, taking_with, value_stored, front_stored, read_further, value_given, listed_stop, item_listed, listed_taken, values_stored, input_by, input_taken, format_taken, item_taken, counted, taken_then, each_filled, place_filled, closing_taken, input_ended, item_done, finished, is_usable, new_transfer, first_read, started_with, started_by, begun_on, begins, operand_for, is_format_word, medium_of, status_of, format_for}
+use Rattle.fortran_laws.specs.f_tree.UnitStatements.{units_changed, closed, opened_as, is_file_word, is_blank_word, file_name, zero_blanks, auxiliary_on, auxiliary}
 use Rattle.lowering_laws.specs.Layer.{Reaches, LabelReaches, ControlsReach, IsOwn}
 
 -- what a course comes to, and what is so where the transfer goes on

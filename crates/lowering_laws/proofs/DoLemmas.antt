@@ -2,22 +2,22 @@
 use Rattle.std.specs.Prelude.{◌≡◌, ℕ, zero, suc, ◌+◌, ◌-◌, ◌≤◌, max, ℤ, pos, ◌+ℤ◌, ◌-ℤ◌, int_div, Bool, true, false, List, [], ◌∷◌, Option, Some, None, slice_get, if◌then◌else◌}
 use Rattle.std.specs.Ordering.{int_eq}
 use Rattle.std.proofs.Common.{refl, sym, ap, ◌∙◌, subst, arith, true≢false}
-use Rattle.simulation.specs.Machine.{Goes, Breaks}
-use Rattle.simulation.specs.LocalSimulation.{last, more}
-use Rattle.f_tree.specs.Values as value
-use Rattle.f_tree.specs.Values.{Spot, Datum, IsInt, IsLog, IsSpot, Checked, Gives, Fails, given_that, checked}
-use Rattle.f_tree.specs.Terms.{Add, Terms}
-use Rattle.f_tree.specs.Store.{Store, fetch, define}
-use Rattle.f_tree.specs.Facts.{ToLoop, Form, On, Line, Facts, Frame, Passes}
-use Rattle.f_tree.specs.Nests.{Range, open_at}
-use Rattle.f_tree.specs.World as fortran
-use Rattle.f_tree.specs.World.{World, Round, RoundKind, While, Counted, Ending, Happening, proceeding}
-use Rattle.f_tree.specs.Places.{terminal_of, arrived, passed}
-use Rattle.f_tree.specs.Step.{turns_of, turns, at_least_once, looped, loop_stored, loop_begun, deed, Grown, grown, turned_with}
-use Rattle.l_core.specs.Pures.{Pure, Load, Operated, Pures, NoPure, AndPure, Temporaries, meant, all_meant}
-use Rattle.l_core.specs.Steps.{Step, Put, Unless, Again, AgainIf, Text}
-use Rattle.l_core.specs.Machine.{Doing, step, done, storing, put_at, testing, to, onward}
-use Rattle.l_core.specs.Costs.{cost}
+use Rattle.fortran_laws.specs.simulation.Machine.{Goes, Breaks}
+use Rattle.fortran_laws.specs.simulation.LocalSimulation.{last, more}
+use Rattle.fortran_laws.specs.f_tree.Values as value
+use Rattle.fortran_laws.specs.f_tree.Values.{Spot, Datum, IsInt, IsLog, IsSpot, Checked, Gives, Fails, given_that, checked}
+use Rattle.fortran_laws.specs.f_tree.Terms.{Add, Terms}
+use Rattle.fortran_laws.specs.f_tree.Store.{Store, fetch, define}
+use Rattle.fortran_laws.specs.f_tree.Facts.{ToLoop, Form, On, Line, Facts, Frame, Passes}
+use Rattle.fortran_laws.specs.f_tree.Nests.{Range, open_at}
+use Rattle.fortran_laws.specs.f_tree.World as fortran
+use Rattle.fortran_laws.specs.f_tree.World.{World, Round, RoundKind, While, Counted, Ending, Happening, proceeding}
+use Rattle.fortran_laws.specs.f_tree.Places.{terminal_of, arrived, passed}
+use Rattle.fortran_laws.specs.f_tree.Step.{turns_of, turns, at_least_once, looped, loop_stored, loop_begun, deed, Grown, grown, turned_with}
+use Rattle.lowering.specs.l_core.Pures.{Pure, Load, Operated, Pures, NoPure, AndPure, Temporaries, meant, all_meant}
+use Rattle.lowering.specs.l_core.Steps.{Step, Put, Unless, Again, AgainIf, Text}
+use Rattle.lowering.specs.l_core.Machine.{Doing, step, done, storing, put_at, testing, to, onward}
+use Rattle.lowering.specs.l_core.Costs.{cost}
 use Rattle.lowering.specs.Expressions.{Lowered}
 use Rattle.lowering.specs.Statements.{loop_operands, test_by, loop_test, turn_code, back_by}
 use Rattle.lowering.specs.Units.{free_at, is_counted, loop_lowered, turn_size, turn_of, way_back, own_end, loop_exit, own_start}

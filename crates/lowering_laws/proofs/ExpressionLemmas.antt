@@ -1,18 +1,18 @@
 -- The steps of an expression, from their start and from each place in their midst, do what valuing the expression does.
 use Rattle.std.specs.Prelude.{◌≡◌, ℕ, zero, suc, ◌+◌, ◌<◌, ◌≤◌, Bool, true, false, ◌&&◌, ◌||◌, List, [], ◌∷◌, ◌++◌, length, Some, slice_get}
 use Rattle.std.proofs.Common.{refl, sym, ap, ◌∙◌, subst, arith, true≢false}
-use Rattle.simulation.specs.Machine.{Goes}
-use Rattle.f_tree.specs.Values as value
-use Rattle.f_tree.specs.Terms as operator
-use Rattle.f_tree.specs.Values.{Bytes, Datum, IsLog, Checked, Gives, Fails, Act, given_that}
-use Rattle.f_tree.specs.Terms.{Operator, Both, Either, Complement, Term, Val, Fetch, At, All, Element, Alone, Part, Joined, Before, Between, Intrinsically, Refer, Bind, Bound, Terms, NoMore, More, refers, any_refers, valued_then}
-use Rattle.f_tree.specs.Facts.{Facts, Frame}
-use Rattle.f_tree.specs.Store.{Store}
-use Rattle.f_tree.specs.Valuing.{Valued, then_by, at_once, prefixed, operated, on_logicals, Left, Decided, Wants, Wrong, left_of, right_after, whole, array_whole, bound_to, reduce, reduce_all}
-use Rattle.f_tree.specs.World.{World}
-use Rattle.l_core.specs.Pures.{Pure, Constant, Temporary, Name, AllOf, Operated, Pures, NoPure, AndPure, Temporaries, with_kept, if_kept, where_wanted, meant, all_meant}
-use Rattle.l_core.specs.Steps.{Step, Keep, Unless, Text}
-use Rattle.l_core.specs.Machine.{to, testing, done, step}
+use Rattle.fortran_laws.specs.simulation.Machine.{Goes}
+use Rattle.fortran_laws.specs.f_tree.Values as value
+use Rattle.fortran_laws.specs.f_tree.Terms as operator
+use Rattle.fortran_laws.specs.f_tree.Values.{Bytes, Datum, IsLog, Checked, Gives, Fails, Act, given_that}
+use Rattle.fortran_laws.specs.f_tree.Terms.{Operator, Both, Either, Complement, Term, Val, Fetch, At, All, Element, Alone, Part, Joined, Before, Between, Intrinsically, Refer, Bind, Bound, Terms, NoMore, More, refers, any_refers, valued_then}
+use Rattle.fortran_laws.specs.f_tree.Facts.{Facts, Frame}
+use Rattle.fortran_laws.specs.f_tree.Store.{Store}
+use Rattle.fortran_laws.specs.f_tree.Valuing.{Valued, then_by, at_once, prefixed, operated, on_logicals, Left, Decided, Wants, Wrong, left_of, right_after, whole, array_whole, bound_to, reduce, reduce_all}
+use Rattle.fortran_laws.specs.f_tree.World.{World}
+use Rattle.lowering.specs.l_core.Pures.{Pure, Constant, Temporary, Name, AllOf, Operated, Pures, NoPure, AndPure, Temporaries, with_kept, if_kept, where_wanted, meant, all_meant}
+use Rattle.lowering.specs.l_core.Steps.{Step, Keep, Unless, Text}
+use Rattle.lowering.specs.l_core.Machine.{to, testing, done, step}
 use Rattle.lowering.specs.Expressions.{Purpose, ForUse, ForCall, ForLater, Lowered, plain, and_then, no_operand, ahead, Shape, AsFetch, AsElement, AsAlone, AsPart, AsJoined, AsBefore, AsBetween, AsFunction, AsReference, is_library, for_place, for_function, operand_purpose, pure_of, kept_steps, kept_value, kept_free, closing, closed_value, closed_free, shaped, takes_steps, may_decide, wanted_where, guarded, lowered_between, argument, in_order, lower, lower_all}
 use Rattle.lowering_laws.specs.Walks.{Spans, nothing, at_step, IsOrdinary, Keeps, stays, goes, SameBelow, Lasts, AllLast, Comes, AllCome, Met}
 use Rattle.lowering_laws.specs.Midway.{formed, finish, Fits, of_fetch, of_element, of_alone, of_part, of_joined, of_before, of_between, of_function, of_reference, first_of, both_of, guard_of, IsMidway, at_start, at_end, in_operands, in_deciding, in_left, in_right, in_arguments, in_expansion, AreMidway, none_left, at_first, at_later}

@@ -2,15 +2,15 @@
 use Rattle.std.specs.Prelude.{◌≡◌, ℕ, zero, suc, ℤ, pos, negsuc, nat_eq, Bool, true, false, not, ◌||◌, List, [], ◌∷◌, Option, Some, None, slice_get, bytes_eq, if◌then◌else◌}
 use Rattle.std.proofs.Common.{refl, sym, ap, ◌∙◌, subst, arith, true≢false}
 use Rattle.std.proofs.lemmas.Bool.{eqb-true, eq-eqb}
-use Rattle.f_tree.specs.declared.names.Class.{Class}
-use Rattle.f_tree.specs.Values as value
-use Rattle.f_tree.specs.Values.{Bytes, Spot, Datum, IsInt, IsLog, IsText, IsSpot, IsLabel, Checked, Gives, Fails, given_that, checked}
-use Rattle.f_tree.specs.Terms.{Function, Prefix, Operator, Wanted, AsSubroutine, AsFunction, Callee, Term, Val, Fetch, At, All, Element, Alone, Part, Joined, Before, Between, Intrinsically, Refer, Bind, Bound, Terms, NoMore, More, valued_then}
-use Rattle.f_tree.specs.Store.{Store, value_of_type, as_text, fetch_as, fetch_from, fetch_in, fetch}
-use Rattle.f_tree.specs.Facts.{Attribute, Formal, Named, Alternate, ProgramUnit, Facts, Frame}
-use Rattle.f_tree.specs.Valuing.{Red, Valued, Bad, Asks, then_by, at_once, prefixed, operated, on_integers, on_logicals, on_texts, divided, Left, Decided, Wants, Wrong, left_of, right_after, applied, inverse_of, raised, extreme, remainder_of, with_sign_of, difference_over, character_of, total_length, if_bits, if_bit, stored_at, if_bound, if_there, named_as, whole, further, element_at, element, reaching, all_elements, array_whole, alone, cut, part, joined, pieces, fetched, bound_to, reduce, reduce_all}
-use Rattle.f_tree.specs.Association.{passing, passing_one, passing_more, made, sequence_of, Bindings, value_for, bound_as, agreed, bind_all, length_of, alternate_of}
-use Rattle.f_tree.specs.Step.{contains}
+use Rattle.fortran_laws.specs.f_tree.declared.names.Class.{Class}
+use Rattle.fortran_laws.specs.f_tree.Values as value
+use Rattle.fortran_laws.specs.f_tree.Values.{Bytes, Spot, Datum, IsInt, IsLog, IsText, IsSpot, IsLabel, Checked, Gives, Fails, given_that, checked}
+use Rattle.fortran_laws.specs.f_tree.Terms.{Function, Prefix, Operator, Wanted, AsSubroutine, AsFunction, Callee, Term, Val, Fetch, At, All, Element, Alone, Part, Joined, Before, Between, Intrinsically, Refer, Bind, Bound, Terms, NoMore, More, valued_then}
+use Rattle.fortran_laws.specs.f_tree.Store.{Store, value_of_type, as_text, fetch_as, fetch_from, fetch_in, fetch}
+use Rattle.fortran_laws.specs.f_tree.Facts.{Attribute, Formal, Named, Alternate, ProgramUnit, Facts, Frame}
+use Rattle.fortran_laws.specs.f_tree.Valuing.{Red, Valued, Bad, Asks, then_by, at_once, prefixed, operated, on_integers, on_logicals, on_texts, divided, Left, Decided, Wants, Wrong, left_of, right_after, applied, inverse_of, raised, extreme, remainder_of, with_sign_of, difference_over, character_of, total_length, if_bits, if_bit, stored_at, if_bound, if_there, named_as, whole, further, element_at, element, reaching, all_elements, array_whole, alone, cut, part, joined, pieces, fetched, bound_to, reduce, reduce_all}
+use Rattle.fortran_laws.specs.f_tree.Association.{passing, passing_one, passing_more, made, sequence_of, Bindings, value_for, bound_as, agreed, bind_all, length_of, alternate_of}
+use Rattle.fortran_laws.specs.f_tree.Step.{contains}
 use Rattle.lowering.specs.Statements.{wants_no_value, may_be_label, passes_label}
 use Rattle.lowering_laws.specs.Layer.{IsNoLabel, labels_in, IsAnswered, may_be_other, passes_other, none_known}
 

@@ -2,16 +2,16 @@
 use Rattle.std.specs.Prelude.{◌≡◌, ℕ, zero, suc, ◌+◌, ◌-◌, ◌<◌, ◌≤◌, nat_eq, Bool, true, false, not, ◌&&◌, ◌||◌, List, [], ◌∷◌, ◌++◌, length, drop, filter, Option, Some, None, slice_get, option_map, if◌then◌else◌}
 use Rattle.std.proofs.Common.{refl, sym, ap, ◌∙◌, subst, arith, true≢false}
 use Rattle.std.proofs.lemmas.Bool.{eqb-true, eq-eqb}
-use Rattle.f_tree.specs.Values.{Bytes}
-use Rattle.f_tree.specs.Terms.{Terms, NoMore}
-use Rattle.f_tree.specs.Facts as head
-use Rattle.f_tree.specs.Facts.{Head, Form, Passes, On, Mark, Plain, Opens, Arm, Closes, LoopMark, Line, ProgramUnit, Facts}
-use Rattle.f_tree.specs.Places.{place_of_label, terminal_of, arm_from, arm_after}
-use Rattle.f_tree.specs.Nests.{Range, loop_of, ranges_of, open_at, goes_past, AreNested}
-use Rattle.f_tree.specs.Setting.{IsIn, first_in, later_in}
+use Rattle.fortran_laws.specs.f_tree.Values.{Bytes}
+use Rattle.fortran_laws.specs.f_tree.Terms.{Terms, NoMore}
+use Rattle.fortran_laws.specs.f_tree.Facts as head
+use Rattle.fortran_laws.specs.f_tree.Facts.{Head, Form, Passes, On, Mark, Plain, Opens, Arm, Closes, LoopMark, Line, ProgramUnit, Facts}
+use Rattle.fortran_laws.specs.f_tree.Places.{place_of_label, terminal_of, arm_from, arm_after}
+use Rattle.fortran_laws.specs.f_tree.Nests.{Range, loop_of, ranges_of, open_at, goes_past, AreNested}
+use Rattle.fortran_laws.specs.f_tree.Setting.{IsIn, first_in, later_in}
 use Rattle.fortran_laws.proofs.NestLaws.{range_of_loop, open_is_within}
-use Rattle.l_core.specs.Pures.{Pures, NoPure, AndPure}
-use Rattle.l_core.specs.Steps.{Step, Skip, Again, AgainIf, Pass, CallSub, Back, Text}
+use Rattle.lowering.specs.l_core.Pures.{Pures, NoPure, AndPure}
+use Rattle.lowering.specs.l_core.Steps.{Step, Skip, Again, AgainIf, Pass, CallSub, Back, Text}
 use Rattle.lowering.specs.Statements.{test_by, back_by, turn_code, form_code, head_code, loop_operands}
 use Rattle.lowering.specs.Units.{loop_lowered, free_at, is_counted, turn_size, turns_up_to, loop_exit, way_back, turn_of, all_named, is_named, pass_code, steps_of, ended_at, turn_sizes, skip_size, form_size, line_size, size_before, start_of, mark_at, own_start, form_size_at, own_end, block_end_from, block_end_of, arm_room, range_of, loop_room, room_of, turns_of, skip_code, line_code, both_codes, lines_code, lines_marks, text_with, lowered_unit, loop_at_line, free_of}
 use Rattle.lowering_laws.specs.Walks.{Spans, nothing, further}

@@ -10,6 +10,7 @@ mod LabelLemmas
 mod CallLemmas
 mod CourseLemmas
 mod TransferLemmas
+mod HeldLabels
 mod StatementLemmas
 mod DoLemmas
 pub mod LocalLemmas
@@ -18,3 +19,5 @@ mod TurnLemmas
 mod LoopLemmas
 mod RangeLemmas
 pub mod LayoutLemmas
+pub use Rattle.fortran_laws.proofs as fortran_laws
+pub use Rattle.fortran_laws.proofs.simulation

@@ -1,28 +1,28 @@
 -- A unit is simulated by its text.
 use Rattle.std.specs.Prelude.{◌≡◌, ℕ, suc, ◌+◌, ◌<◌, ◌≤◌, Bool, true, false, List, [], ◌∷◌, ◌++◌, length, Option, Some, None, slice_get, if◌then◌else◌}
 use Rattle.std.proofs.Common.{refl, sym, ap, ◌∙◌, subst, arith, true≢false}
-use Rattle.simulation.specs.Machine.{Goes, Ends, Calls, Answers, Breaks, Entry, Enters, Refused}
-use Rattle.simulation.specs.LocalSimulation.{Does, Meets, Resumed, Opened, Local}
-use Rattle.f_tree.specs.Values.{Bytes, Datum, Checked, Gives, Fails}
-use Rattle.f_tree.specs.Values as value
-use Rattle.f_tree.specs.Terms.{Wanted, AsSubroutine, AsFunction, Callee, Terms}
-use Rattle.f_tree.specs.Store.{Store}
-use Rattle.f_tree.specs.Facts as head
-use Rattle.f_tree.specs.Facts.{Head, ToCall, ToTestLoop, Form, On, Line, ProgramUnit, UnitKind, MainProgram, SubroutineUnit, FunctionUnit, BlockDataUnit, Attribute, EntryPoint, Facts, Frame, Bounds, ToLoop}
-use Rattle.f_tree.specs.Valuing.{Red, Valued, Bad, Asks, reduce_all}
-use Rattle.f_tree.specs.World as fortran
-use Rattle.f_tree.specs.World.{World, Transfer, Round, Called, Passed, Happening, entered, RoundKind, While, Counted}
-use Rattle.f_tree.specs.Places.{terminal_of, arrived}
-use Rattle.f_tree.specs.Nests.{open_at, Range}
-use Rattle.f_tree.specs.Association.{call, cut_to, Bindings, begun_with, begun_bound, begun_at, entry_of, serves, bind_all, all_dimensions_by, frame_of, result_of, with_result}
-use Rattle.f_tree.specs.Association as association
-use Rattle.f_tree.specs.Step.{contains, valued, doing, deed}
-use Rattle.f_tree.specs.Step as source
-use Rattle.l_core.specs.Pures.{Pure, Pures, NoPure, AndPure, Temporaries, none_kept, with_kept, all_meant}
-use Rattle.l_core.specs.Steps.{Step, Unless, CallFor, Text, Put}
-use Rattle.l_core.specs.Machine.{View, lowered, testing, step, done, calling, resumed_at, gone_on, begun}
-use Rattle.l_core.specs.Machine as target
-use Rattle.l_core.specs.Costs.{cost, rest}
+use Rattle.fortran_laws.specs.simulation.Machine.{Goes, Ends, Calls, Answers, Breaks, Entry, Enters, Refused}
+use Rattle.fortran_laws.specs.simulation.LocalSimulation.{Does, Meets, Resumed, Opened, Local}
+use Rattle.fortran_laws.specs.f_tree.Values.{Bytes, Datum, Checked, Gives, Fails}
+use Rattle.fortran_laws.specs.f_tree.Values as value
+use Rattle.fortran_laws.specs.f_tree.Terms.{Wanted, AsSubroutine, AsFunction, Callee, Terms}
+use Rattle.fortran_laws.specs.f_tree.Store.{Store}
+use Rattle.fortran_laws.specs.f_tree.Facts as head
+use Rattle.fortran_laws.specs.f_tree.Facts.{Head, ToCall, ToTestLoop, Form, On, Line, ProgramUnit, UnitKind, MainProgram, SubroutineUnit, FunctionUnit, BlockDataUnit, Attribute, EntryPoint, Facts, Frame, Bounds, ToLoop}
+use Rattle.fortran_laws.specs.f_tree.Valuing.{Red, Valued, Bad, Asks, reduce_all}
+use Rattle.fortran_laws.specs.f_tree.World as fortran
+use Rattle.fortran_laws.specs.f_tree.World.{World, Transfer, Round, Called, Passed, Happening, entered, RoundKind, While, Counted}
+use Rattle.fortran_laws.specs.f_tree.Places.{terminal_of, arrived}
+use Rattle.fortran_laws.specs.f_tree.Nests.{open_at, Range}
+use Rattle.fortran_laws.specs.f_tree.Association.{call, cut_to, Bindings, begun_with, begun_bound, begun_at, entry_of, serves, bind_all, all_dimensions_by, frame_of, result_of, with_result}
+use Rattle.fortran_laws.specs.f_tree.Association as association
+use Rattle.fortran_laws.specs.f_tree.Step.{contains, valued, doing, deed}
+use Rattle.fortran_laws.specs.f_tree.Step as source
+use Rattle.lowering.specs.l_core.Pures.{Pure, Pures, NoPure, AndPure, Temporaries, none_kept, with_kept, all_meant}
+use Rattle.lowering.specs.l_core.Steps.{Step, Unless, CallFor, Text, Put}
+use Rattle.lowering.specs.l_core.Machine.{View, lowered, testing, step, done, calling, resumed_at, gone_on, begun}
+use Rattle.lowering.specs.l_core.Machine as target
+use Rattle.lowering.specs.l_core.Costs.{cost, rest}
 use Rattle.lowering.specs.Expressions.{Purpose, lower_all}
 use Rattle.lowering.specs.Statements.{passes_label, loop_operands, test_by, loop_test}
 use Rattle.lowering.specs.Units.{free_at, loop_exit, turn_size, turn_of}

@@ -3,16 +3,16 @@ use Rattle.std.specs.Prelude.{◌≡◌, ℕ, zero, suc, ◌+◌, ◌≤◌, nat
 use Rattle.std.specs.Ordering.{int_eq}
 use Rattle.std.proofs.Common.{refl, sym, ap, ◌∙◌, arith}
 use Rattle.std.proofs.lemmas.Bool.{and_parts, leb-true}
-use Rattle.f_tree.specs.declared.names.Basic.{Basic}
-use Rattle.f_tree.specs.declared.names.Basic.TheVariants as basic
-use Rattle.f_tree.specs.Values as value
-use Rattle.f_tree.specs.Values.{Spot, Datum, IsInt, IsLog, IsSpot, Checked, Gives, Fails, given_that, checked}
-use Rattle.f_tree.specs.Terms.{IsLess, IsLessOrEqual, IsGreaterOrEqual, Add}
-use Rattle.f_tree.specs.Store.{Whole, Number, Cell, Part, Sequence, Store, whole_of, whole_at, value_of_type, same_whole, fetch_as, fetch_from, fetch_in, fetch, with_whole, defined_as, stored_in, has_room, define_in, define}
-use Rattle.f_tree.specs.Facts.{Facts, Frame}
-use Rattle.f_tree.specs.Valuing.{left_of, operated, on_integers, fetched}
-use Rattle.f_tree.specs.Step.{Grown, grown_to, grown_from, grown}
-use Rattle.l_core.specs.Pures.{Pure, Constant, Temporary, Load, Name, AllOf, ElementOf, FirstOf, Substring, Concatenated, Prefixed, Operated, Applied, Chosen, Temporaries, where_wanted, chosen, meant}
+use Rattle.fortran_laws.specs.f_tree.declared.names.Basic.{Basic}
+use Rattle.fortran_laws.specs.f_tree.declared.names.Basic.TheVariants as basic
+use Rattle.fortran_laws.specs.f_tree.Values as value
+use Rattle.fortran_laws.specs.f_tree.Values.{Spot, Datum, IsInt, IsLog, IsSpot, Checked, Gives, Fails, given_that, checked}
+use Rattle.fortran_laws.specs.f_tree.Terms.{IsLess, IsLessOrEqual, IsGreaterOrEqual, Add}
+use Rattle.fortran_laws.specs.f_tree.Store.{Whole, Number, Cell, Part, Sequence, Store, whole_of, whole_at, value_of_type, same_whole, fetch_as, fetch_from, fetch_in, fetch, with_whole, defined_as, stored_in, has_room, define_in, define}
+use Rattle.fortran_laws.specs.f_tree.Facts.{Facts, Frame}
+use Rattle.fortran_laws.specs.f_tree.Valuing.{left_of, operated, on_integers, fetched}
+use Rattle.fortran_laws.specs.f_tree.Step.{Grown, grown_to, grown_from, grown}
+use Rattle.lowering.specs.l_core.Pures.{Pure, Constant, Temporary, Load, Name, AllOf, ElementOf, FirstOf, Substring, Concatenated, Prefixed, Operated, Applied, Chosen, Temporaries, where_wanted, chosen, meant}
 use Rattle.lowering.specs.Statements.{test_by}
 use Rattle.lowering_laws.proofs.TurnLemmas.{allows}
 

@@ -1,14 +1,14 @@
 -- The operands of a DO: the steps come to their values, and the variable, the limit and the step last.
 use Rattle.std.specs.Prelude.{◌≡◌, ℕ, ◌≤◌, Bool, true, false, List, [], ◌∷◌}
 use Rattle.std.proofs.Common.{refl, sym, ap, ◌∙◌, subst, arith}
-use Rattle.f_tree.specs.Values.{Datum, Gives, given_that}
-use Rattle.f_tree.specs.Terms.{Term, Val, Terms, NoMore, More, any_refers}
-use Rattle.f_tree.specs.Facts.{Facts, Frame}
-use Rattle.f_tree.specs.Store.{Store}
-use Rattle.f_tree.specs.Valuing.{Valued, then_by, reduce, reduce_all}
-use Rattle.f_tree.specs.World.{World}
-use Rattle.l_core.specs.Pures.{Pure, Pures, NoPure, AndPure, Temporaries, all_meant}
-use Rattle.l_core.specs.Steps.{Text}
+use Rattle.fortran_laws.specs.f_tree.Values.{Datum, Gives, given_that}
+use Rattle.fortran_laws.specs.f_tree.Terms.{Term, Val, Terms, NoMore, More, any_refers}
+use Rattle.fortran_laws.specs.f_tree.Facts.{Facts, Frame}
+use Rattle.fortran_laws.specs.f_tree.Store.{Store}
+use Rattle.fortran_laws.specs.f_tree.Valuing.{Valued, then_by, reduce, reduce_all}
+use Rattle.fortran_laws.specs.f_tree.World.{World}
+use Rattle.lowering.specs.l_core.Pures.{Pure, Pures, NoPure, AndPure, Temporaries, all_meant}
+use Rattle.lowering.specs.l_core.Steps.{Text}
 use Rattle.lowering.specs.Expressions.{ForUse, ForLater, and_then, ahead, lower, lower_all}
 use Rattle.lowering.specs.Statements.{loop_operands}
 use Rattle.lowering_laws.specs.Walks.{Spans, Keeps, stays, SameBelow, Lasts, AllLast, Comes, AllCome, Met}

@@ -2,23 +2,23 @@
 use Rattle.std.specs.Prelude.{◌≡◌, ℕ, zero, suc, ◌+◌, ◌-◌, ◌≤◌, nat_eq, nat_lt, nat_le, ◌&&◌, cond, Bool, true, false, List, [], ◌∷◌, ◌++◌, drop, filter, Option, Some, None, slice_get, if◌then◌else◌}
 use Rattle.std.proofs.Common.{refl, sym, ap, ◌∙◌, subst, arith}
 use Rattle.std.proofs.lemmas.Bool.{eqb-true, eq-eqb}
-use Rattle.simulation.specs.Machine.{Goes, Ends, Calls, Answers, Breaks, Entry, Enters, Refused}
-use Rattle.f_tree.specs.Values.{Datum, NoMeaning, Checked, Gives, Fails, IsInt, IsSpot}
-use Rattle.f_tree.specs.Terms.{Terms, NoMore, More}
-use Rattle.f_tree.specs.Facts as head
-use Rattle.f_tree.specs.Facts.{ToTestLoop, ToLoop, Head, Form, Passes, On, Mark, Plain, Opens, Arm, Closes, LoopMark, Line, ProgramUnit, Frame, Facts}
-use Rattle.f_tree.specs.World as fortran
-use Rattle.f_tree.specs.World.{World, Transfer, Round, RoundKind, While, Counted, Called, Passed, Happening, proceeding}
-use Rattle.f_tree.specs.Nests.{Range, loop_of, is_within, open_at}
-use Rattle.f_tree.specs.Association.{resume as source_resume}
-use Rattle.f_tree.specs.Places.{Landing, settle, is_place, innermost_last, tested_at, at_range_end, landed, arrived, passed, branched, gone_to, place_of_label, is_in_range}
-use Rattle.f_tree.specs.Step.{at_arm, next_arm}
-use Rattle.l_core.specs.Pures.{Pures, NoPure, Temporaries, AndPure}
-use Rattle.l_core.specs.Steps.{Step, Again, Text}
-use Rattle.l_core.specs.Machine.{View, Doing, to, to_place, jump, resume}
+use Rattle.fortran_laws.specs.simulation.Machine.{Goes, Ends, Calls, Answers, Breaks, Entry, Enters, Refused}
+use Rattle.fortran_laws.specs.f_tree.Values.{Datum, NoMeaning, Checked, Gives, Fails, IsInt, IsSpot}
+use Rattle.fortran_laws.specs.f_tree.Terms.{Terms, NoMore, More}
+use Rattle.fortran_laws.specs.f_tree.Facts as head
+use Rattle.fortran_laws.specs.f_tree.Facts.{ToTestLoop, ToLoop, Head, Form, Passes, On, Mark, Plain, Opens, Arm, Closes, LoopMark, Line, ProgramUnit, Frame, Facts}
+use Rattle.fortran_laws.specs.f_tree.World as fortran
+use Rattle.fortran_laws.specs.f_tree.World.{World, Transfer, Round, RoundKind, While, Counted, Called, Passed, Happening, proceeding}
+use Rattle.fortran_laws.specs.f_tree.Nests.{Range, loop_of, is_within, open_at}
+use Rattle.fortran_laws.specs.f_tree.Association.{resume as source_resume}
+use Rattle.fortran_laws.specs.f_tree.Places.{Landing, settle, is_place, innermost_last, tested_at, at_range_end, landed, arrived, passed, branched, gone_to, place_of_label, is_in_range}
+use Rattle.fortran_laws.specs.f_tree.Step.{at_arm, next_arm}
+use Rattle.lowering.specs.l_core.Pures.{Pures, NoPure, Temporaries, AndPure}
+use Rattle.lowering.specs.l_core.Steps.{Step, Again, Text}
+use Rattle.lowering.specs.l_core.Machine.{View, Doing, to, to_place, jump, resume}
 use Rattle.lowering.specs.Expressions.{Purpose, and_then, no_operand, plain, lower_all, Lowered}
 use Rattle.lowering.specs.Units.{free_at, is_counted, turn_size, own_start, own_end, way_back, turn_of, loop_at_line, loop_lowered, loop_exit}
-use Rattle.f_tree.specs.Setting.{IsIn, first_in, later_in}
+use Rattle.fortran_laws.specs.f_tree.Setting.{IsIn, first_in, later_in}
 use Rattle.lowering.specs.Statements.{loop_operands}
 use Rattle.lowering_laws.proofs.OperandLemmas.{loop_start}
 use Rattle.lowering_laws.specs.Walks.{Spans, at_step, SameBelow}

@@ -3,15 +3,15 @@ use Rattle.std.specs.Prelude.{◌≡◌, ℕ, zero, suc, ◌+◌, ◌<◌, ◌�
 use Rattle.std.specs.List.{list_all, list_any}
 use Rattle.std.proofs.Common.{refl, sym, ap, ◌∙◌, subst, arith, inl, inr, true≢false}
 use Rattle.std.proofs.lemmas.Bool.{cases_Bool, and_parts, eqb-true, eq-eqb, ltb-true, ltb-false, leb-true, lt-ltb, le-leb}
-use Rattle.f_tree.specs.Terms.{Terms}
-use Rattle.f_tree.specs.Facts as head
-use Rattle.f_tree.specs.Facts.{Controls, Head, Form, Passes, On, Mark, Plain, Opens, Arm, Closes, NoLoop, OpensLoop, ClosesLoop, LoopMark, Line, EntryPoint, UnitKind, MainProgram, SubroutineUnit, FunctionUnit, BlockDataUnit, ProgramUnit}
-use Rattle.f_tree.specs.World.{Called, TheMain, Procedure}
-use Rattle.f_tree.specs.Places.{has_label, label_from, place_of_label, loop_end_from, terminal_of, arm_after}
-use Rattle.f_tree.specs.Setting.{IsIn, first_in, later_in}
-use Rattle.f_tree.specs.Nests.{Range, loop_of, loop_at, range_to, range_by, ranges_from, ranges_of, is_within, open_at, goes_past, each_contained, is_no_loop, ends_at, ends_by, each_ends, AreNested, enters_range}
-use Rattle.f_tree.specs.Association.{entry_of}
-use Rattle.f_tree.specs.Step.{contains, block_is_entered, behind_terminal, block_end, enters_from, enters_block}
+use Rattle.fortran_laws.specs.f_tree.Terms.{Terms}
+use Rattle.fortran_laws.specs.f_tree.Facts as head
+use Rattle.fortran_laws.specs.f_tree.Facts.{Controls, Head, Form, Passes, On, Mark, Plain, Opens, Arm, Closes, NoLoop, OpensLoop, ClosesLoop, LoopMark, Line, EntryPoint, UnitKind, MainProgram, SubroutineUnit, FunctionUnit, BlockDataUnit, ProgramUnit}
+use Rattle.fortran_laws.specs.f_tree.World.{Called, TheMain, Procedure}
+use Rattle.fortran_laws.specs.f_tree.Places.{has_label, label_from, place_of_label, loop_end_from, terminal_of, arm_after}
+use Rattle.fortran_laws.specs.f_tree.Setting.{IsIn, first_in, later_in}
+use Rattle.fortran_laws.specs.f_tree.Nests.{Range, loop_of, loop_at, range_to, range_by, ranges_from, ranges_of, is_within, open_at, goes_past, each_contained, is_no_loop, ends_at, ends_by, each_ends, AreNested, enters_range}
+use Rattle.fortran_laws.specs.f_tree.Association.{entry_of}
+use Rattle.fortran_laws.specs.f_tree.Step.{contains, block_is_entered, behind_terminal, block_end, enters_from, enters_block}
 use Rattle.fortran_laws.proofs.NestLaws.{range_of_loop, none_at_first, open_is_within, within_is_open, known_behind, innermost_first}
 use Rattle.lowering.specs.Units.{ended_at}
 use Rattle.lowering_laws.specs.Layer.{AllEnd, NoneEnds, IsChain, SameOpen, Reaches, passes_other, by_all, by_those, LabelReaches, ControlsReach, BranchesWell, HeadBranches}

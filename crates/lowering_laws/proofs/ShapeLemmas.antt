@@ -1,13 +1,13 @@
 -- Forms over operands: their lowering and their valuing, each by the operands; expressions that take no steps; temporaries that grow.
 use Rattle.std.specs.Prelude.{◌≡◌, ℕ, ◌≤◌, Bool, true, false, ◌&&◌, ◌||◌, List, [], ◌∷◌, ◌++◌}
 use Rattle.std.proofs.Common.{refl, sym, ap, ◌∙◌, arith, true≢false}
-use Rattle.f_tree.specs.Values.{Bytes, Datum, Checked, Gives, Fails}
-use Rattle.f_tree.specs.Terms.{Operator, Add, Subtract, Multiply, Divide, IsLess, IsLessOrEqual, IsEqual, IsNotEqual, IsGreater, IsGreaterOrEqual, Both, Either, Same, Different, Function, Term, Val, Fetch, At, All, Element, Alone, Part, Joined, Before, Between, Intrinsically, Refer, Bind, Bound, Terms, NoMore, More, refers, any_refers}
-use Rattle.f_tree.specs.Facts.{Facts, Frame}
-use Rattle.f_tree.specs.Store.{Store}
-use Rattle.f_tree.specs.Valuing.{Red, Valued, Bad, Asks, then_by, at_once, prefixed, operated, Left, Decided, Wants, Wrong, left_of, right_after, applied, element, alone, part, pieces, joined, fetched, bound_to, whole, array_whole, reduce, reduce_all}
-use Rattle.l_core.specs.Pures.{Pure, Temporary, Pures, NoPure}
-use Rattle.l_core.specs.Steps.{Step}
+use Rattle.fortran_laws.specs.f_tree.Values.{Bytes, Datum, Checked, Gives, Fails}
+use Rattle.fortran_laws.specs.f_tree.Terms.{Operator, Add, Subtract, Multiply, Divide, IsLess, IsLessOrEqual, IsEqual, IsNotEqual, IsGreater, IsGreaterOrEqual, Both, Either, Same, Different, Function, Term, Val, Fetch, At, All, Element, Alone, Part, Joined, Before, Between, Intrinsically, Refer, Bind, Bound, Terms, NoMore, More, refers, any_refers}
+use Rattle.fortran_laws.specs.f_tree.Facts.{Facts, Frame}
+use Rattle.fortran_laws.specs.f_tree.Store.{Store}
+use Rattle.fortran_laws.specs.f_tree.Valuing.{Red, Valued, Bad, Asks, then_by, at_once, prefixed, operated, Left, Decided, Wants, Wrong, left_of, right_after, applied, element, alone, part, pieces, joined, fetched, bound_to, whole, array_whole, reduce, reduce_all}
+use Rattle.lowering.specs.l_core.Pures.{Pure, Temporary, Pures, NoPure}
+use Rattle.lowering.specs.l_core.Steps.{Step}
 use Rattle.lowering.specs.Expressions.{Purpose, ForUse, ForCall, ForReading, ForLater, Lowered, plain, and_then, no_operand, ahead, Shape, AsFetch, AsElement, AsAlone, AsPart, AsJoined, AsBefore, AsBetween, AsFunction, AsReference, is_library, for_place, for_function, for_fetch, operand_purpose, kept_steps, kept_free, function_steps, function_free, closing, closed_free, shaped, is_kept, shape_takes, takes_steps, any_takes, may_decide, guarded, lowered_between, in_order, lower, lower_all}
 use Rattle.lowering_laws.proofs.WalkLemmas.{IsAtOnce}
 use Rattle.lowering_laws.specs.Midway.{formed, finish, Fits, of_fetch, of_element, of_alone, of_part, of_joined, of_before, of_between, of_function, of_reference}

@@ -1,31 +1,34 @@
 -- Each step of a unit is followed by the steps of its text.
-use Rattle.std.specs.Prelude.{◌≡◌, ℕ, zero, suc, ◌+◌, ◌≤◌, ℤ, pos, int_lt, Bool, true, false, not, ◌&&◌, List, [], ◌∷◌, length, Option, Some, None, slice_get, bytes_eq, negsuc, if◌then◌else◌}
+use Rattle.std.specs.Prelude.{◌≡◌, ℕ, zero, suc, ◌+◌, ◌<◌, ◌≤◌, ℤ, pos, nat_lt, int_lt, Bool, true, false, not, ◌&&◌, List, [], ◌∷◌, length, map, Option, Some, None, slice_get, bytes_eq, negsuc, if◌then◌else◌}
 use Rattle.std.specs.Ordering.{int_eq}
 use Rattle.std.proofs.Common.{refl, sym, ap, ◌∙◌, subst, arith}
-use Rattle.simulation.specs.Machine.{Goes, Ends, Breaks}
-use Rattle.f_tree.specs.Values as value
-use Rattle.f_tree.specs.Values.{Bytes, Spot, Datum, IsLog, IsSpot, Nothing, BadAssignedLabel, Checked, Gives, Fails, given_that}
-use Rattle.f_tree.specs.Terms.{IsLess, IsEqual, AsSubroutine, Terms}
-use Rattle.f_tree.specs.Store.{Store, Whole, Label, Number, Truth, define, define_label, label_at, fetch}
-use Rattle.f_tree.specs.Facts.{ToSet, ToSetLabel, ToGo, ToPick, ToGoAssigned, ToGoBySign, ToGuard, ToEnterArm, ToTestLoop, ToCall, ToReturn, ToStop, ToBegin, ToTransfer, ToFinish, ToAuxiliary, ToEnd, Head, Form, Passes, On, Line, UnitKind, MainProgram, SubroutineUnit, FunctionUnit, BlockDataUnit, Frame, ToLoop}
-use Rattle.f_tree.specs.Valuing.{operated, on_integers, left_of}
-use Rattle.f_tree.specs.World as fortran
-use Rattle.f_tree.specs.World.{World, Round, While, Happening, proceeding}
-use Rattle.f_tree.specs.Nests.{loop_of, open_at}
-use Rattle.f_tree.specs.Association.{answer, alternate_of, result_from, result_given, cut_to}
-use Rattle.f_tree.specs.Places.{place_of_label, terminal_of, arm_after, passed, gone_to}
-use Rattle.f_tree.specs.Step.{onward, go, onward_with, guarded, arm_entered, loop_tested, nth_label, contains, is_allowed, enters_block, name_of, gone_by, by_sign, deed, stop_ending}
-use Rattle.f_tree.specs.Step as source
-use Rattle.l_core.specs.Pures.{Pure, Constant, Operated, Pures, NoPure, AndPure, Temporaries, where_wanted, meant, all_meant}
-use Rattle.l_core.specs.Steps.{Acting, Starts, Takes, Finishes, Auxiliary, Step, Put, PutLabel, Unless, Jump, Select, JumpBy, CallSub, Back, BackBy, Halt, Acts, Text}
-use Rattle.l_core.specs.Machine.{Doing, step, done, storing, put_at, put_label_at, testing, to, jump, selecting, label_held, jumping, calling, answering, answering_by, resting, course_of, coursing, acting}
-use Rattle.l_core.specs.Machine as target
+use Rattle.std.proofs.lemmas.Bool.{lt-ltb, le-ltb}
+use Rattle.std.proofs.lemmas.List.{length-map}
+use Rattle.fortran_laws.specs.simulation.Machine.{Goes, Ends, Breaks}
+use Rattle.fortran_laws.specs.f_tree.Values as value
+use Rattle.fortran_laws.specs.f_tree.Values.{Bytes, Spot, Datum, IsLog, IsSpot, Nothing, BadAssignedLabel, Checked, Gives, Fails, given_that}
+use Rattle.fortran_laws.specs.f_tree.Terms.{IsLess, IsEqual, AsSubroutine, Terms}
+use Rattle.fortran_laws.specs.f_tree.Store.{Store, Whole, Label, Number, Truth, define, define_label, label_at, fetch}
+use Rattle.fortran_laws.specs.f_tree.Facts.{ToSet, ToSetLabel, ToGo, ToPick, ToGoAssigned, ToGoBySign, ToGuard, ToEnterArm, ToTestLoop, ToCall, ToReturn, ToStop, ToBegin, ToTransfer, ToFinish, ToAuxiliary, ToEnd, Head, Form, Passes, On, Line, UnitKind, MainProgram, SubroutineUnit, FunctionUnit, BlockDataUnit, Frame, ToLoop}
+use Rattle.fortran_laws.specs.f_tree.Valuing.{operated, on_integers, left_of}
+use Rattle.fortran_laws.specs.f_tree.World as fortran
+use Rattle.fortran_laws.specs.f_tree.World.{World, Round, While, Happening, proceeding}
+use Rattle.fortran_laws.specs.f_tree.Nests.{loop_of, open_at}
+use Rattle.fortran_laws.specs.f_tree.Association.{answer, alternate_of, result_from, result_given, cut_to}
+use Rattle.fortran_laws.specs.f_tree.Places.{place_of_label, terminal_of, arm_after, passed, gone_to}
+use Rattle.fortran_laws.specs.f_tree.Step.{onward, go, onward_with, guarded, arm_entered, loop_tested, nth_label, contains, is_allowed, enters_block, name_of, gone_by, by_sign, deed, stop_ending}
+use Rattle.fortran_laws.specs.f_tree.Step as source
+use Rattle.lowering.specs.l_core.Pures.{Pure, Constant, Operated, Pures, NoPure, AndPure, Temporaries, where_wanted, meant, all_meant}
+use Rattle.lowering.specs.l_core.Steps.{Acting, Starts, Takes, Finishes, Auxiliary, Step, Put, PutLabel, Unless, Jump, Select, JumpBy, CallSub, Back, BackBy, Halt, Acts, Text}
+use Rattle.lowering.specs.l_core.Machine.{Doing, step, done, storing, put_at, put_label_at, testing, to, jump, passed_by, selecting, label_held, passed_before, to_held, jumping, calling, answering, answering_by, resting, course_of, coursing, acting}
+use Rattle.lowering.specs.l_core.Machine as target
 use Rattle.lowering_laws.specs.Walks.{Spans, at_step, IsOrdinary, Keeps, stays, goes}
 use Rattle.lowering_laws.specs.Layer.{IsNoLabel, labels_in, IsAnswered, Found, KnowsLabels, IsCalled, IsFollowed, Leads, there, Arrives, plainly, ends_of, AllBefore, AreRounds, Reaches, BranchesWell, HeadBranches, BranchesNow, HasTransfer, IsFlat, IsNextArm, IsLoop, IsClosing, for_set, for_set_label, for_go, for_pick, for_go_assigned, for_go_by_sign, for_guard, for_arm, for_test, for_call, for_return, for_return_by, for_stop, for_end, for_begin, for_item, for_finish, for_auxiliary, by_sign_steps, IsCode, Stands, IsLaidOut, IsPart, is_whole, is_under, for_loop}
-use Rattle.lowering_laws.proofs.WalkLemmas.{IsNoBranch, ordinary_by, spans_one, spans_first, spans_length}
-use Rattle.lowering.specs.Statements.{passes_label}
+use Rattle.lowering_laws.proofs.WalkLemmas.{IsNoBranch, ordinary_by, spans_one, spans_first, spans_length, choose_true, choose_false}
+use Rattle.lowering.specs.Statements.{each_once, passes_label}
 use Rattle.lowering.specs.Units.{free_at, loop_exit}
 use Rattle.lowering_laws.proofs.LabelLemmas.{fetch_none, contains_nth, answered_none, alternate_answered}
+use Rattle.lowering_laws.proofs.HeldLabels.{contains_once, held_there, held_passes, contained_allowed, allowed_contained}
 use Rattle.lowering_laws.proofs.CallLemmas.{call_alike, called_back}
 use Rattle.lowering_laws.proofs.TransferLemmas.{begin_alike, item_alike, finish_alike, auxiliary_alike}
 use Rattle.lowering_laws.proofs.PlaceLemmas.{code_stands, Alike, part_quiet, now_branches, at_form, leads_to_end, comes_to, arrives, next_arm_at, passes_behind, passes_on, goes_to_label}
@@ -77,6 +80,43 @@ nth_contained labels (pos zero) label e = absurd (cc)
 nth_contained labels (pos (suc n)) label e = contains_nth labels n label e
 nth_contained labels (negsuc n) label e = absurd (cc)
 
+-- ## The jumps of a computed GO TO
+
+-- they stand in the order of their labels
+jump_stands : (u : Text) {p q : ℕ} (labels : List ℕ) (n label : ℕ) → Spans u p (map Jump labels) q → slice_get labels n ≡ Some label → slice_get u.steps (p + n) ≡ Some (Jump label)
+jump_stands u [] n label spans e = absurd (cc)
+jump_stands u {p = p} (l ∷ ls) zero label spans e =
+    let at : p ≡ p + 0 = omega arith in
+    let same : l ≡ label = cc in
+    subst (λ z. slice_get u.steps z ≡ Some (Jump label)) at ((spans_first u spans).0 ∙ ap (λ l. Some (Jump l)) same)
+jump_stands u {p = p} (l ∷ ls) (suc n) label spans e =
+    let at : suc p + n ≡ p + suc n = omega arith in
+    subst (λ z. slice_get u.steps z ≡ Some (Jump label)) at (jump_stands u ls n label (spans_first u spans).1 e)
+
+is_one_of : (labels : List ℕ) (n label : ℕ) → slice_get labels n ≡ Some label → n < length labels
+is_one_of [] n label e = absurd (cc)
+is_one_of (l ∷ ls) zero label e = omega arith
+is_one_of (l ∷ ls) (suc n) label e = let less : n < length ls = is_one_of ls n label e in omega (arith, less)
+
+is_none_of : (labels : List ℕ) (n : ℕ) → slice_get labels n ≡ None → length labels ≤ n
+is_none_of [] n e = omega arith
+is_none_of (l ∷ ls) zero e = absurd (cc)
+is_none_of (l ∷ ls) (suc n) e = let less : length ls ≤ n = is_none_of ls n e in omega (arith, less)
+
+-- as many are passed as stand before that of the label that a number picks
+passes_to : (labels : List ℕ) (z : ℤ) (label : ℕ) → nth_label labels z ≡ Some label → slice_get labels (passed_by (length labels) z) ≡ Some label
+unfolding nth_label passed_by
+passes_to labels (pos zero) label e = absurd (cc)
+passes_to labels (pos (suc n)) label e = subst (λ k. slice_get labels k ≡ Some label) (sym (choose_true (nat_lt n (length labels)) n (length labels) (lt-ltb n (length labels) (is_one_of labels n label e)))) e
+passes_to labels (negsuc n) label e = absurd (cc)
+
+-- all are passed where it picks none
+passes_all : (labels : List ℕ) (z : ℤ) → nth_label labels z ≡ None → passed_by (length labels) z ≡ length labels
+unfolding nth_label passed_by
+passes_all labels (pos zero) e = refl
+passes_all labels (pos (suc n)) e = choose_false (nat_lt n (length labels)) n (length labels) (le-ltb n (length labels) (is_none_of labels n e))
+passes_all labels (negsuc n) e = refl
+
 pub whole_form : (form : Form) (j : ℕ) (head : Head) (ts : Terms) → IsPart form (Some j) head ts → form ≡ On head ts
 whole_form form j head ts (is_whole e) = e
 
@@ -123,48 +163,6 @@ module _ (u : Text) (laid : IsLaidOut u) (f : Frame) (h : ℕ) (μ : Found) (w :
   set_label_alike label (value.IsProc x) quiet end = tt
   set_label_alike label (value.IsLabel l) quiet end = tt
   set_label_alike label value.Nothing quiet end = tt
-
-  -- to the label that a number picks, or on
-  picked_alike : (x : Option ℕ) → loop_of line.form ≡ None → ((label : ℕ) → x ≡ Some label → Reaches u.facts.program i label) → suc q ≡ ends_of u i → Alike u μ (IsFollowed u q) (source.picked u.facts (record { frame = f; at = i; now = now; loops = rounds }) w x) (target.picked u (at_step f h q m) w x)
-  unfolding source.picked target.picked onward target.onward to go
-  picked_alike None quiet reach end = done_with w same (suc q) (omega arith) end quiet
-  picked_alike (Some label) quiet reach end = to_label label (reach label refl)
-
-  pick_alike : (labels : List ℕ) (d : Datum) → loop_of line.form ≡ None → ((label : ℕ) → contains labels label ≡ true → Reaches u.facts.program i label) → suc q ≡ ends_of u i → Alike u μ (IsFollowed u q) (deed u.facts (record { frame = f; at = i; now = now; loops = rounds }) w (ToPick labels) (d ∷ [])) (selecting u labels (at_step f h q m) w (Gives d))
-  unfolding deed selecting
-  pick_alike labels (value.IsInt z) quiet reach end = picked_alike (nth_label labels z) quiet (λ label e. reach label (nth_contained labels z label e)) end
-  pick_alike labels (IsSpot p) quiet reach end = tt
-  pick_alike labels (value.IsLog b) quiet reach end = tt
-  pick_alike labels (value.IsText cs) quiet reach end = tt
-  pick_alike labels (value.IsProc x) quiet reach end = tt
-  pick_alike labels (value.IsLabel l) quiet reach end = tt
-  pick_alike labels value.Nothing quiet reach end = tt
-
-  -- to the label that a place holds: where FORTRAN says so, it is of this unit and allowed
-  chosen_alike : (own inside : Bool) (label : ℕ) → (inside ≡ false → Reaches u.facts.program i label) →
-      Alike u μ (IsFollowed u q) (if own && not inside then go u.facts (record { frame = f; at = i; now = now; loops = rounds }) w label else Breaks BadAssignedLabel) (if own then jump u label (at_step f h q m) w else Breaks BadAssignedLabel)
-  unfolding go
-  chosen_alike true true label reach = tt
-  chosen_alike true false label reach = to_label label (reach refl)
-  chosen_alike false inside label reach = tt
-
-  held_alike : (labels : List ℕ) (x : Checked Whole) → Alike u μ (IsFollowed u q) (gone_by u.facts (record { frame = f; at = i; now = now; loops = rounds }) w labels x) (jumping u labels (at_step f h q m) w x)
-  unfolding gone_by jumping
-  held_alike labels (Gives (Label owner l)) =
-      chosen_alike (bytes_eq owner (name_of u.facts.program) && is_allowed labels l) (enters_block u.facts.program i (place_of_label u.facts.program l)) l (laid.assigned i l)
-  held_alike labels (Gives (Number z)) = tt
-  held_alike labels (Gives (Truth b)) = tt
-  held_alike labels (Fails act) = tt
-
-  assigned_alike : (labels : List ℕ) (d : Datum) → Alike u μ (IsFollowed u q) (deed u.facts (record { frame = f; at = i; now = now; loops = rounds }) w (ToGoAssigned labels) (d ∷ [])) (jumping u labels (at_step f h q m) w (label_held w.store d))
-  unfolding deed label_held
-  assigned_alike labels (IsSpot p) = held_alike labels (label_at w.store p)
-  assigned_alike labels (value.IsInt z) = tt
-  assigned_alike labels (value.IsLog b) = tt
-  assigned_alike labels (value.IsText cs) = tt
-  assigned_alike labels (value.IsProc x) = tt
-  assigned_alike labels (value.IsLabel l) = tt
-  assigned_alike labels value.Nothing = tt
 
   -- what a logical IF guards
   under_alike : (k : ℕ) (form : Form) → free_at u.facts.program i ≡ k → loop_of line.form ≡ None → BranchesWell u.facts.program i form → Stands u k None form (suc q) (ends_of u i) →
@@ -358,6 +356,149 @@ module _ (u : Text) (laid : IsLaidOut u) (f : Frame) (h : ℕ) (μ : Found) (w :
   signed_led below at above r p (value.IsLabel l) reach spans is = let one = spans_first u spans in record { upto = q; kept = m; way = stays; ordinary = ordinary_by u q _ one.0 tt; alike = tt }
   signed_led below at above r p value.Nothing reach spans is = let one = spans_first u spans in record { upto = q; kept = m; way = stays; ordinary = ordinary_by u q _ one.0 tt; alike = tt }
 
+  -- ## A computed GO TO
+
+  -- to one of the jumps behind, or past them all
+  select_to : (p : Pure) (count : ℕ) (z : ℤ) → slice_get u.steps q ≡ Some (Select p count) → meant u.facts f m w.store p ≡ Gives (value.IsInt z) →
+      step u (at_step f h q m) w ≡ Goes (at_step f h (suc q + passed_by count z) m) w
+  unfolding step done selecting target.past to
+  select_to p count z e is = ap (done u (at_step f h q m) w) e ∙ ap (selecting count (at_step f h q m) w) is
+
+  pick_led : (labels : List ℕ) (p : Pure) (z : ℤ) (x : Option ℕ) → nth_label labels z ≡ x → loop_of line.form ≡ None → ((label : ℕ) → contains labels label ≡ true → Reaches u.facts.program i label) →
+      Spans u q (Select p (length labels) ∷ map Jump labels) (ends_of u i) → meant u.facts f m w.store p ≡ Gives (value.IsInt z) →
+      Led u f h w μ q m (source.picked u.facts (record { frame = f; at = i; now = now; loops = rounds }) w x)
+  unfolding source.picked onward
+  pick_led labels p z None e quiet reach spans is =
+      let one = spans_first u spans in
+      let past : suc q + passed_by (length labels) z ≡ ends_of u i = ap (λ n. suc q + n) (passes_all labels z e ∙ sym (length-map labels Jump)) ∙ sym (spans_length u one.1) in
+      record {
+        upto = q;
+        kept = m;
+        way = stays;
+        ordinary = ordinary_by u q _ one.0 tt;
+        alike =
+            subst (λ x. Alike u μ (IsFollowed u q) (proceeding (passed u.facts.program f rounds i) w) x) (sym (select_to p (length labels) z one.0 is))
+            (done_with w same (suc q + passed_by (length labels) z) (omega arith) past quiet);
+      }
+  pick_led labels p z (Some label) e quiet reach spans is =
+      let one = spans_first u spans in
+      let r = suc q + passed_by (length labels) z in
+      let there' = jump_stands u labels (passed_by (length labels) z) label one.1 (passes_to labels z label e) in
+      record {
+        upto = r;
+        kept = m;
+        way = goes (ordinary_by u q _ one.0 tt) (select_to p (length labels) z one.0 is) (omega arith) stays;
+        ordinary = ordinary_by u r (Jump label) there' tt;
+        alike = jump_alike r label (reach label (nth_contained labels z label e)) there';
+      }
+
+  picked_led : (labels : List ℕ) (p : Pure) (d : Datum) → loop_of line.form ≡ None → ((label : ℕ) → contains labels label ≡ true → Reaches u.facts.program i label) →
+      Spans u q (Select p (length labels) ∷ map Jump labels) (ends_of u i) → meant u.facts f m w.store p ≡ Gives d →
+      Led u f h w μ q m (deed u.facts (record { frame = f; at = i; now = now; loops = rounds }) w (ToPick labels) (d ∷ []))
+  unfolding deed
+  picked_led labels p (value.IsInt z) quiet reach spans is = pick_led labels p z (nth_label labels z) refl quiet reach spans is
+  picked_led labels p (IsSpot s) quiet reach spans is = let one = spans_first u spans in record { upto = q; kept = m; way = stays; ordinary = ordinary_by u q _ one.0 tt; alike = tt }
+  picked_led labels p (value.IsLog b) quiet reach spans is = let one = spans_first u spans in record { upto = q; kept = m; way = stays; ordinary = ordinary_by u q _ one.0 tt; alike = tt }
+  picked_led labels p (value.IsText cs) quiet reach spans is = let one = spans_first u spans in record { upto = q; kept = m; way = stays; ordinary = ordinary_by u q _ one.0 tt; alike = tt }
+  picked_led labels p (value.IsProc x) quiet reach spans is = let one = spans_first u spans in record { upto = q; kept = m; way = stays; ordinary = ordinary_by u q _ one.0 tt; alike = tt }
+  picked_led labels p (value.IsLabel l) quiet reach spans is = let one = spans_first u spans in record { upto = q; kept = m; way = stays; ordinary = ordinary_by u q _ one.0 tt; alike = tt }
+  picked_led labels p value.Nothing quiet reach spans is = let one = spans_first u spans in record { upto = q; kept = m; way = stays; ordinary = ordinary_by u q _ one.0 tt; alike = tt }
+
+  -- ## An assigned GO TO
+
+  -- to the label that a place holds, where none are written: where FORTRAN says so, it is of this unit
+  chosen_alike : (own inside : Bool) (label : ℕ) → (inside ≡ false → Reaches u.facts.program i label) →
+      Alike u μ (IsFollowed u q) (if own && not inside then go u.facts (record { frame = f; at = i; now = now; loops = rounds }) w label else Breaks BadAssignedLabel) (if own then jump u label (at_step f h q m) w else Breaks BadAssignedLabel)
+  unfolding go
+  chosen_alike true true label reach = tt
+  chosen_alike true false label reach = to_label label (reach refl)
+  chosen_alike false inside label reach = tt
+
+  held_alike : (x : Checked Whole) → Alike u μ (IsFollowed u q) (gone_by u.facts (record { frame = f; at = i; now = now; loops = rounds }) w [] x) (jumping u [] (at_step f h q m) w x)
+  unfolding gone_by jumping to_held
+  held_alike (Gives (Label owner l)) =
+      chosen_alike (bytes_eq owner (name_of u.facts.program) && is_allowed [] l) (enters_block u.facts.program i (place_of_label u.facts.program l)) l (laid.assigned i l)
+  held_alike (Gives (Number z)) = tt
+  held_alike (Gives (Truth b)) = tt
+  held_alike (Fails act) = tt
+
+  assigned_alike : (d : Datum) → Alike u μ (IsFollowed u q) (deed u.facts (record { frame = f; at = i; now = now; loops = rounds }) w (ToGoAssigned []) (d ∷ [])) (jumping u [] (at_step f h q m) w (label_held w.store d))
+  unfolding deed label_held
+  assigned_alike (IsSpot p) = held_alike (label_at w.store p)
+  assigned_alike (value.IsInt z) = tt
+  assigned_alike (value.IsLog b) = tt
+  assigned_alike (value.IsText cs) = tt
+  assigned_alike (value.IsProc x) = tt
+  assigned_alike (value.IsLabel l) = tt
+  assigned_alike value.Nothing = tt
+
+  alone_led : (p : Pure) (d : Datum) → slice_get u.steps q ≡ Some (JumpBy p []) → meant u.facts f m w.store p ≡ Gives d →
+      Led u f h w μ q m (deed u.facts (record { frame = f; at = i; now = now; loops = rounds }) w (ToGoAssigned []) (d ∷ []))
+  unfolding step done given_that
+  alone_led p d e is = record {
+    upto = q;
+    kept = m;
+    way = stays;
+    ordinary = ordinary_by u q (JumpBy p []) e tt;
+    alike =
+        subst (λ x. Alike u μ (IsFollowed u q) (deed u.facts (record { frame = f; at = i; now = now; loops = rounds }) w (ToGoAssigned []) (d ∷ [])) x)
+        (sym (ap (done u (at_step f h q m) w) e ∙ ap (λ x. jumping u [] (at_step f h q m) w (given_that x (label_held w.store))) is)) (assigned_alike d);
+  }
+
+  -- to the jump behind that goes to the label which is held
+  held_to : (p : Pure) (labels : List ℕ) (s : Spot) (owner : Bytes) (l : ℕ) → slice_get u.steps q ≡ Some (JumpBy p labels) → meant u.facts f m w.store p ≡ Gives (IsSpot s) → label_at w.store s ≡ Gives (Label owner l) →
+      bytes_eq owner (name_of u.facts.program) ≡ true → contains labels l ≡ true → step u (at_step f h q m) w ≡ Goes (at_step f h (suc q + passed_before labels l) m) w
+  unfolding step done jumping label_held target.past to given_that
+  held_to p labels s owner l e is held own among =
+      ap (done u (at_step f h q m) w) e ∙ ap (λ x. jumping u labels (at_step f h q m) w (given_that x (label_held w.store))) is ∙ ap (jumping u labels (at_step f h q m) w) held
+      ∙ ap (λ b. if b && is_allowed labels l then to_held u labels l (at_step f h q m) w else Breaks BadAssignedLabel) own
+      ∙ ap (λ b. if b then to_held u labels l (at_step f h q m) w else Breaks BadAssignedLabel) (contained_allowed labels l among) ∙ held_passes u labels l (at_step f h q m) w among
+
+  among_led : (p : Pure) (labels : List ℕ) (s : Spot) (owner : Bytes) (l : ℕ) (own allowed inside : Bool) → bytes_eq owner (name_of u.facts.program) ≡ own → (allowed ≡ true → contains labels l ≡ true) →
+      enters_block u.facts.program i (place_of_label u.facts.program l) ≡ inside → Spans u q (JumpBy p (each_once labels) ∷ map Jump (each_once labels)) (ends_of u i) → meant u.facts f m w.store p ≡ Gives (IsSpot s) →
+      label_at w.store s ≡ Gives (Label owner l) → Led u f h w μ q m (if (own && allowed) && not inside then go u.facts (record { frame = f; at = i; now = now; loops = rounds }) w l else Breaks BadAssignedLabel)
+  among_led p labels s owner l true true false mine among outside spans is held =
+      let one = spans_first u spans in
+      let once = contains_once labels l ∙ among refl in
+      let r = suc q + passed_before (each_once labels) l in
+      let there' = jump_stands u (each_once labels) (passed_before (each_once labels) l) l one.1 (held_there (each_once labels) l once) in
+      record {
+        upto = r;
+        kept = m;
+        way = goes (ordinary_by u q _ one.0 tt) (held_to p (each_once labels) s owner l one.0 is held mine once) (omega arith) stays;
+        ordinary = ordinary_by u r (Jump l) there' tt;
+        alike = jump_alike r l (laid.assigned i l outside) there';
+      }
+  among_led p labels s owner l true true true mine among outside spans is held = let one = spans_first u spans in record { upto = q; kept = m; way = stays; ordinary = ordinary_by u q _ one.0 tt; alike = tt }
+  among_led p labels s owner l true false inside mine among outside spans is held = let one = spans_first u spans in record { upto = q; kept = m; way = stays; ordinary = ordinary_by u q _ one.0 tt; alike = tt }
+  among_led p labels s owner l false allowed inside mine among outside spans is held = let one = spans_first u spans in record { upto = q; kept = m; way = stays; ordinary = ordinary_by u q _ one.0 tt; alike = tt }
+
+  whole_led : (p : Pure) (k : ℕ) (ks : List ℕ) (s : Spot) (x : Checked Whole) → label_at w.store s ≡ x → Spans u q (JumpBy p (each_once (k ∷ ks)) ∷ map Jump (each_once (k ∷ ks))) (ends_of u i) → meant u.facts f m w.store p ≡ Gives (IsSpot s) →
+      Led u f h w μ q m (gone_by u.facts (record { frame = f; at = i; now = now; loops = rounds }) w (k ∷ ks) x)
+  unfolding gone_by
+  whole_led p k ks s (Gives (Label owner l)) held spans is =
+      among_led p (k ∷ ks) s owner l (bytes_eq owner (name_of u.facts.program)) (is_allowed (k ∷ ks) l) (enters_block u.facts.program i (place_of_label u.facts.program l)) refl (allowed_contained k ks l) refl spans is held
+  whole_led p k ks s (Gives (Number z)) held spans is = let one = spans_first u spans in record { upto = q; kept = m; way = stays; ordinary = ordinary_by u q _ one.0 tt; alike = tt }
+  whole_led p k ks s (Gives (Truth b)) held spans is = let one = spans_first u spans in record { upto = q; kept = m; way = stays; ordinary = ordinary_by u q _ one.0 tt; alike = tt }
+  whole_led p k ks s (Fails act) held spans is = let one = spans_first u spans in record { upto = q; kept = m; way = stays; ordinary = ordinary_by u q _ one.0 tt; alike = tt }
+
+  listed_led : (p : Pure) (k : ℕ) (ks : List ℕ) (d : Datum) → Spans u q (JumpBy p (each_once (k ∷ ks)) ∷ map Jump (each_once (k ∷ ks))) (ends_of u i) → meant u.facts f m w.store p ≡ Gives d →
+      Led u f h w μ q m (deed u.facts (record { frame = f; at = i; now = now; loops = rounds }) w (ToGoAssigned (k ∷ ks)) (d ∷ []))
+  unfolding deed
+  listed_led p k ks (IsSpot s) spans is = whole_led p k ks s (label_at w.store s) refl spans is
+  listed_led p k ks (value.IsInt z) spans is = let one = spans_first u spans in record { upto = q; kept = m; way = stays; ordinary = ordinary_by u q _ one.0 tt; alike = tt }
+  listed_led p k ks (value.IsLog b) spans is = let one = spans_first u spans in record { upto = q; kept = m; way = stays; ordinary = ordinary_by u q _ one.0 tt; alike = tt }
+  listed_led p k ks (value.IsText cs) spans is = let one = spans_first u spans in record { upto = q; kept = m; way = stays; ordinary = ordinary_by u q _ one.0 tt; alike = tt }
+  listed_led p k ks (value.IsProc x) spans is = let one = spans_first u spans in record { upto = q; kept = m; way = stays; ordinary = ordinary_by u q _ one.0 tt; alike = tt }
+  listed_led p k ks (value.IsLabel l) spans is = let one = spans_first u spans in record { upto = q; kept = m; way = stays; ordinary = ordinary_by u q _ one.0 tt; alike = tt }
+  listed_led p k ks value.Nothing spans is = let one = spans_first u spans in record { upto = q; kept = m; way = stays; ordinary = ordinary_by u q _ one.0 tt; alike = tt }
+
+  assigned_led : (labels : List ℕ) (p : Pure) (d : Datum) → Spans u q (JumpBy p (each_once labels) ∷ map Jump (each_once labels)) (ends_of u i) → meant u.facts f m w.store p ≡ Gives d →
+      Led u f h w μ q m (deed u.facts (record { frame = f; at = i; now = now; loops = rounds }) w (ToGoAssigned labels) (d ∷ []))
+  unfolding each_once
+  assigned_led [] p d spans is = alone_led p d (spans_first u spans).0 is
+  assigned_led (k ∷ ks) p d spans is = listed_led p k ks d spans is
+
   -- ## All forms
 
   pub deed_alike : (k : ℕ) (x : Option ℕ) → ((j : ℕ) → x ≡ Some j → j ≡ i) → (head : Head) (ts left : Terms) (ps : Pures) (closing : List Step) (ds : List Datum) → ((label : Option ℕ) → head ≡ ToLoop label → ⊥) → free_at u.facts.program i ≡ k → IsPart line.form x head ts → HeadBranches u.facts.program i head left → IsClosing u k x head ts ps closing → Spans u q closing (ends_of u i) → all_meant u.facts f m w.store ps ≡ Gives ds →
@@ -378,12 +519,11 @@ module _ (u : Text) (laid : IsLaidOut u) (f : Frame) (h : ℕ) (μ : Found) (w :
       here (ToGo label) ds [] (Jump label) (jump u label (at_step f h q m) w) (spans_one u spans).0 tt (no_value u.facts f m w.store ds is) refl (to_label label well)
   deed_alike k x whole _ ts left _ _ ds no_do enough part well (for_pick {labels = labels} {p = p}) spans is none reach =
       let v = one_value u.facts f m w.store p ds is in
-      let one = spans_one u spans in
-      here (ToPick labels) ds (v.first ∷ []) (Select p labels) (selecting u labels (at_step f h q m) w (Gives v.first)) one.0 tt v.are (ap (selecting u labels (at_step f h q m) w) v.first_is) (pick_alike labels v.first (part_quiet line.form x (ToPick labels) ts part refl) well (sym one.1))
+      subst (λ z. Led u f h w μ q m (deed u.facts (record { frame = f; at = i; now = now; loops = rounds }) w (ToPick labels) z)) (sym v.are)
+      (picked_led labels p v.first (part_quiet line.form x (ToPick labels) ts part refl) well spans v.first_is)
   deed_alike k x whole _ ts left _ _ ds no_do enough part well (for_go_assigned {labels = labels} {place = place}) spans is none reach =
       let v = one_value u.facts f m w.store place ds is in
-      here (ToGoAssigned labels) ds (v.first ∷ []) (JumpBy place labels) (jumping u labels (at_step f h q m) w (label_held w.store v.first)) (spans_one u spans).0 tt v.are
-      (ap (λ x. jumping u labels (at_step f h q m) w (given_that x (label_held w.store))) v.first_is) (assigned_alike labels v.first)
+      subst (λ z. Led u f h w μ q m (deed u.facts (record { frame = f; at = i; now = now; loops = rounds }) w (ToGoAssigned labels) z)) (sym v.are) (assigned_led labels place v.first spans v.first_is)
   deed_alike k x whole _ ts left _ _ ds no_do enough part well (for_go_by_sign {below = below} {at = at} {above = above} {p = p}) spans is none reach =
       let v = one_value u.facts f m w.store p ds is in
       subst (λ z. Led u f h w μ q m (deed u.facts (record { frame = f; at = i; now = now; loops = rounds }) w (ToGoBySign below at above) z)) (sym v.are) (signed_led below at above (ends_of u i) p v.first well spans v.first_is)

@@ -1,21 +1,21 @@
 -- Behind the start of a transfer, an item and the end, and behind OPEN and its kin, the text goes on as FORTRAN does.
 use Rattle.std.specs.Prelude.{◌≡◌, ℕ, suc, ◌+◌, ◌≤◌, List, [], ◌∷◌, length, Option, Some, None, slice_get}
 use Rattle.std.proofs.Common.{refl, sym, ◌∙◌, subst, arith}
-use Rattle.simulation.specs.Machine.{Goes}
-use Rattle.f_tree.specs.Values.{Datum}
-use Rattle.f_tree.specs.Terms.{Terms, NoMore, More}
-use Rattle.f_tree.specs.Facts.{Direction, Layout, Controls, AuxiliaryKind, Item, Repeated, Turn, Work, Done, Before, ToBegin, ToTransfer, ToRepeat, ToTurn, ToFinish, ToAuxiliary, Head, On, Line, Frame}
-use Rattle.f_tree.specs.World as fortran
-use Rattle.f_tree.specs.World.{World, Transfer, Round, proceeding}
-use Rattle.f_tree.specs.Courses.{Course, Further, IsDone, Branches, StopsWith, NotSaid}
-use Rattle.f_tree.specs.Nests.{loop_of, open_at}
-use Rattle.f_tree.specs.Transfers.{next_of, begins, item_done, finished}
-use Rattle.f_tree.specs.UnitStatements.{auxiliary}
-use Rattle.f_tree.specs.Step.{onward, go, coursed, deed}
-use Rattle.l_core.specs.Pures.{Temporaries}
-use Rattle.l_core.specs.Steps.{Starts, Takes, Finishes, Auxiliary, Step, Text}
-use Rattle.l_core.specs.Machine as target
-use Rattle.l_core.specs.Machine.{to, past, course_of, coursing}
+use Rattle.fortran_laws.specs.simulation.Machine.{Goes}
+use Rattle.fortran_laws.specs.f_tree.Values.{Datum}
+use Rattle.fortran_laws.specs.f_tree.Terms.{Terms, NoMore, More}
+use Rattle.fortran_laws.specs.f_tree.Facts.{Direction, Layout, Controls, AuxiliaryKind, Item, Repeated, Turn, Work, Done, Before, ToBegin, ToTransfer, ToRepeat, ToTurn, ToFinish, ToAuxiliary, Head, On, Line, Frame}
+use Rattle.fortran_laws.specs.f_tree.World as fortran
+use Rattle.fortran_laws.specs.f_tree.World.{World, Transfer, Round, proceeding}
+use Rattle.fortran_laws.specs.f_tree.Courses.{Course, Further, IsDone, Branches, StopsWith, NotSaid}
+use Rattle.fortran_laws.specs.f_tree.Nests.{loop_of, open_at}
+use Rattle.fortran_laws.specs.f_tree.Transfers.{next_of, begins, item_done, finished}
+use Rattle.fortran_laws.specs.f_tree.UnitStatements.{auxiliary}
+use Rattle.fortran_laws.specs.f_tree.Step.{onward, go, coursed, deed}
+use Rattle.lowering.specs.l_core.Pures.{Temporaries}
+use Rattle.lowering.specs.l_core.Steps.{Starts, Takes, Finishes, Auxiliary, Step, Text}
+use Rattle.lowering.specs.l_core.Machine as target
+use Rattle.lowering.specs.l_core.Machine.{to, past, course_of, coursing}
 use Rattle.lowering.specs.Units.{free_at}
 use Rattle.lowering_laws.specs.Walks.{Spans, at_step}
 use Rattle.lowering_laws.specs.Layer.{Found, IsCalled, Leads, there, plainly, ends_of, AreRounds, ControlsReach, BranchesNow, IsOwn, HasTransfer, IsCode, Stands, IsLaidOut, is_under}

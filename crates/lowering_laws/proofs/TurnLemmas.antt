@@ -6,7 +6,7 @@ use Rattle.std.proofs.lemmas.Bool.{cases_Bool, ltb-true, ltb-false, le-ltb}
 use Rattle.std.proofs.lemmas.Int.{ints}
 use Rattle.std.proofs.lemmas.Nat.{div-mul-add, div-add-mod', div_below}
 use lib.IntN.{+ℤ_assoc, +ℤ_comm, +ℤ_invl, neg_ℤ-+ℤ}
-use Rattle.f_tree.specs.Step.{turns_of}
+use Rattle.fortran_laws.specs.f_tree.Step.{turns_of}
 
 -- does the variable's value allow a turn
 abbrev pub allows : ℤ → ℤ → ℤ → Bool

@@ -2,13 +2,13 @@
 use Rattle.std.specs.Prelude.{◌≡◌, ℕ, suc, ◌+◌, length, ◌<◌, ◌≤◌, nat_eq, Bool, true, false, List, [], ◌∷◌, ◌++◌, Option, Some, slice_get, if◌then◌else◌}
 use Rattle.std.proofs.Common.{refl, sym, ap, ◌∙◌, subst, arith, true≢false}
 use Rattle.std.proofs.lemmas.Bool.{eqb-true, eq-eqb}
-use Rattle.f_tree.specs.Values.{Datum, Checked, Gives, Fails, given_that}
-use Rattle.f_tree.specs.Facts.{Facts, Frame}
-use Rattle.f_tree.specs.Store.{Store}
-use Rattle.f_tree.specs.Valuing.{Red, Valued, Bad, Asks, then_by, at_once}
-use Rattle.f_tree.specs.World.{World}
-use Rattle.l_core.specs.Pures.{Pure, Temporary, Pures, NoPure, AndPure, Temporaries, with_kept, if_kept, meant, all_meant}
-use Rattle.l_core.specs.Steps.{Step, Branch, Text}
+use Rattle.fortran_laws.specs.f_tree.Values.{Datum, Checked, Gives, Fails, given_that}
+use Rattle.fortran_laws.specs.f_tree.Facts.{Facts, Frame}
+use Rattle.fortran_laws.specs.f_tree.Store.{Store}
+use Rattle.fortran_laws.specs.f_tree.Valuing.{Red, Valued, Bad, Asks, then_by, at_once}
+use Rattle.fortran_laws.specs.f_tree.World.{World}
+use Rattle.lowering.specs.l_core.Pures.{Pure, Temporary, Pures, NoPure, AndPure, Temporaries, with_kept, if_kept, meant, all_meant}
+use Rattle.lowering.specs.l_core.Steps.{Step, Branch, Text}
 use Rattle.lowering_laws.specs.Walks.{Spans, nothing, further, IsOrdinary, Keeps, stays, goes, SameBelow, Lasts, AllLast, Follows, Met}
 
 -- valuing comes to no call

@@ -1,14 +1,14 @@
 -- Program units whose lowering is computed.
 use Rattle.std.specs.Prelude.{ℕ, pos, false, List, [], ◌∷◌, Option, Some, None, option_map}
-use Rattle.f_tree.specs.declared.names.Basic.TheVariants.{Integer}
-use Rattle.f_tree.specs.declared.names.Class.TheVariants as class
-use Rattle.f_tree.specs.Values.{Bytes, IsInt}
-use Rattle.f_tree.specs.Terms.{Add, IsLess, IsLessOrEqual, Both, AsFunction, Term, Val, Fetch, At, Alone, Between, Refer, NoMore, More, terms_opened}
-use Rattle.f_tree.specs.Facts.{Input, Output, Listed, UnitWord, Controls, Item, Done, Before, MainProgram, ToSet, ToGo, ToGuard, ToEnterArm, ToLoop, ToTestLoop, ToBegin, ToEnd, Form, Passes, On, Mark, Plain, Opens, Arm, Closes, NoLoop, Line, Attribute, Facts}
-use Rattle.f_tree.specs.Places.{place_of_label, places_opened}
-use Rattle.f_tree.specs.Nests.{nests_opened}
-use Rattle.l_core.specs.Pures.{Pure, Constant, Temporary, Load, Name, FirstOf, Operated, NoPure, AndPure}
-use Rattle.l_core.specs.Steps.{Starts, Takes, Finishes, Text, Step, Keep, Put, Unless, Skip, Again, Jump, Pass, CallFor, Back, Acts}
+use Rattle.fortran_laws.specs.f_tree.declared.names.Basic.TheVariants.{Integer}
+use Rattle.fortran_laws.specs.f_tree.declared.names.Class.TheVariants as class
+use Rattle.fortran_laws.specs.f_tree.Values.{Bytes, IsInt}
+use Rattle.fortran_laws.specs.f_tree.Terms.{Add, IsLess, IsLessOrEqual, Both, AsFunction, Term, Val, Fetch, At, Alone, Between, Refer, NoMore, More, terms_opened}
+use Rattle.fortran_laws.specs.f_tree.Facts.{Input, Output, Listed, UnitWord, Controls, Item, Done, Before, MainProgram, ToSet, ToGo, ToGuard, ToEnterArm, ToLoop, ToTestLoop, ToBegin, ToEnd, Form, Passes, On, Mark, Plain, Opens, Arm, Closes, NoLoop, Line, Attribute, Facts}
+use Rattle.fortran_laws.specs.f_tree.Places.{place_of_label, places_opened}
+use Rattle.fortran_laws.specs.f_tree.Nests.{nests_opened}
+use Rattle.lowering.specs.l_core.Pures.{Pure, Constant, Temporary, Load, Name, FirstOf, Operated, NoPure, AndPure}
+use Rattle.lowering.specs.l_core.Steps.{Starts, Takes, Finishes, Text, Step, Keep, Put, Unless, Skip, Again, Jump, Pass, CallFor, Back, Acts}
 use Rattle.lowering.specs.Expressions.{expressions_opened}
 use Rattle.lowering.specs.Statements.{statements_opened}
 use Rattle.lowering.specs.Units.{start_of, lines_marks, lowered_unit, units_opened}

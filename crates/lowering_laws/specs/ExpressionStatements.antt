@@ -1,12 +1,12 @@
 -- What is said of the steps of an expression. ANSI X3.9-1978, section 6.
 use Rattle.std.specs.Prelude.{ℕ, List}
-use Rattle.f_tree.specs.Values.{Datum}
-use Rattle.f_tree.specs.Terms.{Term, Terms}
-use Rattle.f_tree.specs.Facts.{Frame}
-use Rattle.f_tree.specs.Valuing.{reduce, reduce_all}
-use Rattle.f_tree.specs.World.{World}
-use Rattle.l_core.specs.Pures.{Pures, Temporaries}
-use Rattle.l_core.specs.Steps.{Text}
+use Rattle.fortran_laws.specs.f_tree.Values.{Datum}
+use Rattle.fortran_laws.specs.f_tree.Terms.{Term, Terms}
+use Rattle.fortran_laws.specs.f_tree.Facts.{Frame}
+use Rattle.fortran_laws.specs.f_tree.Valuing.{reduce, reduce_all}
+use Rattle.fortran_laws.specs.f_tree.World.{World}
+use Rattle.lowering.specs.l_core.Pures.{Pures, Temporaries}
+use Rattle.lowering.specs.l_core.Steps.{Text}
 use Rattle.lowering.specs.Expressions.{Purpose, lower, lower_all}
 use Rattle.lowering_laws.specs.Walks.{AllLast, Comes, AllCome, Met}
 use Rattle.lowering_laws.specs.Midway.{IsMidway, AreMidway}

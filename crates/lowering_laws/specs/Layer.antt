@@ -1,24 +1,24 @@
 -- A program unit and its lowered text as a pair of local simulation: the two share one store, and where the unit is at a statement, or in the
 -- midst of valuing its operands or of a list of items, the text is at the steps that are left of it.
-use Rattle.std.specs.Prelude.{◌≡◌, ℕ, pos, true, false, zero, suc, ◌+◌, ◌-◌, ◌<◌, ◌≤◌, Bool, not, ◌||◌, List, [], ◌∷◌, ◌++◌, length, drop, filter, Option, Some, None, slice_get, ℤ, ◌-ℤ◌, int_div}
-use Rattle.simulation.specs.LocalSimulation.{Kit, Pairing, Couple, Local}
-use Rattle.f_tree.specs.Values.{Bytes, Datum, IsInt, IsLabel, Spot, IsSpot}
-use Rattle.f_tree.specs.Terms.{IsLess, IsEqual, Wanted, AsSubroutine, AsFunction, Term, Val, Refer, Bind, Terms, NoMore, More}
-use Rattle.f_tree.specs.Facts.{Direction, Layout, Controls, AuxiliaryKind, Work, ToSet, ToSetLabel, ToGo, ToPick, ToGoAssigned, ToGoBySign, ToGuard, ToEnterArm, ToTestLoop, ToCall, ToReturn, ToStop, ToBegin, ToTransfer, ToRepeat, ToTurn, ToFinish, ToAuxiliary, ToEnd, Head, Form, Passes, On, Plain, Opens, Arm, Closes, Line, EntryPoint, ProgramUnit, UnitKind, SubroutineUnit, Frame, ToLoop}
-use Rattle.f_tree.specs.Places.{place_of_label, terminal_of, arm_after}
+use Rattle.std.specs.Prelude.{◌≡◌, ℕ, pos, true, false, zero, suc, ◌+◌, ◌-◌, ◌<◌, ◌≤◌, Bool, not, ◌||◌, List, [], ◌∷◌, ◌++◌, length, map, drop, filter, Option, Some, None, slice_get, ℤ, ◌-ℤ◌, int_div}
+use Rattle.fortran_laws.specs.simulation.LocalSimulation.{Kit, Pairing, Couple, Local}
+use Rattle.fortran_laws.specs.f_tree.Values.{Bytes, Datum, IsInt, IsLabel, Spot, IsSpot}
+use Rattle.fortran_laws.specs.f_tree.Terms.{IsLess, IsEqual, Wanted, AsSubroutine, AsFunction, Term, Val, Refer, Bind, Terms, NoMore, More}
+use Rattle.fortran_laws.specs.f_tree.Facts.{Direction, Layout, Controls, AuxiliaryKind, Work, ToSet, ToSetLabel, ToGo, ToPick, ToGoAssigned, ToGoBySign, ToGuard, ToEnterArm, ToTestLoop, ToCall, ToReturn, ToStop, ToBegin, ToTransfer, ToRepeat, ToTurn, ToFinish, ToAuxiliary, ToEnd, Head, Form, Passes, On, Plain, Opens, Arm, Closes, Line, EntryPoint, ProgramUnit, UnitKind, SubroutineUnit, Frame, ToLoop}
+use Rattle.fortran_laws.specs.f_tree.Places.{place_of_label, terminal_of, arm_after}
 use Rattle.std.specs.Ordering.{int_eq}
-use Rattle.f_tree.specs.Setting.{IsIn}
-use Rattle.f_tree.specs.Nests.{Range, loop_of, is_within, open_at}
-use Rattle.f_tree.specs.World as fortran
-use Rattle.f_tree.specs.World.{World, Transfer, Round, RoundKind, While, Counted, Called, Passed}
-use Rattle.f_tree.specs.Association.{entry_of}
-use Rattle.f_tree.specs.Transfers.{next_of}
-use Rattle.f_tree.specs.Step.{contains, enters_block, fortran as fortran_language, turns_of}
-use Rattle.l_core.specs.Pures.{Pure, Constant, Operated, Pures, NoPure, AndPure, Temporaries}
-use Rattle.l_core.specs.Steps.{Starts, Takes, Finishes, Auxiliary, Step, Put, PutLabel, Unless, Skip, Again, Jump, Select, JumpBy, Pass, CallSub, Branch, Back, BackBy, Halt, Acts, Text}
-use Rattle.l_core.specs.Machine.{View, lowered}
-use Rattle.l_core.specs.Costs.{cost, rest}
-use Rattle.lowering.specs.Statements.{wants_no_value, passes_label, branch_code, loop_operands, test_by, loop_test}
+use Rattle.fortran_laws.specs.f_tree.Setting.{IsIn}
+use Rattle.fortran_laws.specs.f_tree.Nests.{Range, loop_of, is_within, open_at}
+use Rattle.fortran_laws.specs.f_tree.World as fortran
+use Rattle.fortran_laws.specs.f_tree.World.{World, Transfer, Round, RoundKind, While, Counted, Called, Passed}
+use Rattle.fortran_laws.specs.f_tree.Association.{entry_of}
+use Rattle.fortran_laws.specs.f_tree.Transfers.{next_of}
+use Rattle.fortran_laws.specs.f_tree.Step.{contains, enters_block, fortran as fortran_language, turns_of}
+use Rattle.lowering.specs.l_core.Pures.{Pure, Constant, Operated, Pures, NoPure, AndPure, Temporaries}
+use Rattle.lowering.specs.l_core.Steps.{Starts, Takes, Finishes, Auxiliary, Step, Put, PutLabel, Unless, Skip, Again, Jump, Select, JumpBy, Pass, CallSub, Branch, Back, BackBy, Halt, Acts, Text}
+use Rattle.lowering.specs.l_core.Machine.{View, lowered}
+use Rattle.lowering.specs.l_core.Costs.{cost, rest}
+use Rattle.lowering.specs.Statements.{each_once, wants_no_value, passes_label, branch_code, loop_operands, test_by, loop_test}
 use Rattle.lowering.specs.Units.{free_at, own_start, own_end, loop_exit, turn_size, turn_of, loop_lowered}
 use Rattle.lowering_laws.specs.Walks.{Spans, at_step, IsOrdinary}
 use Rattle.lowering_laws.specs.Midway.{Mode, InOrder, OfLoop, lowered_as, AreIn, LoopLast}
@@ -313,8 +313,8 @@ mutual
     for_set : {o : Option ℕ} {ts : Terms} {p place : Pure} → IsClosing u k o ToSet ts (AndPure p (AndPure place NoPure)) (Put place p ∷ [])
     for_set_label : {o : Option ℕ} {ts : Terms} {label : ℕ} {place : Pure} → IsClosing u k o (ToSetLabel label) ts (AndPure place NoPure) (PutLabel place label ∷ [])
     for_go : {o : Option ℕ} {ts : Terms} {label : ℕ} → IsClosing u k o (ToGo label) ts NoPure (Jump label ∷ [])
-    for_pick : {o : Option ℕ} {ts : Terms} {labels : List ℕ} {p : Pure} → IsClosing u k o (ToPick labels) ts (AndPure p NoPure) (Select p labels ∷ [])
-    for_go_assigned : {o : Option ℕ} {ts : Terms} {labels : List ℕ} {place : Pure} → IsClosing u k o (ToGoAssigned labels) ts (AndPure place NoPure) (JumpBy place labels ∷ [])
+    for_pick : {o : Option ℕ} {ts : Terms} {labels : List ℕ} {p : Pure} → IsClosing u k o (ToPick labels) ts (AndPure p NoPure) (Select p (length labels) ∷ map Jump labels)
+    for_go_assigned : {o : Option ℕ} {ts : Terms} {labels : List ℕ} {place : Pure} → IsClosing u k o (ToGoAssigned labels) ts (AndPure place NoPure) (JumpBy place (each_once labels) ∷ map Jump (each_once labels))
     for_go_by_sign : {o : Option ℕ} {ts : Terms} {below at above : ℕ} {p : Pure} → IsClosing u k o (ToGoBySign below at above) ts (AndPure p NoPure) (by_sign_steps below at above p)
     for_guard : {o : Option ℕ} {ts : Terms} {form : Form} {p : Pure} {under : List Step} → IsCode u k None form under → IsClosing u k o (ToGuard form) ts (AndPure p NoPure) (Unless p (length under) ∷ under)
     for_arm : {i n : ℕ} {ts : Terms} {p : Pure} → IsFlat u i → ((j : ℕ) → arm_after u.facts.program i ≡ Some j → IsNextArm u i n j) →

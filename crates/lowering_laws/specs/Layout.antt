@@ -2,12 +2,12 @@
 -- STOP and END, READ, WRITE, PRINT, OPEN and its kin, and statements that take no step. So far without implied DO and the assignment of texts.
 use Rattle.std.specs.Prelude.{◌≡◌, ℕ, suc, nat_eq, Bool, true, false, not, ◌&&◌, ◌||◌, List, [], ◌∷◌, Option, Some, None}
 use Rattle.std.specs.List.{list_all}
-use Rattle.simulation.specs.LocalSimulation.{Local}
-use Rattle.f_tree.specs.Terms.{Terms, NoMore, More}
-use Rattle.f_tree.specs.Facts.{Controls, Job, Item, Repeated, Turn, Work, Done, Before, ToSet, ToSetLabel, ToGo, ToPick, ToGoAssigned, ToGoBySign, ToGuard, ToEnterArm, ToTestLoop, ToCall, ToReturn, ToStop, ToBegin, ToAuxiliary, ToEnd, Head, Form, Passes, On, Mark, Plain, Opens, Arm, Closes, Line, EntryPoint, ProgramUnit, Facts, ToLoop}
-use Rattle.f_tree.specs.Places.{place_of_label, arm_after}
-use Rattle.f_tree.specs.Nests.{loop_of, is_within, is_no_loop, ranges_of, open_at, enters_range, AreNested}
-use Rattle.l_core.specs.Steps.{Text}
+use Rattle.fortran_laws.specs.simulation.LocalSimulation.{Local}
+use Rattle.fortran_laws.specs.f_tree.Terms.{Terms, NoMore, More}
+use Rattle.fortran_laws.specs.f_tree.Facts.{Controls, Job, Item, Repeated, Turn, Work, Done, Before, ToSet, ToSetLabel, ToGo, ToPick, ToGoAssigned, ToGoBySign, ToGuard, ToEnterArm, ToTestLoop, ToCall, ToReturn, ToStop, ToBegin, ToAuxiliary, ToEnd, Head, Form, Passes, On, Mark, Plain, Opens, Arm, Closes, Line, EntryPoint, ProgramUnit, Facts, ToLoop}
+use Rattle.fortran_laws.specs.f_tree.Places.{place_of_label, arm_after}
+use Rattle.fortran_laws.specs.f_tree.Nests.{loop_of, is_within, is_no_loop, ranges_of, open_at, enters_range, AreNested}
+use Rattle.lowering.specs.l_core.Steps.{Text}
 use Rattle.lowering.specs.Units.{lowered_unit}
 use Rattle.lowering_laws.specs.Layer.{passes_other, IsLaidOut, lower_couple, IsPositive}
 

@@ -1,13 +1,13 @@
 -- Where the steps of an expression stand in the midst of their work: what the expression has become by the answers so far, beside the
 -- position in the code of the whole.
 use Rattle.std.specs.Prelude.{◌≡◌, ℕ, suc, true, false, List, [], ◌∷◌, ◌++◌, length}
-use Rattle.f_tree.specs.Values.{Bytes, Datum, Nothing, NoMeaning, Gives}
-use Rattle.f_tree.specs.Terms.{Operator, Term, Val, Fetch, Element, Alone, Part, Joined, Before, Between, Intrinsically, Refer, Bind, Terms, NoMore, More, any_refers, valued_then}
-use Rattle.f_tree.specs.Store.{Store}
-use Rattle.f_tree.specs.Facts.{Facts, Frame}
-use Rattle.f_tree.specs.Valuing.{Red, Bad, Asks, at_once, prefixed, operated, Wants, left_of, applied, element, alone, part, pieces, joined, fetched}
-use Rattle.l_core.specs.Pures.{Pure, Pures, NoPure, AndPure, Temporaries, all_meant}
-use Rattle.l_core.specs.Steps.{Step, Keep, Unless, Text}
+use Rattle.fortran_laws.specs.f_tree.Values.{Bytes, Datum, Nothing, NoMeaning, Gives}
+use Rattle.fortran_laws.specs.f_tree.Terms.{Operator, Term, Val, Fetch, Element, Alone, Part, Joined, Before, Between, Intrinsically, Refer, Bind, Terms, NoMore, More, any_refers, valued_then}
+use Rattle.fortran_laws.specs.f_tree.Store.{Store}
+use Rattle.fortran_laws.specs.f_tree.Facts.{Facts, Frame}
+use Rattle.fortran_laws.specs.f_tree.Valuing.{Red, Bad, Asks, at_once, prefixed, operated, Wants, left_of, applied, element, alone, part, pieces, joined, fetched}
+use Rattle.lowering.specs.l_core.Pures.{Pure, Pures, NoPure, AndPure, Temporaries, all_meant}
+use Rattle.lowering.specs.l_core.Steps.{Step, Keep, Unless, Text}
 use Rattle.lowering.specs.Expressions.{Purpose, ForUse, ForLater, Lowered, ahead, Shape, AsFetch, AsElement, AsAlone, AsPart, AsJoined, AsBefore, AsBetween, AsFunction, AsReference, operand_purpose, closing, takes_steps, may_decide, wanted_where, lower, lower_all, and_then}
 use Rattle.lowering.specs.Statements.{loop_operands}
 use Rattle.lowering_laws.specs.Walks.{Spans, Lasts, AllLast, SameBelow}

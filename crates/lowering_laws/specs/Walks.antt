@@ -1,15 +1,15 @@
 -- How lowered steps are followed from one to the next: code that stands in a unit, ways that only keep values, values that last.
 use Rattle.std.specs.Prelude.{◌≡◌, ℕ, suc, ◌<◌, ◌≤◌, List, [], ◌∷◌, Some, slice_get}
-use Rattle.simulation.specs.Machine.{Goes}
-use Rattle.f_tree.specs.Values.{Datum, Gives}
-use Rattle.f_tree.specs.Terms.{Callee}
-use Rattle.f_tree.specs.Store.{Store}
-use Rattle.f_tree.specs.Facts.{Facts, Frame}
-use Rattle.f_tree.specs.Valuing.{Red, Valued, Bad, Asks}
-use Rattle.f_tree.specs.World.{World}
-use Rattle.l_core.specs.Pures.{Pure, Pures, NoPure, AndPure, Temporaries, with_kept, meant, all_meant}
-use Rattle.l_core.specs.Steps.{Step, CallFor, Branch, Text}
-use Rattle.l_core.specs.Machine.{View, step}
+use Rattle.fortran_laws.specs.simulation.Machine.{Goes}
+use Rattle.fortran_laws.specs.f_tree.Values.{Datum, Gives}
+use Rattle.fortran_laws.specs.f_tree.Terms.{Callee}
+use Rattle.fortran_laws.specs.f_tree.Store.{Store}
+use Rattle.fortran_laws.specs.f_tree.Facts.{Facts, Frame}
+use Rattle.fortran_laws.specs.f_tree.Valuing.{Red, Valued, Bad, Asks}
+use Rattle.fortran_laws.specs.f_tree.World.{World}
+use Rattle.lowering.specs.l_core.Pures.{Pure, Pures, NoPure, AndPure, Temporaries, with_kept, meant, all_meant}
+use Rattle.lowering.specs.l_core.Steps.{Step, CallFor, Branch, Text}
+use Rattle.lowering.specs.l_core.Machine.{View, step}
 use Rattle.lowering.specs.Expressions.{Purpose, ForLater}
 
 -- these steps stand in a unit from a position up to another

@@ -2,23 +2,23 @@
 -- ANSI X3.9-1978, sections 2.4, 5 and 14; C89, 3.1.2.2 and 3.7.
 use Rattle.std.specs.Prelude.{◌≡◌, ℕ, List, [], ◌∷◌, Some}
 use Rattle.std.proofs.Common.{sym, subst}
-use Rattle.run_state.specs.Units.{Units}
-use Rattle.f_tree.specs.Values.{Gives}
-use Rattle.f_tree.specs.Store.{Store}
-use Rattle.f_tree.specs.Facts.{ProgramUnit}
-use Rattle.f_tree.specs.Setting.{Setting, IsSetting}
-use Rattle.f_tree.specs.Images.{image_store}
-use Rattle.l_core.specs.Steps.{Text}
-use Rattle.lowering.specs.Units.{lowered_unit}
-use Rattle.c_tree.specs.declared.statement.CStmt.{CStmt}
-use Rattle.c_tree.specs.declared.file.CFile.{CFile}
-use Rattle.faithful.specs.Faithful as faithful
-use Rattle.faithful.specs.Faithful.{SameRuns}
-use Rattle.faithful.specs.Signatures as signed
-use Rattle.main_file.specs.MainFile.{main_file}
-use Rattle.main_translation.specs.Contents.{inventory_of}
-use Rattle.main_translation.specs.Outlined.{body_of}
-use Rattle.main_programs.specs.MainRuns.{plain_setting, plain_facts}
+use Rattle.main_translation_laws.specs.run_state.Units.{Units}
+use Rattle.main_translation_laws.specs.f_tree.Values.{Gives}
+use Rattle.main_translation_laws.specs.f_tree.Store.{Store}
+use Rattle.main_translation_laws.specs.f_tree.Facts.{ProgramUnit}
+use Rattle.main_translation_laws.specs.f_tree.Setting.{Setting, IsSetting}
+use Rattle.main_translation_laws.specs.f_tree.Images.{image_store}
+use Rattle.main_translation_laws.specs.l_core.Steps.{Text}
+use Rattle.main_translation_laws.specs.lowering.Units.{lowered_unit}
+use Rattle.main_translation_laws.specs.c_tree.declared.statement.CStmt.{CStmt}
+use Rattle.main_translation_laws.specs.c_tree.declared.file.CFile.{CFile}
+use Rattle.main_translation_laws.specs.faithful.Faithful as faithful
+use Rattle.main_translation_laws.specs.faithful.Faithful.{SameRuns}
+use Rattle.main_translation_laws.specs.faithful.Signatures as signed
+use Rattle.main_translation_laws.specs.main_file.MainFile.{main_file}
+use Rattle.main_translation_laws.specs.main_translation.Contents.{inventory_of}
+use Rattle.main_translation_laws.specs.main_translation.Outlined.{body_of}
+use Rattle.main_translation_laws.specs.main_programs.MainRuns.{plain_setting, plain_facts}
 use Rattle.main_translation_laws.specs.PlainMains.{IsPlainMain, IsPlainText}
 use Rattle.main_translation_laws.proofs.Translated.{plain_mains_run_alike}
 use Rattle.main_faithfulness.specs.MainFaithful.{IsMeant, EachPlainMainIsFaithful}

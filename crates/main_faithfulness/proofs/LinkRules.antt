@@ -3,17 +3,17 @@
 use Rattle.std.specs.Prelude.{◌≡◌, ℕ, zero, suc, Bool, true, false, ◌||◌, if◌then◌else◌, cond, List, [], ◌∷◌, ◌++◌, map, filter, position, Option, Some, None, option_map, is_none, bytes_eq}
 use Rattle.std.proofs.Common.{refl, sym, ap, ◌∙◌, subst}
 use Rattle.std.proofs.lemmas.Slice.Eq.{bytes_eq-Decides}
-use Rattle.f_tree.specs.Setting.{IsIn, first_in, later_in}
-use Rattle.l_core.specs.Steps.{Step}
-use Rattle.c_tree.specs.declared.types.NumberType.{NumberType}
-use Rattle.c_tree.specs.declared.declaration.CLocal.{CLocal}
-use Rattle.c_tree.specs.Builtins.{builtin_names}
-use Rattle.c_tree.specs.Declarations.{declared_externs, functions_in_lists}
-use Rattle.c_tree.specs.Linking.{Routines, any_of, routines, broken_rule}
-use Rattle.faithful.specs.Faithful.{is_linked}
-use Rattle.linking_laws.proofs.Places.{same_bytes, position_step}
-use Rattle.main_file.specs.MainFile.{Variable, Listing, Called, variable_by, variable_for, lists_from, temporaries_from, call_for}
-use Rattle.main_translation.specs.Contents.{calls_of, function_called}
+use Rattle.main_translation_laws.specs.f_tree.Setting.{IsIn, first_in, later_in}
+use Rattle.main_translation_laws.specs.l_core.Steps.{Step}
+use Rattle.main_translation_laws.specs.c_tree.declared.types.NumberType.{NumberType}
+use Rattle.main_translation_laws.specs.c_tree.declared.declaration.CLocal.{CLocal}
+use Rattle.main_translation_laws.specs.c_tree.Builtins.{builtin_names}
+use Rattle.main_translation_laws.specs.c_tree.Declarations.{declared_externs, functions_in_lists}
+use Rattle.main_translation_laws.specs.c_tree.Linking.{Routines, any_of, routines, broken_rule}
+use Rattle.main_translation_laws.specs.faithful.Faithful.{is_linked}
+use Rattle.main_translation_laws.proofs.linking_laws.Places.{same_bytes, position_step}
+use Rattle.main_translation_laws.specs.main_file.MainFile.{Variable, Listing, Called, variable_by, variable_for, lists_from, temporaries_from, call_for}
+use Rattle.main_translation_laws.specs.main_translation.Contents.{calls_of, function_called}
 use Rattle.main_translation_laws.proofs.Lists.{IsPart, no_part, left_out, taken_too, part_map}
 use Rattle.main_translation_laws.proofs.Contents.{all_calls, calls_part}
 

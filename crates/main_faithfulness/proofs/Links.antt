@@ -2,16 +2,16 @@
 -- C89, 3.1.2.2 and 3.7.
 use Rattle.std.specs.Prelude.{◌≡◌, ℕ, Bool, true, false, ◌||◌, nat_lt, List, [], ◌∷◌}
 use Rattle.std.proofs.Common.{refl, ap, ◌∙◌}
-use Rattle.f_tree.specs.Facts.{ProgramUnit}
-use Rattle.l_core.specs.Steps.{Text}
-use Rattle.c_tree.specs.declared.statement.CStmt.{CStmt}
-use Rattle.c_tree.specs.Declarations.{declared_externs, functions_in_lists}
-use Rattle.c_tree.specs.FlatForm.{whole_body}
-use Rattle.c_tree.specs.Linking as linking
-use Rattle.c_tree.specs.Linking.{any_of, main_name, mentioned, first_broken_rule, broken_rule}
-use Rattle.faithful.specs.Faithful.{is_linked}
-use Rattle.main_file.specs.MainFile.{Inventory, main_locals, called_names, main_function, main_file}
-use Rattle.main_translation.specs.Contents.{inventory_of}
+use Rattle.main_translation_laws.specs.f_tree.Facts.{ProgramUnit}
+use Rattle.main_translation_laws.specs.l_core.Steps.{Text}
+use Rattle.main_translation_laws.specs.c_tree.declared.statement.CStmt.{CStmt}
+use Rattle.main_translation_laws.specs.c_tree.Declarations.{declared_externs, functions_in_lists}
+use Rattle.main_translation_laws.specs.c_tree.FlatForm.{whole_body}
+use Rattle.main_translation_laws.specs.c_tree.Linking as linking
+use Rattle.main_translation_laws.specs.c_tree.Linking.{any_of, main_name, mentioned, first_broken_rule, broken_rule}
+use Rattle.main_translation_laws.specs.faithful.Faithful.{is_linked}
+use Rattle.main_translation_laws.specs.main_file.MainFile.{Inventory, main_locals, called_names, main_function, main_file}
+use Rattle.main_translation_laws.specs.main_translation.Contents.{inventory_of}
 use Rattle.main_faithfulness.proofs.LinkRules.{is_missing, calls_there, past_temporaries, past_calls, extern_temporaries, extern_calls, none_mentioned, fourth_only}
 
 -- a name of no function, where the main program's is the one that is defined

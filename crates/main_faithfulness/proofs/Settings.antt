@@ -3,15 +3,15 @@
 use Rattle.std.specs.Prelude.{◌≡◌, ℕ, zero, suc, List, [], ◌∷◌, ◌++◌}
 use Rattle.std.proofs.Common.{refl, ap, ◌∙◌, subst}
 use Rattle.std.proofs.lemmas.List.{append-nil}
-use Rattle.f_tree.specs.Values.{Gives}
-use Rattle.f_tree.specs.Store.{Store}
-use Rattle.f_tree.specs.Facts.{Home, Member, Tie, ProgramUnit, Facts}
-use Rattle.f_tree.specs.Setting.{Setting, IsSetting, IsIn, IsNamed, HasUnit, unit_home}
-use Rattle.f_tree.specs.Images.{imaged, images_from, undefined_store, image_store}
-use Rattle.f_tree.specs.Runs.{homes_apart, all_homes_apart, all_sizes, setting_apart}
-use Rattle.fortran_laws.proofs.OneSetting.{one_setting}
-use Rattle.fortran_laws.proofs.SettingsApart.{unit_setting}
-use Rattle.main_programs.specs.MainRuns.{homes_from, sizes_of, plain_setting}
+use Rattle.main_translation_laws.specs.f_tree.Values.{Gives}
+use Rattle.main_translation_laws.specs.f_tree.Store.{Store}
+use Rattle.main_translation_laws.specs.f_tree.Facts.{Home, Member, Tie, ProgramUnit, Facts}
+use Rattle.main_translation_laws.specs.f_tree.Setting.{Setting, IsSetting, IsIn, IsNamed, HasUnit, unit_home}
+use Rattle.main_translation_laws.specs.f_tree.Images.{imaged, images_from, undefined_store, image_store}
+use Rattle.main_translation_laws.specs.f_tree.Runs.{homes_apart, all_homes_apart, all_sizes, setting_apart}
+use Rattle.main_translation_laws.proofs.fortran_laws.OneSetting.{one_setting}
+use Rattle.main_translation_laws.proofs.fortran_laws.SettingsApart.{unit_setting}
+use Rattle.main_translation_laws.specs.main_programs.MainRuns.{homes_from, sizes_of, plain_setting}
 use Rattle.main_translation_laws.specs.PlainMains.{IsPlainMain}
 
 -- ## The setting

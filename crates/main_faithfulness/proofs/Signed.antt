@@ -2,20 +2,20 @@
 -- ANSI X3.9-1978, sections 8.3 and 14.
 use Rattle.std.specs.Prelude.{◌≡◌, ℕ, List, [], ◌∷◌, ◌++◌, map, flat_map}
 use Rattle.std.proofs.Common.{refl, sym, ap, ◌∙◌}
-use Rattle.f_tree.specs.declared.names.Options.{Options}
-use Rattle.f_tree.specs.declared.units.Unit.{Unit as WrittenUnit}
-use Rattle.f_tree.specs.declared.units.File.{File}
-use Rattle.f_tree.specs.Facts.{MainProgram, UnitKind, Block, ProgramUnit}
-use Rattle.f_tree.specs.Uses.{uses_of_statements}
-use Rattle.f_tree.specs.Attributes.{arrays_of, all_described}
-use Rattle.f_tree.specs.Lines.{unit_read}
-use Rattle.f_tree.specs.CNames.{main_name, result_of}
-use Rattle.f_tree.specs.Meaning.{units_in}
-use Rattle.c_tree.specs.declared.types.ResultType.TheVariants as result
-use Rattle.c_tree.specs.declared.statement.CStmt.{CStmt}
-use Rattle.faithful.specs.StorageImage.{block_name}
-use Rattle.faithful.specs.Signatures.{Signature, signature, signature_of, result_type, signatures_by, unit_signatures, file_signatures, blocks_added, file_blocks, HasSignatures}
-use Rattle.main_file.specs.MainFile.{Inventory, main_function, main_file}
+use Rattle.main_translation_laws.specs.f_tree.declared.names.Options.{Options}
+use Rattle.main_translation_laws.specs.f_tree.declared.units.Unit.{Unit as WrittenUnit}
+use Rattle.main_translation_laws.specs.f_tree.declared.units.File.{File}
+use Rattle.main_translation_laws.specs.f_tree.Facts.{MainProgram, UnitKind, Block, ProgramUnit}
+use Rattle.main_translation_laws.specs.f_tree.Uses.{uses_of_statements}
+use Rattle.main_translation_laws.specs.f_tree.Attributes.{arrays_of, all_described}
+use Rattle.main_translation_laws.specs.f_tree.Lines.{unit_read}
+use Rattle.main_translation_laws.specs.f_tree.CNames.{main_name, result_of}
+use Rattle.main_translation_laws.specs.f_tree.Meaning.{units_in}
+use Rattle.main_translation_laws.specs.c_tree.declared.types.ResultType.TheVariants as result
+use Rattle.main_translation_laws.specs.c_tree.declared.statement.CStmt.{CStmt}
+use Rattle.main_translation_laws.specs.faithful.StorageImage.{block_name}
+use Rattle.main_translation_laws.specs.faithful.Signatures.{Signature, signature, signature_of, result_type, signatures_by, unit_signatures, file_signatures, blocks_added, file_blocks, HasSignatures}
+use Rattle.main_translation_laws.specs.main_file.MainFile.{Inventory, main_function, main_file}
 use Rattle.main_translation_laws.specs.PlainMains.{IsPlainMain}
 
 -- ## The one unit of the file

@@ -1,21 +1,21 @@
 -- That the text of the C file which is made for a main program of numbers is faithful to the file of that program.
 -- ANSI X3.9-1978, sections 2.4, 5 and 14; C89, 3.1.2.2 and 3.7.
 use Rattle.std.specs.Prelude.{◌≡◌, ℕ, List, [], ◌∷◌, Some}
-use Rattle.run_state.specs.Units.{Units}
-use Rattle.f_tree.specs.declared.names.Options.{Options}
-use Rattle.f_tree.specs.declared.units.File.{File}
-use Rattle.f_tree.specs.Values.{NoMeaning}
-use Rattle.f_tree.specs.Facts.{ProgramUnit}
-use Rattle.f_tree.specs.Meaning.{units_in, ftn, act_of}
-use Rattle.l_core.specs.Steps.{Text}
-use Rattle.lowering.specs.Units.{lowered_unit}
-use Rattle.c_tree.specs.declared.statement.CStmt.{CStmt}
-use Rattle.c_tree.specs.CText.{CText}
-use Rattle.faithful.specs.Faithful.{Faithful}
-use Rattle.main_file.specs.MainFile.{main_file}
-use Rattle.main_translation.specs.Contents.{inventory_of}
-use Rattle.main_translation.specs.Outlined.{body_of}
-use Rattle.main_programs.specs.MainRuns.{plain_setting, plain_facts}
+use Rattle.main_translation_laws.specs.run_state.Units.{Units}
+use Rattle.main_translation_laws.specs.f_tree.declared.names.Options.{Options}
+use Rattle.main_translation_laws.specs.f_tree.declared.units.File.{File}
+use Rattle.main_translation_laws.specs.f_tree.Values.{NoMeaning}
+use Rattle.main_translation_laws.specs.f_tree.Facts.{ProgramUnit}
+use Rattle.main_translation_laws.specs.f_tree.Meaning.{units_in, ftn, act_of}
+use Rattle.main_translation_laws.specs.l_core.Steps.{Text}
+use Rattle.main_translation_laws.specs.lowering.Units.{lowered_unit}
+use Rattle.main_translation_laws.specs.c_tree.declared.statement.CStmt.{CStmt}
+use Rattle.main_translation_laws.specs.c_tree.CText.{CText}
+use Rattle.main_translation_laws.specs.faithful.Faithful.{Faithful}
+use Rattle.main_translation_laws.specs.main_file.MainFile.{main_file}
+use Rattle.main_translation_laws.specs.main_translation.Contents.{inventory_of}
+use Rattle.main_translation_laws.specs.main_translation.Outlined.{body_of}
+use Rattle.main_translation_laws.specs.main_programs.MainRuns.{plain_setting, plain_facts}
 use Rattle.main_translation_laws.specs.PlainMains.{IsPlainMain, IsPlainText}
 
 -- the unit never comes to a form without meaning

@@ -2,28 +2,28 @@
 -- its objects, and what the function goes by. ANSI X3.9-1978, sections 8.3 and 14; C89, 3.5 and 3.7; CSTR 149.
 use Rattle.std.specs.Prelude.{ℕ, zero, suc, ◌+◌, ◌-◌, nat_eq, nat_lt, nat_le, ℤ, pos, ◌&&◌, List, [], ◌∷◌, ◌++◌, map, length, replicate, position, Option, Some, None, is_some, unwrap_or, slice_get, bytes_eq, if◌then◌else◌}
 use Rattle.std.specs.Ordering.{int_eq}
-use Rattle.f_tree.specs.declared.names.Basic.{Basic}
-use Rattle.f_tree.specs.Values.{Bytes}
-use Rattle.f_tree.specs.Facts.{Bounds, Facts}
-use Rattle.f_tree.specs.Valuing.{size_of_dimension}
-use Rattle.f_tree.specs.CNames.{variable_name, made_name, NumberTemporary, ControlList, ConstantOf}
-use Rattle.c_tree.specs.declared.types.NumberType.{NumberType}
-use Rattle.c_tree.specs.declared.types.NumberType.TheVariants as number_type
-use Rattle.c_tree.specs.declared.types.ResultType.{ResultType}
-use Rattle.c_tree.specs.declared.types.ResultType.TheVariants as result
-use Rattle.c_tree.specs.declared.types.ArgumentType.{ArgumentType}
-use Rattle.c_tree.specs.declared.types.ListType.TheVariants as list_type
-use Rattle.c_tree.specs.declared.statement.CStmt.{CStmt}
-use Rattle.c_tree.specs.declared.declaration.CField.TheVariants as field
-use Rattle.c_tree.specs.declared.declaration.CLocal.{CLocal}
-use Rattle.c_tree.specs.declared.declaration.CLocal.TheVariants as local
-use Rattle.c_tree.specs.declared.file.CFile.{CFile}
-use Rattle.c_tree.specs.declared.file.CFunction.{CFunction}
-use Rattle.c_tree.specs.declared.file.CConstant.{CConstant}
-use Rattle.c_tree.specs.Builtins.{builtin_names}
-use Rattle.c_tree.specs.Linking.{main_name}
-use Rattle.c_image.specs.Addresses.{Alone}
-use Rattle.c_image.specs.Elements.{Quantity, Written}
+use Rattle.c_emit.specs.f_tree.declared.names.Basic.{Basic}
+use Rattle.c_emit.specs.f_tree.Values.{Bytes}
+use Rattle.c_emit.specs.f_tree.Facts.{Bounds, Facts}
+use Rattle.c_emit.specs.f_tree.Valuing.{size_of_dimension}
+use Rattle.c_emit.specs.f_tree.CNames.{variable_name, made_name, NumberTemporary, ControlList, ConstantOf}
+use Rattle.c_structure.specs.c_tree.declared.types.NumberType.{NumberType}
+use Rattle.c_structure.specs.c_tree.declared.types.NumberType.TheVariants as number_type
+use Rattle.c_structure.specs.c_tree.declared.types.ResultType.{ResultType}
+use Rattle.c_structure.specs.c_tree.declared.types.ResultType.TheVariants as result
+use Rattle.c_structure.specs.c_tree.declared.types.ArgumentType.{ArgumentType}
+use Rattle.c_structure.specs.c_tree.declared.types.ListType.TheVariants as list_type
+use Rattle.c_structure.specs.c_tree.declared.statement.CStmt.{CStmt}
+use Rattle.c_structure.specs.c_tree.declared.declaration.CField.TheVariants as field
+use Rattle.c_structure.specs.c_tree.declared.declaration.CLocal.{CLocal}
+use Rattle.c_structure.specs.c_tree.declared.declaration.CLocal.TheVariants as local
+use Rattle.c_structure.specs.c_tree.declared.file.CFile.{CFile}
+use Rattle.c_structure.specs.c_tree.declared.file.CFunction.{CFunction}
+use Rattle.c_structure.specs.c_tree.declared.file.CConstant.{CConstant}
+use Rattle.c_structure.specs.c_tree.Builtins.{builtin_names}
+use Rattle.c_structure.specs.c_tree.Linking.{main_name}
+use Rattle.c_emit.specs.c_image.Addresses.{Alone}
+use Rattle.c_emit.specs.c_image.Elements.{Quantity, Written}
 use Rattle.c_structure.specs.Expressions.{Names}
 use Rattle.c_emit.specs.Numbers.{Writing}
 

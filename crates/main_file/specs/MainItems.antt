@@ -1,7 +1,7 @@
 -- The flat items of a lowered text, one for each of its steps, and the steps that pass a string. ANSI X3.9-1978, section 11.12; C89, 3.6.
 use Rattle.std.specs.Prelude.{ℕ, suc, List, [], ◌∷◌, Option, Some, None}
-use Rattle.l_core.specs.Steps.{Step, Halt}
-use Rattle.c_tree.specs.Flat.{Flat}
+use Rattle.c_emit.specs.l_core.Steps.{Step, Halt}
+use Rattle.c_structure.specs.c_tree.Flat.{Flat}
 use Rattle.c_emit.specs.Numbers.{Writing}
 use Rattle.c_emit.specs.Flats.{flat_of}
 

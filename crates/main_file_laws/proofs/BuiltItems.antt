@@ -3,22 +3,22 @@ use Rattle.std.specs.Prelude.{◌≡◌, ℕ, suc, ◌+◌, ◌-◌, ◌<◌, na
 use Rattle.std.proofs.Common.{refl, sym, ap, ◌∙◌, subst, arith}
 use Rattle.std.proofs.lemmas.Bool.{eq-eqb, ne_eqb, lt-ltb, le-leb}
 use Rattle.std.proofs.lemmas.List.{append_assoc, length-append}
-use Rattle.f_tree.specs.declared.names.Basic.{Basic}
-use Rattle.f_tree.specs.Terms as fortran
-use Rattle.l_core.specs.Steps.{Starts, Takes, Finishes, Step, Compute, Halt, Acts, Text}
-use Rattle.c_tree.specs.declared.statement.CStmt.{CStmt}
-use Rattle.c_tree.specs.Access.{ToChar}
-use Rattle.c_tree.specs.Flat.{Flat}
-use Rattle.c_tree.specs.Drafts.{Scope}
-use Rattle.c_tree.specs.FlatForm.{whole_body}
-use Rattle.c_tree.specs.Linking.{Routines, file_scope, strings_of}
-use Rattle.c_structure.specs.Expressions.{Names, strings_in}
-use Rattle.c_structure.specs.Expressions as written
-use Rattle.c_structure.specs.Statements.{strings_of_item, strings_of_items}
-use Rattle.c_structure_laws.specs.Fitting.{KnowsItems, KnowsArray, AreNumbered}
-use Rattle.c_emit.specs.Numbers.{Writing}
-use Rattle.c_emit.specs.LibraryFunctions.{library_function}
-use Rattle.c_emit.specs.Flats.{flat_of}
+use Rattle.main_file.specs.f_tree.declared.names.Basic.{Basic}
+use Rattle.main_file.specs.f_tree.Terms as fortran
+use Rattle.main_file.specs.l_core.Steps.{Starts, Takes, Finishes, Step, Compute, Halt, Acts, Text}
+use Rattle.linking_laws.specs.c_tree.declared.statement.CStmt.{CStmt}
+use Rattle.linking_laws.specs.c_tree.Access.{ToChar}
+use Rattle.linking_laws.specs.c_tree.Flat.{Flat}
+use Rattle.linking_laws.specs.c_tree.Drafts.{Scope}
+use Rattle.linking_laws.specs.c_tree.FlatForm.{whole_body}
+use Rattle.linking_laws.specs.c_tree.Linking.{Routines, file_scope, strings_of}
+use Rattle.linking_laws.specs.c_structure.Expressions.{Names, strings_in}
+use Rattle.linking_laws.specs.c_structure.Expressions as written
+use Rattle.linking_laws.specs.c_structure.Statements.{strings_of_item, strings_of_items}
+use Rattle.linking_laws.specs.c_structure_laws.Fitting.{KnowsItems, KnowsArray, AreNumbered}
+use Rattle.main_file.specs.c_emit.Numbers.{Writing}
+use Rattle.main_file.specs.c_emit.LibraryFunctions.{library_function}
+use Rattle.main_file.specs.c_emit.Flats.{flat_of}
 use Rattle.linking_laws.specs.Linked as linked
 use Rattle.linking_laws.proofs.Places.{some_same, position_step, taken, skipped}
 use Rattle.linking_laws.proofs.BuiltCode.{code_is_theirs}

@@ -5,25 +5,25 @@ use Rattle.std.proofs.Common.{refl, sym, ap, ◌∙◌, subst, arith}
 use Rattle.std.proofs.lemmas.Bool.{and_left, ltb-true, le-leb, lt-leb}
 use Rattle.std.proofs.lemmas.List.{length-append, length-map, length-replicate}
 use Rattle.std.proofs.lemmas.Slice.Eq.{bytes_eq-Decides}
-use Rattle.f_tree.specs.declared.names.Basic.{Basic}
-use Rattle.f_tree.specs.Values.{Bytes}
-use Rattle.f_tree.specs.Facts.{Bounds, Facts}
-use Rattle.f_tree.specs.CNames.{variable_name, made_name, NumberTemporary, ControlList, ConstantOf}
-use Rattle.c_tree.specs.declared.statement.CStmt.{CStmt}
-use Rattle.c_tree.specs.declared.types.ListType.TheVariants as list_type
-use Rattle.c_tree.specs.Access.{Access, ToNumber, ToList}
-use Rattle.c_tree.specs.Objects.{bytes_of_number}
-use Rattle.c_tree.specs.Terms.{Variable, Array, Routine}
-use Rattle.c_tree.specs.Declarations.{Declared, made, filled, variable, declared_statics, declared_automatics, declared_externs}
-use Rattle.c_tree.specs.Builtins.{builtin_names}
-use Rattle.c_tree.specs.FlatForm.{whole_body}
-use Rattle.c_tree.specs.Linking.{Routines, routine, declared_constants, file_scope}
-use Rattle.c_image.specs.Elements.{quantity_term}
-use Rattle.f_tree.specs.Valuing.{size_of_dimension}
-use Rattle.c_structure.specs.Expressions.{Names, strings_in}
-use Rattle.c_structure.specs.Expressions as written
-use Rattle.c_emit.specs.Numbers.{is_scalar, is_array}
-use Rattle.c_structure_laws.specs.Fitting.{KnowsArray}
+use Rattle.main_file.specs.f_tree.declared.names.Basic.{Basic}
+use Rattle.main_file.specs.f_tree.Values.{Bytes}
+use Rattle.main_file.specs.f_tree.Facts.{Bounds, Facts}
+use Rattle.main_file.specs.f_tree.CNames.{variable_name, made_name, NumberTemporary, ControlList, ConstantOf}
+use Rattle.linking_laws.specs.c_tree.declared.statement.CStmt.{CStmt}
+use Rattle.linking_laws.specs.c_tree.declared.types.ListType.TheVariants as list_type
+use Rattle.linking_laws.specs.c_tree.Access.{Access, ToNumber, ToList}
+use Rattle.linking_laws.specs.c_tree.Objects.{bytes_of_number}
+use Rattle.linking_laws.specs.c_tree.Terms.{Variable, Array, Routine}
+use Rattle.linking_laws.specs.c_tree.Declarations.{Declared, made, filled, variable, declared_statics, declared_automatics, declared_externs}
+use Rattle.linking_laws.specs.c_tree.Builtins.{builtin_names}
+use Rattle.linking_laws.specs.c_tree.FlatForm.{whole_body}
+use Rattle.linking_laws.specs.c_tree.Linking.{Routines, routine, declared_constants, file_scope}
+use Rattle.main_file.specs.c_image.Elements.{quantity_term}
+use Rattle.main_file.specs.f_tree.Valuing.{size_of_dimension}
+use Rattle.linking_laws.specs.c_structure.Expressions.{Names, strings_in}
+use Rattle.linking_laws.specs.c_structure.Expressions as written
+use Rattle.main_file.specs.c_emit.Numbers.{is_scalar, is_array}
+use Rattle.linking_laws.specs.c_structure_laws.Fitting.{KnowsArray}
 use Rattle.linking_laws.specs.Linked as linked
 use Rattle.linking_laws.specs.Linked.{AreDistinct, IsNone, scope_of}
 use Rattle.linking_laws.proofs.Places.{some_same, get_front, get_back, map_at, within, taken, skipped, position_step}

@@ -2,16 +2,16 @@
 use Rattle.std.specs.Prelude.{◌≡◌, ℕ, zero, suc, ◌+◌, ◌*◌, ◌<◌, pos, List, [], ◌∷◌, ◌++◌, map, length, Option, Some, None, slice_get}
 use Rattle.std.proofs.Common.{refl, ap, ◌∙◌, arith}
 use Rattle.std.proofs.lemmas.List.{append-nil, length-append, length-map}
-use Rattle.f_tree.specs.CNames.{variable_name, made_name, NumberTemporary, ControlList}
-use Rattle.c_tree.specs.declared.types.ListType.TheVariants as list_type
-use Rattle.c_tree.specs.declared.types.NumberType.{NumberType}
-use Rattle.c_tree.specs.declared.declaration.CField.TheVariants as field
-use Rattle.c_tree.specs.declared.declaration.CLocal.{CLocal}
-use Rattle.c_tree.specs.Access.{ToNumber}
-use Rattle.c_tree.specs.Objects.{Object}
-use Rattle.c_tree.specs.Terms.{Term}
-use Rattle.c_tree.specs.Declarations.{Declared, made, unset, filled, number_or_zero, numbers_or_none, declared_list, declared_statics, declared_automatics, declared_externs, variable, array}
-use Rattle.c_tree.specs.Linking.{strings_of}
+use Rattle.main_file.specs.f_tree.CNames.{variable_name, made_name, NumberTemporary, ControlList}
+use Rattle.linking_laws.specs.c_tree.declared.types.ListType.TheVariants as list_type
+use Rattle.linking_laws.specs.c_tree.declared.types.NumberType.{NumberType}
+use Rattle.linking_laws.specs.c_tree.declared.declaration.CField.TheVariants as field
+use Rattle.linking_laws.specs.c_tree.declared.declaration.CLocal.{CLocal}
+use Rattle.linking_laws.specs.c_tree.Access.{ToNumber}
+use Rattle.linking_laws.specs.c_tree.Objects.{Object}
+use Rattle.linking_laws.specs.c_tree.Terms.{Term}
+use Rattle.linking_laws.specs.c_tree.Declarations.{Declared, made, unset, filled, number_or_zero, numbers_or_none, declared_list, declared_statics, declared_automatics, declared_externs, variable, array}
+use Rattle.linking_laws.specs.c_tree.Linking.{strings_of}
 use Rattle.main_file.specs.MainFile.{Inventory, Variable, Listing, Called, variable_by, variable_for, lists_from, temporaries_from, call_for, main_locals, list_names, temporary_names, lasting_names, called_names}
 use Rattle.linking_laws.specs.Linked.{names_of}
 use Rattle.linking_laws.proofs.Places.{some_same, get_front, get_back, map_at}

@@ -1,14 +1,14 @@
 -- That the function of a main program has the items that are emitted for its lowered text, where its statements are built for them. C89, 3.6.
 use Rattle.std.specs.Prelude.{◌≡◌, ℕ, suc, ◌+◌, List, [], ◌∷◌, length, position, Option, Some, None, slice_get, bytes_eq, codes}
-use Rattle.f_tree.specs.declared.names.Basic.{Basic}
-use Rattle.l_core.specs.Steps.{Starts, Takes, Finishes, Step, Compute, Acts, Halt, Text}
-use Rattle.c_tree.specs.declared.statement.CStmt.{CStmt}
-use Rattle.c_tree.specs.Flat.{Flat}
-use Rattle.c_tree.specs.Builtins.{builtin_names}
-use Rattle.c_tree.specs.FlatForm.{whole_body}
-use Rattle.c_tree.specs.Linking.{Routines, file_scope, linked_function}
-use Rattle.c_structure.specs.Statements.{Outline}
-use Rattle.c_emit.specs.LibraryFunctions.{LibraryFunction, library_function}
+use Rattle.main_file.specs.f_tree.declared.names.Basic.{Basic}
+use Rattle.main_file.specs.l_core.Steps.{Starts, Takes, Finishes, Step, Compute, Acts, Halt, Text}
+use Rattle.linking_laws.specs.c_tree.declared.statement.CStmt.{CStmt}
+use Rattle.linking_laws.specs.c_tree.Flat.{Flat}
+use Rattle.linking_laws.specs.c_tree.Builtins.{builtin_names}
+use Rattle.linking_laws.specs.c_tree.FlatForm.{whole_body}
+use Rattle.linking_laws.specs.c_tree.Linking.{Routines, file_scope, linked_function}
+use Rattle.linking_laws.specs.c_structure.Statements.{Outline}
+use Rattle.main_file.specs.c_emit.LibraryFunctions.{LibraryFunction, library_function}
 use Rattle.linking_laws.specs.Linked.{IsBuilt}
 use Rattle.main_file.specs.MainFile.{Inventory, Bases, main_function, main_file, names_of, writing_of, called_names, place_of_list}
 use Rattle.main_file.specs.MainItems.{flats_from, stops_from}

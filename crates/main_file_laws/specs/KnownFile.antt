@@ -1,17 +1,17 @@
 -- That what the function of a main program goes by is known in it: its names stand for its objects. C89, 3.1.2.1.
 use Rattle.std.specs.Prelude.{◌≡◌, ℕ, ◌+◌, ◌≤◌, true, List, length, position, Option, Some, None, slice_get, bytes_eq}
-use Rattle.f_tree.specs.declared.names.Basic.{Basic}
-use Rattle.f_tree.specs.Values.{Bytes}
-use Rattle.f_tree.specs.Facts.{Facts}
-use Rattle.c_tree.specs.declared.statement.CStmt.{CStmt}
-use Rattle.c_tree.specs.declared.types.ListType.TheVariants as list_type
-use Rattle.c_tree.specs.Access.{ToList}
-use Rattle.c_tree.specs.Terms.{Variable}
-use Rattle.c_tree.specs.Builtins.{builtin_names}
-use Rattle.c_tree.specs.Drafts.{Scope}
-use Rattle.c_tree.specs.FlatForm.{whole_body}
-use Rattle.c_tree.specs.Linking.{Routines, file_scope}
-use Rattle.c_emit.specs.Numbers.{is_scalar, is_array}
+use Rattle.main_file.specs.f_tree.declared.names.Basic.{Basic}
+use Rattle.main_file.specs.f_tree.Values.{Bytes}
+use Rattle.main_file.specs.f_tree.Facts.{Facts}
+use Rattle.linking_laws.specs.c_tree.declared.statement.CStmt.{CStmt}
+use Rattle.linking_laws.specs.c_tree.declared.types.ListType.TheVariants as list_type
+use Rattle.linking_laws.specs.c_tree.Access.{ToList}
+use Rattle.linking_laws.specs.c_tree.Terms.{Variable}
+use Rattle.linking_laws.specs.c_tree.Builtins.{builtin_names}
+use Rattle.linking_laws.specs.c_tree.Drafts.{Scope}
+use Rattle.linking_laws.specs.c_tree.FlatForm.{whole_body}
+use Rattle.linking_laws.specs.c_tree.Linking.{Routines, file_scope}
+use Rattle.main_file.specs.c_emit.Numbers.{is_scalar, is_array}
 use Rattle.linking_laws.specs.Linked.{AreDistinct, IsNone, scope_of}
 use Rattle.emitted_names.specs.KnownNames.{IsPlain, IsKnownBy, Calls}
 use Rattle.main_file.specs.MainFile.{Inventory, Variable as Declared, Bases, main_function, main_file, names_of, writing_of, constant_names, lasting_names, temporary_names, called_names, place_of_variable, place_of_list}

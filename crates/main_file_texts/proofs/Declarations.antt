@@ -3,30 +3,30 @@ use Rattle.std.specs.Prelude.{◌≡◌, ◌≢◌, ℕ, zero, suc, ◌≤◌, n
 use Rattle.std.proofs.Common.{refl, sym, ap, ◌∙◌, subst, arith}
 use Rattle.std.proofs.lemmas.Bool.{leb-true, eqb-true, eqb-false}
 use Rattle.std.proofs.lemmas.List.{map-append}
-use Rattle.f_tree.specs.Setting.{IsIn, first_in, later_in}
-use Rattle.f_tree.specs.Values.{in_range}
-use Rattle.f_tree.specs.CNames.{variable_name, made_name, NumberTemporary, ControlList}
-use Rattle.c_tree.specs.declared.types.NumberType.{NumberType}
-use Rattle.c_tree.specs.declared.types.NumberType.TheVariants as number_type
-use Rattle.c_tree.specs.declared.types.ResultType.{ResultType}
-use Rattle.c_tree.specs.declared.types.ResultType.TheVariants as result
-use Rattle.c_tree.specs.declared.types.ArgumentType.{ArgumentType}
-use Rattle.c_tree.specs.declared.types.ListType.TheVariants as list_type
-use Rattle.c_tree.specs.declared.declaration.CField.TheVariants as field
-use Rattle.c_tree.specs.declared.declaration.CLocal.{CLocal}
-use Rattle.c_tree.specs.declared.declaration.CLocal.TheVariants as local
-use Rattle.c_tree.specs.declared.statement.CStmt.{CStmt}
-use Rattle.c_tree.specs.declared.file.CConstant.{CConstant}
-use Rattle.c_tree.specs.declared.file.CFunction.{CFunction}
-use Rattle.c_tree.specs.Tokens.{Token, Word, Digits, Sign, Including}
-use Rattle.c_tree.specs.CWords.{Separated, last_item, one_item, is_among, is_name, number_word, result_word, list_word, argument_tokens}
-use Rattle.c_tree.specs.CLabels.{labels_meet}
-use Rattle.c_tree.specs.CExpressionText.{Scope}
-use Rattle.c_tree.specs.CStatementText.{ReadsStmts}
-use Rattle.c_tree.specs.CDeclarationText.{ReadsValue, plain, negative, least, IsLength, an_array, no_image, ReadsType, ReadsTypes, no_type, some_types, ReadsField, a_value, a_static, a_static_array, a_list, ReadsLocal, an_extern, static, a_number, IsNew, with_object, with_function, with_declared, ReadsLocals, no_local, one_local, no_parameter}
-use Rattle.c_tree.specs.CText.{ReadsFunction, a_function, ReadsFunctions, no_function, one_function, ReadsConstant, a_constant, ReadsParts, only_functions, one_constant, no_names, WellFormed}
-use Rattle.main_file.specs.MainFile.{Variable, Listing, Called, Inventory, variable_by, variable_for, constant_for, list_for, lists_from, temporaries_from, call_for, main_locals, main_function, main_file, list_names, temporary_names, called_names}
-use Rattle.c_tree.specs.Linking.{main_name}
+use Rattle.main_translation_laws.specs.f_tree.Setting.{IsIn, first_in, later_in}
+use Rattle.main_translation_laws.specs.f_tree.Values.{in_range}
+use Rattle.main_translation_laws.specs.f_tree.CNames.{variable_name, made_name, NumberTemporary, ControlList}
+use Rattle.main_translation_laws.specs.c_tree.declared.types.NumberType.{NumberType}
+use Rattle.main_translation_laws.specs.c_tree.declared.types.NumberType.TheVariants as number_type
+use Rattle.main_translation_laws.specs.c_tree.declared.types.ResultType.{ResultType}
+use Rattle.main_translation_laws.specs.c_tree.declared.types.ResultType.TheVariants as result
+use Rattle.main_translation_laws.specs.c_tree.declared.types.ArgumentType.{ArgumentType}
+use Rattle.main_translation_laws.specs.c_tree.declared.types.ListType.TheVariants as list_type
+use Rattle.main_translation_laws.specs.c_tree.declared.declaration.CField.TheVariants as field
+use Rattle.main_translation_laws.specs.c_tree.declared.declaration.CLocal.{CLocal}
+use Rattle.main_translation_laws.specs.c_tree.declared.declaration.CLocal.TheVariants as local
+use Rattle.main_translation_laws.specs.c_tree.declared.statement.CStmt.{CStmt}
+use Rattle.main_translation_laws.specs.c_tree.declared.file.CConstant.{CConstant}
+use Rattle.main_translation_laws.specs.c_tree.declared.file.CFunction.{CFunction}
+use Rattle.main_translation_laws.specs.c_tree.Tokens.{Token, Word, Digits, Sign, Including}
+use Rattle.main_translation_laws.specs.c_tree.CWords.{Separated, last_item, one_item, is_among, is_name, number_word, result_word, list_word, argument_tokens}
+use Rattle.main_translation_laws.specs.c_tree.CLabels.{labels_meet}
+use Rattle.main_translation_laws.specs.c_tree.CExpressionText.{Scope}
+use Rattle.main_translation_laws.specs.c_tree.CStatementText.{ReadsStmts}
+use Rattle.main_translation_laws.specs.c_tree.CDeclarationText.{ReadsValue, plain, negative, least, IsLength, an_array, no_image, ReadsType, ReadsTypes, no_type, some_types, ReadsField, a_value, a_static, a_static_array, a_list, ReadsLocal, an_extern, static, a_number, IsNew, with_object, with_function, with_declared, ReadsLocals, no_local, one_local, no_parameter}
+use Rattle.main_translation_laws.specs.c_tree.CText.{ReadsFunction, a_function, ReadsFunctions, no_function, one_function, ReadsConstant, a_constant, ReadsParts, only_functions, one_constant, no_names, WellFormed}
+use Rattle.main_translation_laws.specs.main_file.MainFile.{Variable, Listing, Called, Inventory, variable_by, variable_for, constant_for, list_for, lists_from, temporaries_from, call_for, main_locals, main_function, main_file, list_names, temporary_names, called_names}
+use Rattle.main_translation_laws.specs.c_tree.Linking.{main_name}
 use Rattle.main_translation_laws.proofs.Lists.{AreApart, none_apart, one_apart}
 use Rattle.main_file_texts.specs.WellFormedMains.{IsSpelled}
 use Rattle.main_file_texts.proofs.Declared.{none_left, none_right, none_both, none_among, local_name, local_names, with_all, with_constants, constant_texts}

@@ -2,24 +2,24 @@
 use Rattle.std.specs.Prelude.{◌≡◌, ◌≢◌, ℕ, ◌+◌, pos, Bool, true, false, not, ◌||◌, List, [], ◌∷◌, ◌++◌, map, Option, Some, None, bytes_eq, codes, cond, if◌then◌else◌}
 use Rattle.std.proofs.Common.{refl, sym, ap, ◌∙◌}
 use Rattle.std.proofs.lemmas.Slice.Eq.{bytes_eq-Decides}
-use Rattle.f_tree.specs.Setting.{IsIn, first_in, later_in}
-use Rattle.c_tree.specs.declared.declaration.CLocal.{CLocal}
-use Rattle.c_tree.specs.declared.declaration.CLocal.TheVariants as local
-use Rattle.c_tree.specs.declared.declaration.CParam.{CParam}
-use Rattle.c_tree.specs.declared.types.ParameterType.{ParameterType}
-use Rattle.c_tree.specs.declared.types.ParameterType.TheVariants as parameter
-use Rattle.c_tree.specs.declared.file.CConstant.{CConstant}
-use Rattle.c_tree.specs.Access.{ToFunction}
-use Rattle.c_tree.specs.Terms.{Term, Constant, Variable, Array, Routine, Unknown}
-use Rattle.c_tree.specs.CWords.{is_among}
-use Rattle.c_tree.specs.CExpressionText.{Scope, declared_before, an_object}
-use Rattle.c_tree.specs.CDeclarationText.{without, with_object, with_array, with_function, with_pointer, with_declared, with_parameter}
-use Rattle.c_tree.specs.CText.{no_names}
-use Rattle.c_tree.specs.Drafts as linking
-use Rattle.c_tree.specs.Declarations.{Declared, parameter_access, declared_parameters, declared_statics, declared_automatics, declared_externs}
-use Rattle.c_tree.specs.Linking.{Routines, routine, known_objects, known_functions, included, declared_constants}
-use Rattle.linking_laws.specs.Linked.{names_of}
-use Rattle.linking_laws.proofs.Places.{other_bytes, same_bytes, skipped}
+use Rattle.main_translation_laws.specs.f_tree.Setting.{IsIn, first_in, later_in}
+use Rattle.main_translation_laws.specs.c_tree.declared.declaration.CLocal.{CLocal}
+use Rattle.main_translation_laws.specs.c_tree.declared.declaration.CLocal.TheVariants as local
+use Rattle.main_translation_laws.specs.c_tree.declared.declaration.CParam.{CParam}
+use Rattle.main_translation_laws.specs.c_tree.declared.types.ParameterType.{ParameterType}
+use Rattle.main_translation_laws.specs.c_tree.declared.types.ParameterType.TheVariants as parameter
+use Rattle.main_translation_laws.specs.c_tree.declared.file.CConstant.{CConstant}
+use Rattle.main_translation_laws.specs.c_tree.Access.{ToFunction}
+use Rattle.main_translation_laws.specs.c_tree.Terms.{Term, Constant, Variable, Array, Routine, Unknown}
+use Rattle.main_translation_laws.specs.c_tree.CWords.{is_among}
+use Rattle.main_translation_laws.specs.c_tree.CExpressionText.{Scope, declared_before, an_object}
+use Rattle.main_translation_laws.specs.c_tree.CDeclarationText.{without, with_object, with_array, with_function, with_pointer, with_declared, with_parameter}
+use Rattle.main_translation_laws.specs.c_tree.CText.{no_names}
+use Rattle.main_translation_laws.specs.c_tree.Drafts as linking
+use Rattle.main_translation_laws.specs.c_tree.Declarations.{Declared, parameter_access, declared_parameters, declared_statics, declared_automatics, declared_externs}
+use Rattle.main_translation_laws.specs.c_tree.Linking.{Routines, routine, known_objects, known_functions, included, declared_constants}
+use Rattle.main_translation_laws.specs.linking_laws.Linked.{names_of}
+use Rattle.main_translation_laws.proofs.linking_laws.Places.{other_bytes, same_bytes, skipped}
 use Rattle.main_translation_laws.proofs.Lists.{AreApart, one_apart}
 use Rattle.main_file_texts.specs.WellFormedMains.{Agrees}
 

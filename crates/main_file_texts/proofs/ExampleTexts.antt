@@ -1,13 +1,13 @@
 -- The example is a main program whose file is well formed.
 use Rattle.std.specs.Prelude.{◌≡◌, ℕ, ◌≤◌, true, Some}
 use Rattle.std.proofs.Common.{refl}
-use Rattle.f_tree.specs.Facts.{Member}
-use Rattle.f_tree.specs.Setting.{IsIn, first_in, later_in}
-use Rattle.lowering_laws.specs.Examples.{example_opened}
-use Rattle.c_tree.specs.Tokens.{begins_with, is_letter}
-use Rattle.c_tree.specs.CText.{WellFormed}
-use Rattle.main_file.specs.MainFile.{main_file}
-use Rattle.main_translation.specs.Contents.{count_by, inventory_of}
+use Rattle.main_translation_laws.specs.f_tree.Facts.{Member}
+use Rattle.main_translation_laws.specs.f_tree.Setting.{IsIn, first_in, later_in}
+use Rattle.main_translation_laws.specs.lowering_laws.Examples.{example_opened}
+use Rattle.main_translation_laws.specs.c_tree.Tokens.{begins_with, is_letter}
+use Rattle.main_translation_laws.specs.c_tree.CText.{WellFormed}
+use Rattle.main_translation_laws.specs.main_file.MainFile.{main_file}
+use Rattle.main_translation_laws.specs.main_translation.Contents.{count_by, inventory_of}
 use Rattle.main_translation_laws.specs.Example.{its_unit, its_text, its_statements}
 use Rattle.main_translation_laws.proofs.ExampleHolds.{example_lowered, example_made, example_is_plain, example_is_short}
 use Rattle.main_file_texts.specs.WellFormedMains.{IsSpellable}

@@ -1,24 +1,24 @@
 -- The C expressions of values and places take no fields of lists.
 use Rattle.std.specs.Prelude.{◌≡◌, ℕ, zero, suc, ◌+◌, ◌/◌, nat_eq, ℤ, pos, negsuc, Bool, true, false, List, [], ◌∷◌, Option, Some, None, option_map, if◌then◌else◌}
 use Rattle.std.proofs.Common.{refl, subst}
-use Rattle.f_tree.specs.Values as fortran
-use Rattle.f_tree.specs.Values.{Bytes, Datum, IsInt, IsLog, IsText, IsSpot, in_range}
-use Rattle.f_tree.specs.Terms as terms
-use Rattle.l_core.specs.Pures.{Pure, Constant, Temporary, Load, Name, AllOf, ElementOf, FirstOf, Substring, Prefixed, Operated, Applied, Chosen, Concatenated, Pures, NoPure, AndPure}
-use Rattle.c_tree.specs.declared.expression.BinaryOp.{BinaryOp}
-use Rattle.c_tree.specs.declared.expression.BinaryOp.TheVariants as op
-use Rattle.c_tree.specs.declared.expression.UnaryOp.{UnaryOp}
-use Rattle.c_tree.specs.declared.expression.UnaryOp.TheVariants as prefix
-use Rattle.c_tree.specs.declared.expression.Extreme.{Extreme}
-use Rattle.c_tree.specs.declared.expression.Extreme.TheVariants as extreme
-use Rattle.c_tree.specs.Access.{ToNumber, ToPointer}
-use Rattle.c_tree.specs.Terms as c
-use Rattle.c_tree.specs.Terms.{Term}
-use Rattle.c_image.specs.Addresses.{Address, Alone, Inside, InTexts, Through, number_term, element_term}
-use Rattle.c_image.specs.Elements.{Quantity, Written, Saved, Step, sum_term, difference_term, product_term, quantity_term, index_term}
-use Rattle.c_image.specs.Operations.{constant_term, negative_term, prefix_for, operator_for, extreme_term, function_term}
-use Rattle.c_emit.specs.Numbers.{Writing, is_scalar, is_array, constant_value, with_two, with_three, one_more, steps_from, element_value, applied_value, if_number, value_term, place_term, value_terms}
-use Rattle.linking_laws.proofs.Places.{some_same}
+use Rattle.main_translation_laws.specs.f_tree.Values as fortran
+use Rattle.main_translation_laws.specs.f_tree.Values.{Bytes, Datum, IsInt, IsLog, IsText, IsSpot, in_range}
+use Rattle.main_translation_laws.specs.f_tree.Terms as terms
+use Rattle.main_translation_laws.specs.l_core.Pures.{Pure, Constant, Temporary, Load, Name, AllOf, ElementOf, FirstOf, Substring, Prefixed, Operated, Applied, Chosen, Concatenated, Pures, NoPure, AndPure}
+use Rattle.main_translation_laws.specs.c_tree.declared.expression.BinaryOp.{BinaryOp}
+use Rattle.main_translation_laws.specs.c_tree.declared.expression.BinaryOp.TheVariants as op
+use Rattle.main_translation_laws.specs.c_tree.declared.expression.UnaryOp.{UnaryOp}
+use Rattle.main_translation_laws.specs.c_tree.declared.expression.UnaryOp.TheVariants as prefix
+use Rattle.main_translation_laws.specs.c_tree.declared.expression.Extreme.{Extreme}
+use Rattle.main_translation_laws.specs.c_tree.declared.expression.Extreme.TheVariants as extreme
+use Rattle.main_translation_laws.specs.c_tree.Access.{ToNumber, ToPointer}
+use Rattle.main_translation_laws.specs.c_tree.Terms as c
+use Rattle.main_translation_laws.specs.c_tree.Terms.{Term}
+use Rattle.main_translation_laws.specs.c_image.Addresses.{Address, Alone, Inside, InTexts, Through, number_term, element_term}
+use Rattle.main_translation_laws.specs.c_image.Elements.{Quantity, Written, Saved, Step, sum_term, difference_term, product_term, quantity_term, index_term}
+use Rattle.main_translation_laws.specs.c_image.Operations.{constant_term, negative_term, prefix_for, operator_for, extreme_term, function_term}
+use Rattle.main_translation_laws.specs.c_emit.Numbers.{Writing, is_scalar, is_array, constant_value, with_two, with_three, one_more, steps_from, element_value, applied_value, if_number, value_term, place_term, value_terms}
+use Rattle.main_translation_laws.proofs.linking_laws.Places.{some_same}
 use Rattle.main_file_texts.specs.WellFormedMains.{HasNoField, HaveNoField, no_terms, and_term}
 
 constant_fieldless : (z : ℤ) → HasNoField (c.Constant z)
@@ -146,7 +146,7 @@ unfolding if_number
 if_fieldless true x term h one = one refl h
 if_fieldless false x term h one = absurd (cc)
 
-datum_fieldless : (d : Datum) (term : Term) → constant_value d ≡ Some term → HasNoField term
+pub datum_fieldless : (d : Datum) (term : Term) → constant_value d ≡ Some term → HasNoField term
 unfolding constant_value
 datum_fieldless (IsInt z) term h = by (in_range z) h
   where

@@ -1,27 +1,27 @@
 -- The items that are emitted take no fields of lists.
 use Rattle.std.specs.Prelude.{◌≡◌, ℕ, zero, suc, ◌+◌, ◌-◌, ℤ, pos, Bool, true, false, ◌&&◌, List, [], ◌∷◌, map, length, Option, Some, None, option_map, option_and_then, codes, if◌then◌else◌}
 use Rattle.std.proofs.Common.{refl, subst}
-use Rattle.f_tree.specs.Values.{Bytes, Datum, IsInt, IsLog, in_range}
-use Rattle.f_tree.specs.Facts as facts
-use Rattle.f_tree.specs.Facts.{Output, Listed, Controls, UnitKind}
-use Rattle.l_core.specs.Pures.{Pure, Constant, Temporary, Load, Pures, NoPure, AndPure}
-use Rattle.l_core.specs.Steps as step
-use Rattle.l_core.specs.Steps.{Step}
-use Rattle.c_tree.specs.declared.types.CastType.TheVariants as to
-use Rattle.c_tree.specs.declared.types.ListType.TheVariants as list_type
-use Rattle.c_tree.specs.Access.{ToNumber, ToChar, ToList}
-use Rattle.c_tree.specs.Terms as c
-use Rattle.c_tree.specs.Terms.{Term}
-use Rattle.c_tree.specs.Flat.{Flat, Assign, Branch, Jump, Invoke, Kept, Direct, Return, Nothing}
-use Rattle.c_emit.specs.LibraryFunctions.{LibraryFunction, library_function}
-use Rattle.c_emit.specs.Numbers.{Writing, one_more, if_number, value_term, place_term}
-use Rattle.c_emit.specs.Types.{type_of}
-use Rattle.c_emit.specs.Calls.{call_of, address_of, is_plain, start_on, start_item, if_held, constant_held, held_term, held_terms, routine_of, computed_item, kind_number, item_by, takes_item, finish_item, stop_item}
-use Rattle.c_emit.specs.Flats.{assigned, jump_to, returned_by, flat_of}
-use Rattle.linking_laws.proofs.Places.{some_same}
-use Rattle.main_file.specs.MainItems.{item_before, flats_from}
+use Rattle.main_translation_laws.specs.f_tree.Values.{Bytes, Datum, IsInt, IsLog, in_range}
+use Rattle.main_translation_laws.specs.f_tree.Facts as facts
+use Rattle.main_translation_laws.specs.f_tree.Facts.{Output, Listed, Controls, UnitKind}
+use Rattle.main_translation_laws.specs.l_core.Pures.{Pure, Constant, Temporary, Load, Pures, NoPure, AndPure}
+use Rattle.main_translation_laws.specs.l_core.Steps as step
+use Rattle.main_translation_laws.specs.l_core.Steps.{Step}
+use Rattle.main_translation_laws.specs.c_tree.declared.types.CastType.TheVariants as to
+use Rattle.main_translation_laws.specs.c_tree.declared.types.ListType.TheVariants as list_type
+use Rattle.main_translation_laws.specs.c_tree.Access.{ToNumber, ToChar, ToList}
+use Rattle.main_translation_laws.specs.c_tree.Terms as c
+use Rattle.main_translation_laws.specs.c_tree.Terms.{Term}
+use Rattle.main_translation_laws.specs.c_tree.Flat.{Flat, Assign, Branch, Select, Jump, Invoke, Kept, Direct, Return, Nothing, CaseAt}
+use Rattle.main_translation_laws.specs.c_emit.LibraryFunctions.{LibraryFunction, library_function}
+use Rattle.main_translation_laws.specs.c_emit.Numbers.{Writing, constant_value, one_more, if_number, value_term, place_term}
+use Rattle.main_translation_laws.specs.c_emit.Types.{type_of}
+use Rattle.main_translation_laws.specs.c_emit.Calls.{call_of, address_of, is_plain, start_on, start_item, if_held, constant_held, held_term, held_terms, routine_of, computed_item, kind_number, item_by, takes_item, finish_item, stop_item}
+use Rattle.main_translation_laws.specs.c_emit.Flats.{assigned, jump_to, cases_to, cases_for, switch_to, returned_by, flat_of}
+use Rattle.main_translation_laws.proofs.linking_laws.Places.{some_same}
+use Rattle.main_translation_laws.specs.main_file.MainItems.{item_before, flats_from}
 use Rattle.main_file_texts.specs.WellFormedMains.{HasNoField, HaveNoField, no_terms, and_term, ItemHasNoField, ItemsHaveNoField}
-use Rattle.main_file_texts.proofs.Fieldless.{held_fieldless, value_fieldless, target_fieldless}
+use Rattle.main_file_texts.proofs.Fieldless.{datum_fieldless, held_fieldless, value_fieldless, target_fieldless}
 
 assigned_fieldless : (target value : Option Term) (item : Flat) → assigned target value ≡ Some item → ((t : Term) → target ≡ Some t → HasNoField t) → ((t : Term) → value ≡ Some t → HasNoField t) → ItemHasNoField item
 unfolding assigned
@@ -32,6 +32,10 @@ assigned_fieldless None value item h one other = absurd (cc)
 branch_fieldless : (on off : ℕ) (x : Option Term) (item : Flat) → option_map (λ test. Branch test on off) x ≡ Some item → ((t : Term) → x ≡ Some t → HasNoField t) → ItemHasNoField item
 branch_fieldless on off (Some t) item h one = subst ItemHasNoField (some_same (Branch t on off) item h) (one t refl)
 branch_fieldless on off None item h one = absurd (cc)
+
+select_fieldless : (cases : List CaseAt) (otherwise : ℕ) (x : Option Term) (item : Flat) → option_map (λ value. Select value cases otherwise) x ≡ Some item → ((t : Term) → x ≡ Some t → HasNoField t) → ItemHasNoField item
+select_fieldless cases otherwise (Some t) item h one = subst ItemHasNoField (some_same (Select t cases otherwise) item h) (one t refl)
+select_fieldless cases otherwise None item h one = absurd (cc)
 
 goto_fieldless : (place : ℕ → ℕ) (label : Option ℕ) (item : Flat) → jump_to place label ≡ Some item → ItemHasNoField item
 unfolding jump_to
@@ -131,8 +135,10 @@ module _ (w : Writing) where
   stopped n text = call_fieldless w (codes "s_stop") (c.Array (w.library.text n) ToChar ∷ c.Cast to.Length (c.Constant (pos (length text))) ∷ []) (and_term tt (and_term tt no_terms))
 
   pub flat_fieldless : (place : ℕ → ℕ) (label : ℕ → Option ℕ) (n : ℕ) (st : Step) (item : Flat) → flat_of w place label n st ≡ Some item → ItemHasNoField item
-  unfolding flat_of
+  unfolding flat_of switch_to
   flat_fieldless place label n (step.Put target p) item h = assigned_fieldless (place_term w target) (value_term w p) item h (target_fieldless w target) (value_fieldless w p)
+  flat_fieldless place label n (step.PutLabel target l) item h =
+      assigned_fieldless (place_term w target) (constant_value (IsInt (pos l))) item h (target_fieldless w target) (datum_fieldless (IsInt (pos l)))
   flat_fieldless place label n (step.Keep k p) item h =
       assigned_fieldless (if_number (w.is_number k) (Some (c.Variable (w.naming.temporary k) ToNumber))) (value_term w p) item h
       (λ t is. held_fieldless (w.is_number k) (c.Variable (w.naming.temporary k) ToNumber) t is (λ holds. tt)) (value_fieldless w p)
@@ -141,6 +147,9 @@ module _ (w : Writing) where
       (λ t is. held_fieldless (w.is_number k) (c.Variable (w.naming.temporary k) ToNumber) t is (λ holds. tt)) (held_are ps)
   flat_fieldless place label n (step.Unless p m) item h = branch_fieldless (place (suc n)) (place (suc n + m)) (value_term w p) item h (value_fieldless w p)
   flat_fieldless place label n (step.AgainIf p m) item h = branch_fieldless (place (n - m)) (place (suc n)) (value_term w p) item h (value_fieldless w p)
+  flat_fieldless place label n (step.Select p count) item h = select_fieldless (cases_to place 1 (suc n) count) (place (suc n + count)) (value_term w p) item h (value_fieldless w p)
+  flat_fieldless place label n (step.JumpBy p []) item h = absurd (cc)
+  flat_fieldless place label n (step.JumpBy p (l ∷ ls)) item h = select_fieldless (cases_for place (suc n) (l ∷ ls)) (place (suc n + length (l ∷ ls))) (place_term w p) item h (target_fieldless w p)
   flat_fieldless place label n (step.Skip m) item h = subst ItemHasNoField (some_same (Jump (place (suc n + m))) item h) tt
   flat_fieldless place label n (step.Again m) item h = subst ItemHasNoField (some_same (Jump (place (n - m))) item h) tt
   flat_fieldless place label n (step.Jump l) item h = goto_fieldless place (label l) item h

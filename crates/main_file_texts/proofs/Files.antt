@@ -2,41 +2,41 @@
 use Rattle.std.specs.Prelude.{◌≡◌, ◌≢◌, ℕ, zero, suc, ◌+◌, ◌*◌, ◌<◌, ◌≤◌, ◌^◌, nat_eq, nat_lt, ℤ, pos, negsuc, Bool, true, false, not, ◌&&◌, List, [], ◌∷◌, ◌++◌, map, length, position, Option, Some, None, bytes_eq, if◌then◌else◌}
 use Rattle.std.specs.List.{list_all}
 use Rattle.std.proofs.Common.{refl, sym, ap, ◌∙◌, subst, arith}
-use Rattle.f_tree.specs.Facts.{ProgramUnit, Output, Listed, Labelled, Computed, Unformatted, Input, Direction, Layout, Controls}
-use Rattle.f_tree.specs.CNames.{variable_name, constant_name, made_name, ConstantOf, StatementLabel, MadeLabel}
-use Rattle.f_tree.specs.Setting.{IsIn, first_in, later_in}
-use Rattle.f_tree.specs.Values.{IsInt, in_range}
-use Rattle.l_core.specs.Pures.{Constant, Pures, NoPure, AndPure}
-use Rattle.l_core.specs.Steps.{Starts, Step, Acts, Marked, Text}
-use Rattle.lowering.specs.Units.{lowered_unit}
-use Rattle.c_tree.specs.declared.statement.CStmt.{CStmt}
-use Rattle.c_tree.specs.declared.file.CConstant.{CConstant}
-use Rattle.c_tree.specs.CWords.{is_among, is_name}
-use Rattle.c_tree.specs.CLabels.{labels_meet}
-use Rattle.c_tree.specs.CDeclarationText.{IsLength, with_function}
-use Rattle.c_tree.specs.CExpressionText.{Scope}
-use Rattle.c_tree.specs.CText.{no_names, WellFormed}
-use Rattle.c_tree.specs.Flat.{Flat}
-use Rattle.c_tree.specs.FlatForm.{body_of_all}
-use Rattle.c_tree.specs.Linking as linking
-use Rattle.c_tree.specs.Linking.{Routines, routines, main_name}
-use Rattle.c_emit.specs.Calls.{is_plain, start_on, start_item, unit_of}
-use Rattle.c_emit.specs.Flats.{flat_of}
-use Rattle.c_emit.specs.Numbers.{Writing}
-use Rattle.c_structure_laws.specs.Fitting.{KnowsItems, marks_from}
-use Rattle.c_laws.proofs.TokenSpellings.{and-first, and-second}
-use Rattle.linking_laws.specs.Linked as linked
-use Rattle.linking_laws.specs.Linked.{AreDistinct, IsBuilt}
-use Rattle.linking_laws.proofs.BuiltCode.{built_fit}
-use Rattle.linking_laws.proofs.Places.{some_same, same_bytes, within}
-use Rattle.main_file.specs.MainFile.{Variable, Listing, Called, constant_for, main_locals, main_function, main_file, names_of, writing_of, list_names, temporary_names, constant_names, lasting_names, called_names}
-use Rattle.main_file.specs.MainItems.{item_before, flats_from}
-use Rattle.main_file_laws.specs.KnownFile.{NamesDiffer, scope_in}
-use Rattle.main_file_laws.proofs.Known.{position_finds}
-use Rattle.main_programs.specs.MainRuns.{bytes_in, plain_facts}
-use Rattle.main_translation.specs.Flow.{kind_at}
-use Rattle.main_translation.specs.Contents.{count_by, variable_of, listing_by, listings_from, function_called, calls_of, inventory_of, first_objects}
-use Rattle.main_translation.specs.Outlined.{labels_in, stands_at, label_before, opens_while, whiles_in, name_by, label_at, outline_of}
+use Rattle.main_translation_laws.specs.f_tree.Facts.{ProgramUnit, Output, Listed, Labelled, Computed, Unformatted, Input, Direction, Layout, Controls}
+use Rattle.main_translation_laws.specs.f_tree.CNames.{variable_name, constant_name, made_name, ConstantOf, StatementLabel, MadeLabel}
+use Rattle.main_translation_laws.specs.f_tree.Setting.{IsIn, first_in, later_in}
+use Rattle.main_translation_laws.specs.f_tree.Values.{IsInt, in_range}
+use Rattle.main_translation_laws.specs.l_core.Pures.{Constant, Pures, NoPure, AndPure}
+use Rattle.main_translation_laws.specs.l_core.Steps.{Starts, Step, Acts, Marked, Text}
+use Rattle.main_translation_laws.specs.lowering.Units.{lowered_unit}
+use Rattle.main_translation_laws.specs.c_tree.declared.statement.CStmt.{CStmt}
+use Rattle.main_translation_laws.specs.c_tree.declared.file.CConstant.{CConstant}
+use Rattle.main_translation_laws.specs.c_tree.CWords.{is_among, is_name}
+use Rattle.main_translation_laws.specs.c_tree.CLabels.{labels_meet}
+use Rattle.main_translation_laws.specs.c_tree.CDeclarationText.{IsLength, with_function}
+use Rattle.main_translation_laws.specs.c_tree.CExpressionText.{Scope}
+use Rattle.main_translation_laws.specs.c_tree.CText.{no_names, WellFormed}
+use Rattle.main_translation_laws.specs.c_tree.Flat.{Flat}
+use Rattle.main_translation_laws.specs.c_tree.FlatForm.{body_of_all}
+use Rattle.main_translation_laws.specs.c_tree.Linking as linking
+use Rattle.main_translation_laws.specs.c_tree.Linking.{Routines, routines, main_name}
+use Rattle.main_translation_laws.specs.c_emit.Calls.{is_plain, start_on, start_item, unit_of}
+use Rattle.main_translation_laws.specs.c_emit.Flats.{flat_of}
+use Rattle.main_translation_laws.specs.c_emit.Numbers.{Writing}
+use Rattle.main_translation_laws.specs.c_structure_laws.Fitting.{KnowsItems, marks_from}
+use Rattle.main_translation_laws.proofs.c_laws.TokenSpellings.{and-first, and-second}
+use Rattle.main_translation_laws.specs.linking_laws.Linked as linked
+use Rattle.main_translation_laws.specs.linking_laws.Linked.{AreDistinct, IsBuilt}
+use Rattle.main_translation_laws.proofs.linking_laws.BuiltCode.{built_fit}
+use Rattle.main_translation_laws.proofs.linking_laws.Places.{some_same, same_bytes, within}
+use Rattle.main_translation_laws.specs.main_file.MainFile.{Variable, Listing, Called, constant_for, main_locals, main_function, main_file, names_of, writing_of, list_names, temporary_names, constant_names, lasting_names, called_names}
+use Rattle.main_translation_laws.specs.main_file.MainItems.{item_before, flats_from}
+use Rattle.main_translation_laws.specs.main_file_laws.KnownFile.{NamesDiffer, scope_in}
+use Rattle.main_translation_laws.proofs.main_file_laws.Known.{position_finds}
+use Rattle.main_translation_laws.specs.main_programs.MainRuns.{bytes_in, plain_facts}
+use Rattle.main_translation_laws.specs.main_translation.Flow.{kind_at}
+use Rattle.main_translation_laws.specs.main_translation.Contents.{count_by, variable_of, listing_by, listings_from, function_called, calls_of, inventory_of, first_objects}
+use Rattle.main_translation_laws.specs.main_translation.Outlined.{labels_in, stands_at, label_before, opens_while, whiles_in, name_by, label_at, outline_of}
 use Rattle.main_translation_laws.specs.PlainMains.{IsPlainMain, IsPlainText}
 use Rattle.main_translation_laws.proofs.Translated as mains
 use Rattle.main_translation_laws.proofs.Translated.{other_body}

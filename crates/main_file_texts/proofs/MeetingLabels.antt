@@ -3,12 +3,12 @@ use Rattle.std.specs.Prelude.{◌≡◌, ℕ, suc, ◌+◌, ◌<◌, ◌≤◌, 
 use Rattle.std.specs.List.{list_all}
 use Rattle.std.proofs.Common.{refl, sym, ap, ◌∙◌, subst, arith}
 use Rattle.std.proofs.lemmas.Bool.{eqb-true, eqb-false}
-use Rattle.c_tree.specs.declared.statement.CStmt.{CStmt}
-use Rattle.c_tree.specs.CLabels.{labels_of_all, stands_once, labels_meet}
-use Rattle.c_tree.specs.Flat.{Flat}
-use Rattle.c_tree.specs.FlatForm.{LabelAt, body_of_all}
-use Rattle.c_structure_laws.specs.Fitting.{mark_at, marks_from}
-use Rattle.linking_laws.proofs.Places.{some_same, other_bytes, same_bytes, taken, skipped}
+use Rattle.main_translation_laws.specs.c_tree.declared.statement.CStmt.{CStmt}
+use Rattle.main_translation_laws.specs.c_tree.CLabels.{labels_of_all, stands_once, labels_meet}
+use Rattle.main_translation_laws.specs.c_tree.Flat.{Flat}
+use Rattle.main_translation_laws.specs.c_tree.FlatForm.{LabelAt, body_of_all}
+use Rattle.main_translation_laws.specs.c_structure_laws.Fitting.{mark_at, marks_from}
+use Rattle.main_translation_laws.proofs.linking_laws.Places.{some_same, other_bytes, same_bytes, taken, skipped}
 use Rattle.main_file_texts.specs.WellFormedMains.{AllStand}
 use Rattle.main_file_texts.proofs.TreeLabels.{names_at, stand_in_all}
 

@@ -1,29 +1,32 @@
 -- Tokens that spell the statements that are built, each of whose jumps goes where a label is said to stand.
-use Rattle.std.specs.Prelude.{◌≡◌, ℕ, zero, suc, ◌+◌, ◌-◌, pos, nat_eq, nat_le, Bool, true, false, ◌&&◌, List, [], ◌∷◌, ◌++◌, length, take, drop, codes, Option, Some, None, option_map, slice_get, if◌then◌else◌}
-use Rattle.std.proofs.Common.{refl, sym, subst}
-use Rattle.c_tree.specs.declared.expression.CExpr.{CExpr}
-use Rattle.c_tree.specs.declared.expression.BinaryOp.TheVariants as op
-use Rattle.c_tree.specs.declared.statement.CNext.{CNext}
-use Rattle.c_tree.specs.declared.statement.CNext.TheVariants as next
-use Rattle.c_tree.specs.declared.statement.CStmt.{CStmt}
-use Rattle.c_tree.specs.declared.statement.CStmt.TheVariants as stmt
-use Rattle.c_tree.specs.Tokens.{Token, Word, Sign}
-use Rattle.c_tree.specs.CWords.{Separated, last_item, one_item, is_among, is_name}
-use Rattle.c_tree.specs.CLabels.{labels_of, labels_of_all}
-use Rattle.c_tree.specs.CExpressionText.{Scope, ReadsExpr, ReadsArguments, no_argument, some_arguments, ReadsCall, by_name, through_a_parameter}
-use Rattle.c_tree.specs.CStatementText.{ReadsNext, up, added, for_head, tested, ReadsStmt, assigned, assigned_call, called, empty, labelled, jump, returned, returned_value, if_only, if_else, repeated_for, ReadsStmts, closed, one_more}
-use Rattle.c_tree.specs.Drafts as linking
-use Rattle.c_tree.specs.Access.{ToFunction}
-use Rattle.c_tree.specs.Terms.{Term, Constant, Variable, Between}
-use Rattle.c_tree.specs.Flat.{Flat, Assign, Branch, Select, Jump, Invoke, Return, ReturnAnswer, Nothing, Lost, Ignored, Kept, Returned, Direct, Through, Nowhere}
-use Rattle.c_structure.specs.Expressions as expressions
-use Rattle.c_structure.specs.Expressions.{Names, expr_for, exprs_for}
-use Rattle.c_structure.specs.Statements.{Outline, set_by, call_by, set_call_by, statement_of, with_label, before, if_by, if_else_by, end_of_arm, Writer, if_for, if_else_for, arms_for, branch_for, item_for, same_place, added_by, next_by, next_for, for_by, is_loop, loop_for, part_for, statements_for}
-use Rattle.c_structure_laws.specs.Fitting.{Knows, KnowsAll, KnowsItem, KnowsItems}
-use Rattle.c_structure_laws.proofs.DrawnExpressions.{some_same}
+use Rattle.std.specs.Prelude.{◌≡◌, ℕ, zero, suc, ◌+◌, ◌-◌, ◌≤◌, ℤ, pos, nat_eq, nat_le, Bool, true, false, ◌&&◌, List, [], ◌∷◌, ◌++◌, map, length, take, drop, codes, Option, Some, None, is_none, option_map, slice_get, if◌then◌else◌}
+use Rattle.std.proofs.Common.{refl, sym, ap, subst, arith}
+use Rattle.std.proofs.lemmas.Bool.{and_parts}
+use Rattle.main_translation_laws.specs.c_tree.declared.expression.CExpr.{CExpr}
+use Rattle.main_translation_laws.specs.c_tree.declared.expression.BinaryOp.TheVariants as op
+use Rattle.main_translation_laws.specs.c_tree.declared.statement.CCase.{CCase}
+use Rattle.main_translation_laws.specs.c_tree.declared.statement.CNext.{CNext}
+use Rattle.main_translation_laws.specs.c_tree.declared.statement.CNext.TheVariants as next
+use Rattle.main_translation_laws.specs.c_tree.declared.statement.CStmt.{CStmt}
+use Rattle.main_translation_laws.specs.c_tree.declared.statement.CStmt.TheVariants as stmt
+use Rattle.main_translation_laws.specs.c_tree.Tokens.{Token, Word, Digits, Sign}
+use Rattle.main_translation_laws.specs.c_tree.CWords.{Separated, last_item, one_item, is_among, is_name}
+use Rattle.main_translation_laws.specs.c_tree.CLabels.{labels_of, labels_of_all}
+use Rattle.main_translation_laws.specs.c_tree.CExpressionText.{Scope, ReadsExpr, ReadsArguments, no_argument, some_arguments, ReadsCall, by_name, through_a_parameter}
+use Rattle.main_translation_laws.specs.c_tree.CStatementText.{ReadsCases, no_case, one_case, has_twice, case_numbers, ReadsNext, up, added, for_head, tested, ReadsStmt, assigned, assigned_call, called, empty, labelled, jump, returned, returned_value, if_only, if_else, switched, repeated_for, ReadsStmts, closed, one_more}
+use Rattle.main_translation_laws.specs.c_tree.Drafts as linking
+use Rattle.main_translation_laws.specs.c_tree.Access.{ToFunction}
+use Rattle.main_translation_laws.specs.c_tree.Terms.{Term, Constant, Variable, Between}
+use Rattle.main_translation_laws.specs.c_tree.Flat.{Flat, Assign, Branch, Select, Jump, Invoke, Return, ReturnAnswer, Nothing, Lost, Ignored, Kept, Returned, Direct, Through, Nowhere, CaseAt}
+use Rattle.main_translation_laws.specs.c_structure.Expressions as expressions
+use Rattle.main_translation_laws.specs.c_structure.Expressions.{Names, expr_for, exprs_for}
+use Rattle.main_translation_laws.specs.c_structure.Statements.{Outline, set_by, call_by, set_call_by, statement_of, with_label, before, if_by, if_else_by, end_of_arm, Writer, if_for, if_else_for, arms_for, branch_for, case_by, case_for, before_cases, cases_for, are_case_numbers, switch_by, switch_for, item_for, same_place, added_by, next_by, next_for, for_by, is_loop, loop_for, part_for, statements_for}
+use Rattle.main_translation_laws.specs.c_structure_laws.Fitting.{Knows, KnowsAll, KnowsItem, KnowsItems}
+use Rattle.main_translation_laws.proofs.c_structure_laws.DrawnExpressions.{some_same}
 use Rattle.main_file_texts.specs.WellFormedMains.{IsSpelled, Agrees, HasNoField, HaveNoField, and_term, ItemHasNoField, ItemsHaveNoField, AllStand, StatementsAreSpelled, AreSpelled}
 use Rattle.main_file_texts.proofs.SpelledTerms.{anywhere, term_spelled}
-use Rattle.main_file_texts.proofs.TreeLabels.{labels_label, labels_if, labels_if_else, labels_for}
+use Rattle.main_file_texts.proofs.CaseNumbers.{HasDigits, digits_of, none_twice}
+use Rattle.main_file_texts.proofs.TreeLabels.{labels_label, labels_if, labels_if_else, labels_switch, labels_for}
 
 -- ## Labels that are named
 
@@ -306,6 +309,102 @@ module _ (o : Outline) (scope : Scope) (links : linking.Scope) (agrees : Agrees 
       by true g = arms_fine write fine n m t (end_of_arm (slice_get later m)) later ss g plain plains
       by false g = test_fine write fine n (suc m) t later ss g plain plains
 
+  -- ## Cases
+
+  -- a case of a number, whose jump goes where a label is said to stand
+  data IsFineCase : ℤ → CCase → Type 0 where
+    fine_case : (number : ℤ) (label : List ℕ) (n : ℕ) → o.label n ≡ Some label → IsFineCase number (record { number = number; label = label })
+
+  -- cases of some numbers that tokens spell, and whose jumps go where labels are said to stand
+  record AreFineCases (numbers : List ℤ) (cases : List CCase) : Type 0 where
+    text : IsSpelled (ReadsCases cases)
+    named : AllStand o.label (map (λ (case : CCase). case.label) cases)
+    same : case_numbers cases ≡ numbers
+
+  case_by_fine : (number : ℤ) (position : ℕ) (found : Option (List ℕ)) (case : CCase) → o.label position ≡ found → case_by number found ≡ Some case → IsFineCase number case
+  unfolding case_by
+  case_by_fine number position (Some label) case at h = subst (IsFineCase number) (some_same (record { number = number; label = label }) case h) (fine_case number label position at)
+  case_by_fine number position None case at h = absurd (cc)
+
+  case_fine : (n : ℕ) (at : CaseAt) (item : Flat) (case : CCase) → case_for o n at item ≡ Some case → IsFineCase at.number case
+  unfolding case_for
+  case_fine n at (Jump position) case h = by (nat_eq at.position n && is_none (o.label n)) h
+    where
+      by : (b : Bool) → (if b then case_by at.number (o.label position) else None) ≡ Some case → IsFineCase at.number case
+      by true g = case_by_fine at.number position (o.label position) case refl g
+      by false g = absurd (cc)
+  case_fine n at item case h = absurd (cc)
+
+  no_case_fine : AreFineCases [] []
+  no_case_fine = record { text = record { from = λ behind. Sign (codes "}") ∷ behind; reads = λ behind. no_case refl }; named = tt; same = refl }
+
+  and_case : (number : ℤ) (numbers : List ℤ) (case : CCase) (rest : List CCase) → HasDigits number → IsFineCase number case → AreFineCases numbers rest → AreFineCases (number ∷ numbers) (case ∷ rest)
+  and_case _ numbers _ rest digits (fine_case number label n at) others =
+      subst (λ z. AreFineCases (z ∷ numbers) (record { number = z; label = label } ∷ rest)) (sym digits.is) (record {
+        text = record {
+          from = λ behind. Word (codes "case") ∷ Digits digits.number ∷ Sign (codes ":") ∷ Word (codes "goto") ∷ Word label ∷ Sign (codes ";") ∷ others.text.from behind;
+          reads = λ behind. one_case digits.number label digits.small refl refl refl refl refl refl (others.text.reads behind);
+        };
+        named = ((n, at), others.named);
+        same = ap (λ zs. pos digits.number ∷ zs) others.same;
+      })
+
+  more_cases : (number : ℤ) (numbers : List ℤ) (x : Option CCase) (xs : Option (List CCase)) (cases : List CCase) → before_cases x xs ≡ Some cases → HasDigits number → ((case : CCase) → x ≡ Some case → IsFineCase number case)
+      → ((rest : List CCase) → xs ≡ Some rest → AreFineCases numbers rest) → AreFineCases (number ∷ numbers) cases
+  unfolding before_cases
+  more_cases number numbers (Some case) (Some rest) cases h digits one others =
+      subst (AreFineCases (number ∷ numbers)) (some_same (case ∷ rest) cases h) (and_case number numbers case rest digits (one case refl) (others rest refl))
+  more_cases number numbers (Some case) None cases h digits one others = absurd (cc)
+  more_cases number numbers None xs cases h digits one others = absurd (cc)
+
+  cases_fine : (n : ℕ) (ats : List CaseAt) (later : List Flat) (cases : List CCase) → cases_for o n ats later ≡ Some cases → are_case_numbers (map (λ (at : CaseAt). at.number) ats) ≡ true
+      → AreFineCases (map (λ (at : CaseAt). at.number) ats) cases
+  unfolding cases_for are_case_numbers
+  cases_fine n [] later cases h counted = subst (AreFineCases []) (some_same [] cases h) no_case_fine
+  cases_fine n (at ∷ ats) [] cases h counted = absurd (cc)
+  cases_fine n (at ∷ ats) (item ∷ later) cases h counted =
+      let both = and_parts _ _ counted in
+      let apart = and_parts _ _ both.1 in
+      more_cases at.number (map (λ (at : CaseAt). at.number) ats) (case_for o n at item) (cases_for o (suc n) ats later) cases h (digits_of at.number both.0) (λ case is. case_fine n at item case is)
+      (λ rest is. cases_fine (suc n) ats later rest is apart.1)
+
+  switch_by_fine : (x : Option CExpr) (xs : Option (List CCase)) (s : CStmt) → switch_by x xs ≡ Some s → ((a : CExpr) → x ≡ Some a → IsSpelled (ReadsExpr scope 0 a)) → (numbers : List ℤ) → are_case_numbers numbers ≡ true
+      → ((cases : List CCase) → xs ≡ Some cases → AreFineCases numbers cases) → IsFine s
+  unfolding switch_by
+  switch_by_fine (Some e) (Some cases) s h one numbers counted all =
+      let value = one e refl in
+      let them = all cases refl in
+      subst IsFine (some_same (stmt.Switch e cases) s h) (record {
+        text = record {
+          from = λ behind. Word (codes "switch") ∷ Sign (codes "(") ∷ value.from (Sign (codes ")") ∷ Sign (codes "{") ∷ them.text.from behind);
+          reads = λ behind.
+              switched (subst (λ zs. has_twice zs ≡ false) (sym them.same) (none_twice numbers counted)) (tested (codes "switch") refl refl (value.reads (Sign (codes ")") ∷ Sign (codes "{") ∷ them.text.from behind)) refl) refl (them.text.reads behind);
+        };
+        named = subst (λ l. AllStand o.label l.named) (sym (labels_switch e cases)) them.named;
+      })
+  switch_by_fine (Some e) None s h one numbers counted all = absurd (cc)
+  switch_by_fine None xs s h one numbers counted all = absurd (cc)
+
+  picked_fine : (write : Writer) → WriterFine write → (n : ℕ) (t : Term) (ats : List CaseAt) (later : List Flat) (ss : List CStmt) → are_case_numbers (map (λ (at : CaseAt). at.number) ats) ≡ true
+      → switch_for o write n (expr_for o.names t) ats later ≡ Some ss → Knows links o.names t × HasNoField t → ItemsArePlain links o.names later → AreFine ss
+  unfolding WriterFine switch_for
+  picked_fine write fine n t ats later ss numbers h plain plains =
+      before_fine n (switch_by (expr_for o.names t) (cases_for o (suc n) ats later)) (write (suc n + length ats) (drop (length ats) later)) ss h
+      (λ s is.
+      switch_by_fine (expr_for o.names t) (cases_for o (suc n) ats later) s is (λ a is'. term_is t a is' plain.0 plain.1) (map (λ (at : CaseAt). at.number) ats) numbers
+      (λ cases is'. cases_fine (suc n) ats later cases is' numbers))
+      (λ rest is. fine (suc n + length ats) (drop (length ats) later) rest is (plain_drop links o.names (length ats) later plains))
+
+  switch_fine : (write : Writer) → WriterFine write → (n : ℕ) (t : Term) (ats : List CaseAt) (otherwise : ℕ) (later : List Flat) (ss : List CStmt)
+      → (if nat_eq otherwise (suc n + length ats) && are_case_numbers (map (λ (at : CaseAt). at.number) ats) then switch_for o write n (expr_for o.names t) ats later else None) ≡ Some ss → Knows links o.names t × HasNoField t
+      → ItemsArePlain links o.names later → AreFine ss
+  switch_fine write fine n t ats otherwise later ss h plain plains = by (nat_eq otherwise (suc n + length ats)) (are_case_numbers (map (λ (at : CaseAt). at.number) ats)) refl h
+    where
+      by : (there counted : Bool) → are_case_numbers (map (λ (at : CaseAt). at.number) ats) ≡ counted → (if there && counted then switch_for o write n (expr_for o.names t) ats later else None) ≡ Some ss → AreFine ss
+      by true true numbers g = picked_fine write fine n t ats later ss numbers g plain plains
+      by true false numbers g = absurd (cc)
+      by false counted numbers g = absurd (cc)
+
   single_fine : (write : Writer) → WriterFine write → (n : ℕ) (item : Flat) (later : List Flat) (ss : List CStmt) → before (option_map (with_label (o.label n)) (statement_of o item)) (write (suc n) later) ≡ Some ss
       → ItemIsPlain links o.names item → ItemsArePlain links o.names later → AreFine ss
   unfolding WriterFine
@@ -319,7 +418,7 @@ module _ (o : Outline) (scope : Scope) (links : linking.Scope) (agrees : Agrees 
       by true g = branch_fine write fine n (off - suc n) t later ss g plain plains
       by false g = absurd (cc)
   item_fine write fine n (Assign t u) later ss h plain plains = single_fine write fine n (Assign t u) later ss h plain plains
-  item_fine write fine n (Select t cases otherwise) later ss h plain plains = single_fine write fine n (Select t cases otherwise) later ss h plain plains
+  item_fine write fine n (Select t ats otherwise) later ss h plain plains = switch_fine write fine n t ats otherwise later ss h plain plains
   item_fine write fine n (Jump position) later ss h plain plains = single_fine write fine n (Jump position) later ss h plain plains
   item_fine write fine n (Invoke how callee arguments) later ss h plain plains = single_fine write fine n (Invoke how callee arguments) later ss h plain plains
   item_fine write fine n (Return value) later ss h plain plains = single_fine write fine n (Return value) later ss h plain plains

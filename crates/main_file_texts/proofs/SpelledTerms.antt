@@ -2,21 +2,21 @@
 use Rattle.std.specs.Prelude.{◌≡◌, ℕ, suc, ◌≤◌, ℤ, pos, negsuc, nat_le, Bool, true, false, List, ◌∷◌, ◌++◌, codes, Option, Some, None, option_map, if◌then◌else◌}
 use Rattle.std.proofs.Common.{refl, subst, arith}
 use Rattle.std.proofs.lemmas.Bool.{leb-true}
-use Rattle.c_tree.specs.declared.types.CastType.{CastType}
-use Rattle.c_tree.specs.declared.expression.UnaryOp.{UnaryOp}
-use Rattle.c_tree.specs.declared.expression.BinaryOp.{BinaryOp}
-use Rattle.c_tree.specs.declared.expression.Extreme.{Extreme}
-use Rattle.c_tree.specs.declared.expression.CExpr.{CExpr}
-use Rattle.c_tree.specs.declared.expression.CExpr.TheVariants as expr
-use Rattle.c_tree.specs.Access.{Access}
-use Rattle.c_tree.specs.Tokens.{Word, Digits, Sign, Quoted}
-use Rattle.c_tree.specs.CWords.{prefix_sign, infix_sign, infix_level, cast_tokens, extreme_word}
-use Rattle.c_tree.specs.CExpressionText.{Scope, a_function, IsKnown, declared_before, ReadsExpr, a_number, a_string, a_name, parenthesised, prefixed, casted, between, chosen, indexed, size, extreme_of, magnitude}
-use Rattle.c_tree.specs.Drafts as linking
-use Rattle.c_tree.specs.Terms.{Term, Constant, Variable, Array, Routine, Unknown, Prefixed, Cast, Between, Choice, Element, Field, Size, Most, Magnitude}
-use Rattle.c_structure.specs.Expressions.{Names, with_two, with_three, number_expr, array_expr, expr_for}
-use Rattle.c_structure_laws.specs.Fitting.{KnowsArray, Knows}
-use Rattle.c_structure_laws.proofs.DrawnExpressions.{some_same}
+use Rattle.main_translation_laws.specs.c_tree.declared.types.CastType.{CastType}
+use Rattle.main_translation_laws.specs.c_tree.declared.expression.UnaryOp.{UnaryOp}
+use Rattle.main_translation_laws.specs.c_tree.declared.expression.BinaryOp.{BinaryOp}
+use Rattle.main_translation_laws.specs.c_tree.declared.expression.Extreme.{Extreme}
+use Rattle.main_translation_laws.specs.c_tree.declared.expression.CExpr.{CExpr}
+use Rattle.main_translation_laws.specs.c_tree.declared.expression.CExpr.TheVariants as expr
+use Rattle.main_translation_laws.specs.c_tree.Access.{Access}
+use Rattle.main_translation_laws.specs.c_tree.Tokens.{Word, Digits, Sign, Quoted}
+use Rattle.main_translation_laws.specs.c_tree.CWords.{prefix_sign, infix_sign, infix_level, cast_tokens, extreme_word}
+use Rattle.main_translation_laws.specs.c_tree.CExpressionText.{Scope, a_function, IsKnown, declared_before, ReadsExpr, a_number, a_string, a_name, parenthesised, prefixed, casted, between, chosen, indexed, size, extreme_of, magnitude}
+use Rattle.main_translation_laws.specs.c_tree.Drafts as linking
+use Rattle.main_translation_laws.specs.c_tree.Terms.{Term, Constant, Variable, Array, Routine, Unknown, Prefixed, Cast, Between, Choice, Element, Field, Size, Most, Magnitude}
+use Rattle.main_translation_laws.specs.c_structure.Expressions.{Names, with_two, with_three, number_expr, array_expr, expr_for}
+use Rattle.main_translation_laws.specs.c_structure_laws.Fitting.{KnowsArray, Knows}
+use Rattle.main_translation_laws.proofs.c_structure_laws.DrawnExpressions.{some_same}
 use Rattle.main_file_texts.specs.WellFormedMains.{IsSpelled, Agrees, HasNoField, ExpressionsAreSpelled}
 
 -- ## Forms

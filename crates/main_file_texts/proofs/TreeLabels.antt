@@ -2,14 +2,15 @@
 use Rattle.std.specs.Prelude.{◌≡◌, ℕ, ◌+◌, List, [], ◌∷◌, ◌++◌, map, Some, None}
 use Rattle.std.proofs.Common.{refl, sym, ap, ◌∙◌}
 use Rattle.std.proofs.lemmas.List.{map-append, append-nil}
-use Rattle.c_tree.specs.declared.expression.CExpr.{CExpr}
-use Rattle.c_tree.specs.declared.statement.CNext.{CNext}
-use Rattle.c_tree.specs.declared.statement.CStmt as stmt
-use Rattle.c_tree.specs.declared.statement.CStmt.{CStmt}
-use Rattle.c_tree.specs.declared.statement.CStmt.TheVariants as form
-use Rattle.c_tree.specs.CLabels.{no_label, both, standing, labels_of, labels_in, labels_of_other, labels_of_all}
-use Rattle.c_tree.specs.FlatForm.{LabelAt, Body, body, bodies, arms, body_of_all}
-use Rattle.c_tree.specs.Opened.{trees_opened}
+use Rattle.main_translation_laws.specs.c_tree.declared.expression.CExpr.{CExpr}
+use Rattle.main_translation_laws.specs.c_tree.declared.statement.CCase.{CCase}
+use Rattle.main_translation_laws.specs.c_tree.declared.statement.CNext.{CNext}
+use Rattle.main_translation_laws.specs.c_tree.declared.statement.CStmt as stmt
+use Rattle.main_translation_laws.specs.c_tree.declared.statement.CStmt.{CStmt}
+use Rattle.main_translation_laws.specs.c_tree.declared.statement.CStmt.TheVariants as form
+use Rattle.main_translation_laws.specs.c_tree.CLabels.{no_label, both, standing, labels_of, labels_in, labels_of_other, labels_of_all}
+use Rattle.main_translation_laws.specs.c_tree.FlatForm.{LabelAt, Body, body, bodies, arms, body_of_all}
+use Rattle.main_translation_laws.specs.c_tree.Opened.{trees_opened}
 
 pub labels_block : (ss : List CStmt) → labels_of (form.Block ss) ≡ labels_of_all ss
 unfolding trees_opened
@@ -31,6 +32,10 @@ labels_if_else test first second = λ i. both (labels_block first i) (labels_blo
 pub labels_for : (variable first test : CExpr) (next : CNext) (turn : List CStmt) → labels_of (form.For variable first test next turn) ≡ labels_of_all turn
 unfolding trees_opened
 labels_for variable first test next turn = labels_block turn
+
+pub labels_switch : (value : CExpr) (cases : List CCase) → labels_of (form.Switch value cases) ≡ record { stand = []; named = map (λ (case : CCase). case.label) cases }
+unfolding trees_opened
+labels_switch value cases = refl
 
 -- ## Where they stand
 

@@ -8,13 +8,13 @@ use Rattle.std.proofs.lemmas.Bool.Decides.{nat_tests}
 use Rattle.std.proofs.lemmas.Fmt.{decimal_by_steps, decimal_is_IsNumeral}
 use Rattle.std.proofs.lemmas.Str.Parse.{digit_from_value}
 use Rattle.std.proofs.lemmas.Slice.Eq.{bytes_eq-Decides}
-use Rattle.f_tree.specs.CNames as names
-use Rattle.f_tree.specs.CNames.{variable_name, constant_name, made_name, is_reserved, takes_underscores, NumberTemporary, ControlList, ConstantOf, StatementLabel, MadeLabel}
-use Rattle.fortran_laws.proofs.CNameLaws.{variable_name-not_reserved}
-use Rattle.c_tree.specs.Tokens.{begins_with, is_letter, is_word_byte}
-use Rattle.c_tree.specs.CWords.{words, is_name, is_among}
-use Rattle.c_laws.proofs.TokenSpellings.{and-first, and-second, digits-word}
-use Rattle.linking_laws.proofs.Places.{other_bytes}
+use Rattle.main_translation_laws.specs.f_tree.CNames as names
+use Rattle.main_translation_laws.specs.f_tree.CNames.{variable_name, constant_name, made_name, is_reserved, takes_underscores, NumberTemporary, ControlList, ConstantOf, StatementLabel, MadeLabel}
+use Rattle.main_translation_laws.proofs.fortran_laws.CNameLaws.{variable_name-not_reserved}
+use Rattle.main_translation_laws.specs.c_tree.Tokens.{begins_with, is_letter, is_word_byte}
+use Rattle.main_translation_laws.specs.c_tree.CWords.{words, is_name, is_among}
+use Rattle.main_translation_laws.proofs.c_laws.TokenSpellings.{and-first, and-second, digits-word}
+use Rattle.main_translation_laws.proofs.linking_laws.Places.{other_bytes}
 
 -- ## Digits
 

@@ -1,1 +1,9 @@
 pub mod WellFormedMains
+pub use Rattle.main_translation_laws.specs.c_emit
+pub use Rattle.main_translation_laws.specs.c_image
+pub use Rattle.main_translation_laws.specs.c_structure_laws
+pub use Rattle.main_translation_laws.specs.f_tree
+pub use Rattle.main_translation_laws.specs.faithful
+pub use Rattle.main_translation_laws.specs.l_core
+pub use Rattle.main_translation_laws.specs.linking_laws
+pub use Rattle.main_translation_laws.specs.main_file

@@ -1,28 +1,28 @@
 -- That the C file of a main program is well formed: some tokens spell its expressions, its statements and the whole. C89, 3.3, 3.5, 3.6 and 3.7.
 use Rattle.std.specs.Prelude.{◌≡◌, ℕ, ◌≤◌, true, List, [], ◌∷◌, Option, Some}
-use Rattle.f_tree.specs.Facts.{Member, ProgramUnit}
-use Rattle.f_tree.specs.Setting.{IsIn}
-use Rattle.l_core.specs.Steps.{Text}
-use Rattle.lowering.specs.Units.{lowered_unit}
-use Rattle.c_tree.specs.declared.expression.CExpr.{CExpr}
-use Rattle.c_tree.specs.declared.statement.CStmt.{CStmt}
-use Rattle.c_tree.specs.Access.{Access, ToFunction}
-use Rattle.c_tree.specs.Tokens.{Token, begins_with, is_letter}
-use Rattle.c_tree.specs.CWords.{is_among, is_name}
-use Rattle.c_tree.specs.CLabels.{labels_of_all}
-use Rattle.c_tree.specs.CExpressionText.{Scope, IsKnown, ReadsExpr}
-use Rattle.c_tree.specs.CStatementText.{ReadsStmts}
-use Rattle.c_tree.specs.CText.{WellFormed}
-use Rattle.c_tree.specs.Drafts as linking
-use Rattle.c_tree.specs.Terms.{Term, Variable, Array, Routine, Prefixed, Cast, Between, Choice, Element, Field, Most, Magnitude}
-use Rattle.c_tree.specs.Flat.{Flat, Assign, Branch, Invoke, Return, Ignored, Kept}
-use Rattle.c_structure.specs.Expressions.{Names, expr_for}
-use Rattle.c_structure.specs.Statements.{Outline, statements_for}
-use Rattle.c_structure_laws.specs.Fitting.{Knows, KnowsItems}
-use Rattle.main_file.specs.MainFile.{main_file}
-use Rattle.main_programs.specs.MainRuns.{plain_facts}
-use Rattle.main_translation.specs.Contents.{count_by, inventory_of}
-use Rattle.main_translation.specs.Outlined.{body_of}
+use Rattle.main_translation_laws.specs.f_tree.Facts.{Member, ProgramUnit}
+use Rattle.main_translation_laws.specs.f_tree.Setting.{IsIn}
+use Rattle.main_translation_laws.specs.l_core.Steps.{Text}
+use Rattle.main_translation_laws.specs.lowering.Units.{lowered_unit}
+use Rattle.main_translation_laws.specs.c_tree.declared.expression.CExpr.{CExpr}
+use Rattle.main_translation_laws.specs.c_tree.declared.statement.CStmt.{CStmt}
+use Rattle.main_translation_laws.specs.c_tree.Access.{Access, ToFunction}
+use Rattle.main_translation_laws.specs.c_tree.Tokens.{Token, begins_with, is_letter}
+use Rattle.main_translation_laws.specs.c_tree.CWords.{is_among, is_name}
+use Rattle.main_translation_laws.specs.c_tree.CLabels.{labels_of_all}
+use Rattle.main_translation_laws.specs.c_tree.CExpressionText.{Scope, IsKnown, ReadsExpr}
+use Rattle.main_translation_laws.specs.c_tree.CStatementText.{ReadsStmts}
+use Rattle.main_translation_laws.specs.c_tree.CText.{WellFormed}
+use Rattle.main_translation_laws.specs.c_tree.Drafts as linking
+use Rattle.main_translation_laws.specs.c_tree.Terms.{Term, Variable, Array, Routine, Prefixed, Cast, Between, Choice, Element, Field, Most, Magnitude}
+use Rattle.main_translation_laws.specs.c_tree.Flat.{Flat, Assign, Branch, Select, Invoke, Return, Ignored, Kept}
+use Rattle.main_translation_laws.specs.c_structure.Expressions.{Names, expr_for}
+use Rattle.main_translation_laws.specs.c_structure.Statements.{Outline, statements_for}
+use Rattle.main_translation_laws.specs.c_structure_laws.Fitting.{Knows, KnowsItems}
+use Rattle.main_translation_laws.specs.main_file.MainFile.{main_file}
+use Rattle.main_translation_laws.specs.main_programs.MainRuns.{plain_facts}
+use Rattle.main_translation_laws.specs.main_translation.Contents.{count_by, inventory_of}
+use Rattle.main_translation_laws.specs.main_translation.Outlined.{body_of}
 use Rattle.main_translation_laws.specs.PlainMains.{IsPlainMain, IsPlainText}
 
 -- ## Expressions
@@ -60,6 +60,7 @@ pub data HaveNoField : List Term → Type 0 where
 abbrev pub ItemHasNoField : Flat → Type 0
 ItemHasNoField (Assign t u) = HasNoField t × HasNoField u
 ItemHasNoField (Branch test on off) = HasNoField test
+ItemHasNoField (Select value cases otherwise) = HasNoField value
 ItemHasNoField (Invoke Ignored callee arguments) = HaveNoField arguments
 ItemHasNoField (Invoke (Kept t) callee arguments) = HasNoField t × HaveNoField arguments
 ItemHasNoField (Return (Some t)) = HasNoField t

@@ -1,8 +1,8 @@
 //! Texts of main programs and of their parts, as the contracts of calls that do nothing.
 
-ghost use Rattle.c_tree.specs.CText.{WellFormed};
-ghost use Rattle.main_file.specs.MainFile.{main_file};
-ghost use Rattle.main_translation.specs.Contents.{inventory_of};
+ghost use Rattle.main_translation_laws.specs.c_tree.CText.{WellFormed};
+ghost use Rattle.main_translation_laws.specs.main_file.MainFile.{main_file};
+ghost use Rattle.main_translation_laws.specs.main_translation.Contents.{inventory_of};
 ghost use Rattle.main_translation_laws.specs.Example.{its_unit, its_text, its_statements};
 ghost use Rattle.main_file_texts.specs.WellFormedMains.{ExpressionsAreSpelled, StatementsAreSpelled, IsSpellable, MainFilesAreWellFormed};
 

@@ -2,33 +2,33 @@
 use Rattle.std.specs.Prelude.{◌≡◌, ℕ, zero, suc, ◌+◌, ◌≤◌, ℤ, pos, nat_lt, true, List, [], ◌∷◌, ◌++◌, length, Option, Some, None, slice_get}
 use Rattle.std.proofs.Common.{refl, sym, ap, ◌∙◌, subst, arith}
 use Rattle.std.proofs.lemmas.Bool.{ltb-true}
-use Rattle.f_tree.specs.declared.names.Basic.{Basic}
-use Rattle.f_tree.specs.Values.{Bytes}
-use Rattle.f_tree.specs.Facts.{Bounds}
-use Rattle.f_tree.specs.Valuing.{size_of_dimension}
-use Rattle.l_core.specs.Steps.{Step, Text}
-use Rattle.l_core.specs.Costs.{cost}
-use Rattle.c_tree.specs.declared.statement.CStmt.{CStmt}
-use Rattle.c_tree.specs.Declarations.{unset}
-use Rattle.c_tree.specs.Flat.{Flat}
-use Rattle.c_tree.specs.FlatForm.{whole_body}
-use Rattle.c_tree.specs.Linking.{Routines, file_scope, linked_function}
-use Rattle.c_tree.specs.Linking as linking
-use Rattle.c_image.specs.Elements.{Written, Saved}
-use Rattle.c_image.specs.Knowing.{IsApart}
-use Rattle.c_structure.specs.Statements.{Outline}
-use Rattle.c_emit.specs.Numbers.{Writing}
-use Rattle.c_emit.specs.Flats.{flat_of}
-use Rattle.linking_laws.specs.Linked as linked
-use Rattle.linking_laws.proofs.Places.{some_same}
-use Rattle.linking_laws.proofs.FunctionObjects.{functions_have_objects}
-use Rattle.main_file.specs.MainFile.{Inventory, Bases, main_function, main_file, first_temporary, lower_of, size_of, writing_of}
-use Rattle.main_file.specs.MainItems.{item_before, flats_from}
+use Rattle.main_file_laws.specs.f_tree.declared.names.Basic.{Basic}
+use Rattle.main_file_laws.specs.f_tree.Values.{Bytes}
+use Rattle.main_file_laws.specs.f_tree.Facts.{Bounds}
+use Rattle.main_file_laws.specs.f_tree.Valuing.{size_of_dimension}
+use Rattle.main_file_laws.specs.l_core.Steps.{Step, Text}
+use Rattle.main_file_laws.specs.l_core.Costs.{cost}
+use Rattle.main_file_laws.specs.c_tree.declared.statement.CStmt.{CStmt}
+use Rattle.main_file_laws.specs.c_tree.Declarations.{unset}
+use Rattle.main_file_laws.specs.c_tree.Flat.{Flat}
+use Rattle.main_file_laws.specs.c_tree.FlatForm.{whole_body}
+use Rattle.main_file_laws.specs.c_tree.Linking.{Routines, file_scope, linked_function}
+use Rattle.main_file_laws.specs.c_tree.Linking as linking
+use Rattle.main_file_laws.specs.c_image.Elements.{Written, Saved}
+use Rattle.main_file_laws.specs.c_image.Knowing.{IsApart}
+use Rattle.main_file_laws.specs.c_structure.Statements.{Outline}
+use Rattle.main_file_laws.specs.c_emit.Numbers.{Writing}
+use Rattle.main_file_laws.specs.c_emit.Flats.{flat_of}
+use Rattle.main_file_laws.specs.linking_laws.Linked as linked
+use Rattle.main_file_laws.proofs.linking_laws.Places.{some_same}
+use Rattle.main_file_laws.proofs.linking_laws.FunctionObjects.{functions_have_objects}
+use Rattle.main_file_laws.specs.main_file.MainFile.{Inventory, Bases, main_function, main_file, first_temporary, lower_of, size_of, writing_of}
+use Rattle.main_file_laws.specs.main_file.MainItems.{item_before, flats_from}
 use Rattle.main_file_laws.specs.BuiltMain.{AreNumberedBuiltins, IsMainBuilt}
 use Rattle.main_file_laws.proofs.Listed.{declared_temporary, statics_count, no_strings, temporary_at}
 use Rattle.main_file_laws.proofs.BuiltItems.{mains_have_their_items}
-use Rattle.emitted_texts.specs.SecondLayer.{Surroundings}
-use Rattle.emitted_texts.specs.Emitted.{IsItem, IsInFrame, IsEmittedMain}
+use Rattle.bridge.specs.emitted_texts.SecondLayer.{Surroundings}
+use Rattle.bridge.specs.emitted_texts.Emitted.{IsItem, IsInFrame, IsEmittedMain}
 use Rattle.main_programs.specs.EmittedMain.{emission_of, StepsFit, ObjectsStand, IsMain, MainsAreEmitted}
 
 -- ## Items by their positions

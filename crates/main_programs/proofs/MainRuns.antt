@@ -6,57 +6,57 @@ use Rattle.std.proofs.lemmas.Bool.{ltb-true, ltb-false, lt-ltb}
 use Rattle.std.proofs.lemmas.Bool.Decides.{Decides-int_eq}
 use Rattle.std.proofs.lemmas.List.{length-append, length-map, length-replicate}
 use Rattle.std.proofs.lemmas.Option.{slice_get_past}
-use Rattle.simulation.specs.LocalSimulation.{Local}
-use Rattle.run_state.specs.Units.{Units}
-use Rattle.f_tree.specs.declared.names.Basic.{Basic}
-use Rattle.f_tree.specs.declared.names.Class.TheVariants as class
-use Rattle.f_tree.specs.Values.{Bytes, Spot, IsInt, IsText, IsSpot, Gives}
-use Rattle.f_tree.specs.Store.{Sequence, Cell, Undefined, undefined_units}
-use Rattle.f_tree.specs.Facts.{Direction, Layout, Controls, Home, Member, MainProgram, EntryPoint, ProgramUnit, FunctionUnit, Block, Tie, Frame}
-use Rattle.f_tree.specs.Setting.{IsIn, first_in, later_in, HasUnit, homes_at, unit_home}
-use Rattle.f_tree.specs.Valuing.{extent_of, elements_of, whole}
-use Rattle.f_tree.specs.World.{Called, TheMain}
-use Rattle.f_tree.specs.Meaning.{found_from, facts_at, start_world, answers_to}
-use Rattle.l_core.specs.Pures.{Pures}
-use Rattle.l_core.specs.Steps.{Starts, Step, Acts, Halt, Text}
-use Rattle.l_core.specs.Costs.{cost, rest}
-use Rattle.lowering_laws.specs.Layer.{lower_couple}
-use Rattle.lowering_laws.proofs.LayoutLemmas.{laid_out}
-use Rattle.lowering_laws.proofs.LocalLemmas.{simulates}
-use Rattle.c_tree.specs.declared.statement.CStmt.{CStmt}
-use Rattle.c_tree.specs.Objects.{Object, bytes_of_number}
-use Rattle.c_tree.specs.Declarations.{Declared, string_object, declared_statics}
-use Rattle.c_tree.specs.Builtins.{builtin_names}
-use Rattle.c_tree.specs.Flat.{Flat}
-use Rattle.c_tree.specs.FlatForm.{whole_body}
-use Rattle.c_tree.specs.Linking as linking
-use Rattle.c_tree.specs.Linking.{program, linked_function, file_scope, declared_constants}
-use Rattle.c_tree.specs.Meaning.{no_function, main_number, wrapped_by, counted_steps, step_factor}
-use Rattle.faithful.specs.StorageImage.{is_sequence, first_lasting, name_of_entries, NamesStand, StandsInItsObject, function_number, function_name, number_named, static_object, static_object_at, local_object, block_from, block_of, is_tied, class_of, each_once, classes, object_of, object_for, byte_for, cell_of}
-use Rattle.faithful.specs.FrameImage as frames
-use Rattle.f_tree.specs.CNames as c_names
-use Rattle.f_tree.specs.CNames.{variable_name}
-use Rattle.c_image.specs.World.{IsIdle}
-use Rattle.c_image.specs.Standing.{Stands, IsHoused, IsInRange, HasRoom}
-use Rattle.c_image.specs.Held.{Holds, number_object}
-use Rattle.c_image.specs.Addresses.{Reaches, IsSound, Alone}
-use Rattle.c_structure.specs.Statements.{Outline}
-use Rattle.c_emit.specs.Numbers.{is_numeric}
-use Rattle.c_emit.specs.Calls.{unit_of}
+use Rattle.main_file_laws.specs.simulation.LocalSimulation.{Local}
+use Rattle.main_file_laws.specs.run_state.Units.{Units}
+use Rattle.main_file_laws.specs.f_tree.declared.names.Basic.{Basic}
+use Rattle.main_file_laws.specs.f_tree.declared.names.Class.TheVariants as class
+use Rattle.main_file_laws.specs.f_tree.Values.{Bytes, Spot, IsInt, IsText, IsSpot, Gives}
+use Rattle.main_file_laws.specs.f_tree.Store.{Sequence, Cell, Undefined, undefined_units}
+use Rattle.main_file_laws.specs.f_tree.Facts.{Direction, Layout, Controls, Home, Member, MainProgram, EntryPoint, ProgramUnit, FunctionUnit, Block, Tie, Frame}
+use Rattle.main_file_laws.specs.f_tree.Setting.{IsIn, first_in, later_in, HasUnit, homes_at, unit_home}
+use Rattle.main_file_laws.specs.f_tree.Valuing.{extent_of, elements_of, whole}
+use Rattle.main_file_laws.specs.f_tree.World.{Called, TheMain}
+use Rattle.main_file_laws.specs.f_tree.Meaning.{found_from, facts_at, start_world, answers_to}
+use Rattle.main_file_laws.specs.l_core.Pures.{Pures}
+use Rattle.main_file_laws.specs.l_core.Steps.{Starts, Step, Acts, Halt, Text}
+use Rattle.main_file_laws.specs.l_core.Costs.{cost, rest}
+use Rattle.plain_forms.specs.lowering_laws.Layer.{lower_couple}
+use Rattle.plain_forms.proofs.lowering_laws.LayoutLemmas.{laid_out}
+use Rattle.plain_forms.proofs.lowering_laws.LocalLemmas.{simulates}
+use Rattle.main_file_laws.specs.c_tree.declared.statement.CStmt.{CStmt}
+use Rattle.main_file_laws.specs.c_tree.Objects.{Object, bytes_of_number}
+use Rattle.main_file_laws.specs.c_tree.Declarations.{Declared, string_object, declared_statics}
+use Rattle.main_file_laws.specs.c_tree.Builtins.{builtin_names}
+use Rattle.main_file_laws.specs.c_tree.Flat.{Flat}
+use Rattle.main_file_laws.specs.c_tree.FlatForm.{whole_body}
+use Rattle.main_file_laws.specs.c_tree.Linking as linking
+use Rattle.main_file_laws.specs.c_tree.Linking.{program, linked_function, file_scope, declared_constants}
+use Rattle.main_file_laws.specs.c_tree.Meaning.{no_function, main_number, wrapped_by, counted_steps, step_factor}
+use Rattle.main_file_laws.specs.faithful.StorageImage.{is_sequence, first_lasting, name_of_entries, NamesStand, StandsInItsObject, function_number, function_name, number_named, static_object, static_object_at, local_object, block_from, block_of, is_tied, class_of, each_once, classes, object_of, object_for, byte_for, cell_of}
+use Rattle.main_file_laws.specs.faithful.FrameImage as frames
+use Rattle.main_file_laws.specs.f_tree.CNames as c_names
+use Rattle.main_file_laws.specs.f_tree.CNames.{variable_name}
+use Rattle.main_file_laws.specs.c_image.World.{IsIdle}
+use Rattle.main_file_laws.specs.c_image.Standing.{Stands, IsHoused, IsInRange, HasRoom}
+use Rattle.main_file_laws.specs.c_image.Held.{Holds, number_object}
+use Rattle.main_file_laws.specs.c_image.Addresses.{Reaches, IsSound, Alone}
+use Rattle.main_file_laws.specs.c_structure.Statements.{Outline}
+use Rattle.main_file_laws.specs.c_emit.Numbers.{is_numeric}
+use Rattle.main_file_laws.specs.c_emit.Calls.{unit_of}
 use Rattle.std.specs.List.{cons_option, list_any}
-use Rattle.output_laws.specs.ListedOutputs.{list_object}
-use Rattle.linking_laws.specs.Linked as linked
-use Rattle.linking_laws.specs.Linked.{AreDistinct, routines_of, outside_of, own_of, base_at, function_base, linked_at}
-use Rattle.linking_laws.proofs.Places.{some_same, get_front, get_back, map_at, within, some_at, IsAt, in_first, in_second, at_one, taken}
-use Rattle.linking_laws.proofs.Scopes.{builtins_are_numbered}
-use Rattle.linking_laws.proofs.FunctionObjects.{functions_have_objects}
-use Rattle.linking_laws.proofs.Programs.{functions_stand, constants_stand}
-use Rattle.emitted_texts.specs.SecondLayer.{emit_couple}
-use Rattle.emitted_texts.proofs.Simulated.{mains_are_simulated}
+use Rattle.bridge.specs.output_laws.ListedOutputs.{list_object}
+use Rattle.main_file_laws.specs.linking_laws.Linked as linked
+use Rattle.main_file_laws.specs.linking_laws.Linked.{AreDistinct, routines_of, outside_of, own_of, base_at, function_base, linked_at}
+use Rattle.main_file_laws.proofs.linking_laws.Places.{some_same, get_front, get_back, map_at, within, some_at, IsAt, in_first, in_second, at_one, taken}
+use Rattle.main_file_laws.proofs.linking_laws.Scopes.{builtins_are_numbered}
+use Rattle.main_file_laws.proofs.linking_laws.FunctionObjects.{functions_have_objects}
+use Rattle.main_file_laws.proofs.linking_laws.Programs.{functions_stand, constants_stand}
+use Rattle.bridge.specs.emitted_texts.SecondLayer.{emit_couple}
+use Rattle.bridge.proofs.emitted_texts.Simulated.{mains_are_simulated}
 use Rattle.bridge.specs.Bridge.{is_wrapper, FramesStand, UnitIsTranslated, IsTranslated}
 use Rattle.bridge.proofs.Together.{translations_run_alike}
-use Rattle.main_file.specs.MainFile as main
-use Rattle.main_file.specs.MainFile.{Inventory, Listing, Bases, constant_for, main_function, main_file, first_temporary, place_or_none, place_of_constant, place_of_variable, place_of_list, place_of_string, first_string, main_locals, writing_of}
+use Rattle.main_file_laws.specs.main_file.MainFile as main
+use Rattle.main_file_laws.specs.main_file.MainFile.{Inventory, Listing, Bases, constant_for, main_function, main_file, first_temporary, place_or_none, place_of_constant, place_of_variable, place_of_list, place_of_string, first_string, main_locals, writing_of}
 use Rattle.main_file_laws.specs.BuiltMain.{AreNumberedBuiltins}
 use Rattle.main_file_laws.proofs.Listed.{declared_variable, declared_listing, object_by, no_strings, statics_count, variable_at, listing_at, lasting_names_are}
 use Rattle.main_file_laws.proofs.Known.{position_finds}

@@ -3,24 +3,24 @@ use Rattle.std.specs.Prelude.{◌≡◌, ℕ, zero, suc, ◌+◌, ◌*◌, ◌-�
 use Rattle.std.proofs.Common.{refl, sym, ap, ◌∙◌, arith}
 use Rattle.std.proofs.lemmas.List.{length-map, length-replicate}
 use Rattle.std.proofs.lemmas.Slice.Eq.{bytes_eq-Decides}
-use Rattle.run_state.specs.Units.{Units}
-use Rattle.f_tree.specs.declared.names.Basic.{Basic}
-use Rattle.f_tree.specs.declared.names.Basic.TheVariants as basic
-use Rattle.f_tree.specs.declared.names.Class.TheVariants as class
-use Rattle.f_tree.specs.Values.{Bytes, Spot, Datum, IsProc, IsSpot, Checked, Gives, Fails, NoMeaning}
-use Rattle.f_tree.specs.Store.{Cell, Undefined, undefined_units}
-use Rattle.f_tree.specs.Facts.{Attribute, Home, Member, ProgramUnit, Facts, Frame}
-use Rattle.f_tree.specs.Setting.{IsIn, first_in, later_in, home_among, homes_at, unit_home}
-use Rattle.f_tree.specs.Valuing.{extent_of, elements_of, if_bound, if_there, stored_at, named_as, whole}
-use Rattle.f_tree.specs.Images.{imaged, images_from, undefined_store, image_store}
-use Rattle.f_tree.specs.Meaning.{world_with, start_world}
-use Rattle.c_tree.specs.Objects as objects_of
-use Rattle.c_tree.specs.Objects.{Object}
-use Rattle.c_tree.specs.Declarations.{Declared}
-use Rattle.c_image.specs.Addresses.{HasShape}
-use Rattle.c_emit.specs.Numbers.{is_numeric}
-use Rattle.linking_laws.specs.Linked.{AreDistinct, names_of}
-use Rattle.linking_laws.proofs.Places.{some_same, map_at, distinct_later, same_bytes, other_bytes, taken, skipped, position_step}
+use Rattle.main_file_laws.specs.run_state.Units.{Units}
+use Rattle.main_file_laws.specs.f_tree.declared.names.Basic.{Basic}
+use Rattle.main_file_laws.specs.f_tree.declared.names.Basic.TheVariants as basic
+use Rattle.main_file_laws.specs.f_tree.declared.names.Class.TheVariants as class
+use Rattle.main_file_laws.specs.f_tree.Values.{Bytes, Spot, Datum, IsProc, IsSpot, Checked, Gives, Fails, NoMeaning}
+use Rattle.main_file_laws.specs.f_tree.Store.{Cell, Undefined, undefined_units}
+use Rattle.main_file_laws.specs.f_tree.Facts.{Attribute, Home, Member, ProgramUnit, Facts, Frame}
+use Rattle.main_file_laws.specs.f_tree.Setting.{IsIn, first_in, later_in, home_among, homes_at, unit_home}
+use Rattle.main_file_laws.specs.f_tree.Valuing.{extent_of, elements_of, if_bound, if_there, stored_at, named_as, whole}
+use Rattle.main_file_laws.specs.f_tree.Images.{imaged, images_from, undefined_store, image_store}
+use Rattle.main_file_laws.specs.f_tree.Meaning.{world_with, start_world}
+use Rattle.main_file_laws.specs.c_tree.Objects as objects_of
+use Rattle.main_file_laws.specs.c_tree.Objects.{Object}
+use Rattle.main_file_laws.specs.c_tree.Declarations.{Declared}
+use Rattle.main_file_laws.specs.c_image.Addresses.{HasShape}
+use Rattle.main_file_laws.specs.c_emit.Numbers.{is_numeric}
+use Rattle.main_file_laws.specs.linking_laws.Linked.{AreDistinct, names_of}
+use Rattle.main_file_laws.proofs.linking_laws.Places.{some_same, map_at, distinct_later, same_bytes, other_bytes, taken, skipped, position_step}
 use Rattle.main_file_laws.proofs.Listed.{object_by}
 use Rattle.main_programs.specs.MainRuns.{homes_from, sizes_of, plain_setting, plain_facts, bytes_in}
 

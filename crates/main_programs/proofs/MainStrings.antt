@@ -2,20 +2,20 @@
 use Rattle.std.specs.Prelude.{◌≡◌, ℕ, zero, suc, ◌+◌, ◌-◌, ◌<◌, nat_eq, nat_le, nat_lt, Bool, true, false, ◌&&◌, List, [], ◌∷◌, ◌++◌, map, length, take, position, Option, Some, None, option_map, unwrap_or, slice_get}
 use Rattle.std.proofs.Common.{refl, sym, ap, ◌∙◌, subst, arith}
 use Rattle.std.proofs.lemmas.Bool.{and_from, eq-eqb, eqb-true, lt-ltb, le-leb}
-use Rattle.f_tree.specs.declared.names.Basic.{Basic}
-use Rattle.f_tree.specs.Values.{Bytes}
-use Rattle.l_core.specs.Steps.{Step, Halt, Text}
-use Rattle.c_tree.specs.declared.statement.CStmt.{CStmt}
-use Rattle.c_tree.specs.Flat.{Flat}
-use Rattle.c_tree.specs.FlatForm.{whole_body}
-use Rattle.c_tree.specs.Linking.{Routines, file_scope}
-use Rattle.c_structure.specs.Expressions.{Names}
-use Rattle.c_structure.specs.Statements.{Outline, strings_of_items}
-use Rattle.c_structure_laws.specs.Fitting.{KnowsItems, AreNumbered, AreBytesOf}
-use Rattle.linking_laws.proofs.Places.{some_same, map_at, within, some_at, position_step, taken, skipped}
-use Rattle.linking_laws.proofs.BuiltCode.{strings_are_theirs}
-use Rattle.main_file.specs.MainFile.{Inventory, Bases, main_function, main_file, first_string, first_temporary, place_of_string, names_of, string_at}
-use Rattle.main_file.specs.MainItems.{stops_from}
+use Rattle.main_file_laws.specs.f_tree.declared.names.Basic.{Basic}
+use Rattle.main_file_laws.specs.f_tree.Values.{Bytes}
+use Rattle.main_file_laws.specs.l_core.Steps.{Step, Halt, Text}
+use Rattle.main_file_laws.specs.c_tree.declared.statement.CStmt.{CStmt}
+use Rattle.main_file_laws.specs.c_tree.Flat.{Flat}
+use Rattle.main_file_laws.specs.c_tree.FlatForm.{whole_body}
+use Rattle.main_file_laws.specs.c_tree.Linking.{Routines, file_scope}
+use Rattle.main_file_laws.specs.c_structure.Expressions.{Names}
+use Rattle.main_file_laws.specs.c_structure.Statements.{Outline, strings_of_items}
+use Rattle.main_file_laws.specs.c_structure_laws.Fitting.{KnowsItems, AreNumbered, AreBytesOf}
+use Rattle.main_file_laws.proofs.linking_laws.Places.{some_same, map_at, within, some_at, position_step, taken, skipped}
+use Rattle.main_file_laws.proofs.linking_laws.BuiltCode.{strings_are_theirs}
+use Rattle.main_file_laws.specs.main_file.MainFile.{Inventory, Bases, main_function, main_file, first_string, first_temporary, place_of_string, names_of, string_at}
+use Rattle.main_file_laws.specs.main_file.MainItems.{stops_from}
 use Rattle.main_file_laws.specs.BuiltMain.{IsMainBuilt, AreNumberedBuiltins}
 use Rattle.main_file_laws.specs.KnownFile.{scope_in}
 use Rattle.main_file_laws.proofs.BuiltItems.{all_known}

@@ -1,28 +1,28 @@
 -- That the function built for the lowered text of a main program is one of which all is so that is asked, where its objects stand in the world and the types
 -- and outputs that are said of its steps fit them. ANSI X3.9-1978, sections 12.8 and 14; C89, 3.1.2.4.
 use Rattle.std.specs.Prelude.{◌≡◌, ℕ, suc, ◌+◌, ◌<◌, ◌≤◌, ℤ, true, List, [], ◌∷◌, length, Option, Some, None, slice_get}
-use Rattle.f_tree.specs.declared.names.Basic.{Basic}
-use Rattle.f_tree.specs.declared.names.Class.TheVariants as class
-use Rattle.f_tree.specs.Values.{Bytes, Spot, IsInt, IsText, IsSpot, Gives}
-use Rattle.f_tree.specs.Facts.{Direction, Layout, Controls, Bounds, MainProgram, EntryPoint, Frame}
-use Rattle.f_tree.specs.Setting.{IsIn}
-use Rattle.f_tree.specs.Valuing.{whole}
-use Rattle.l_core.specs.Pures.{Pures}
-use Rattle.l_core.specs.Steps.{Starts, Step, Acts, Halt, Text}
-use Rattle.l_core.specs.Costs.{cost}
-use Rattle.c_tree.specs.declared.statement.CStmt.{CStmt}
-use Rattle.c_tree.specs.Flat.{Flat}
-use Rattle.c_tree.specs.Linking.{Routines, file_scope, linked_function}
-use Rattle.c_tree.specs.Linking as linking
-use Rattle.c_image.specs.Addresses.{Reaches, IsSound}
-use Rattle.c_image.specs.Held.{Holds}
-use Rattle.c_structure.specs.Statements.{Outline}
-use Rattle.c_emit.specs.Calls.{unit_of}
-use Rattle.c_emit_laws.specs.EmittedNumbers.{BoundFits}
-use Rattle.output_laws.specs.ListedOutputs.{list_object}
-use Rattle.emitted_texts.specs.SecondLayer.{Surroundings, Emission}
-use Rattle.emitted_texts.specs.Emitted.{leads, kind_behind, stage_behind, is_of_output, IsEmittedMain}
-use Rattle.main_file.specs.MainFile.{Inventory, Bases, main_function, main_file, writing_of}
+use Rattle.main_file_laws.specs.f_tree.declared.names.Basic.{Basic}
+use Rattle.main_file_laws.specs.f_tree.declared.names.Class.TheVariants as class
+use Rattle.main_file_laws.specs.f_tree.Values.{Bytes, Spot, IsInt, IsText, IsSpot, Gives}
+use Rattle.main_file_laws.specs.f_tree.Facts.{Direction, Layout, Controls, Bounds, MainProgram, EntryPoint, Frame}
+use Rattle.main_file_laws.specs.f_tree.Setting.{IsIn}
+use Rattle.main_file_laws.specs.f_tree.Valuing.{whole}
+use Rattle.main_file_laws.specs.l_core.Pures.{Pures}
+use Rattle.main_file_laws.specs.l_core.Steps.{Starts, Step, Acts, Halt, Text}
+use Rattle.main_file_laws.specs.l_core.Costs.{cost}
+use Rattle.main_file_laws.specs.c_tree.declared.statement.CStmt.{CStmt}
+use Rattle.main_file_laws.specs.c_tree.Flat.{Flat}
+use Rattle.main_file_laws.specs.c_tree.Linking.{Routines, file_scope, linked_function}
+use Rattle.main_file_laws.specs.c_tree.Linking as linking
+use Rattle.main_file_laws.specs.c_image.Addresses.{Reaches, IsSound}
+use Rattle.main_file_laws.specs.c_image.Held.{Holds}
+use Rattle.main_file_laws.specs.c_structure.Statements.{Outline}
+use Rattle.main_file_laws.specs.c_emit.Calls.{unit_of}
+use Rattle.bridge.specs.c_emit_laws.EmittedNumbers.{BoundFits}
+use Rattle.bridge.specs.output_laws.ListedOutputs.{list_object}
+use Rattle.bridge.specs.emitted_texts.SecondLayer.{Surroundings, Emission}
+use Rattle.bridge.specs.emitted_texts.Emitted.{leads, kind_behind, stage_behind, is_of_output, IsEmittedMain}
+use Rattle.main_file_laws.specs.main_file.MainFile.{Inventory, Bases, main_function, main_file, writing_of}
 use Rattle.main_file_laws.specs.BuiltMain.{AreNumberedBuiltins, IsMainBuilt}
 
 -- how the function goes by its text: an item for each step

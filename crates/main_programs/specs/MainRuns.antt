@@ -1,37 +1,37 @@
 -- That a main program runs as its C file does: its unit with storage of its own, its lowered text, and the file that is built for it.
 -- ANSI X3.9-1978, sections 2.4, 5, 14 and 17.1; C89, 3.1.2.4.
 use Rattle.std.specs.Prelude.{◌≡◌, ℕ, suc, ◌+◌, ◌*◌, ◌<◌, ◌≤◌, nat_lt, ℤ, true, false, List, [], ◌∷◌, ◌++◌, map, length, replicate, position, Option, Some, None, option_and_then, unwrap_or, slice_get, bytes_eq, if◌then◌else◌}
-use Rattle.run_state.specs.Units.{Units}
-use Rattle.f_tree.specs.declared.names.Basic.{Basic}
-use Rattle.f_tree.specs.Values.{Bytes, NoMeaning, in_range}
-use Rattle.f_tree.specs.Facts.{Direction, Layout, Controls, Home, Member, ProgramUnit, Facts}
-use Rattle.f_tree.specs.Setting.{Setting, unit_home}
-use Rattle.f_tree.specs.Valuing.{elements_of, extent_of}
-use Rattle.f_tree.specs.Meaning.{ftn, act_of}
-use Rattle.l_core.specs.Pures.{Pures}
-use Rattle.l_core.specs.Steps.{Starts, Halt, Acts, Text}
-use Rattle.lowering.specs.Units.{lowered_unit}
-use Rattle.lowering_laws.specs.Layout.{are_direct, has_end, LoopsFit}
-use Rattle.c_tree.specs.declared.statement.CStmt.{CStmt}
-use Rattle.c_tree.specs.declared.file.CFile.{CFile}
-use Rattle.c_tree.specs.Objects.{Object}
-use Rattle.c_tree.specs.Declarations.{string_object}
-use Rattle.c_tree.specs.Flat.{Flat}
-use Rattle.c_tree.specs.FlatForm.{whole_body}
-use Rattle.c_tree.specs.Linking as linking
-use Rattle.c_tree.specs.Meaning.{wrapped_by}
-use Rattle.c_image.specs.World.{World}
-use Rattle.c_image.specs.Held.{number_object}
-use Rattle.c_structure.specs.Statements.{Outline}
-use Rattle.c_emit.specs.Numbers.{is_numeric}
-use Rattle.c_emit.specs.Calls.{unit_of}
-use Rattle.faithful.specs.Faithful.{SameRuns}
-use Rattle.faithful.specs.UnitsAtStart.{AreBytes}
-use Rattle.output_laws.specs.ListedOutputs.{list_object}
-use Rattle.linking_laws.specs.Linked.{routines_of, outside_of, own_of, base_at, function_base}
-use Rattle.emitted_texts.specs.SecondLayer.{Surroundings}
+use Rattle.main_file_laws.specs.run_state.Units.{Units}
+use Rattle.main_file_laws.specs.f_tree.declared.names.Basic.{Basic}
+use Rattle.main_file_laws.specs.f_tree.Values.{Bytes, NoMeaning, in_range}
+use Rattle.main_file_laws.specs.f_tree.Facts.{Direction, Layout, Controls, Home, Member, ProgramUnit, Facts}
+use Rattle.main_file_laws.specs.f_tree.Setting.{Setting, unit_home}
+use Rattle.main_file_laws.specs.f_tree.Valuing.{elements_of, extent_of}
+use Rattle.main_file_laws.specs.f_tree.Meaning.{ftn, act_of}
+use Rattle.main_file_laws.specs.l_core.Pures.{Pures}
+use Rattle.main_file_laws.specs.l_core.Steps.{Starts, Halt, Acts, Text}
+use Rattle.plain_forms.specs.lowering.Units.{lowered_unit}
+use Rattle.plain_forms.specs.lowering_laws.Layout.{are_direct, has_end, LoopsFit}
+use Rattle.main_file_laws.specs.c_tree.declared.statement.CStmt.{CStmt}
+use Rattle.main_file_laws.specs.c_tree.declared.file.CFile.{CFile}
+use Rattle.main_file_laws.specs.c_tree.Objects.{Object}
+use Rattle.main_file_laws.specs.c_tree.Declarations.{string_object}
+use Rattle.main_file_laws.specs.c_tree.Flat.{Flat}
+use Rattle.main_file_laws.specs.c_tree.FlatForm.{whole_body}
+use Rattle.main_file_laws.specs.c_tree.Linking as linking
+use Rattle.main_file_laws.specs.c_tree.Meaning.{wrapped_by}
+use Rattle.main_file_laws.specs.c_image.World.{World}
+use Rattle.main_file_laws.specs.c_image.Held.{number_object}
+use Rattle.main_file_laws.specs.c_structure.Statements.{Outline}
+use Rattle.main_file_laws.specs.c_emit.Numbers.{is_numeric}
+use Rattle.main_file_laws.specs.c_emit.Calls.{unit_of}
+use Rattle.main_file_laws.specs.faithful.Faithful.{SameRuns}
+use Rattle.main_file_laws.specs.faithful.UnitsAtStart.{AreBytes}
+use Rattle.bridge.specs.output_laws.ListedOutputs.{list_object}
+use Rattle.main_file_laws.specs.linking_laws.Linked.{routines_of, outside_of, own_of, base_at, function_base}
+use Rattle.bridge.specs.emitted_texts.SecondLayer.{Surroundings}
 use Rattle.bridge.specs.Bridge.{Translation}
-use Rattle.main_file.specs.MainFile.{Inventory, Variable, Listing, Bases, main_function, main_file, place_of_list}
+use Rattle.main_file_laws.specs.main_file.MainFile.{Inventory, Variable, Listing, Bases, main_function, main_file, place_of_list}
 use Rattle.main_file_laws.specs.BuiltMain.{IsMainBuilt}
 pub use Rattle.plain_forms.specs.OwnStorage.{homes_from, sizes_of, plain_setting, plain_facts}
 use Rattle.main_programs.specs.EmittedMain.{StepsFit, IsMain, emission_of}

@@ -4,24 +4,24 @@ use Rattle.std.specs.BTreeSet.{insert_key}
 use Rattle.std.specs.List.{list_any}
 use Rattle.std.specs.Ordering.{int_cmp}
 use Rattle.std.specs.Prelude.{ℕ, zero, suc, max, ℤ, pos, Bool, true, false, List, [], ◌∷◌, ◌++◌, map, filter, fold, length, Option, Some, None, option_and_then, slice_get, bytes_eq, codes, if◌then◌else◌}
-use Rattle.f_tree.specs.declared.names.Basic.{Basic}
-use Rattle.f_tree.specs.declared.names.Basic.TheVariants.{Logical}
-use Rattle.f_tree.specs.Values.{Bytes, IsInt, IsLog, in_range}
-use Rattle.f_tree.specs.Facts.{Bounds, Member, ProgramUnit}
-use Rattle.f_tree.specs.Valuing.{elements_of}
-use Rattle.f_tree.specs.Terms.{Function}
-use Rattle.l_core.specs.Pures.{Pure, Constant, Temporary, Pures, NoPure, AndPure}
-use Rattle.l_core.specs.Steps.{Starts, Takes, Finishes, Step, Keep, Compute, Halt, Acts, Text}
-use Rattle.c_tree.specs.declared.types.NumberType.{NumberType}
-use Rattle.c_tree.specs.declared.types.NumberType.TheVariants as number_type
-use Rattle.c_tree.specs.declared.types.ListType.TheVariants as list_type
-use Rattle.c_tree.specs.declared.types.ResultType.{ResultType}
-use Rattle.c_tree.specs.declared.types.ResultType.TheVariants as result
-use Rattle.c_tree.specs.declared.types.ParameterType.TheVariants as parameter
-use Rattle.c_tree.specs.declared.types.ArgumentType.{ArgumentType}
-use Rattle.c_tree.specs.declared.types.ArgumentType.TheVariants as argument
-use Rattle.c_emit.specs.LibraryFunctions.{LibraryFunction, library_functions, library_function}
-use Rattle.c_emit.specs.Calls.{unit_of, kind_number}
+use Rattle.main_file.specs.f_tree.declared.names.Basic.{Basic}
+use Rattle.main_file.specs.f_tree.declared.names.Basic.TheVariants.{Logical}
+use Rattle.main_file.specs.f_tree.Values.{Bytes, IsInt, IsLog, in_range}
+use Rattle.main_file.specs.f_tree.Facts.{Bounds, Member, ProgramUnit}
+use Rattle.main_file.specs.f_tree.Valuing.{elements_of}
+use Rattle.main_file.specs.f_tree.Terms.{Function}
+use Rattle.main_file.specs.l_core.Pures.{Pure, Constant, Temporary, Pures, NoPure, AndPure}
+use Rattle.main_file.specs.l_core.Steps.{Starts, Takes, Finishes, Step, Keep, Compute, Halt, Acts, Text}
+use Rattle.main_file.specs.c_tree.declared.types.NumberType.{NumberType}
+use Rattle.main_file.specs.c_tree.declared.types.NumberType.TheVariants as number_type
+use Rattle.main_file.specs.c_tree.declared.types.ListType.TheVariants as list_type
+use Rattle.main_file.specs.c_tree.declared.types.ResultType.{ResultType}
+use Rattle.main_file.specs.c_tree.declared.types.ResultType.TheVariants as result
+use Rattle.main_file.specs.c_tree.declared.types.ParameterType.TheVariants as parameter
+use Rattle.main_file.specs.c_tree.declared.types.ArgumentType.{ArgumentType}
+use Rattle.main_file.specs.c_tree.declared.types.ArgumentType.TheVariants as argument
+use Rattle.main_file.specs.c_emit.LibraryFunctions.{LibraryFunction, library_functions, library_function}
+use Rattle.main_file.specs.c_emit.Calls.{unit_of, kind_number}
 use Rattle.main_file.specs.MainFile.{Variable, Listing, Called, Inventory, Bases}
 use Rattle.main_file.specs.MainItems.{stops_from}
 use Rattle.main_translation.specs.Flow.{kept_type, kind_at}

@@ -1,19 +1,24 @@
 -- What is known before each step of a lowered text: the type of what a temporary holds, and the unit of the output that is in progress. Where a step is
 -- reached by a branch too, nothing is. ANSI X3.9-1978, sections 4.1, 11 and 12.9.
 use Rattle.std.specs.List.{list_any}
-use Rattle.std.specs.Prelude.{ℕ, zero, suc, ◌+◌, ◌-◌, nat_eq, ℤ, Bool, true, false, ◌&&◌, List, [], ◌∷◌, ◌++◌, Option, Some, None, is_some, slice_get, if◌then◌else◌}
-use Rattle.f_tree.specs.declared.names.Basic.{Basic}
-use Rattle.f_tree.specs.Facts.{Facts}
-use Rattle.l_core.specs.Pures.{Pure, Constant, Load, Name, ElementOf, Prefixed, Operated, Applied}
-use Rattle.l_core.specs.Steps.{Starts, Takes, Finishes, Step, Keep, Compute, Unless, AgainIf, Skip, Again, Jump, Acts, Text}
-use Rattle.c_emit.specs.LibraryFunctions.{library_type}
-use Rattle.c_emit.specs.Types.{type_of_datum, type_behind, type_between, type_by, if_numeric}
-use Rattle.c_emit.specs.Calls.{unit_of}
+use Rattle.std.specs.Prelude.{ℕ, zero, suc, ◌+◌, ◌-◌, nat_eq, ℤ, Bool, true, false, ◌&&◌, List, [], ◌∷◌, ◌++◌, length, Option, Some, None, is_some, slice_get, if◌then◌else◌}
+use Rattle.main_file.specs.f_tree.declared.names.Basic.{Basic}
+use Rattle.main_file.specs.f_tree.Facts.{Facts}
+use Rattle.main_file.specs.l_core.Pures.{Pure, Constant, Load, Name, ElementOf, Prefixed, Operated, Applied}
+use Rattle.main_file.specs.l_core.Steps.{Starts, Takes, Finishes, Step, Keep, Compute, Unless, AgainIf, Skip, Again, Jump, Select, JumpBy, Acts, Text}
+use Rattle.main_file.specs.c_emit.LibraryFunctions.{library_type}
+use Rattle.main_file.specs.c_emit.Types.{type_of_datum, type_behind, type_between, type_by, if_numeric}
+use Rattle.main_file.specs.c_emit.Calls.{unit_of}
 
 -- where a step may lead but to the one behind it
 unfoldable pub target_in : Option ℕ → List ℕ
 target_in None = []
 target_in (Some n) = n ∷ []
+
+-- so many positions, from one on
+unfoldable pub targets_on : ℕ → ℕ → List ℕ
+targets_on n zero = []
+targets_on n (suc count) = n ∷ targets_on (suc n) count
 
 unfoldable pub targets_of : Text → ℕ → Step → List ℕ
 targets_of u n (Unless p m) = (suc n + m) ∷ []
@@ -21,6 +26,8 @@ targets_of u n (AgainIf p m) = (n - m) ∷ []
 targets_of u n (Skip m) = (suc n + m) ∷ []
 targets_of u n (Again m) = (n - m) ∷ []
 targets_of u n (Jump label) = target_in (u.position label)
+targets_of u n (Select p count) = targets_on (suc (suc n)) count
+targets_of u n (JumpBy p labels) = targets_on (suc (suc n)) (length labels)
 targets_of u n st = []
 
 unfoldable pub targets_from : Text → ℕ → List Step → List ℕ
@@ -79,5 +86,5 @@ are_on u n [] = true
 are_on u n (st ∷ later) = is_on st (stage_at u n) && are_on u (suc n) later
 
 unfoldable pub flow_opened : Unit {0}
-unfolding target_in targets_of targets_from is_target kept_type kept_at kind_at stage_after stage_behind stage_at is_on are_on
+unfolding target_in targets_on targets_of targets_from is_target kept_type kept_at kind_at stage_after stage_behind stage_at is_on are_on
 flow_opened = tt

@@ -1,13 +1,13 @@
 -- The statements of a main program's function: labels where branches go, arms and loops where the marks of its lowered text are. C89, 3.6; CSTR 149.
 use Rattle.std.specs.List.{list_any}
 use Rattle.std.specs.Prelude.{ℕ, suc, nat_eq, nat_lt, Bool, true, false, ◌&&◌, List, [], ◌∷◌, length, position, Option, Some, None, is_none, option_and_then, slice_get, if◌then◌else◌}
-use Rattle.f_tree.specs.Facts.{ProgramUnit}
-use Rattle.f_tree.specs.CNames.{made_name, StatementLabel, MadeLabel}
-use Rattle.l_core.specs.Steps.{Step, Unless, Skip, Jump, Mark, Marked, OpensLoop, OpensWhile, Text}
-use Rattle.c_tree.specs.declared.statement.CStmt as stmt
-use Rattle.c_tree.specs.declared.statement.CStmt.{CStmt}
-use Rattle.c_tree.specs.Flat.{Flat}
-use Rattle.c_structure.specs.Statements.{Outline, statements_for}
+use Rattle.main_file.specs.f_tree.Facts.{ProgramUnit}
+use Rattle.main_file.specs.f_tree.CNames.{made_name, StatementLabel, MadeLabel}
+use Rattle.main_file.specs.l_core.Steps.{Step, Unless, Skip, Jump, Mark, Marked, OpensLoop, OpensWhile, Text}
+use Rattle.main_file.specs.c_tree.declared.statement.CStmt as stmt
+use Rattle.main_file.specs.c_tree.declared.statement.CStmt.{CStmt}
+use Rattle.main_file.specs.c_tree.Flat.{Flat}
+use Rattle.main_file.specs.c_structure.Statements.{Outline, statements_for}
 use Rattle.main_file.specs.MainFile.{Inventory, Bases, names_of, writing_of}
 use Rattle.main_file.specs.MainItems.{flats_from}
 use Rattle.main_translation.specs.Flow.{kind_at, are_on}

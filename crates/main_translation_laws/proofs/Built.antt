@@ -6,34 +6,34 @@ use Rattle.std.proofs.lemmas.Bool.{ltb-true, eqb-true}
 use Rattle.std.proofs.lemmas.List.{append_cancel_left}
 use Rattle.std.proofs.lemmas.Fmt.{decimal_injective, decimal_is_IsNumeral}
 use Rattle.std.proofs.lemmas.Str.Parse.{digit_from_value}
-use Rattle.f_tree.specs.Facts.{Direction, Input, Output, Layout, Listed, Labelled, Computed, Unformatted, Controls, ProgramUnit}
-use Rattle.f_tree.specs.Setting.{IsIn, first_in, later_in}
-use Rattle.f_tree.specs.CNames.{made_name, StatementLabel, MadeLabel}
-use Rattle.f_tree.specs.Values.{IsInt}
-use Rattle.f_tree.specs.Terms.{Function}
-use Rattle.l_core.specs.Pures.{Constant, Pures, NoPure, AndPure}
-use Rattle.l_core.specs.Steps.{Starts, Takes, Finishes, Step, Compute, Halt, Acts, Marked, Text}
-use Rattle.c_tree.specs.declared.statement.CStmt as stmt
-use Rattle.c_tree.specs.declared.statement.CStmt.{CStmt}
-use Rattle.c_tree.specs.declared.file.CFunction.{CFunction}
-use Rattle.c_tree.specs.Flat.{Flat}
-use Rattle.c_tree.specs.FlatForm.{is_return, ends}
-use Rattle.c_tree.specs.Meaning.{wrapped_by}
-use Rattle.c_emit.specs.Numbers.{Writing}
-use Rattle.c_emit.specs.LibraryFunctions.{LibraryFunction, library_function}
-use Rattle.c_emit.specs.Calls.{start_item, unit_of}
-use Rattle.c_emit.specs.Flats.{flat_of}
-use Rattle.c_structure.specs.Expressions.{Names}
-use Rattle.c_structure.specs.Statements.{Outline, statements_for}
-use Rattle.linking_laws.specs.Linked.{IsBuilt}
-use Rattle.linking_laws.proofs.Places.{some_same, within}
-use Rattle.main_file.specs.MainFile.{Inventory, Bases, main_function, names_of}
-use Rattle.main_file.specs.MainItems.{item_before, flats_from}
-use Rattle.main_file_laws.specs.BuiltMain.{FunctionIsCalled, IsListed, AreListed}
-use Rattle.main_file_laws.proofs.Known.{position_finds}
-use Rattle.main_translation.specs.Flow.{are_on}
-use Rattle.main_translation.specs.Contents.{begins_output, takes_item, ends_output, stops_run, inventory_of, first_objects}
-use Rattle.main_translation.specs.Outlined.{labels_in, stands_at, label_before, opens_while, whiles_in, name_by, label_at, passes_arms, loop_at, outline_of, returns, returns_last, if_returned, items_of, body_of}
+use Rattle.main_programs.specs.f_tree.Facts.{Direction, Input, Output, Layout, Listed, Labelled, Computed, Unformatted, Controls, ProgramUnit}
+use Rattle.main_programs.specs.f_tree.Setting.{IsIn, first_in, later_in}
+use Rattle.main_programs.specs.f_tree.CNames.{made_name, StatementLabel, MadeLabel}
+use Rattle.main_programs.specs.f_tree.Values.{IsInt}
+use Rattle.main_programs.specs.f_tree.Terms.{Function}
+use Rattle.main_programs.specs.l_core.Pures.{Constant, Pures, NoPure, AndPure}
+use Rattle.main_programs.specs.l_core.Steps.{Starts, Takes, Finishes, Step, Compute, Halt, Acts, Marked, Text}
+use Rattle.main_programs.specs.c_tree.declared.statement.CStmt as stmt
+use Rattle.main_programs.specs.c_tree.declared.statement.CStmt.{CStmt}
+use Rattle.main_programs.specs.c_tree.declared.file.CFunction.{CFunction}
+use Rattle.main_programs.specs.c_tree.Flat.{Flat}
+use Rattle.main_programs.specs.c_tree.FlatForm.{is_return, ends}
+use Rattle.main_programs.specs.c_tree.Meaning.{wrapped_by}
+use Rattle.main_programs.specs.c_emit.Numbers.{Writing}
+use Rattle.main_programs.specs.c_emit.LibraryFunctions.{LibraryFunction, library_function}
+use Rattle.main_programs.specs.c_emit.Calls.{start_item, unit_of}
+use Rattle.main_programs.specs.c_emit.Flats.{flat_of}
+use Rattle.main_programs.specs.c_structure.Expressions.{Names}
+use Rattle.main_programs.specs.c_structure.Statements.{Outline, statements_for}
+use Rattle.main_programs.specs.linking_laws.Linked.{IsBuilt}
+use Rattle.main_programs.proofs.linking_laws.Places.{some_same, within}
+use Rattle.main_programs.specs.main_file.MainFile.{Inventory, Bases, main_function, names_of}
+use Rattle.main_programs.specs.main_file.MainItems.{item_before, flats_from}
+use Rattle.main_programs.specs.main_file_laws.BuiltMain.{FunctionIsCalled, IsListed, AreListed}
+use Rattle.main_programs.proofs.main_file_laws.Known.{position_finds}
+use Rattle.main_programs.specs.main_translation.Flow.{are_on}
+use Rattle.main_programs.specs.main_translation.Contents.{begins_output, takes_item, ends_output, stops_run, inventory_of, first_objects}
+use Rattle.main_programs.specs.main_translation.Outlined.{labels_in, stands_at, label_before, opens_while, whiles_in, name_by, label_at, passes_arms, loop_at, outline_of, returns, returns_last, if_returned, items_of, body_of}
 use Rattle.main_translation_laws.specs.PlainMains.{IsPlainText}
 use Rattle.main_translation_laws.proofs.Contents.{listed_at, starts_called, item_called, ends_called, stop_called, function_is_called}
 

@@ -6,22 +6,22 @@ use Rattle.std.specs.Prelude.{◌≡◌, ◌≢◌, ℕ, zero, suc, ◌+◌, ◌
 use Rattle.std.proofs.Common.{refl, sym, ap, ◌∙◌, subst, arith, Ordering, Less, Equal, Greater}
 use Rattle.std.proofs.lemmas.Bool.{eq-eqb, ne_eqb, leb-true}
 use Rattle.std.proofs.lemmas.Cmp.{int_cmp_total}
-use Rattle.f_tree.specs.declared.names.Basic.{Basic}
-use Rattle.f_tree.specs.declared.names.Basic.TheVariants.{Integer, Logical, Character, Untyped}
-use Rattle.f_tree.specs.Values.{Datum, IsInt, IsLog, IsText, IsSpot, IsProc, IsLabel, Nothing, in_range}
-use Rattle.f_tree.specs.Terms as fortran
-use Rattle.f_tree.specs.Terms.{Function}
-use Rattle.f_tree.specs.Facts.{Direction, Layout, Controls}
-use Rattle.f_tree.specs.Setting.{IsIn, first_in, later_in}
-use Rattle.f_tree.specs.CNames.{has_underscore}
-use Rattle.l_core.specs.Pures.{Pure, Constant, Pures, NoPure, AndPure}
-use Rattle.l_core.specs.Steps.{Starts, Takes, Step, Compute, Acts, Text}
-use Rattle.c_emit.specs.LibraryFunctions.{LibraryFunction, pow_ii, i_sign, i_dim, i_or, i_and, i_eor, i_not, i_shft, b_test, b_set, b_clr, library_functions, library_function}
-use Rattle.c_emit.specs.Calls.{unit_of, kind_number}
-use Rattle.c_laws.proofs.TokenSpellings.{and-first, and-second}
-use Rattle.linking_laws.proofs.Places.{some_same, same_bytes, position_step, taken, skipped}
-use Rattle.main_file.specs.MainFile.{Listing, Called}
-use Rattle.main_translation.specs.Contents.{with_new, own_value, own_values, item_type, kind_value, passed_by, passed_from, constants_of, listing_by, listings_from, if_called, start_output, output_item, end_output, stop_run, is_function, computes, function_called, functions_of, calls_of, begins_output, takes_item, ends_output, stops_run}
+use Rattle.main_programs.specs.f_tree.declared.names.Basic.{Basic}
+use Rattle.main_programs.specs.f_tree.declared.names.Basic.TheVariants.{Integer, Logical, Character, Untyped}
+use Rattle.main_programs.specs.f_tree.Values.{Datum, IsInt, IsLog, IsText, IsSpot, IsProc, IsLabel, Nothing, in_range}
+use Rattle.main_programs.specs.f_tree.Terms as fortran
+use Rattle.main_programs.specs.f_tree.Terms.{Function}
+use Rattle.main_programs.specs.f_tree.Facts.{Direction, Layout, Controls}
+use Rattle.main_programs.specs.f_tree.Setting.{IsIn, first_in, later_in}
+use Rattle.main_programs.specs.f_tree.CNames.{has_underscore}
+use Rattle.main_programs.specs.l_core.Pures.{Pure, Constant, Pures, NoPure, AndPure}
+use Rattle.main_programs.specs.l_core.Steps.{Starts, Takes, Step, Compute, Acts, Text}
+use Rattle.main_programs.specs.c_emit.LibraryFunctions.{LibraryFunction, pow_ii, i_sign, i_dim, i_or, i_and, i_eor, i_not, i_shft, b_test, b_set, b_clr, library_functions, library_function}
+use Rattle.main_programs.specs.c_emit.Calls.{unit_of, kind_number}
+use Rattle.main_programs.proofs.c_laws.TokenSpellings.{and-first, and-second}
+use Rattle.main_programs.proofs.linking_laws.Places.{some_same, same_bytes, position_step, taken, skipped}
+use Rattle.main_programs.specs.main_file.MainFile.{Listing, Called}
+use Rattle.main_programs.specs.main_translation.Contents.{with_new, own_value, own_values, item_type, kind_value, passed_by, passed_from, constants_of, listing_by, listings_from, if_called, start_output, output_item, end_output, stop_run, is_function, computes, function_called, functions_of, calls_of, begins_output, takes_item, ends_output, stops_run}
 use Rattle.main_translation_laws.proofs.Lists.{AreApart, none_apart, one_apart, InEither, in_one, in_other, in_either, in_mapped, IsPart, left_out, taken_too, in_part, part_map, filter_part}
 use Rattle.main_translation_laws.proofs.Names.{IsCalledName, begins, looks_called, called_name}
 

@@ -3,31 +3,31 @@ use Rattle.std.specs.Prelude.{◌≡◌, ℕ, zero, suc, ◌<◌, ◌≤◌, ◌
 use Rattle.std.specs.Fmt.{digits}
 use Rattle.std.proofs.Common.{refl, sym, ap, ◌∙◌, subst, arith}
 use Rattle.std.proofs.lemmas.Slice.Eq.{bytes_eq-Decides}
-use Rattle.f_tree.specs.declared.names.Class.TheVariants as class
-use Rattle.f_tree.specs.Values.{Bytes, in_range}
-use Rattle.f_tree.specs.CNames.{is_name, is_name_byte, has_underscore, c_keywords, built_in_names, field_names, single_letters, is_reserved, takes_underscores, variable_name, constant_name, made_name}
-use Rattle.f_tree.specs.Facts.{Attribute, Bounds, Member}
-use Rattle.f_tree.specs.Setting.{IsIn, first_in, later_in, IsMember, here, there, no_names, another_name}
-use Rattle.f_tree.specs.Valuing.{elements_of, extent_of}
-use Rattle.f_tree.specs.Attributes.{bare}
-use Rattle.l_core.specs.Steps.{Step, Halt}
-use Rattle.lowering.specs.Units.{lowered_unit}
-use Rattle.lowering_laws.specs.Layer.{others_opened}
-use Rattle.lowering_laws.specs.Layout.{are_direct, has_end, LoopsFit, with_loops, layout_opened}
-use Rattle.lowering_laws.specs.Examples.{letter, an_integer, example_opened}
-use Rattle.c_tree.specs.Opened.{trees_opened}
-use Rattle.c_emit.specs.Numbers.{is_numeric, is_variable, numbers_opened}
-use Rattle.c_emit.specs.Types.{types_opened}
-use Rattle.c_emit.specs.Calls.{calls_opened}
-use Rattle.c_emit.specs.Flats.{flats_opened}
-use Rattle.c_structure.specs.Expressions.{expressions_opened}
-use Rattle.c_structure.specs.Statements.{statements_opened}
-use Rattle.linking_laws.proofs.Places.{some_same}
-use Rattle.main_file.specs.MainFile as main
-use Rattle.main_file.specs.MainItems.{item_before, flats_from, stops_from}
-use Rattle.main_translation.specs.Flow.{flow_opened}
-use Rattle.main_translation.specs.Contents.{count_by, contents_opened}
-use Rattle.main_translation.specs.Outlined.{body_of, outlined_opened}
+use Rattle.main_programs.specs.f_tree.declared.names.Class.TheVariants as class
+use Rattle.main_programs.specs.f_tree.Values.{Bytes, in_range}
+use Rattle.main_programs.specs.f_tree.CNames.{is_name, is_name_byte, has_underscore, c_keywords, built_in_names, field_names, single_letters, is_reserved, takes_underscores, variable_name, constant_name, made_name}
+use Rattle.main_programs.specs.f_tree.Facts.{Attribute, Bounds, Member}
+use Rattle.main_programs.specs.f_tree.Setting.{IsIn, first_in, later_in, IsMember, here, there, no_names, another_name}
+use Rattle.main_programs.specs.f_tree.Valuing.{elements_of, extent_of}
+use Rattle.main_programs.specs.f_tree.Attributes.{bare}
+use Rattle.main_programs.specs.l_core.Steps.{Step, Halt}
+use Rattle.main_programs.specs.lowering.Units.{lowered_unit}
+use Rattle.main_programs.specs.lowering_laws.Layer.{others_opened}
+use Rattle.main_programs.specs.lowering_laws.Layout.{are_direct, has_end, LoopsFit, with_loops, layout_opened}
+use Rattle.main_programs.specs.lowering_laws.Examples.{letter, an_integer, example_opened}
+use Rattle.main_programs.specs.c_tree.Opened.{trees_opened}
+use Rattle.main_programs.specs.c_emit.Numbers.{is_numeric, is_variable, numbers_opened}
+use Rattle.main_programs.specs.c_emit.Types.{types_opened}
+use Rattle.main_programs.specs.c_emit.Calls.{calls_opened}
+use Rattle.main_programs.specs.c_emit.Flats.{flats_opened}
+use Rattle.main_programs.specs.c_structure.Expressions.{expressions_opened}
+use Rattle.main_programs.specs.c_structure.Statements.{statements_opened}
+use Rattle.main_programs.proofs.linking_laws.Places.{some_same}
+use Rattle.main_programs.specs.main_file.MainFile as main
+use Rattle.main_programs.specs.main_file.MainItems.{item_before, flats_from, stops_from}
+use Rattle.main_programs.specs.main_translation.Flow.{flow_opened}
+use Rattle.main_programs.specs.main_translation.Contents.{count_by, contents_opened}
+use Rattle.main_programs.specs.main_translation.Outlined.{body_of, outlined_opened}
 use Rattle.main_programs.specs.MainRuns.{plain_facts, bytes_in}
 use Rattle.main_translation_laws.specs.Example.{attribute_of, its_unit, its_steps, its_text, its_statements}
 use Rattle.main_translation_laws.specs.PlainMains.{IsPlainMain, IsPlainText}

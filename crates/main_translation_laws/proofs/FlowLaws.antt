@@ -1,24 +1,24 @@
 -- What is said of types and outputs fits the steps of every text, wherever they lead.
 use Rattle.std.specs.List.{list_any}
-use Rattle.std.specs.Prelude.{◌≡◌, ℕ, zero, suc, ◌+◌, nat_eq, ℤ, Bool, true, false, ◌||◌, List, [], ◌∷◌, ◌++◌, Option, Some, None, is_some, slice_get, if◌then◌else◌}
+use Rattle.std.specs.Prelude.{◌≡◌, ℕ, zero, suc, ◌+◌, nat_eq, ℤ, Bool, true, false, ◌||◌, List, [], ◌∷◌, ◌++◌, length, Option, Some, None, is_some, slice_get, if◌then◌else◌}
 use Rattle.std.proofs.Common.{refl, sym, ap, ◌∙◌, subst, arith}
 use Rattle.std.proofs.lemmas.Bool.{eq-eqb}
-use Rattle.f_tree.specs.declared.names.Basic.{Basic}
-use Rattle.f_tree.specs.Terms.{Function}
-use Rattle.f_tree.specs.Facts.{Facts}
-use Rattle.f_tree.specs.Setting.{IsIn, first_in, later_in}
-use Rattle.l_core.specs.Pures.{Pure, Constant, Temporary, Load, Name, AllOf, ElementOf, FirstOf, Substring, Concatenated, Prefixed, Operated, Applied, Chosen, Pures}
-use Rattle.l_core.specs.Steps.{Starts, Takes, Finishes, Auxiliary, Step, Keep, Put, PutText, PutLabel, Compute, Unless, Skip, Again, AgainIf, Jump, Select, JumpBy, Pass, CallFor, CallSub, Branch, Back, BackBy, Halt, Acts, Text}
-use Rattle.c_emit.specs.Numbers.{Writing}
-use Rattle.c_emit.specs.LibraryFunctions.{library_type}
-use Rattle.c_emit.specs.Types.{type_of, type_at}
-use Rattle.emitted_texts.specs.Emitted.{labelled, leads, kind_behind, stage_behind, is_of_output}
-use Rattle.linking_laws.proofs.Places.{some_same}
-use Rattle.main_file.specs.MainFile.{Inventory, Bases, writing_of}
-use Rattle.main_translation.specs.Flow as flow
-use Rattle.main_translation.specs.Flow.{target_in, targets_of, targets_from, is_target, kept_type, kept_at, kind_at, stage_after, stage_at, is_on, are_on}
+use Rattle.main_programs.specs.f_tree.declared.names.Basic.{Basic}
+use Rattle.main_programs.specs.f_tree.Terms.{Function}
+use Rattle.main_programs.specs.f_tree.Facts.{Facts}
+use Rattle.main_programs.specs.f_tree.Setting.{IsIn, first_in, later_in}
+use Rattle.main_programs.specs.l_core.Pures.{Pure, Constant, Temporary, Load, Name, AllOf, ElementOf, FirstOf, Substring, Concatenated, Prefixed, Operated, Applied, Chosen, Pures}
+use Rattle.main_programs.specs.l_core.Steps.{Starts, Takes, Finishes, Auxiliary, Step, Keep, Put, PutText, PutLabel, Compute, Unless, Skip, Again, AgainIf, Jump, Select, JumpBy, Pass, CallFor, CallSub, Branch, Back, BackBy, Halt, Acts, Text}
+use Rattle.main_programs.specs.c_emit.Numbers.{Writing}
+use Rattle.main_programs.specs.c_emit.LibraryFunctions.{library_type}
+use Rattle.main_programs.specs.c_emit.Types.{type_of, type_at}
+use Rattle.main_programs.specs.emitted_texts.Emitted.{labelled, places_from, leads, kind_behind, stage_behind, is_of_output}
+use Rattle.main_programs.proofs.linking_laws.Places.{some_same}
+use Rattle.main_programs.specs.main_file.MainFile.{Inventory, Bases, writing_of}
+use Rattle.main_programs.specs.main_translation.Flow as flow
+use Rattle.main_programs.specs.main_translation.Flow.{target_in, targets_on, targets_of, targets_from, is_target, kept_type, kept_at, kind_at, stage_after, stage_at, is_on, are_on}
 use Rattle.main_programs.specs.EmittedMain.{StepsFit}
-use Rattle.c_laws.proofs.TokenSpellings.{and-first, and-second}
+use Rattle.main_programs.proofs.c_laws.TokenSpellings.{and-first, and-second}
 
 -- ## Where steps lead
 
@@ -38,6 +38,11 @@ unfolding target_in labelled
 same_label None = refl
 same_label (Some n) = refl
 
+same_places : (n count : ℕ) → targets_on n count ≡ places_from n count
+unfolding targets_on places_from
+same_places n zero = refl
+same_places n (suc count) = ap (λ ms. n ∷ ms) (same_places (suc n) count)
+
 pub leads_to : (u : Text) (n : ℕ) (st : Step) (m : ℕ) → IsIn m (leads u n st) → Led u n st m
 unfolding leads targets_of
 leads_to u n (Unless p k) _ first_in = to_next refl
@@ -54,8 +59,10 @@ leads_to u n (Put place p) m o = only_next u n (Put place p) m o
 leads_to u n (PutText place ps) m o = only_next u n (PutText place ps) m o
 leads_to u n (PutLabel place l) m o = only_next u n (PutLabel place l) m o
 leads_to u n (Compute k f ps) m o = only_next u n (Compute k f ps) m o
-leads_to u n (Select p ls) m o = only_next u n (Select p ls) m o
-leads_to u n (JumpBy p ls) m o = only_next u n (JumpBy p ls) m o
+leads_to u n (Select p count) _ first_in = to_next refl
+leads_to u n (Select p count) m (later_in o) = to_target (subst (IsIn m) (sym (same_places (suc (suc n)) count)) o)
+leads_to u n (JumpBy p labels) _ first_in = to_next refl
+leads_to u n (JumpBy p labels) m (later_in o) = to_target (subst (IsIn m) (sym (same_places (suc (suc n)) (length labels))) o)
 leads_to u n Pass m o = only_next u n Pass m o
 leads_to u n (CallFor k callee ps) m o = only_next u n (CallFor k callee ps) m o
 leads_to u n (CallSub k x ps) m o = only_next u n (CallSub k x ps) m o

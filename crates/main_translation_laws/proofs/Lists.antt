@@ -1,9 +1,9 @@
 -- Lists whose parts are told apart.
 use Rattle.std.specs.Prelude.{◌≡◌, ◌≢◌, ℕ, zero, suc, Bool, true, false, List, [], ◌∷◌, ◌++◌, map, filter, cond, Some, slice_get}
 use Rattle.std.proofs.Common.{refl, sym, ap, ◌∙◌, subst}
-use Rattle.f_tree.specs.Setting.{IsIn, first_in, later_in}
-use Rattle.linking_laws.specs.Linked.{AreDistinct, IsNone}
-use Rattle.linking_laws.proofs.Places.{some_same}
+use Rattle.main_programs.specs.f_tree.Setting.{IsIn, first_in, later_in}
+use Rattle.main_programs.specs.linking_laws.Linked.{AreDistinct, IsNone}
+use Rattle.main_programs.proofs.linking_laws.Places.{some_same}
 
 -- no part stands twice
 pub data AreApart {A : Type 0} : List A → Type 0 where

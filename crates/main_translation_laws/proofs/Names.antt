@@ -4,12 +4,12 @@ use Rattle.std.proofs.Common.{refl, sym, ap, ◌∙◌, subst, arith}
 use Rattle.std.proofs.lemmas.Bool.{eq-eqb}
 use Rattle.std.proofs.lemmas.List.{append_cancel_left, reverse-append}
 use Rattle.std.proofs.lemmas.Fmt.{decimal_injective}
-use Rattle.f_tree.specs.Values.{Bytes}
-use Rattle.f_tree.specs.CNames.{is_name, has_underscore, is_reserved, takes_underscores, variable_name, constant_name, made_name, NumberTemporary, ControlList, ConstantOf}
-use Rattle.f_tree.specs.Setting.{IsIn, first_in, later_in}
-use Rattle.fortran_laws.proofs.CNameLaws.{variable_name-injective, variable_name-not_made}
-use Rattle.main_file.specs.MainFile.{Variable, Listing, Called, Inventory, Bases, list_names, temporary_names, constant_names, lasting_names, called_names}
-use Rattle.main_file_laws.specs.KnownFile.{NamesDiffer}
+use Rattle.main_programs.specs.f_tree.Values.{Bytes}
+use Rattle.main_programs.specs.f_tree.CNames.{is_name, has_underscore, is_reserved, takes_underscores, variable_name, constant_name, made_name, NumberTemporary, ControlList, ConstantOf}
+use Rattle.main_programs.specs.f_tree.Setting.{IsIn, first_in, later_in}
+use Rattle.main_programs.proofs.fortran_laws.CNameLaws.{variable_name-injective, variable_name-not_made}
+use Rattle.main_programs.specs.main_file.MainFile.{Variable, Listing, Called, Inventory, Bases, list_names, temporary_names, constant_names, lasting_names, called_names}
+use Rattle.main_programs.specs.main_file_laws.KnownFile.{NamesDiffer}
 use Rattle.main_translation_laws.proofs.Lists.{AreApart, none_apart, one_apart, InEither, in_one, in_other, in_either, in_map, in_mapped, in_at, apart_append, apart_map, distinct_by, none_by}
 
 -- ## Sorts of names

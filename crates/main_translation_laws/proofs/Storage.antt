@@ -3,21 +3,21 @@ use Rattle.std.specs.Prelude.{◌≡◌, ℕ, zero, suc, Bool, true, false, not,
 use Rattle.std.proofs.Common.{refl, sym, ap, ◌∙◌, subst}
 use Rattle.std.proofs.lemmas.List.{length-map}
 use Rattle.std.proofs.lemmas.Slice.Eq.{bytes_eq-Decides}
-use Rattle.f_tree.specs.declared.names.Basic.{Basic}
-use Rattle.f_tree.specs.Values.{Bytes}
-use Rattle.f_tree.specs.Facts.{Bounds, Member, ProgramUnit, Facts}
-use Rattle.f_tree.specs.Setting.{IsIn, first_in, later_in, IsMember, here, there, AreDistinct, no_names, another_name}
-use Rattle.f_tree.specs.Valuing.{elements_of}
-use Rattle.l_core.specs.Steps.{Text}
-use Rattle.c_emit.specs.Numbers.{is_numeric, is_variable, has_bounds, has_number, is_scalar, is_array}
-use Rattle.linking_laws.proofs.Places.{some_same, other_bytes, same_bytes, taken, skipped, position_step, map_at}
-use Rattle.main_file.specs.MainFile.{Variable, Bases, writing_of}
-use Rattle.main_file_laws.specs.KnownFile.{VariablesAreListed}
-use Rattle.main_translation.specs.Contents.{count_by, variable_of, inventory_of}
+use Rattle.main_programs.specs.f_tree.declared.names.Basic.{Basic}
+use Rattle.main_programs.specs.f_tree.Values.{Bytes}
+use Rattle.main_programs.specs.f_tree.Facts.{Bounds, Member, ProgramUnit, Facts}
+use Rattle.main_programs.specs.f_tree.Setting.{IsIn, first_in, later_in, IsMember, here, there, AreDistinct, no_names, another_name}
+use Rattle.main_programs.specs.f_tree.Valuing.{elements_of}
+use Rattle.main_programs.specs.l_core.Steps.{Text}
+use Rattle.main_programs.specs.c_emit.Numbers.{is_numeric, is_variable, has_bounds, has_number, is_scalar, is_array}
+use Rattle.main_programs.proofs.linking_laws.Places.{some_same, other_bytes, same_bytes, taken, skipped, position_step, map_at}
+use Rattle.main_programs.specs.main_file.MainFile.{Variable, Bases, writing_of}
+use Rattle.main_programs.specs.main_file_laws.KnownFile.{VariablesAreListed}
+use Rattle.main_programs.specs.main_translation.Contents.{count_by, variable_of, inventory_of}
 use Rattle.main_programs.specs.MainRuns.{bytes_in, HasPlainStorage}
 use Rattle.main_translation_laws.specs.PlainMains.{IsPlainMain}
 use Rattle.main_translation_laws.proofs.Lists.{AreApart, none_apart, one_apart, in_map, in_at}
-use Rattle.c_laws.proofs.TokenSpellings.{and-first, and-second}
+use Rattle.main_programs.proofs.c_laws.TokenSpellings.{and-first, and-second}
 
 -- ## Members
 

@@ -2,38 +2,38 @@
 use Rattle.std.specs.Prelude.{◌≡◌, ℕ, zero, suc, ◌+◌, ◌<◌, ◌≤◌, Bool, true, false, List, [], ◌∷◌, length, map, position, Option, Some, None, slice_get, bytes_eq}
 use Rattle.std.proofs.Common.{refl, sym, ap, ◌∙◌, subst, arith}
 use Rattle.std.proofs.lemmas.List.{append-nil}
-use Rattle.f_tree.specs.Facts.{Facts, Line, ProgramUnit}
-use Rattle.f_tree.specs.Values.{Bytes}
-use Rattle.f_tree.specs.CNames.{is_name}
-use Rattle.l_core.specs.Steps.{Step, Halt, Text}
-use Rattle.lowering.specs.Units.{size_before, start_of, lines_code, text_with, lowered_unit}
-use Rattle.c_tree.specs.declared.expression.CExpr.TheVariants as expr
-use Rattle.c_tree.specs.declared.statement.CStmt.{CStmt}
-use Rattle.c_tree.specs.declared.statement.CStmt.TheVariants as stmt
-use Rattle.c_tree.specs.Builtins.{builtin_names}
-use Rattle.c_tree.specs.Flat.{Flat}
-use Rattle.c_tree.specs.FlatForm.{Body, position_of, ends, with_return, whole_body, body_of_all}
-use Rattle.c_tree.specs.Linking as linking
-use Rattle.c_tree.specs.Linking.{Routines, routines, declared_constants}
-use Rattle.c_structure.specs.Statements.{strings_of_items, statements_for}
-use Rattle.c_structure_laws.specs.Fitting.{marks_from, Fits}
-use Rattle.c_structure_laws.proofs.DrawnExpressions.{bytes_count}
-use Rattle.linking_laws.specs.Linked.{IsBuilt}
-use Rattle.linking_laws.proofs.Places.{some_same}
-use Rattle.linking_laws.proofs.Scopes.{builtins_are_numbered}
-use Rattle.linking_laws.proofs.BuiltCode.{built_fit, whole_is}
-use Rattle.main_file.specs.MainFile as main
-use Rattle.main_file.specs.MainFile.{Listing, Inventory, Bases, constant_for, main_function, first_string, first_temporary, names_of, place_of_list, writing_of}
-use Rattle.main_file.specs.MainItems.{stops_from}
-use Rattle.main_file_laws.specs.BuiltMain.{IsMainBuilt, AreNumberedBuiltins}
-use Rattle.main_file_laws.specs.KnownFile.{scope_in}
-use Rattle.main_file_laws.proofs.BuiltItems.{AreEmitted, AreAllKnown, all_known}
+use Rattle.main_programs.specs.f_tree.Facts.{Facts, Line, ProgramUnit}
+use Rattle.main_programs.specs.f_tree.Values.{Bytes}
+use Rattle.main_programs.specs.f_tree.CNames.{is_name}
+use Rattle.main_programs.specs.l_core.Steps.{Step, Halt, Text}
+use Rattle.main_programs.specs.lowering.Units.{size_before, start_of, lines_code, text_with, lowered_unit}
+use Rattle.main_programs.specs.c_tree.declared.expression.CExpr.TheVariants as expr
+use Rattle.main_programs.specs.c_tree.declared.statement.CStmt.{CStmt}
+use Rattle.main_programs.specs.c_tree.declared.statement.CStmt.TheVariants as stmt
+use Rattle.main_programs.specs.c_tree.Builtins.{builtin_names}
+use Rattle.main_programs.specs.c_tree.Flat.{Flat}
+use Rattle.main_programs.specs.c_tree.FlatForm.{Body, position_of, ends, with_return, whole_body, body_of_all}
+use Rattle.main_programs.specs.c_tree.Linking as linking
+use Rattle.main_programs.specs.c_tree.Linking.{Routines, routines, declared_constants}
+use Rattle.main_programs.specs.c_structure.Statements.{strings_of_items, statements_for}
+use Rattle.main_programs.specs.c_structure_laws.Fitting.{marks_from, Fits}
+use Rattle.main_programs.proofs.c_structure_laws.DrawnExpressions.{bytes_count}
+use Rattle.main_programs.specs.linking_laws.Linked.{IsBuilt}
+use Rattle.main_programs.proofs.linking_laws.Places.{some_same}
+use Rattle.main_programs.proofs.linking_laws.Scopes.{builtins_are_numbered}
+use Rattle.main_programs.proofs.linking_laws.BuiltCode.{built_fit, whole_is}
+use Rattle.main_programs.specs.main_file.MainFile as main
+use Rattle.main_programs.specs.main_file.MainFile.{Listing, Inventory, Bases, constant_for, main_function, first_string, first_temporary, names_of, place_of_list, writing_of}
+use Rattle.main_programs.specs.main_file.MainItems.{stops_from}
+use Rattle.main_programs.specs.main_file_laws.BuiltMain.{IsMainBuilt, AreNumberedBuiltins}
+use Rattle.main_programs.specs.main_file_laws.KnownFile.{scope_in}
+use Rattle.main_programs.proofs.main_file_laws.BuiltItems.{AreEmitted, AreAllKnown, all_known}
 use Rattle.main_programs.specs.EmittedMain.{StepsFit, IsMain}
 use Rattle.main_programs.specs.MainRuns.{plain_facts, bases_of, IsTranslatedMain}
 use Rattle.main_programs.proofs.MainRuns.{main_programs_run_alike, constants_count, no_main}
-use Rattle.main_translation.specs.Flow.{kind_at, stage_at}
-use Rattle.main_translation.specs.Contents.{constants_of, variable_of, text_at, inventory_of, first_objects}
-use Rattle.main_translation.specs.Outlined.{outline_of, returns_last}
+use Rattle.main_programs.specs.main_translation.Flow.{kind_at, stage_at}
+use Rattle.main_programs.specs.main_translation.Contents.{constants_of, variable_of, text_at, inventory_of, first_objects}
+use Rattle.main_programs.specs.main_translation.Outlined.{outline_of, returns_last}
 use Rattle.main_translation_laws.specs.PlainMains.{IsPlainMain, IsPlainText, PlainMainsRunAlike}
 use Rattle.main_translation_laws.proofs.Lists.{in_at, in_map}
 use Rattle.main_translation_laws.proofs.FlowLaws.{steps_fit}

@@ -2,24 +2,24 @@
 --     K = 0; DO 10 I = 1, 3; 10 K = K + I; IF (K .GT. 2) THEN; PRINT *, K + 1; GO TO 20; ELSE; K = 5; END IF; 20 CONTINUE; END
 -- ANSI X3.9-1978, sections 10.1, 11 and 12.8; C89, 3.6.
 use Rattle.std.specs.Prelude.{ℕ, pos, false, ◌||◌, List, [], ◌∷◌, Some, None, option_map, codes, bytes_eq, if◌then◌else◌}
-use Rattle.f_tree.specs.declared.names.Class.TheVariants as class
-use Rattle.f_tree.specs.Values.{Bytes, IsInt}
-use Rattle.f_tree.specs.Terms.{Add, IsGreater, IsLessOrEqual, Val, At, Between, NoMore, More}
-use Rattle.f_tree.specs.Facts.{Attribute, Output, Listed, Item, Done, Before, MainProgram, ToSet, ToGo, ToEnterArm, ToLoop, ToBegin, ToEnd, Passes, On, Plain, Opens, Arm, Closes, Line, ProgramUnit}
-use Rattle.f_tree.specs.Attributes.{bare}
-use Rattle.f_tree.specs.Places.{place_of_label}
-use Rattle.l_core.specs.Pures.{Constant, Temporary, Load, Operated, NoPure, AndPure}
-use Rattle.l_core.specs.Steps.{Starts, Takes, Finishes, Text, Step, Keep, Put, Unless, Skip, Again, Jump, Pass, Back, Acts}
-use Rattle.lowering.specs.Units.{start_of, lines_marks}
-use Rattle.lowering_laws.specs.Examples.{letter, variable, an_integer, line, name, printing}
-use Rattle.c_tree.specs.declared.expression.BinaryOp.TheVariants as op
-use Rattle.c_tree.specs.declared.expression.UnaryOp.TheVariants as prefix
-use Rattle.c_tree.specs.declared.expression.CExpr.{CExpr}
-use Rattle.c_tree.specs.declared.expression.CExpr.TheVariants as expr
-use Rattle.c_tree.specs.declared.statement.CNext.TheVariants as next
-use Rattle.c_tree.specs.declared.statement.CStmt.{CStmt}
-use Rattle.c_tree.specs.declared.statement.CStmt.TheVariants as stmt
-use Rattle.c_tree.specs.declared.types.CastType.TheVariants as to
+use Rattle.main_programs.specs.f_tree.declared.names.Class.TheVariants as class
+use Rattle.main_programs.specs.f_tree.Values.{Bytes, IsInt}
+use Rattle.main_programs.specs.f_tree.Terms.{Add, IsGreater, IsLessOrEqual, Val, At, Between, NoMore, More}
+use Rattle.main_programs.specs.f_tree.Facts.{Attribute, Output, Listed, Item, Done, Before, MainProgram, ToSet, ToGo, ToEnterArm, ToLoop, ToBegin, ToEnd, Passes, On, Plain, Opens, Arm, Closes, Line, ProgramUnit}
+use Rattle.main_programs.specs.f_tree.Attributes.{bare}
+use Rattle.main_programs.specs.f_tree.Places.{place_of_label}
+use Rattle.main_programs.specs.l_core.Pures.{Constant, Temporary, Load, Operated, NoPure, AndPure}
+use Rattle.main_programs.specs.l_core.Steps.{Starts, Takes, Finishes, Text, Step, Keep, Put, Unless, Skip, Again, Jump, Pass, Back, Acts}
+use Rattle.main_programs.specs.lowering.Units.{start_of, lines_marks}
+use Rattle.main_programs.specs.lowering_laws.Examples.{letter, variable, an_integer, line, name, printing}
+use Rattle.main_programs.specs.c_tree.declared.expression.BinaryOp.TheVariants as op
+use Rattle.main_programs.specs.c_tree.declared.expression.UnaryOp.TheVariants as prefix
+use Rattle.main_programs.specs.c_tree.declared.expression.CExpr.{CExpr}
+use Rattle.main_programs.specs.c_tree.declared.expression.CExpr.TheVariants as expr
+use Rattle.main_programs.specs.c_tree.declared.statement.CNext.TheVariants as next
+use Rattle.main_programs.specs.c_tree.declared.statement.CStmt.{CStmt}
+use Rattle.main_programs.specs.c_tree.declared.statement.CStmt.TheVariants as stmt
+use Rattle.main_programs.specs.c_tree.declared.types.CastType.TheVariants as to
 use Rattle.main_programs.specs.MainRuns.{plain_facts}
 
 -- K and I are its names

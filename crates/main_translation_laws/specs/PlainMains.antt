@@ -1,24 +1,24 @@
 -- That a main program of numbers with storage of its own runs as the C file that is made for it, where its text is emitted and has a structure.
 -- ANSI X3.9-1978, sections 2.4, 5, 14 and 17.1; C89, 3.6 and 3.7.
 use Rattle.std.specs.Prelude.{◌≡◌, ℕ, suc, ◌+◌, ◌<◌, ◌≤◌, ◌^◌, ℤ, true, List, [], ◌∷◌, length, Some, slice_get, ◌&&◌}
-use Rattle.run_state.specs.Units.{Units}
-use Rattle.f_tree.specs.Values.{Bytes, NoMeaning}
-use Rattle.f_tree.specs.CNames.{is_name}
-use Rattle.f_tree.specs.Facts.{Bounds, Member, MainProgram, ProgramUnit}
-use Rattle.f_tree.specs.Setting.{IsIn, IsMember, AreDistinct}
-use Rattle.f_tree.specs.Valuing.{elements_of, extent_of}
-use Rattle.f_tree.specs.Meaning.{ftn, act_of}
-use Rattle.l_core.specs.Steps.{Halt, Text}
-use Rattle.lowering.specs.Units.{lowered_unit}
-use Rattle.lowering_laws.specs.Layout.{are_direct, has_end, LoopsFit}
-use Rattle.c_tree.specs.declared.statement.CStmt.{CStmt}
-use Rattle.c_emit.specs.Numbers.{is_numeric, is_variable}
-use Rattle.c_emit_laws.specs.EmittedNumbers.{BoundFits}
-use Rattle.faithful.specs.Faithful.{SameRuns}
-use Rattle.faithful.specs.UnitsAtStart.{AreBytes}
-use Rattle.main_file.specs.MainFile.{main_file}
-use Rattle.main_translation.specs.Contents.{count_by, temporaries_in, inventory_of}
-use Rattle.main_translation.specs.Outlined.{labels_in, body_of}
+use Rattle.main_programs.specs.run_state.Units.{Units}
+use Rattle.main_programs.specs.f_tree.Values.{Bytes, NoMeaning}
+use Rattle.main_programs.specs.f_tree.CNames.{is_name}
+use Rattle.main_programs.specs.f_tree.Facts.{Bounds, Member, MainProgram, ProgramUnit}
+use Rattle.main_programs.specs.f_tree.Setting.{IsIn, IsMember, AreDistinct}
+use Rattle.main_programs.specs.f_tree.Valuing.{elements_of, extent_of}
+use Rattle.main_programs.specs.f_tree.Meaning.{ftn, act_of}
+use Rattle.main_programs.specs.l_core.Steps.{Halt, Text}
+use Rattle.main_programs.specs.lowering.Units.{lowered_unit}
+use Rattle.main_programs.specs.lowering_laws.Layout.{are_direct, has_end, LoopsFit}
+use Rattle.main_programs.specs.c_tree.declared.statement.CStmt.{CStmt}
+use Rattle.main_programs.specs.c_emit.Numbers.{is_numeric, is_variable}
+use Rattle.main_programs.specs.c_emit_laws.EmittedNumbers.{BoundFits}
+use Rattle.main_programs.specs.faithful.Faithful.{SameRuns}
+use Rattle.main_programs.specs.faithful.UnitsAtStart.{AreBytes}
+use Rattle.main_programs.specs.main_file.MainFile.{main_file}
+use Rattle.main_programs.specs.main_translation.Contents.{count_by, temporaries_in, inventory_of}
+use Rattle.main_programs.specs.main_translation.Outlined.{labels_in, body_of}
 use Rattle.main_programs.specs.MainRuns.{plain_setting, plain_facts, bytes_in}
 
 -- A main program whose names are integers and logicals, each with storage of its own: no COMMON, EQUIVALENCE or DATA (8.2, 8.3, 9).

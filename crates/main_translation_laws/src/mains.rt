@@ -1,8 +1,8 @@
 //! Main programs of numbers and what is made for them, as the contract of a call that does nothing.
 
 ghost use Rattle.std.specs.Prelude.{◌≡◌, Some};
-ghost use Rattle.lowering.specs.Units.{lowered_unit};
-ghost use Rattle.main_translation.specs.Outlined.{body_of};
+ghost use Rattle.main_programs.specs.lowering.Units.{lowered_unit};
+ghost use Rattle.main_programs.specs.main_translation.Outlined.{body_of};
 ghost use Rattle.main_programs.specs.MainRuns.{plain_facts};
 ghost use Rattle.main_translation_laws.specs.PlainMains.{IsPlainMain, IsPlainText, PlainMainsRunAlike};
 ghost use Rattle.main_translation_laws.specs.Example.{its_unit, its_text, its_statements};

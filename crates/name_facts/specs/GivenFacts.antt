@@ -24,7 +24,7 @@ datum_of (value.Label l) = IsLabel l
 
 -- the bounds of a dimension as the meaning has them
 unfoldable pub bounds_of : Bound → Bounds
-bounds_of b = record { lower = b.lower; upper = Some b.upper }
+bounds_of b = record { lower = b.lower; upper = b.upper }
 
 -- what is said of a name is what it is
 pub record IsNameFact (a : Attribute) (fact : NameFact) : Type 0 where

@@ -1,1 +1,3 @@
 pub mod GivenFacts
+pub mod Dimensions
+pub use Rattle.declaration_rows.specs as declaration_rows

@@ -5,5 +5,5 @@
 mod fact;
 mod table;
 
-pub use fact::{Bound, ConstantValue, NameFact};
+pub use fact::{Bound, ConstantValue, NameFact, all_closed};
 pub use table::NameFacts;

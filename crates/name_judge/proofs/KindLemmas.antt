@@ -1,5 +1,6 @@
 -- The rows of one name are those of its attributes.
-use Rattle.std.specs.Prelude.{◌≡◌, ℕ, suc, ◌*◌, nat_eq, nat_abs, pos, ◌-ℤ◌, ◌+ℤ◌, Bool, true, false, not, ◌&&◌, ◌||◌, List, [], ◌∷◌, ◌++◌, map, length, Option, Some, None, option_map, is_some, if◌then◌else◌}
+use Rattle.std.specs.List.{list_all}
+use Rattle.std.specs.Prelude.{◌≡◌, ℕ, suc, nat_eq, Bool, true, false, not, ◌&&◌, ◌||◌, List, [], ◌∷◌, ◌++◌, map, length, Option, Some, None, option_map, is_some, if◌then◌else◌}
 use Rattle.std.proofs.Common.{◌⊎◌, inl, inr, Result, Ok, Err, OnOk, refl, sym, ap, subst, ◌∙◌, arith}
 use Rattle.std.proofs.lemmas.List.{append-nil, append_assoc, length-map, map-append}
 use Rattle.std.proofs.lemmas.Bool.Decides.{nat_tests}
@@ -32,6 +33,8 @@ use Rattle.name_facts.specs.declared.fact.ConstantValue.{ConstantValue}
 use Rattle.name_facts.specs.declared.fact.ConstantValue.TheVariants as value
 use Rattle.name_facts.specs.declared.fact.NameFact.{NameFact}
 use Rattle.name_facts.specs.declared.table.NameFacts.{NameFacts}
+use Rattle.name_facts.specs.Dimensions.{is_closed}
+use Rattle.name_facts.proofs.ElementLaws.{closed_elements}
 use Rattle.name_facts.specs.GivenFacts.{datum_of, bounds_of, IsNameFact, AreNameFacts, fact_in, fact_or, no_fact}
 use Rattle.name_classes.specs.KnownSigns.{unit_uses}
 use Rattle.name_places.specs.declared.place.Place.{Place}
@@ -147,31 +150,17 @@ pub conflict_is : (u : WrittenUnit) (a : Attribute) (f : NameFact) → IsNameFac
 unfolding conflict_rows
 conflict_is u a f known = ap (λ k. conflict_by k (is_function u) f) known.class ∙ conflict_of u a f a.class known
 
--- LENGTHS AND BOUNDS: what has bounds that are constant has so many elements
-some_count : (o : Option ℕ) (k : ℕ) → is_some (elim o [ None ↦ None | Some n ↦ Some (k * n) ]) ≡ is_some o
-some_count None k = refl
-some_count (Some n) k = refl
-
-counted : (bs : List Bound) → is_some (elements_of (map bounds_of bs)) ≡ true
-unfolding elements_of bounds_of
-counted [] = refl
-counted (b ∷ bs) = some_count (elements_of (map bounds_of bs)) (nat_abs ((b.upper -ℤ b.lower) +ℤ pos 1)) ∙ counted bs
-
-unless_true : (kind : Kind) → unless true kind ≡ []
-unfolding unless
-unless_true kind = refl
-
+-- LENGTHS AND BOUNDS
 stored_is : (a : Attribute) (f : NameFact) (row : Kind) → IsNameFact a f → stored_kinds row f
     ≡ unless (is_some a.width) row ++ (unless (nat_eq (length a.bounds) (length a.dimensions)) BoundNotConstant ++ unless (is_some (elements_of a.bounds)) BoundNotConstant)
 unfolding stored_kinds
 stored_is a f row known =
-    ap (λ (o : Option ℕ). unless (is_some o) row ++ unless (nat_eq (length f.bounds) f.rank) BoundNotConstant) known.width
-    ∙ ap (λ n. unless (is_some a.width) row ++ unless (nat_eq n f.rank) BoundNotConstant) (bound_count a f known)
-    ∙ ap (λ n. unless (is_some a.width) row ++ unless (nat_eq (length a.bounds) n) BoundNotConstant) known.rank
-    ∙ ap (λ ks. unless (is_some a.width) row ++ ks)
-    (sym (append-nil (unless (nat_eq (length a.bounds) (length a.dimensions)) BoundNotConstant))
-    ∙ ap (λ ks. unless (nat_eq (length a.bounds) (length a.dimensions)) BoundNotConstant ++ ks)
-    (sym (ap (λ (bs : List Bounds). unless (is_some (elements_of bs)) BoundNotConstant) (sym known.bounds) ∙ ap (λ b. unless b BoundNotConstant) (counted f.bounds) ∙ unless_true BoundNotConstant)))
+    let closed : List Kind = unless (list_all is_closed f.bounds) BoundNotConstant in
+    ap (λ (o : Option ℕ). unless (is_some o) row ++ (unless (nat_eq (length f.bounds) f.rank) BoundNotConstant ++ closed)) known.width
+    ∙ ap (λ n. unless (is_some a.width) row ++ (unless (nat_eq n f.rank) BoundNotConstant ++ closed)) (bound_count a f known)
+    ∙ ap (λ n. unless (is_some a.width) row ++ (unless (nat_eq (length a.bounds) n) BoundNotConstant ++ closed)) known.rank
+    ∙ ap (λ b. unless (is_some a.width) row ++ (unless (nat_eq (length a.bounds) (length a.dimensions)) BoundNotConstant ++ unless b BoundNotConstant))
+    (closed_elements f.bounds ∙ ap (λ (bs : List Bounds). is_some (elements_of bs)) known.bounds)
 
 bound_of : (given : Naming) (shape : List WrittenDimension) (row : Kind) (a : Attribute) (f : NameFact) (k : Class) (are : Bool) → IsNameFact a f → are ≡ are_dummy_bounds given shape
     → bound_by k row are f
@@ -199,14 +188,14 @@ unfolding bound_rows
 bound_is given shape row a f are known is = ap (λ k. bound_by k row are f) known.class ∙ bound_of given shape row a f a.class are known is
 
 -- ELEMENTS
-reach_is : (b : Bound) → reaches b ≡ rows.reaches b.lower (Some b.upper)
+reach_is : (b : Bound) → reaches b ≡ rows.reaches b.lower b.upper
 unfolding reaches rows.reaches
 reach_is b = refl
 
 elements_are : (bs : List Bound) → have_elements bs ≡ rows.have_elements (map bounds_of bs)
 unfolding have_elements rows.have_elements bounds_of
 elements_are [] = refl
-elements_are (b ∷ bs) = ap (λ c. c && have_elements bs) (reach_is b) ∙ ap (λ c. rows.reaches b.lower (Some b.upper) && c) (elements_are bs)
+elements_are (b ∷ bs) = ap (λ c. c && have_elements bs) (reach_is b) ∙ ap (λ c. rows.reaches b.lower b.upper && c) (elements_are bs)
 
 pub element_is : (a : Attribute) (f : NameFact) → IsNameFact a f → element_kinds f ≡ element_rows a
 unfolding element_kinds element_rows
@@ -313,13 +302,16 @@ three_rows : (place : Place) (a b c : List Kind) → (rows_at place a ++ rows_at
 three_rows place a b c =
     append_assoc (rows_at place a) (rows_at place b) (rows_at place c) ∙ ap (λ rs. rows_at place a ++ rs) (sym (rows_both place b c)) ∙ sym (rows_both place a (b ++ c))
 
-pub stored_by : (place : Place) (row : Kind) (f : NameFact) (some : Bool) (count : ℕ) → some ≡ is_some f.width → count ≡ length f.bounds
-    → rows_at place (unless some row) ++ rows_at place (unless (nat_eq count f.rank) BoundNotConstant) ≡ rows_at place (stored_kinds row f)
+pub stored_by : (place : Place) (row : Kind) (f : NameFact) (some : Bool) (count : ℕ) (closed : Bool) → some ≡ is_some f.width → count ≡ length f.bounds
+    → closed ≡ list_all is_closed f.bounds
+    → (rows_at place (unless some row) ++ rows_at place (unless (nat_eq count f.rank) BoundNotConstant)) ++ rows_at place (unless closed BoundNotConstant)
+    ≡ rows_at place (stored_kinds row f)
 unfolding stored_kinds
-stored_by place row f some count is counts =
-    sym (rows_both place (unless some row) (unless (nat_eq count f.rank) BoundNotConstant))
-    ∙ ap (λ b. rows_at place (unless b row ++ unless (nat_eq count f.rank) BoundNotConstant)) is
-    ∙ ap (λ n. rows_at place (unless (is_some f.width) row ++ unless (nat_eq n f.rank) BoundNotConstant)) counts
+stored_by place row f some count closed is counts told =
+    three_rows place (unless some row) (unless (nat_eq count f.rank) BoundNotConstant) (unless closed BoundNotConstant)
+    ∙ ap (λ b. rows_at place (unless b row ++ (unless (nat_eq count f.rank) BoundNotConstant ++ unless closed BoundNotConstant))) is
+    ∙ ap (λ n. rows_at place (unless (is_some f.width) row ++ (unless (nat_eq n f.rank) BoundNotConstant ++ unless closed BoundNotConstant))) counts
+    ∙ ap (λ b. rows_at place (unless (is_some f.width) row ++ (unless (nat_eq (length f.bounds) f.rank) BoundNotConstant ++ unless b BoundNotConstant))) told
 
 pub result_by : (place : Place) (function : Bool) (f : NameFact) (count : ℕ) → count ≡ length f.bounds
     → (rows_at place (unless (nat_eq f.rank 0) ConflictingAttributes) ++ rows_at place (unless (nat_eq count 0) ConflictingAttributes)) ++ rows_at place (unless function ConflictingAttributes)

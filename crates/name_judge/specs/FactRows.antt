@@ -1,5 +1,6 @@
 -- The rows that one name breaks, by what a table says of it.
-use Rattle.std.specs.Prelude.{nat_eq, int_le, Bool, true, false, not, ◌&&◌, ◌||◌, List, [], ◌∷◌, ◌++◌, length, Option, Some, None, option_map, is_some}
+use Rattle.std.specs.List.{list_all}
+use Rattle.std.specs.Prelude.{nat_eq, Bool, true, false, not, ◌&&◌, ◌||◌, List, [], ◌∷◌, ◌++◌, length, Option, Some, None, option_map, is_some}
 use Rattle.f_tree.specs.declared.names.Basic.{Basic}
 use Rattle.f_tree.specs.declared.names.Basic.TheVariants.{Integer, Logical, Character}
 use Rattle.f_tree.specs.declared.names.Class.{Class}
@@ -11,6 +12,7 @@ use Rattle.f_tree.specs.declared.units.Unit.{Unit as WrittenUnit}
 use Rattle.f_tree.specs.Values.{Bytes}
 use Rattle.f_tree.specs.Lines.{Naming}
 use Rattle.declaration_rows.specs.Judgement.{unless}
+use Rattle.declaration_rows.specs.NameRows as rows
 use Rattle.declaration_rows.specs.NameRows.{name_rows, given_names}
 use Rattle.declaration_rows.specs.StatementRows.{is_typed}
 use Rattle.name_facts.specs.declared.fact.Bound.{Bound}
@@ -18,6 +20,7 @@ use Rattle.name_facts.specs.declared.fact.ConstantValue.{ConstantValue}
 use Rattle.name_facts.specs.declared.fact.ConstantValue.TheVariants as value
 use Rattle.name_facts.specs.declared.fact.NameFact.{NameFact}
 use Rattle.name_facts.specs.declared.table.NameFacts.{NameFacts}
+use Rattle.name_facts.specs.Dimensions.{is_closed}
 use Rattle.name_facts.specs.GivenFacts.{datum_of, fact_in}
 use Rattle.declared_types.specs.TypeTables.{AreTypes, AreShapes}
 use Rattle.name_places.specs.FirstPlaces.{ArePlaces}
@@ -57,7 +60,7 @@ conflict_by _ function f = []
 
 -- LENGTHS AND BOUNDS
 unfoldable pub stored_kinds : Kind → NameFact → List Kind
-stored_kinds row f = unless (is_some f.width) row ++ unless (nat_eq (length f.bounds) f.rank) BoundNotConstant
+stored_kinds row f = unless (is_some f.width) row ++ (unless (nat_eq (length f.bounds) f.rank) BoundNotConstant ++ unless (list_all is_closed f.bounds) BoundNotConstant)
 
 unfoldable pub bound_by : Class → Kind → Bool → NameFact → List Kind
 bound_by class.Stored row are_bounds f = stored_kinds row f
@@ -65,7 +68,7 @@ bound_by class.Dummy row are_bounds f = unless are_bounds BoundNotConstant
 bound_by _ row are_bounds f = []
 
 unfoldable pub reaches : Bound → Bool
-reaches b = int_le b.lower b.upper
+reaches b = rows.reaches b.lower b.upper
 
 unfoldable pub have_elements : List Bound → Bool
 have_elements [] = true

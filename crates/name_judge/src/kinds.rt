@@ -7,7 +7,7 @@ ghost use Rattle.name_places.specs.FirstPlaces.{rows_at};
 ghost use Rattle.name_judge.specs.FactRows as spec;
 
 use f_tree::{Basic, Class, Kind, Refusal};
-use name_facts::{Bound, ConstantValue, NameFact};
+use name_facts::{Bound, ConstantValue, NameFact, all_closed};
 use name_places::{Place, add_at};
 use std::alloc::AllocError;
 
@@ -98,7 +98,9 @@ fn add_stored_rows(
 {
     add_at(found, place, fact.width.is_some(), row)?;
     let are_constant = fact.bounds.len() == fact.rank;
-    add_at(found, place, are_constant, Kind::BoundNotConstant)
+    add_at(found, place, are_constant, Kind::BoundNotConstant)?;
+    let are_closed = all_closed(fact.bounds.as_slice());
+    add_at(found, place, are_closed, Kind::BoundNotConstant)
 }
 
 /// Adds the rows of lengths and bounds. Sections 5.1 and 8.4.2.
@@ -120,12 +122,15 @@ pub(crate) fn add_bound_rows(
     }
 }
 
-/// Whether a dimension has an element: its upper bound is not below its lower one.
-#[tactic(auto, unfolding(crate::specs::FactRows::reaches))]
+/// Whether a dimension has an element: its upper bound is not below its lower one. An upper bound `*` is assumed at the call.
+#[tactic(auto, unfolding(crate::specs::FactRows::reaches, declaration_rows::specs::NameRows::reaches))]
 fn reaches(bound: &Bound) -> bool
     ensures { result ≡ spec.reaches bound.now }
 {
-    bound.lower <= bound.upper
+    match bound.upper {
+        Some(upper) => bound.lower <= upper,
+        None => true,
+    }
 }
 
 /// Whether dimensions have elements. Section 5.1.1.1.

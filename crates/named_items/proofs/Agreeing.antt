@@ -1,28 +1,30 @@
 -- The statements of items by names are those of the flat items.
-use Rattle.std.specs.Prelude.{◌≡◌, ℕ, zero, suc, ◌+◌, ◌-◌, nat_eq, nat_lt, nat_le, Bool, true, false, ◌&&◌, List, [], ◌∷◌, length, take, drop, Option, Some, None, is_none, option_map, slice_get, if◌then◌else◌}
+use Rattle.std.specs.Prelude.{◌≡◌, ℕ, zero, suc, ◌+◌, ◌-◌, nat_eq, nat_lt, nat_le, Bool, true, false, ◌&&◌, List, [], ◌∷◌, map, length, take, drop, Option, Some, None, is_none, option_map, slice_get, if◌then◌else◌}
 use Rattle.std.proofs.Common.{refl, sym, ap, ◌∙◌, subst, arith}
-use Rattle.std.proofs.lemmas.Bool.{and_from, lt-ltb}
-use Rattle.std.proofs.lemmas.List.{drop-drop, length-drop}
+use Rattle.std.proofs.lemmas.Bool.{and_from, and_parts, lt-ltb}
+use Rattle.std.proofs.lemmas.List.{drop-drop, length-drop, length-map}
 use Rattle.c_tree.specs.declared.expression.CExpr.{CExpr}
+use Rattle.c_tree.specs.declared.statement.CCase.{CCase}
 use Rattle.c_tree.specs.declared.statement.CNext.{CNext}
 use Rattle.c_tree.specs.declared.statement.CStmt.{CStmt}
 use Rattle.c_tree.specs.declared.statement.CStmt.TheVariants as stmt
 use Rattle.c_tree.specs.Access.{ToFunction}
 use Rattle.c_tree.specs.Terms.{Term, Variable}
-use Rattle.c_tree.specs.Flat.{Flat, Assign, Branch, Jump, Invoke, Return, Nothing, Ignored, Kept, Direct, Through}
+use Rattle.c_tree.specs.Flat.{Flat, Assign, Branch, Select, Jump, Invoke, Return, Nothing, Ignored, Kept, Direct, Through, CaseAt}
 use Rattle.c_structure.specs.Expressions.{expr_for, exprs_for}
-use Rattle.c_structure.specs.Statements.{Outline, with_label}
+use Rattle.c_structure.specs.Statements.{Outline, with_label, case_by, before_cases}
 use Rattle.c_structure.specs.Statements as flat
+use Rattle.named_items.specs.declared.item.Case.{Case}
 use Rattle.named_items.specs.declared.item.Item.{Item}
 use Rattle.named_items.specs.declared.item.Item.TheVariants as item
 use Rattle.named_items.specs.declared.part.Part.{Part}
 use Rattle.named_items.specs.declared.part.Head.{Head}
-use Rattle.named_items.specs.Items.{by_name, through, item_for, items_for}
+use Rattle.named_items.specs.Items.{by_name, through, case_of, item_for, items_for}
 use Rattle.named_items.specs.Structured as named
 use Rattle.named_items.specs.Structured.{part}
 use Rattle.named_items.specs.Agreement.{places_of, TellsPlaces, ItemsAreStructured}
 use Rattle.named_items.proofs.WrittenAlike.{left_true, right_true}
-use Rattle.named_items.proofs.NamedItems.{some_same, mapped_by, assigned, called, set_call, items_first, items_later, no_items, no_flats, items_take, items_drop, items_length, items_at, tells_take, tells_later, tells_drop, set_from, test_from, ends_alike, back_alike}
+use Rattle.named_items.proofs.NamedItems.{some_same, mapped_by, assigned, called, set_call, items_first, items_later, no_items, no_flats, items_take, items_drop, items_length, items_at, tells_take, tells_later, tells_drop, set_from, test_from, switch_from, jump_from, ends_alike, back_alike}
 use Rattle.named_items.proofs.Growth.{Told, next_alike}
 
 -- ## One item
@@ -39,6 +41,9 @@ statement_alike o (Assign t u) i s is h =
     (λ k. flat.set_by (m.place_is k) (m.value_is k)) ∙ ap (named.statement_of (places_of o)) m.is ∙ h
 statement_alike o (Branch t on off) i s is h =
     let m = mapped_by (λ e. item.Branch e on off) (expr_for o.names t) i is in
+    let clash : None ≡ Some s = ap (named.statement_of (places_of o)) m.is ∙ h in absurd (cc)
+statement_alike o (Select t cases otherwise) i s is h =
+    let m = mapped_by (λ e. item.Select e (map case_of cases) otherwise) (expr_for o.names t) i is in
     let clash : None ≡ Some s = ap (named.statement_of (places_of o)) m.is ∙ h in absurd (cc)
 statement_alike o (Jump position) i s is h = goto_alike (o.label position) ∙ ap (named.statement_of (places_of o)) (some_same (item.Jump position) i is) ∙ h
 statement_alike o (Invoke Ignored (Direct k) arguments) i s is h =
@@ -94,6 +99,16 @@ unfolding named.if_else_by
 arms_of e size (Some first) (Some second) p h = record { first = first; second = second; first_is = refl; second_is = refl; is = some_same (part (stmt.If e first (Some second)) size) p h }
 arms_of e size (Some first) None p h = absurd (cc)
 arms_of e size None y p h = absurd (cc)
+
+record IsSwitch (e : CExpr) (size : ℕ) (x : Option (List CCase)) (p : Part) : Type 0 where
+  cases : List CCase
+  cases_are : x ≡ Some cases
+  is : part (stmt.Switch e cases) size ≡ p
+
+switch_of : (e : CExpr) (size : ℕ) (x : Option (List CCase)) (p : Part) → named.switch_by e size x ≡ Some p → IsSwitch e size x p
+unfolding named.switch_by
+switch_of e size (Some cases) p h = record { cases = cases; cases_are = refl; is = some_same (part (stmt.Switch e cases) size) p h }
+switch_of e size None p h = absurd (cc)
 
 record IsFor (head : Head) (size : ℕ) (x : Option CNext) (y : Option (List CStmt)) (p : Part) : Type 0 where
   next : CNext
@@ -269,16 +284,86 @@ module _ (o : Outline) where
           (branch_goes W V agree n (off - (n + 1)) t e fs is p test items tells g)
       by false so g = absurd (cc)
 
+  -- ## Cases
+
+  case_alike : (n m : ℕ) (at : CaseAt) (f : Flat) (i : Item) (case : CCase) → n ≡ m → item_for o.names f ≡ Some i → named.case_for (places_of o) n (case_of at) i ≡ Some case → flat.case_for o m at f ≡ Some case
+  unfolding named.case_for flat.case_for
+  case_alike n m at f (item.Jump position) case same is h =
+      ap (flat.case_for o m at) (jump_from o.names f position is) ∙ ap (λ k. if nat_eq at.position k && is_none (o.label k) then case_by at.number (o.label position) else None) (sym same) ∙ h
+  case_alike n m at f i case same is h = absurd (cc)
+
+  record AreCasesBefore (x : Option CCase) (xs : Option (List CCase)) (cases : List CCase) : Type 0 where
+    first : CCase
+    later : List CCase
+    first_is : x ≡ Some first
+    later_are : xs ≡ Some later
+    is : first ∷ later ≡ cases
+
+  cases_before : (x : Option CCase) (xs : Option (List CCase)) (cases : List CCase) → before_cases x xs ≡ Some cases → AreCasesBefore x xs cases
+  unfolding before_cases
+  cases_before (Some case) (Some later) cases h = record { first = case; later = later; first_is = refl; later_are = refl; is = some_same (case ∷ later) cases h }
+  cases_before (Some case) None cases h = absurd (cc)
+  cases_before None xs cases h = absurd (cc)
+
+  cases_alike : (n m : ℕ) (ats : List CaseAt) (fs : List Flat) (is : List Item) (cases : List CCase) → n ≡ m → items_for o.names fs ≡ Some is → named.cases_for (places_of o) n (map case_of ats) is ≡ Some cases
+      → flat.cases_for o m ats fs ≡ Some cases
+  unfolding named.cases_for flat.cases_for before_cases
+  cases_alike n m [] fs is cases same items h = h
+  cases_alike n m (at ∷ ats) [] [] cases same items h = absurd (cc)
+  cases_alike n m (at ∷ ats) [] (i ∷ is) cases same items h = absurd (no_flats o.names i is items)
+  cases_alike n m (at ∷ ats) (f ∷ fs) [] cases same items h = absurd (no_items o.names f fs items)
+  cases_alike n m (at ∷ ats) (f ∷ fs) (i ∷ is) cases same items h =
+      let b = cases_before (named.case_for (places_of o) n (case_of at) i) (named.cases_for (places_of o) (n + 1) (map case_of ats) is) cases h in
+      let next : n + 1 ≡ suc m = omega (arith, same) in
+      let one = case_alike n m at f i b.first same (items_first o.names f fs i is items) b.first_is in
+      let more = cases_alike (n + 1) (suc m) ats fs is b.later next (items_later o.names f fs i is items) b.later_are in
+      (λ k. before_cases (one k) (more k)) ∙ ap Some b.is
+
+  same_numbers : (ats : List CaseAt) → map (λ (case : Case). case.number) (map case_of ats) ≡ map (λ (at : CaseAt). at.number) ats
+  same_numbers [] = refl
+  same_numbers (at ∷ ats) = ap (λ numbers. at.number ∷ numbers) (same_numbers ats)
+
+  switch_goes : (W : flat.Writer) (n otherwise : ℕ) (t : Term) (ats : List CaseAt) (e : CExpr) (fs : List Flat) (is : List Item) (p : Part) → expr_for o.names t ≡ Some e → items_for o.names fs ≡ Some is
+      → named.switch_for (places_of o) n e (map case_of ats) otherwise is ≡ Some p → Goes W n fs (flat.item_for o W n (Select t ats otherwise) fs) p
+  unfolding named.switch_for flat.item_for flat.switch_for flat.switch_by
+  switch_goes W n otherwise t ats e fs is p value items h =
+      by (nat_eq otherwise (n + 1 + length (map case_of ats)) && flat.are_case_numbers (map (λ (case : Case). case.number) (map case_of ats))) refl h
+    where
+      by : (b : Bool) → nat_eq otherwise (n + 1 + length (map case_of ats)) && flat.are_case_numbers (map (λ (case : Case). case.number) (map case_of ats)) ≡ b
+          → (if b then named.switch_by e (length (map case_of ats)) (named.cases_for (places_of o) (n + 1) (map case_of ats) is) else None) ≡ Some p
+          → Goes W n fs (flat.item_for o W n (Select t ats otherwise) fs) p
+      by true so g =
+          let long : length (map case_of ats) ≡ length ats = length-map ats case_of in
+          let there : n + 1 + length (map case_of ats) ≡ suc n + length ats = omega (arith, long) in
+          let both = and_parts _ _ so in
+          let tests : nat_eq otherwise (suc n + length ats) && flat.are_case_numbers (map (λ (at : CaseAt). at.number) ats) ≡ true =
+          and_from _ _ (ap (nat_eq otherwise) (sym there) ∙ both.0) (ap flat.are_case_numbers (sym (same_numbers ats)) ∙ both.1) in
+          let s = switch_of e (length (map case_of ats)) (named.cases_for (places_of o) (n + 1) (map case_of ats) is) p g in
+          let cases = cases_alike (n + 1) (suc n) ats fs is s.cases (omega arith) items s.cases_are in
+          goes_as W n fs (flat.item_for o W n (Select t ats otherwise) fs) (flat.switch_for o W n (expr_for o.names t) ats fs) p
+          (ap (λ c. if c then flat.switch_for o W n (expr_for o.names t) ats fs else None) tests)
+          (subst (Goes W n fs (flat.switch_for o W n (expr_for o.names t) ats fs)) s.is
+          (λ rest others. before_gives n (flat.switch_by (expr_for o.names t) (flat.cases_for o (suc n) ats fs)) (W (suc n + length ats) (drop (length ats) fs)) (stmt.Switch e s.cases) rest
+          (λ k. flat.switch_by (value k) (cases k))
+          (at W (suc n + length ats) (n + 1 + length ats) (drop (length ats) fs) (Some rest) (omega arith) (ap (λ k. W (n + 1 + k) (drop k fs)) (sym long) ∙ others))))
+      by false so g = absurd (cc)
+
+  -- ## Any item
+
   flat_single : (W : flat.Writer) (n : ℕ) (f : Flat) (fs : List Flat) (i : Item) → item_for o.names f ≡ Some i → ((e : CExpr) (on off : ℕ) → i ≡ item.Branch e on off → ⊥)
+      → ((e : CExpr) (cases : List Case) (otherwise : ℕ) → i ≡ item.Select e cases otherwise → ⊥)
       → flat.item_for o W n f fs ≡ flat.before (option_map (with_label (o.label n)) (flat.statement_of o f)) (W (suc n) fs)
   unfolding item_for flat.item_for
-  flat_single W n (Branch t on off) fs i is other = let m = mapped_by (λ e. item.Branch e on off) (expr_for o.names t) i is in absurd (other m.one on off (sym m.is))
-  flat_single W n f fs i is other = refl
+  flat_single W n (Branch t on off) fs i is other picks = let m = mapped_by (λ e. item.Branch e on off) (expr_for o.names t) i is in absurd (other m.one on off (sym m.is))
+  flat_single W n (Select t cases otherwise) fs i is other picks =
+      let m = mapped_by (λ e. item.Select e (map case_of cases) otherwise) (expr_for o.names t) i is in absurd (picks m.one (map case_of cases) otherwise (sym m.is))
+  flat_single W n f fs i is other picks = refl
 
   one_goes : (W : flat.Writer) (n : ℕ) (f : Flat) (fs : List Flat) (i : Item) (p : Part) → item_for o.names f ≡ Some i → ((e : CExpr) (on off : ℕ) → i ≡ item.Branch e on off → ⊥)
+      → ((e : CExpr) (cases : List Case) (otherwise : ℕ) → i ≡ item.Select e cases otherwise → ⊥)
       → named.alone (named.statement_of (places_of o) i) ≡ Some p → Goes W n fs (flat.item_for o W n f fs) p
-  one_goes W n f fs i p is other h =
-      goes_as W n fs (flat.item_for o W n f fs) (flat.before (option_map (with_label (o.label n)) (flat.statement_of o f)) (W (suc n) fs)) p (flat_single W n f fs i is other) (single_goes W n f fs i p is h)
+  one_goes W n f fs i p is other picks h =
+      goes_as W n fs (flat.item_for o W n f fs) (flat.before (option_map (with_label (o.label n)) (flat.statement_of o f)) (W (suc n) fs)) p (flat_single W n f fs i is other picks) (single_goes W n f fs i p is h)
 
   plain_goes : (W : flat.Writer) (V : named.Writer) → Agree W V → (n : ℕ) (f : Flat) (fs : List Flat) (i : Item) (is : List Item) (p : Part) → item_for o.names f ≡ Some i → items_for o.names fs ≡ Some is → TellsPlaces o.names fs
       → named.plain_for (places_of o) V n i is ≡ Some p → Goes W n fs (flat.item_for o W n f fs) p
@@ -286,12 +371,16 @@ module _ (o : Outline) where
   plain_goes W V agree n f fs (item.Branch e on off) is p named items tells h =
       let t = test_from o.names f e on off named in
       goes_as W n fs (flat.item_for o W n f fs) (flat.item_for o W n (Branch t.test on off) fs) p (ap (λ g. flat.item_for o W n g fs) t.is) (test_goes W V agree n on off t.test e fs is p t.test_is items tells h)
-  plain_goes W V agree n f fs (item.Assign a b) is p named items tells h = one_goes W n f fs (item.Assign a b) p named (λ e on off g. cc) h
-  plain_goes W V agree n f fs (item.Jump position) is p named items tells h = one_goes W n f fs (item.Jump position) p named (λ e on off g. cc) h
-  plain_goes W V agree n f fs (item.Call callee arguments) is p named items tells h = one_goes W n f fs (item.Call callee arguments) p named (λ e on off g. cc) h
-  plain_goes W V agree n f fs (item.SetCall target callee arguments) is p named items tells h = one_goes W n f fs (item.SetCall target callee arguments) p named (λ e on off g. cc) h
-  plain_goes W V agree n f fs (item.Return value) is p named items tells h = one_goes W n f fs (item.Return value) p named (λ e on off g. cc) h
-  plain_goes W V agree n f fs item.Nothing is p named items tells h = one_goes W n f fs item.Nothing p named (λ e on off g. cc) h
+  plain_goes W V agree n f fs (item.Select e cases otherwise) is p known items tells h =
+      let t = switch_from o.names f e cases otherwise known in
+      goes_as W n fs (flat.item_for o W n f fs) (flat.item_for o W n (Select t.value t.ats otherwise) fs) p (ap (λ g. flat.item_for o W n g fs) t.is)
+      (switch_goes W n otherwise t.value t.ats e fs is p t.value_is items (subst (λ cs. named.switch_for (places_of o) n e cs otherwise is ≡ Some p) (sym t.cases_are) h))
+  plain_goes W V agree n f fs (item.Assign a b) is p named items tells h = one_goes W n f fs (item.Assign a b) p named (λ e on off g. cc) (λ e cases otherwise g. cc) h
+  plain_goes W V agree n f fs (item.Jump position) is p named items tells h = one_goes W n f fs (item.Jump position) p named (λ e on off g. cc) (λ e cases otherwise g. cc) h
+  plain_goes W V agree n f fs (item.Call callee arguments) is p named items tells h = one_goes W n f fs (item.Call callee arguments) p named (λ e on off g. cc) (λ e cases otherwise g. cc) h
+  plain_goes W V agree n f fs (item.SetCall target callee arguments) is p named items tells h = one_goes W n f fs (item.SetCall target callee arguments) p named (λ e on off g. cc) (λ e cases otherwise g. cc) h
+  plain_goes W V agree n f fs (item.Return value) is p named items tells h = one_goes W n f fs (item.Return value) p named (λ e on off g. cc) (λ e cases otherwise g. cc) h
+  plain_goes W V agree n f fs item.Nothing is p named items tells h = one_goes W n f fs item.Nothing p named (λ e on off g. cc) (λ e cases otherwise g. cc) h
 
   -- ## Loops
 

@@ -1,16 +1,17 @@
 -- Items by names and the flat ones that they are of.
-use Rattle.std.specs.Prelude.{◌≡◌, ℕ, zero, suc, true, nat_eq, List, [], ◌∷◌, length, take, drop, Option, Some, None, option_map, slice_get}
+use Rattle.std.specs.Prelude.{◌≡◌, ℕ, zero, suc, true, nat_eq, List, [], ◌∷◌, map, length, take, drop, Option, Some, None, option_map, slice_get}
 use Rattle.std.proofs.Common.{refl, sym, ap, ◌∙◌}
 use Rattle.c_tree.specs.declared.expression.CExpr.{CExpr}
 use Rattle.c_tree.specs.Access.{ToFunction}
 use Rattle.c_tree.specs.Terms.{Term, Variable}
-use Rattle.c_tree.specs.Flat.{Flat, Assign, Branch, Jump, Invoke, Return, Nothing, Ignored, Kept, Direct, Through}
+use Rattle.c_tree.specs.Flat.{Flat, Assign, Branch, Select, Jump, Invoke, Return, Nothing, Ignored, Kept, Direct, Through, CaseAt}
 use Rattle.c_structure.specs.Expressions.{Names, expr_for, exprs_for}
 use Rattle.c_structure.specs.Statements as flat
 use Rattle.named_items.specs.declared.item.Callee.{Callee}
+use Rattle.named_items.specs.declared.item.Case.{Case}
 use Rattle.named_items.specs.declared.item.Item.{Item}
 use Rattle.named_items.specs.declared.item.Item.TheVariants as item
-use Rattle.named_items.specs.Items.{by_name, through, assign_by, call_by, set_call_by, item_for, before_items, items_for}
+use Rattle.named_items.specs.Items.{by_name, through, assign_by, call_by, set_call_by, case_of, item_for, before_items, items_for}
 use Rattle.named_items.specs.Structured as named
 use Rattle.named_items.specs.Agreement.{TellsPlaces}
 
@@ -170,6 +171,9 @@ set_from names (Assign t u) a b h =
 set_from names (Branch test on off) a b h =
     let m = mapped_by (λ e. item.Branch e on off) (expr_for names test) (item.Assign a b) h in
     let is : item.Branch m.one on off ≡ item.Assign a b = m.is in absurd (cc)
+set_from names (Select value cases otherwise) a b h =
+    let m = mapped_by (λ e'. item.Select e' (map case_of cases) otherwise) (expr_for names value) (item.Assign a b) h in
+    let is : item.Select m.one (map case_of cases) otherwise ≡ item.Assign a b = m.is in absurd (cc)
 set_from names (Jump position) a b h = absurd (cc)
 set_from names (Invoke Ignored (Direct k) arguments) a b h =
     let m = called (by_name (names.routine k)) (exprs_for names arguments) (item.Assign a b) h in
@@ -207,6 +211,9 @@ test_from names (Branch t a b) e on off h =
 test_from names (Assign t u) e on off h =
     let m = assigned (expr_for names t) (expr_for names u) (item.Branch e on off) h in
     let is : item.Assign m.place m.value ≡ item.Branch e on off = m.is in absurd (cc)
+test_from names (Select value cases otherwise) e on off h =
+    let m = mapped_by (λ e'. item.Select e' (map case_of cases) otherwise) (expr_for names value) (item.Branch e on off) h in
+    let is : item.Select m.one (map case_of cases) otherwise ≡ item.Branch e on off = m.is in absurd (cc)
 test_from names (Jump position) e on off h = absurd (cc)
 test_from names (Invoke Ignored (Direct k) arguments) e on off h =
     let m = called (by_name (names.routine k)) (exprs_for names arguments) (item.Branch e on off) h in
@@ -227,6 +234,48 @@ test_from names (Return (Some t)) e on off h =
 test_from names Nothing e on off h = absurd (cc)
 test_from names other e on off h = absurd (cc)
 
+pub record IsSwitchFrom (names : Names) (f : Flat) (e : CExpr) (cases : List Case) (otherwise : ℕ) : Type 0 where
+  pub value : Term
+  pub ats : List CaseAt
+  pub is : f ≡ Select value ats otherwise
+  pub value_is : expr_for names value ≡ Some e
+  pub cases_are : map case_of ats ≡ cases
+
+pub switch_from : (names : Names) (f : Flat) (e : CExpr) (cases : List Case) (otherwise : ℕ) → item_for names f ≡ Some (item.Select e cases otherwise) → IsSwitchFrom names f e cases otherwise
+unfolding item_for
+switch_from names (Select t ats last) e cases otherwise h =
+    let m = mapped_by (λ d. item.Select d (map case_of ats) last) (expr_for names t) (item.Select e cases otherwise) h in
+    let is : item.Select m.one (map case_of ats) last ≡ item.Select e cases otherwise = m.is in
+    let one : m.one ≡ e = cc in
+    let two : map case_of ats ≡ cases = cc in
+    let three : last ≡ otherwise = cc in
+    record { value = t; ats = ats; is = ap (Select t ats) three; value_is = m.one_is ∙ ap Some one; cases_are = two }
+switch_from names (Assign t u) e cases otherwise h =
+    let m = assigned (expr_for names t) (expr_for names u) (item.Select e cases otherwise) h in
+    let is : item.Assign m.place m.value ≡ item.Select e cases otherwise = m.is in absurd (cc)
+switch_from names (Branch t a b) e cases otherwise h =
+    let m = mapped_by (λ d. item.Branch d a b) (expr_for names t) (item.Select e cases otherwise) h in
+    let is : item.Branch m.one a b ≡ item.Select e cases otherwise = m.is in absurd (cc)
+switch_from names (Jump position) e cases otherwise h = absurd (cc)
+switch_from names (Invoke Ignored (Direct k) arguments) e cases otherwise h =
+    let m = called (by_name (names.routine k)) (exprs_for names arguments) (item.Select e cases otherwise) h in
+    let is : item.Call (by_name (names.routine k)) m.one ≡ item.Select e cases otherwise = m.is in absurd (cc)
+switch_from names (Invoke (Kept t) (Direct k) arguments) e cases otherwise h =
+    let m = set_call (expr_for names t) (by_name (names.routine k)) (exprs_for names arguments) (item.Select e cases otherwise) h in
+    let is : item.SetCall m.place (by_name (names.routine k)) m.arguments ≡ item.Select e cases otherwise = m.is in absurd (cc)
+switch_from names (Invoke Ignored (Through (Variable k ToFunction)) arguments) e cases otherwise h =
+    let m = called (through (names.object k)) (exprs_for names arguments) (item.Select e cases otherwise) h in
+    let is : item.Call (through (names.object k)) m.one ≡ item.Select e cases otherwise = m.is in absurd (cc)
+switch_from names (Invoke (Kept t) (Through (Variable k ToFunction)) arguments) e cases otherwise h =
+    let m = set_call (expr_for names t) (through (names.object k)) (exprs_for names arguments) (item.Select e cases otherwise) h in
+    let is : item.SetCall m.place (through (names.object k)) m.arguments ≡ item.Select e cases otherwise = m.is in absurd (cc)
+switch_from names (Return None) e cases otherwise h = absurd (cc)
+switch_from names (Return (Some t)) e cases otherwise h =
+    let m = mapped_by (λ d. item.Return (Some d)) (expr_for names t) (item.Select e cases otherwise) h in
+    let is : item.Return (Some m.one) ≡ item.Select e cases otherwise = m.is in absurd (cc)
+switch_from names Nothing e cases otherwise h = absurd (cc)
+switch_from names other e cases otherwise h = absurd (cc)
+
 pub jump_from : (names : Names) (f : Flat) (p : ℕ) → item_for names f ≡ Some (item.Jump p) → f ≡ Jump p
 unfolding item_for
 jump_from names (Jump position) p h = let same : position ≡ p = cc in ap Jump same
@@ -236,6 +285,9 @@ jump_from names (Assign t u) p h =
 jump_from names (Branch t a b) p h =
     let m = mapped_by (λ d. item.Branch d a b) (expr_for names t) (item.Jump p) h in
     let is : item.Branch m.one a b ≡ item.Jump p = m.is in absurd (cc)
+jump_from names (Select value cases otherwise) p h =
+    let m = mapped_by (λ e'. item.Select e' (map case_of cases) otherwise) (expr_for names value) (item.Jump p) h in
+    let is : item.Select m.one (map case_of cases) otherwise ≡ item.Jump p = m.is in absurd (cc)
 jump_from names (Invoke Ignored (Direct k) arguments) p h =
     let m = called (by_name (names.routine k)) (exprs_for names arguments) (item.Jump p) h in
     let is : item.Call (by_name (names.routine k)) m.one ≡ item.Jump p = m.is in absurd (cc)

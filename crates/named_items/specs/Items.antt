@@ -1,11 +1,12 @@
 -- Flat items by their names: the C expressions of the linked ones. None where one has no expression, and for items that have no statement. C89, 3.6.
-use Rattle.std.specs.Prelude.{ℕ, true, false, List, [], ◌∷◌, Option, Some, None, option_map}
+use Rattle.std.specs.Prelude.{ℕ, true, false, List, [], ◌∷◌, map, Option, Some, None, option_map}
 use Rattle.c_tree.specs.declared.expression.CExpr.{CExpr}
 use Rattle.c_tree.specs.Access.{ToFunction}
 use Rattle.c_tree.specs.Terms.{Variable}
-use Rattle.c_tree.specs.Flat.{Flat, Assign, Branch, Jump, Invoke, Return, Nothing, Ignored, Kept, Direct, Through}
+use Rattle.c_tree.specs.Flat.{Flat, Assign, Branch, Select, Jump, Invoke, Return, Nothing, Ignored, Kept, Direct, Through, CaseAt}
 use Rattle.c_structure.specs.Expressions.{Names, expr_for, exprs_for}
 use Rattle.named_items.specs.declared.item.Callee.{Callee}
+use Rattle.named_items.specs.declared.item.Case.{Case}
 use Rattle.named_items.specs.declared.item.Item.{Item}
 use Rattle.named_items.specs.declared.item.Item.TheVariants as item
 
@@ -30,10 +31,15 @@ unfoldable pub set_call_by : Option CExpr → Callee → Option (List CExpr) →
 set_call_by (Some target) callee (Some es) = Some (item.SetCall target callee es)
 set_call_by _ callee _ = None
 
+-- a case of a flat item
+abbrev pub case_of : CaseAt → Case
+case_of case = record { number = case.number; position = case.position }
+
 -- the item of a flat one
 unfoldable pub item_for : Names → Flat → Option Item
 item_for names (Assign t u) = assign_by (expr_for names t) (expr_for names u)
 item_for names (Branch test on off) = option_map (λ e. item.Branch e on off) (expr_for names test)
+item_for names (Select value cases otherwise) = option_map (λ e. item.Select e (map case_of cases) otherwise) (expr_for names value)
 item_for names (Jump position) = Some (item.Jump position)
 item_for names (Invoke Ignored (Direct k) arguments) = call_by (by_name (names.routine k)) (exprs_for names arguments)
 item_for names (Invoke Ignored (Through (Variable k ToFunction)) arguments) = call_by (through (names.object k)) (exprs_for names arguments)

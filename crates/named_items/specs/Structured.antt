@@ -1,18 +1,21 @@
 -- Structured C statements for flat items by their names: a test that passes the items behind it is an `if`, with an `else` where it is said that the
--- last of them passes the other arm; a loop that is said to begin at an item is a `for`; labels stand where it is said that they do. C89, 3.6.
-use Rattle.std.specs.Prelude.{ℕ, ℤ, zero, suc, ◌+◌, ◌-◌, pos, nat_eq, nat_lt, nat_le, Bool, false, ◌&&◌, List, [], ◌∷◌, length, take, drop, Option, Some, None, is_none, slice_get, if◌then◌else◌}
+-- last of them passes the other arm; an item that picks one of the jumps behind it is a `switch`; a loop that is said to begin at an item is a `for`;
+-- labels stand where it is said that they do. C89, 3.6.
+use Rattle.std.specs.Prelude.{ℕ, ℤ, zero, suc, ◌+◌, ◌-◌, pos, nat_eq, nat_lt, nat_le, Bool, false, ◌&&◌, List, [], ◌∷◌, map, length, take, drop, Option, Some, None, is_none, slice_get, if◌then◌else◌}
 use Rattle.std.specs.Ordering.{int_eq}
 use Rattle.c_tree.specs.declared.expression.CExpr.{CExpr, Binary', more_of-CExpr}
 use Rattle.c_tree.specs.declared.expression.BinaryOp.{BinaryOp}
 use Rattle.c_tree.specs.declared.expression.BinaryOp.TheVariants as op
+use Rattle.c_tree.specs.declared.statement.CCase.{CCase}
 use Rattle.c_tree.specs.declared.statement.CNext.{CNext}
 use Rattle.c_tree.specs.declared.statement.CNext.TheVariants as next
 use Rattle.c_tree.specs.declared.statement.CStmt.{CStmt}
 use Rattle.c_tree.specs.declared.statement.CStmt.TheVariants as stmt
-use Rattle.c_structure.specs.Statements.{with_label}
+use Rattle.c_structure.specs.Statements.{with_label, case_by, before_cases, are_case_numbers}
 use Rattle.named_items.specs.declared.item.Callee.{Callee}
+use Rattle.named_items.specs.declared.item.Case.{Case}
 use Rattle.named_items.specs.declared.item.Item.{Item}
-use Rattle.named_items.specs.declared.item.Item.TheVariants.{Assign, Branch, Jump, Call, SetCall, Return, Nothing}
+use Rattle.named_items.specs.declared.item.Item.TheVariants.{Assign, Branch, Select, Jump, Call, SetCall, Return, Nothing}
 use Rattle.named_items.specs.declared.part.Head.{Head}
 use Rattle.named_items.specs.declared.part.Part.{Part}
 use Rattle.named_items.specs.Layouts.{Layout}
@@ -43,6 +46,7 @@ set_call_of target callee arguments = stmt.SetCall target (record { through = ca
 unfoldable pub statement_of : Layout → Item → Option CStmt
 statement_of l (Assign a b) = Some (stmt.Set a b)
 statement_of l (Branch test on off) = None
+statement_of l (Select value cases otherwise) = None
 statement_of l (Jump position) = goto_label (l.label position)
 statement_of l (Call callee arguments) = Some (call_of callee arguments)
 statement_of l (SetCall target callee arguments) = Some (set_call_of target callee arguments)
@@ -96,9 +100,33 @@ unfoldable pub test_for : Layout → Writer → ℕ → CExpr → ℕ → ℕ �
 test_for l write n test on off later =
     if nat_eq on (n + 1) && (nat_le (n + 1) off && nat_le (off - (n + 1)) (length later)) then branch_for l write n test (off - (n + 1)) later else None
 
+-- ## Cases
+
+-- the case that an item at a position is the jump of, where no label stands before it
+unfoldable pub case_for : Layout → ℕ → Case → Item → Option CCase
+case_for l n case (Jump position) = if nat_eq case.position n && is_none (l.label n) then case_by case.number (l.label position) else None
+case_for l n case item = None
+
+-- the cases whose jumps are the first items from a position on, in their order
+unfoldable pub cases_for : Layout → ℕ → List Case → List Item → Option (List CCase)
+cases_for l n [] later = Some []
+cases_for l n (case ∷ cases) [] = None
+cases_for l n (case ∷ cases) (item ∷ later) = before_cases (case_for l n case item) (cases_for l (n + 1) cases later)
+
+-- a `switch` to which so many jumps belong
+unfoldable pub switch_by : CExpr → ℕ → Option (List CCase) → Option Part
+switch_by value size None = None
+switch_by value size (Some cases) = Some (part (stmt.Switch value cases) size)
+
+-- a value that picks one of so many jumps, which stand at once behind it
+unfoldable pub switch_for : Layout → ℕ → CExpr → List Case → ℕ → List Item → Option Part
+switch_for l n value cases otherwise later =
+    if nat_eq otherwise (n + 1 + length cases) && are_case_numbers (map (λ (case : Case). case.number) cases) then switch_by value (length cases) (cases_for l (n + 1) cases later) else None
+
 -- an item that begins no loop
 unfoldable pub plain_for : Layout → Writer → ℕ → Item → List Item → Option Part
 plain_for l write n (Branch test on off) later = test_for l write n test on off later
+plain_for l write n (Select value cases otherwise) later = switch_for l n value cases otherwise later
 plain_for l write n item later = alone (statement_of l item)
 
 -- ## Loops
@@ -199,5 +227,5 @@ structured l zero n (item ∷ later) = None
 structured l (suc turns) n (item ∷ later) = onward (structured l turns) n later (part_at l (structured l turns) n item later)
 
 unfoldable pub structured_opened : Unit {0}
-unfolding goto_label call_of set_call_of statement_of alone if_by if_else_by end_of_arm one_arm two_arms arms_for branch_for test_for plain_for added_in sum_in is_one next_by next_from next_for goes_back is_unmarked is_loop for_by turns_for head_for loop_for part_for marked part_at behind onward structured
+unfolding goto_label call_of set_call_of statement_of alone if_by if_else_by end_of_arm one_arm two_arms arms_for branch_for test_for case_for cases_for switch_by switch_for plain_for added_in sum_in is_one next_by next_from next_for goes_back is_unmarked is_loop for_by turns_for head_for loop_for part_for marked part_at behind onward structured
 structured_opened = tt

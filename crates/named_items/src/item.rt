@@ -12,6 +12,15 @@ pub struct Callee {
     pub name: Text,
 }
 
+/// A `case` of a switch, with the position of its jump.
+#[derive(Clone, Copy)]
+pub struct Case {
+    /// The number, from 0 to 2147483647.
+    pub number: i32,
+    /// The position of the jump.
+    pub position: usize,
+}
+
 /// One flat item of a function, by names.
 #[derive(Drop)]
 pub enum Item {
@@ -19,6 +28,8 @@ pub enum Item {
     Assign(CExpr, CExpr),
     /// A test, with the positions where it goes on if it holds and if it does not.
     Branch(CExpr, usize, usize),
+    /// A `switch`, with its cases and the position where it goes on if there is none.
+    Select(CExpr, Items<Case>, usize),
     /// A jump to a position.
     Jump(usize),
     /// `name(..);` or `(*name)(..);`, a call of a function with its arguments.

@@ -7,6 +7,6 @@ pub mod item;
 pub mod layout;
 pub mod part;
 
-pub use item::{Callee, Item};
+pub use item::{Callee, Case, Item};
 pub use layout::Layout;
 pub use part::{Head, Part};

@@ -2,24 +2,26 @@
 use Rattle.std.specs.List.{list_all}
 use Rattle.std.specs.Prelude.{◌≡◌, ℕ, zero, suc, ◌+◌, ◌-◌, nat_eq, nat_lt, nat_le, Bool, true, false, ◌&&◌, List, [], ◌∷◌, length, take, drop, Option, Some, None, slice_get, if◌then◌else◌}
 use Rattle.std.proofs.Common.{refl, ap, ◌∙◌}
-use Rattle.c_tree.specs.Opened.{trees_opened}
-use Rattle.c_tree.specs.declared.expression.CExpr.{CExpr, Binary', more_of-CExpr, end_of-CExpr}
-use Rattle.c_tree.specs.declared.expression.BinaryOp.{BinaryOp}
-use Rattle.c_tree.specs.declared.expression.BinaryOp.TheVariants as op
-use Rattle.c_tree.specs.declared.statement.CNext.{CNext}
-use Rattle.c_tree.specs.declared.statement.CNext.TheVariants as next
-use Rattle.c_tree.specs.declared.statement.CStmt.{CStmt}
-use Rattle.c_tree.specs.declared.statement.CStmt.TheVariants as stmt
-use Rattle.c_structure.specs.Statements.{with_label}
+use Rattle.c_spelling.specs.c_tree.Opened.{trees_opened}
+use Rattle.c_spelling.specs.c_tree.declared.expression.CExpr.{CExpr, Binary', more_of-CExpr, end_of-CExpr}
+use Rattle.c_spelling.specs.c_tree.declared.expression.BinaryOp.{BinaryOp}
+use Rattle.c_spelling.specs.c_tree.declared.expression.BinaryOp.TheVariants as op
+use Rattle.c_spelling.specs.c_tree.declared.statement.CCase.{CCase}
+use Rattle.c_spelling.specs.c_tree.declared.statement.CNext.{CNext}
+use Rattle.c_spelling.specs.c_tree.declared.statement.CNext.TheVariants as next
+use Rattle.c_spelling.specs.c_tree.declared.statement.CStmt.{CStmt}
+use Rattle.c_spelling.specs.c_tree.declared.statement.CStmt.TheVariants as stmt
+use Rattle.named_mains.specs.c_structure.Statements.{with_label}
 use Rattle.c_spelling.specs.Spelled.{expression_of_bytes, next_of_bytes, statement_of_bytes, statements_of_bytes}
-use Rattle.named_items.specs.declared.item.Item.{Item}
-use Rattle.named_items.specs.declared.item.Item.TheVariants.{Assign, Branch, Jump, Call, SetCall, Return, Nothing}
-use Rattle.named_items.specs.declared.part.Head.{Head}
-use Rattle.named_items.specs.declared.part.Part.{Part}
-use Rattle.named_items.specs.Layouts.{Layout}
-use Rattle.named_items.specs.SamePlaces.{same_expr, number_in}
-use Rattle.named_items.specs.Structured as items
-use Rattle.named_items.specs.Structured.{Writer, part, structured}
+use Rattle.named_mains.specs.named_items.declared.item.Case.{Case}
+use Rattle.named_mains.specs.named_items.declared.item.Item.{Item}
+use Rattle.named_mains.specs.named_items.declared.item.Item.TheVariants.{Assign, Branch, Select, Jump, Call, SetCall, Return, Nothing}
+use Rattle.named_mains.specs.named_items.declared.part.Head.{Head}
+use Rattle.named_mains.specs.named_items.declared.part.Part.{Part}
+use Rattle.named_mains.specs.named_items.Layouts.{Layout}
+use Rattle.named_mains.specs.named_items.SamePlaces.{same_expr, number_in}
+use Rattle.named_mains.specs.named_items.Structured as items
+use Rattle.named_mains.specs.named_items.Structured.{Writer, part, structured}
 use Rattle.named_main_laws.proofs.ByteValues.{passes, both, left, right, chosen, item_of_bytes, items_of_bytes}
 
 -- ## Lists
@@ -78,6 +80,7 @@ stated : (l : Layout) (i : Item) → item_of_bytes i ≡ true → passes stateme
 unfolding items.statement_of items.call_of items.set_call_of trees_opened
 stated l (Assign a b) h = h
 stated l (Branch test on off) h = refl
+stated l (Select value cases otherwise) h = refl
 stated l (Jump position) h = jumped (l.label position)
 stated l (Call callee arguments) h = h
 stated l (SetCall target callee arguments) h = h
@@ -108,6 +111,19 @@ if_else_by test size (Some first) (Some second) h inner other =
     in_if_else test first second ∙ both (expression_of_bytes test) (statements_of_bytes first && statements_of_bytes second) h (both (statements_of_bytes first) (statements_of_bytes second) inner other)
 if_else_by test size (Some first) None h inner other = refl
 if_else_by test size None ys h inner other = refl
+
+-- ## Cases
+
+switch_by : (value : CExpr) (size : ℕ) (xs : Option (List CCase)) → expression_of_bytes value ≡ true → passes part_of_bytes (items.switch_by value size xs) ≡ true
+unfolding items.switch_by trees_opened
+switch_by value size None h = refl
+switch_by value size (Some cases) h = h
+
+switched : (l : Layout) (n : ℕ) (value : CExpr) (cases : List Case) (otherwise : ℕ) (later : List Item) → expression_of_bytes value ≡ true → passes part_of_bytes (items.switch_for l n value cases otherwise later) ≡ true
+unfolding items.switch_for
+switched l n value cases otherwise later h =
+    let found = items.cases_for l (n + 1) cases later in
+    chosen part_of_bytes _ (items.switch_by value (length cases) found) None (switch_by value (length cases) found h) refl
 
 -- ## Loops
 
@@ -212,6 +228,7 @@ module _ (write : Writer) (writes : WritesBytes write) where
   plain : (l : Layout) (n : ℕ) (i : Item) (later : List Item) → item_of_bytes i ≡ true → items_of_bytes later ≡ true → passes part_of_bytes (items.plain_for l write n i later) ≡ true
   unfolding items.plain_for
   plain l n (Branch test on off) later h hs = tested l n test on off later h hs
+  plain l n (Select value cases otherwise) later h hs = switched l n value cases otherwise later h
   plain l n i later h hs = alone (items.statement_of l i) (stated l i h)
 
   turns : (n size : ℕ) (head : Head) (later : List Item) → HasBytes head → items_of_bytes later ≡ true → passes part_of_bytes (items.turns_for write n size head later) ≡ true

@@ -4,26 +4,26 @@ use Rattle.std.specs.Prelude.{◌≡◌, ℕ, zero, suc, true, ◌&&◌, List, [
 use Rattle.std.proofs.Common.{refl, subst, ap, ◌∙◌}
 use Rattle.std.proofs.lemmas.Bool.{lt-ltb}
 use Rattle.std.proofs.lemmas.List.Folds.{list_all-append}
-use Rattle.f_tree.specs.Values.{Bytes}
-use Rattle.f_tree.specs.CNames.{variable_name}
-use Rattle.f_tree.specs.Facts.{ProgramUnit}
-use Rattle.f_tree.specs.Setting.{first_in, later_in}
-use Rattle.l_core.specs.Steps as step
-use Rattle.l_core.specs.Steps.{Step, Text}
-use Rattle.c_tree.specs.declared.statement.CStmt.{CStmt}
-use Rattle.c_tree.specs.declared.declaration.CLocal.{CLocal}
+use Rattle.named_mains.specs.f_tree.Values.{Bytes}
+use Rattle.named_mains.specs.f_tree.CNames.{variable_name}
+use Rattle.named_mains.specs.f_tree.Facts.{ProgramUnit}
+use Rattle.named_mains.specs.f_tree.Setting.{first_in, later_in}
+use Rattle.named_mains.specs.l_core.Steps as step
+use Rattle.named_mains.specs.l_core.Steps.{Step, Text}
+use Rattle.c_spelling.specs.c_tree.declared.statement.CStmt.{CStmt}
+use Rattle.c_spelling.specs.c_tree.declared.declaration.CLocal.{CLocal}
 use Rattle.c_spelling.specs.Spelled.{is_byte, of_bytes, statements_of_bytes, local_of_bytes}
-use Rattle.faithful.specs.UnitsAtStart.{AreBytes}
-use Rattle.main_file.specs.MainFile.{Inventory, Variable, Called, Listing, variable_by, variable_for, lists_from, temporaries_from, call_for, main_locals}
-use Rattle.main_translation.specs.Flow.{kind_at, are_on}
-use Rattle.main_translation.specs.Contents.{inventory_of, first_objects}
-use Rattle.main_translation.specs.Outlined.{returns_last, if_returned, outline_of}
+use Rattle.named_mains.specs.faithful.UnitsAtStart.{AreBytes}
+use Rattle.named_mains.specs.main_file.MainFile.{Inventory, Variable, Called, Listing, variable_by, variable_for, lists_from, temporaries_from, call_for, main_locals}
+use Rattle.named_mains.specs.main_translation.Flow.{kind_at, are_on}
+use Rattle.named_mains.specs.main_translation.Contents.{inventory_of, first_objects}
+use Rattle.named_mains.specs.main_translation.Outlined.{returns_last, if_returned, outline_of}
 use Rattle.main_translation_laws.specs.PlainMains.{IsPlainText}
-use Rattle.named_items.specs.declared.item.Item.{Item}
-use Rattle.named_items.specs.Agreement.{places_of}
-use Rattle.named_items.specs.Layouts.{Layout}
-use Rattle.named_items.specs.Structured.{structured}
-use Rattle.item_emission.specs.Agreeing.{known_in}
+use Rattle.named_mains.specs.named_items.declared.item.Item.{Item}
+use Rattle.named_mains.specs.named_items.Agreement.{places_of}
+use Rattle.named_mains.specs.named_items.Layouts.{Layout}
+use Rattle.named_mains.specs.named_items.Structured.{structured}
+use Rattle.named_mains.specs.item_emission.Agreeing.{known_in}
 use Rattle.named_mains.specs.NamedMains.{items_from, statements_of, named_body_of}
 use Rattle.named_main_laws.specs.NamedBodies.{EachMainFileIsOfBytes}
 use Rattle.named_main_laws.proofs.ByteValues.{passes, both, chosen, chained, items_of_bytes, step_of_bytes, items_are_of_bytes}

@@ -3,39 +3,40 @@ use Rattle.std.specs.List.{list_all}
 use Rattle.std.specs.Prelude.{◌≡◌, ℕ, zero, suc, ◌+◌, ◌-◌, nat_eq, nat_le, nat_lt, ℤ, pos, negsuc, ◌+ℤ◌, Bool, true, false, ◌&&◌, List, [], ◌∷◌, map, length, Option, Some, None, option_map, option_and_then, if◌then◌else◌}
 use Rattle.std.specs.Ordering.{int_eq}
 use Rattle.std.proofs.Common.{refl}
-use Rattle.f_tree.specs.Values.{Bytes, Datum, IsInt, IsLog, in_range}
-use Rattle.f_tree.specs.Terms as fortran
-use Rattle.f_tree.specs.Facts.{Output, Listed, Controls}
-use Rattle.f_tree.specs.CNames.{variable_name, made_name, FunctionResult, NumberTemporary, ControlList, ConstantOf}
-use Rattle.l_core.specs.Pures.{Pure, Constant, Temporary, Load, Name, ElementOf, Prefixed, Operated, Applied, Chosen, Pures, NoPure, AndPure}
-use Rattle.l_core.specs.Steps as step
-use Rattle.l_core.specs.Steps.{Step}
-use Rattle.c_tree.specs.Opened.{trees_opened}
-use Rattle.c_tree.specs.declared.expression.CExpr.{CExpr}
-use Rattle.c_tree.specs.declared.expression.CExpr.TheVariants as expr
-use Rattle.c_tree.specs.declared.expression.UnaryOp.{UnaryOp}
-use Rattle.c_tree.specs.declared.expression.UnaryOp.TheVariants as prefix
-use Rattle.c_tree.specs.declared.expression.BinaryOp.{BinaryOp}
-use Rattle.c_tree.specs.declared.expression.BinaryOp.TheVariants as op
-use Rattle.c_tree.specs.declared.expression.Extreme.{Extreme}
-use Rattle.c_tree.specs.declared.expression.Extreme.TheVariants as extreme
-use Rattle.c_structure.specs.Expressions.{number_expr, with_two, with_three, one_more}
-use Rattle.c_image.specs.Operations.{prefix_for, operator_for}
-use Rattle.c_emit.specs.LibraryFunctions.{LibraryFunction, library_function}
-use Rattle.c_emit.specs.Calls.{is_plain, kind_number}
+use Rattle.named_mains.specs.f_tree.Values.{Bytes, Datum, IsInt, IsLog, in_range}
+use Rattle.named_mains.specs.f_tree.Terms as fortran
+use Rattle.named_mains.specs.f_tree.Facts.{Output, Listed, Controls}
+use Rattle.named_mains.specs.f_tree.CNames.{variable_name, made_name, FunctionResult, NumberTemporary, ControlList, ConstantOf}
+use Rattle.named_mains.specs.l_core.Pures.{Pure, Constant, Temporary, Load, Name, ElementOf, Prefixed, Operated, Applied, Chosen, Pures, NoPure, AndPure}
+use Rattle.named_mains.specs.l_core.Steps as step
+use Rattle.named_mains.specs.l_core.Steps.{Step}
+use Rattle.c_spelling.specs.c_tree.Opened.{trees_opened}
+use Rattle.c_spelling.specs.c_tree.declared.expression.CExpr.{CExpr}
+use Rattle.c_spelling.specs.c_tree.declared.expression.CExpr.TheVariants as expr
+use Rattle.c_spelling.specs.c_tree.declared.expression.UnaryOp.{UnaryOp}
+use Rattle.c_spelling.specs.c_tree.declared.expression.UnaryOp.TheVariants as prefix
+use Rattle.c_spelling.specs.c_tree.declared.expression.BinaryOp.{BinaryOp}
+use Rattle.c_spelling.specs.c_tree.declared.expression.BinaryOp.TheVariants as op
+use Rattle.c_spelling.specs.c_tree.declared.expression.Extreme.{Extreme}
+use Rattle.c_spelling.specs.c_tree.declared.expression.Extreme.TheVariants as extreme
+use Rattle.named_mains.specs.c_structure.Expressions.{number_expr, with_two, with_three, one_more}
+use Rattle.named_mains.specs.c_image.Operations.{prefix_for, operator_for}
+use Rattle.named_mains.specs.c_emit.LibraryFunctions.{LibraryFunction, library_function}
+use Rattle.named_mains.specs.c_emit.Calls.{is_plain, kind_number}
 use Rattle.c_spelling.specs.Spelled.{of_bytes, expression_of_bytes, value_of_bytes}
-use Rattle.named_items.specs.declared.item.Callee.{Callee}
-use Rattle.named_items.specs.declared.item.Item.{Item}
-use Rattle.named_items.specs.declared.item.Item.TheVariants as item
-use Rattle.named_items.specs.Items.{assign_by, call_by, set_call_by}
-use Rattle.named_items.specs.SamePlaces.{number_in}
-use Rattle.item_emission.specs.declared.known.Dimension.{Dimension}
-use Rattle.item_emission.specs.declared.known.Standing.{Standing}
-use Rattle.item_emission.specs.declared.known.Standing.TheVariants.{Own, Parameter, Result}
-use Rattle.item_emission.specs.declared.known.Giving.{Giving}
-use Rattle.item_emission.specs.declared.known.Giving.TheVariants as giving
-use Rattle.item_emission.specs.NamedEmission as emission
-use Rattle.item_emission.specs.NamedEmission.{Knowledge, Kinds}
+use Rattle.named_mains.specs.named_items.declared.item.Callee.{Callee}
+use Rattle.named_mains.specs.named_items.declared.item.Case.{Case}
+use Rattle.named_mains.specs.named_items.declared.item.Item.{Item}
+use Rattle.named_mains.specs.named_items.declared.item.Item.TheVariants as item
+use Rattle.named_mains.specs.named_items.Items.{assign_by, call_by, set_call_by}
+use Rattle.named_mains.specs.named_items.SamePlaces.{number_in}
+use Rattle.named_mains.specs.item_emission.declared.known.Dimension.{Dimension}
+use Rattle.named_mains.specs.item_emission.declared.known.Standing.{Standing}
+use Rattle.named_mains.specs.item_emission.declared.known.Standing.TheVariants.{Own, Parameter, Result}
+use Rattle.named_mains.specs.item_emission.declared.known.Giving.{Giving}
+use Rattle.named_mains.specs.item_emission.declared.known.Giving.TheVariants as giving
+use Rattle.named_mains.specs.item_emission.NamedEmission as emission
+use Rattle.named_mains.specs.item_emission.NamedEmission.{Knowledge, Kinds}
 use Rattle.named_mains.specs.NamedMains.{item_ahead, items_from}
 
 -- ## Tests
@@ -298,6 +299,7 @@ mutual
 abbrev pub item_of_bytes : Item → Bool
 item_of_bytes (item.Assign a b) = expression_of_bytes a && expression_of_bytes b
 item_of_bytes (item.Branch test on off) = expression_of_bytes test
+item_of_bytes (item.Select value cases otherwise) = expression_of_bytes value
 item_of_bytes (item.Jump position) = true
 item_of_bytes (item.Call callee arguments) = list_all expression_of_bytes arguments
 item_of_bytes (item.SetCall target callee arguments) = expression_of_bytes target && list_all expression_of_bytes arguments
@@ -322,6 +324,11 @@ branched : (x : Option CExpr) (on off : ℕ) → passes expression_of_bytes x �
 unfolding emission.branch_step
 branched None on off h = refl
 branched (Some test) on off h = h
+
+selected : (x : Option CExpr) (cases : List Case) (otherwise : ℕ) → passes expression_of_bytes x ≡ true → passes item_of_bytes (emission.select_step x cases otherwise) ≡ true
+unfolding emission.select_step
+selected None cases otherwise h = refl
+selected (Some e) cases otherwise h = h
 
 address : (e : CExpr) → expression_of_bytes e ≡ true → expression_of_bytes (emission.address_expr e) ≡ true
 address e h = unary prefix.Address e h
@@ -489,9 +496,15 @@ unfolding emission.alternate_step
 alternate giving.Alternate x h = returned x h
 alternate other x h = refl
 
+switched : (known : Knowledge) (n : ℕ) (labels : List ℕ) (p : Pure) → passes item_of_bytes (emission.switch_step n labels (emission.place_expr known p)) ≡ true
+unfolding emission.switch_step
+switched known n [] p = refl
+switched known n (label ∷ labels) p = selected (emission.place_expr known p) (emission.label_cases (suc n) (label ∷ labels)) (suc n + length (label ∷ labels)) (place known p)
+
 one_step : (known : Knowledge) (kind : Kinds) (n : ℕ) (st : Step) → step_of_bytes st ≡ true → passes item_of_bytes (emission.item_step known kind n st) ≡ true
 unfolding emission.item_step
 one_step known kind n (step.Put target p) h = assigned (emission.place_expr known target) (emission.value_expr known p) (place known target) (value known p)
+one_step known kind n (step.PutLabel target label) h = assigned (emission.place_expr known target) (emission.constant_expr (pos label)) (place known target) (constant (pos label))
 one_step known kind n (step.Keep k p) h = assigned (emission.temporary_expr known k) (emission.value_expr known p) (temporary known k) (value known p)
 one_step known kind n (step.Compute k f ps) h = computed (emission.temporary_expr known k) (library_function f) (emission.held_exprs known ps) (temporary known k) (held_all known ps)
 one_step known kind n (step.Unless p m) h = branched (emission.value_expr known p) (suc n) (suc n + m) (value known p)
@@ -499,6 +512,8 @@ one_step known kind n (step.AgainIf p m) h = branched (emission.value_expr known
 one_step known kind n (step.Skip m) h = refl
 one_step known kind n (step.Again m) h = refl
 one_step known kind n (step.Jump l) h = made item_of_bytes item.Jump (known.label l) (λ position. refl)
+one_step known kind n (step.Select p count) h = selected (emission.value_expr known p) (emission.cases_from 1 (suc n) count) (suc n + count) (value known p)
+one_step known kind n (step.JumpBy p labels) h = switched known n labels p
 one_step known kind n step.Pass h = refl
 one_step known kind n (step.CallFor k callee ps) h =
     called_for (emission.wants_number callee.want) (emission.temporary_expr known k) (known.routine callee.name) (emission.argument_exprs known ps) (temporary known k) (arguments known ps)

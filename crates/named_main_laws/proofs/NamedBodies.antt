@@ -1,29 +1,29 @@
 -- The statements that are made from items by names are those that are made from flat items.
 use Rattle.std.specs.Prelude.{◌≡◌, ℕ, ◌+◌, Bool, true, false, List, length, Option, Some, None, option_and_then, slice_get, if◌then◌else◌}
 use Rattle.std.proofs.Common.{refl, sym, ap, ◌∙◌, arith}
-use Rattle.f_tree.specs.Facts.{Facts, ProgramUnit}
-use Rattle.f_tree.specs.Values.{Bytes}
-use Rattle.l_core.specs.Steps.{Step, Halt, Text}
-use Rattle.lowering.specs.Units.{lines_code, text_with, lowered_unit}
-use Rattle.c_tree.specs.declared.statement.CStmt.{CStmt}
-use Rattle.c_structure.specs.Statements.{statements_for}
-use Rattle.c_emit.specs.Numbers.{Writing}
-use Rattle.c_emit.specs.Flats.{flat_of}
-use Rattle.main_file.specs.MainFile.{Bases, names_of, writing_of}
-use Rattle.main_file.specs.MainItems.{flats_from}
-use Rattle.main_programs.specs.MainRuns.{plain_facts}
-use Rattle.main_translation.specs.Flow.{kind_at, are_on}
-use Rattle.main_translation.specs.Contents.{text_at, inventory_of, first_objects}
-use Rattle.main_translation.specs.Outlined.{if_returned, outline_of, items_of, body_of}
+use Rattle.named_mains.specs.f_tree.Facts.{Facts, ProgramUnit}
+use Rattle.named_mains.specs.f_tree.Values.{Bytes}
+use Rattle.named_mains.specs.l_core.Steps.{Step, Halt, Text}
+use Rattle.main_translation_laws.specs.lowering.Units.{lines_code, text_with, lowered_unit}
+use Rattle.c_spelling.specs.c_tree.declared.statement.CStmt.{CStmt}
+use Rattle.named_mains.specs.c_structure.Statements.{statements_for}
+use Rattle.named_mains.specs.c_emit.Numbers.{Writing}
+use Rattle.named_mains.specs.c_emit.Flats.{flat_of}
+use Rattle.named_mains.specs.main_file.MainFile.{Bases, names_of, writing_of}
+use Rattle.named_mains.specs.main_file.MainItems.{flats_from}
+use Rattle.main_translation_laws.specs.main_programs.MainRuns.{plain_facts}
+use Rattle.named_mains.specs.main_translation.Flow.{kind_at, are_on}
+use Rattle.named_mains.specs.main_translation.Contents.{text_at, inventory_of, first_objects}
+use Rattle.named_mains.specs.main_translation.Outlined.{if_returned, outline_of, items_of, body_of}
 use Rattle.main_translation_laws.specs.PlainMains.{IsPlainMain, IsPlainText}
-use Rattle.named_items.specs.declared.item.Item.{Item}
-use Rattle.named_items.specs.Agreement.{places_of, TellsPlaces}
-use Rattle.named_items.specs.Structured.{structured}
-use Rattle.named_items.proofs.Agreeing.{items_are_structured}
-use Rattle.named_items.proofs.NamedItems.{some_same, items_length}
-use Rattle.item_emission.specs.Agreeing.{known_in, NumbersAreListed, IsListed}
-use Rattle.item_emission.specs.NamedEmission.{item_step}
-use Rattle.item_emission.proofs.StepsAgree.{emissions_agree}
+use Rattle.named_mains.specs.named_items.declared.item.Item.{Item}
+use Rattle.named_mains.specs.named_items.Agreement.{places_of, TellsPlaces}
+use Rattle.named_mains.specs.named_items.Structured.{structured}
+use Rattle.named_mains.proofs.named_items.Agreeing.{items_are_structured}
+use Rattle.named_mains.proofs.named_items.NamedItems.{some_same, items_length}
+use Rattle.named_mains.specs.item_emission.Agreeing.{known_in, NumbersAreListed, IsListed}
+use Rattle.named_mains.specs.item_emission.NamedEmission.{item_step}
+use Rattle.named_mains.proofs.item_emission.StepsAgree.{emissions_agree}
 use Rattle.named_mains.specs.NamedMains.{items_from, statements_of, named_body_of}
 use Rattle.named_main_laws.specs.NamedBodies.{EachNamedBodyIsABody}
 use Rattle.named_main_laws.proofs.NamedPlaces.{Reach, OwnAlone, tells_places}

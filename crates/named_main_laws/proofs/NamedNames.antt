@@ -4,21 +4,21 @@ use Rattle.std.proofs.Common.{refl, sym, ap, ◌∙◌, subst, arith}
 use Rattle.std.proofs.lemmas.Bool.{ltb-true}
 use Rattle.std.proofs.lemmas.Fmt.{decimal_injective}
 use Rattle.std.proofs.lemmas.List.{append_cancel_left}
-use Rattle.f_tree.specs.declared.names.Basic.{Basic}
-use Rattle.f_tree.specs.CNames.{is_name, variable_name, made_name, NumberTemporary}
-use Rattle.f_tree.specs.Facts.{Facts, Member, ProgramUnit}
-use Rattle.f_tree.specs.Setting.{IsIn, first_in, later_in, IsMember, here, there}
-use Rattle.f_tree.specs.Values.{Bytes}
-use Rattle.fortran_laws.proofs.CNameLaws.{variable_name-injective, variable_name-not_made}
-use Rattle.l_core.specs.Steps.{Text}
-use Rattle.c_emit.specs.Numbers.{is_numeric, is_variable, has_bounds, has_number, is_scalar, is_array}
-use Rattle.main_file.specs.MainFile.{Inventory, Bases, first_temporary, place_of_variable, place_or_none, object_name, names_of, writing_of}
-use Rattle.main_translation.specs.Contents.{inventory_of}
+use Rattle.named_mains.specs.f_tree.declared.names.Basic.{Basic}
+use Rattle.named_mains.specs.f_tree.CNames.{is_name, variable_name, made_name, NumberTemporary}
+use Rattle.named_mains.specs.f_tree.Facts.{Facts, Member, ProgramUnit}
+use Rattle.named_mains.specs.f_tree.Setting.{IsIn, first_in, later_in, IsMember, here, there}
+use Rattle.named_mains.specs.f_tree.Values.{Bytes}
+use Rattle.main_translation_laws.proofs.fortran_laws.CNameLaws.{variable_name-injective, variable_name-not_made}
+use Rattle.named_mains.specs.l_core.Steps.{Text}
+use Rattle.named_mains.specs.c_emit.Numbers.{is_numeric, is_variable, has_bounds, has_number, is_scalar, is_array}
+use Rattle.named_mains.specs.main_file.MainFile.{Inventory, Bases, first_temporary, place_of_variable, place_or_none, object_name, names_of, writing_of}
+use Rattle.named_mains.specs.main_translation.Contents.{inventory_of}
 use Rattle.main_translation_laws.specs.PlainMains.{IsPlainMain}
 use Rattle.main_translation_laws.proofs.Storage.{variables_listed}
-use Rattle.named_items.proofs.WrittenAlike.{left_true}
-use Rattle.item_emission.specs.Agreeing.{known_in, NumbersAreListed}
-use Rattle.item_emission.proofs.ObjectNames.{variable_object, temporary_is}
+use Rattle.named_mains.proofs.named_items.WrittenAlike.{left_true}
+use Rattle.named_mains.specs.item_emission.Agreeing.{known_in, NumbersAreListed}
+use Rattle.named_mains.proofs.item_emission.ObjectNames.{variable_object, temporary_is}
 use Rattle.named_main_laws.proofs.NamedPlaces.{Own, Pointed, OwnAlone, AreTold}
 use Rattle.named_main_laws.proofs.NamedValues.{WritesObjects}
 

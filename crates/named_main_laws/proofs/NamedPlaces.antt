@@ -2,21 +2,21 @@
 use Rattle.std.specs.Prelude.{◌≡◌, ℕ, ℤ, pos, negsuc, nat_eq, nat_le, Bool, true, false, ◌&&◌, ◌||◌, List, Option, Some, None, slice_get, if◌then◌else◌}
 use Rattle.std.proofs.Common.{refl, sym, ap, ◌∙◌, subst}
 use Rattle.std.proofs.lemmas.Bool.{eq-eqb}
-use Rattle.c_tree.specs.Opened.{trees_opened}
-use Rattle.c_tree.specs.declared.expression.CExpr.{CExpr}
-use Rattle.c_tree.specs.declared.expression.CExpr.TheVariants as expr
-use Rattle.c_tree.specs.declared.expression.UnaryOp.{UnaryOp}
-use Rattle.c_tree.specs.declared.expression.UnaryOp.TheVariants as prefix
-use Rattle.c_tree.specs.declared.expression.BinaryOp.TheVariants as op
-use Rattle.c_tree.specs.Access.{Access, ToNumber, ToPointer}
-use Rattle.c_tree.specs.Terms.{Term, Constant, Variable, Array, Routine, Unknown, Prefixed, Cast, Between, Choice, Element, Field, Size, Most, Magnitude}
-use Rattle.c_tree.specs.Flat.{Flat, Assign}
-use Rattle.c_structure.specs.Expressions.{Names, with_two, with_three, number_expr, array_expr, expr_for}
-use Rattle.c_structure.specs.Statements.{same_place}
-use Rattle.named_items.specs.Agreement.{both_alike, are_alike, TellsPlaces}
-use Rattle.named_items.specs.SamePlaces.{name_in, number_in, pointed_in, pointer_in, array_in, element_in, same_names, same_numbers, same_elements, same_expr}
-use Rattle.named_items.proofs.WrittenAlike.{left_true, right_true, written_alike}
-use Rattle.named_items.proofs.NamedItems.{some_same, mapped_by}
+use Rattle.c_spelling.specs.c_tree.Opened.{trees_opened}
+use Rattle.c_spelling.specs.c_tree.declared.expression.CExpr.{CExpr}
+use Rattle.c_spelling.specs.c_tree.declared.expression.CExpr.TheVariants as expr
+use Rattle.c_spelling.specs.c_tree.declared.expression.UnaryOp.{UnaryOp}
+use Rattle.c_spelling.specs.c_tree.declared.expression.UnaryOp.TheVariants as prefix
+use Rattle.c_spelling.specs.c_tree.declared.expression.BinaryOp.TheVariants as op
+use Rattle.c_spelling.specs.c_tree.Access.{Access, ToNumber, ToPointer}
+use Rattle.c_spelling.specs.c_tree.Terms.{Term, Constant, Variable, Array, Routine, Unknown, Prefixed, Cast, Between, Choice, Element, Field, Size, Most, Magnitude}
+use Rattle.c_spelling.specs.c_tree.Flat.{Flat, Assign}
+use Rattle.named_mains.specs.c_structure.Expressions.{Names, with_two, with_three, number_expr, array_expr, expr_for}
+use Rattle.named_mains.specs.c_structure.Statements.{same_place}
+use Rattle.named_mains.specs.named_items.Agreement.{both_alike, are_alike, TellsPlaces}
+use Rattle.named_mains.specs.named_items.SamePlaces.{name_in, number_in, pointed_in, pointer_in, array_in, element_in, same_names, same_numbers, same_elements, same_expr}
+use Rattle.named_mains.proofs.named_items.WrittenAlike.{left_true, right_true, written_alike}
+use Rattle.named_mains.proofs.named_items.NamedItems.{some_same, mapped_by}
 
 -- ## Terms whose places are objects of a kind
 

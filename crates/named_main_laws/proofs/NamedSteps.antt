@@ -2,22 +2,22 @@
 use Rattle.std.specs.Prelude.{◌≡◌, ℕ, zero, suc, ◌+◌, nat_eq, Bool, true, false, ◌&&◌, List, [], ◌∷◌, position, Option, Some, None, option_map, option_and_then, slice_get}
 use Rattle.std.proofs.Common.{refl, sym, ap, ◌∙◌, subst, arith}
 use Rattle.std.proofs.lemmas.Bool.{eq-eqb}
-use Rattle.f_tree.specs.Facts.{Facts, Output, Listed, Controls}
-use Rattle.f_tree.specs.Values.{Bytes, IsInt, in_range}
-use Rattle.l_core.specs.Pures.{Constant, Pures, NoPure, AndPure}
-use Rattle.l_core.specs.Steps as step
-use Rattle.l_core.specs.Steps.{Step, Halt}
-use Rattle.linking_laws.proofs.Places.{position_step, taken, skipped}
-use Rattle.c_tree.specs.Flat.{Flat}
-use Rattle.c_structure.specs.Expressions.{Names}
-use Rattle.c_emit.specs.Calls.{is_plain}
-use Rattle.main_file.specs.MainFile.{Inventory}
-use Rattle.main_file.specs.MainItems.{item_before, stops_from}
-use Rattle.named_items.specs.declared.item.Item.{Item}
-use Rattle.named_items.specs.Items.{item_for, before_items, items_for}
-use Rattle.named_items.proofs.NamedItems.{some_same, mapped_by}
-use Rattle.item_emission.specs.NamedEmission.{Knowledge, Kinds, start_call, start_if, start_step, acting_step, item_step}
-use Rattle.item_emission.specs.Agreeing.{known_in, IsListed}
+use Rattle.named_mains.specs.f_tree.Facts.{Facts, Output, Listed, Controls}
+use Rattle.named_mains.specs.f_tree.Values.{Bytes, IsInt, in_range}
+use Rattle.named_mains.specs.l_core.Pures.{Constant, Pures, NoPure, AndPure}
+use Rattle.named_mains.specs.l_core.Steps as step
+use Rattle.named_mains.specs.l_core.Steps.{Step, Halt}
+use Rattle.main_translation_laws.proofs.linking_laws.Places.{position_step, taken, skipped}
+use Rattle.c_spelling.specs.c_tree.Flat.{Flat}
+use Rattle.named_mains.specs.c_structure.Expressions.{Names}
+use Rattle.named_mains.specs.c_emit.Calls.{is_plain}
+use Rattle.named_mains.specs.main_file.MainFile.{Inventory}
+use Rattle.named_mains.specs.main_file.MainItems.{item_before, stops_from}
+use Rattle.named_mains.specs.named_items.declared.item.Item.{Item}
+use Rattle.named_mains.specs.named_items.Items.{item_for, before_items, items_for}
+use Rattle.named_mains.proofs.named_items.NamedItems.{some_same, mapped_by}
+use Rattle.named_mains.specs.item_emission.NamedEmission.{Knowledge, Kinds, start_call, start_if, start_step, acting_step, item_step}
+use Rattle.named_mains.specs.item_emission.Agreeing.{known_in, IsListed}
 use Rattle.named_mains.specs.NamedMains.{item_ahead, items_from}
 use Rattle.named_main_laws.proofs.NamedValues.{EmitsEach}
 

@@ -1,31 +1,31 @@
 -- The terms of lowered values, and the flat items of steps, name objects as their unit does. ANSI X3.9-1978, section 6; C89, 3.3.
-use Rattle.std.specs.Prelude.{◌≡◌, ℕ, zero, suc, ◌+◌, ◌-◌, ℤ, pos, negsuc, nat_eq, Bool, true, false, ◌&&◌, List, [], ◌∷◌, Option, Some, None, option_map, option_and_then, slice_get, if◌then◌else◌}
+use Rattle.std.specs.Prelude.{◌≡◌, ℕ, zero, suc, ◌+◌, ◌-◌, ℤ, pos, negsuc, nat_eq, Bool, true, false, ◌&&◌, List, [], ◌∷◌, length, Option, Some, None, option_map, option_and_then, slice_get, if◌then◌else◌}
 use Rattle.std.proofs.Common.{refl, sym, ap, ◌∙◌, subst}
-use Rattle.f_tree.specs.Values.{Bytes, Datum, IsInt, IsLog, in_range}
-use Rattle.f_tree.specs.Facts.{Output, Listed, Controls, UnitKind, MainProgram, SubroutineUnit, FunctionUnit, BlockDataUnit}
-use Rattle.f_tree.specs.Terms.{Prefix, Negate, Complement}
-use Rattle.f_tree.specs.Terms as fortran
-use Rattle.l_core.specs.Pures.{Pure, Constant, Temporary, Load, Name, AllOf, ElementOf, FirstOf, Substring, Concatenated, Prefixed, Operated, Applied, Chosen, Pures, NoPure, AndPure}
-use Rattle.l_core.specs.Steps as step
-use Rattle.l_core.specs.Steps.{Step}
-use Rattle.c_tree.specs.declared.expression.UnaryOp.TheVariants as prefix
-use Rattle.c_tree.specs.declared.expression.BinaryOp.TheVariants as op
-use Rattle.c_tree.specs.declared.expression.Extreme.{Extreme}
-use Rattle.c_tree.specs.declared.expression.Extreme.TheVariants as extreme
-use Rattle.c_tree.specs.Access.{ToNumber}
-use Rattle.c_tree.specs.Terms as c
-use Rattle.c_tree.specs.Terms.{Term}
-use Rattle.c_tree.specs.Flat.{Flat, Branch}
-use Rattle.c_image.specs.Addresses.{number_term, element_term}
-use Rattle.c_image.specs.Elements.{index_term}
-use Rattle.c_image.specs.Operations.{constant_term, prefix_for, operator_for, extreme_term, function_term}
-use Rattle.c_emit.specs.Numbers.{Writing, is_scalar, is_array, constant_value, with_two, with_three, one_more, steps_from, element_value, applied_value, if_number, value_term, place_term, value_terms}
-use Rattle.c_emit.specs.LibraryFunctions.{LibraryFunction, library_function}
-use Rattle.c_emit.specs.Calls.{call_of, is_plain, start_on, start_item, kind_number, held_term, held_terms, computed_item, item_by, takes_item, finish_item, stop_item}
-use Rattle.c_emit.specs.Types.{type_of}
-use Rattle.c_emit.specs.Flats.{assigned, jump_to, returned_by, flat_of}
-use Rattle.main_file.specs.MainItems.{item_before, flats_from}
-use Rattle.named_items.proofs.NamedItems.{some_same}
+use Rattle.named_mains.specs.f_tree.Values.{Bytes, Datum, IsInt, IsLog, in_range}
+use Rattle.named_mains.specs.f_tree.Facts.{Output, Listed, Controls, UnitKind, MainProgram, SubroutineUnit, FunctionUnit, BlockDataUnit}
+use Rattle.named_mains.specs.f_tree.Terms.{Prefix, Negate, Complement}
+use Rattle.named_mains.specs.f_tree.Terms as fortran
+use Rattle.named_mains.specs.l_core.Pures.{Pure, Constant, Temporary, Load, Name, AllOf, ElementOf, FirstOf, Substring, Concatenated, Prefixed, Operated, Applied, Chosen, Pures, NoPure, AndPure}
+use Rattle.named_mains.specs.l_core.Steps as step
+use Rattle.named_mains.specs.l_core.Steps.{Step}
+use Rattle.c_spelling.specs.c_tree.declared.expression.UnaryOp.TheVariants as prefix
+use Rattle.c_spelling.specs.c_tree.declared.expression.BinaryOp.TheVariants as op
+use Rattle.c_spelling.specs.c_tree.declared.expression.Extreme.{Extreme}
+use Rattle.c_spelling.specs.c_tree.declared.expression.Extreme.TheVariants as extreme
+use Rattle.c_spelling.specs.c_tree.Access.{ToNumber}
+use Rattle.c_spelling.specs.c_tree.Terms as c
+use Rattle.c_spelling.specs.c_tree.Terms.{Term}
+use Rattle.c_spelling.specs.c_tree.Flat.{Flat, Branch, Select, CaseAt}
+use Rattle.named_mains.specs.c_image.Addresses.{number_term, element_term}
+use Rattle.named_mains.specs.c_image.Elements.{index_term}
+use Rattle.named_mains.specs.c_image.Operations.{constant_term, prefix_for, operator_for, extreme_term, function_term}
+use Rattle.named_mains.specs.c_emit.Numbers.{Writing, is_scalar, is_array, constant_value, with_two, with_three, one_more, steps_from, element_value, applied_value, if_number, value_term, place_term, value_terms}
+use Rattle.named_mains.specs.c_emit.LibraryFunctions.{LibraryFunction, library_function}
+use Rattle.named_mains.specs.c_emit.Calls.{call_of, is_plain, start_on, start_item, kind_number, held_term, held_terms, computed_item, item_by, takes_item, finish_item, stop_item}
+use Rattle.named_mains.specs.c_emit.Types.{type_of}
+use Rattle.named_mains.specs.c_emit.Flats.{assigned, jump_to, cases_to, cases_for, switch_to, returned_by, flat_of}
+use Rattle.named_mains.specs.main_file.MainItems.{item_before, flats_from}
+use Rattle.named_mains.proofs.named_items.NamedItems.{some_same}
 use Rattle.named_main_laws.proofs.NamedPlaces.{Reach, Own, NamesObjects, SetsObjects}
 
 -- what a unit writes for its names and temporaries are objects of a kind
@@ -156,6 +156,10 @@ module _ (IsObject : Reach → ℕ → Type 0) where
   branch_sets on off None = tt
   branch_sets on off (Some t) = tt
 
+  select_sets : (cases : List CaseAt) (otherwise : ℕ) (o : Option Term) → MaySet IsObject (option_map (λ value. Select value cases otherwise) o)
+  select_sets cases otherwise None = tt
+  select_sets cases otherwise (Some t) = tt
+
   jump_sets : (o : Option ℕ) → MaySet IsObject (jump_to (λ m. m) o)
   unfolding jump_to
   jump_sets None = tt
@@ -257,8 +261,9 @@ module _ (IsObject : Reach → ℕ → Type 0) where
     computed_sets None function xs = tt
 
     pub step_sets : (label : ℕ → Option ℕ) (n : ℕ) (st : Step) → MaySet IsObject (flat_of w (λ m. m) label n st)
-    unfolding flat_of
+    unfolding flat_of switch_to
     step_sets label n (step.Put target p) = assigned_sets (place_term w target) (value_term w p) (place_names target) (value_names p)
+    step_sets label n (step.PutLabel target l) = assigned_sets (place_term w target) (constant_value (IsInt (pos l))) (place_names target) (constant_names (IsInt (pos l)))
     step_sets label n (step.Keep k p) =
         assigned_sets (if_number (w.is_number k) (Some (c.Variable (w.naming.temporary k) ToNumber))) (value_term w p)
         (if_names (Some (c.Variable (w.naming.temporary k) ToNumber)) (w.is_number k) (writes.temporaries k)) (value_names p)
@@ -268,6 +273,9 @@ module _ (IsObject : Reach → ℕ → Type 0) where
     step_sets label n (step.Skip m) = tt
     step_sets label n (step.Again m) = tt
     step_sets label n (step.Jump l) = jump_sets (label l)
+    step_sets label n (step.Select p count) = select_sets (cases_to (λ m. m) 1 (suc n) count) (suc n + count) (value_term w p)
+    step_sets label n (step.JumpBy p []) = tt
+    step_sets label n (step.JumpBy p (l ∷ ls)) = select_sets (cases_for (λ m. m) (suc n) (l ∷ ls)) (suc n + length (l ∷ ls)) (place_term w p)
     step_sets label n step.Pass = tt
     step_sets label n step.Back = return_sets w.facts.program.kind
     step_sets label n (step.Acts (step.Starts Output Listed controls) ps m) = start_sets w n controls ps

@@ -1,16 +1,16 @@
 -- The statements of a main program's function from its items by names: an item for each lowered step, and the statements that they have.
 -- ANSI X3.9-1978, sections 10 to 12; C89, 3.6.
 use Rattle.std.specs.Prelude.{ℕ, suc, List, [], ◌∷◌, length, Option, Some, None, option_and_then, if◌then◌else◌}
-use Rattle.f_tree.specs.Facts.{ProgramUnit}
-use Rattle.l_core.specs.Steps.{Step, Text}
-use Rattle.c_tree.specs.declared.statement.CStmt.{CStmt}
+use Rattle.main_translation.specs.f_tree.Facts.{ProgramUnit}
+use Rattle.main_translation.specs.l_core.Steps.{Step, Text}
+use Rattle.main_translation.specs.c_tree.declared.statement.CStmt.{CStmt}
 use Rattle.main_translation.specs.Flow.{kind_at, are_on}
 use Rattle.main_translation.specs.Contents.{inventory_of, first_objects}
 use Rattle.main_translation.specs.Outlined.{if_returned, outline_of}
-use Rattle.named_items.specs.declared.item.Item.{Item}
-use Rattle.named_items.specs.Agreement.{places_of}
-use Rattle.named_items.specs.Layouts.{Layout}
-use Rattle.named_items.specs.Structured.{structured}
+use Rattle.item_emission.specs.named_items.declared.item.Item.{Item}
+use Rattle.item_emission.specs.named_items.Agreement.{places_of}
+use Rattle.item_emission.specs.named_items.Layouts.{Layout}
+use Rattle.item_emission.specs.named_items.Structured.{structured}
 use Rattle.item_emission.specs.NamedEmission.{Knowledge, Kinds, item_step}
 use Rattle.item_emission.specs.Agreeing.{known_in}
 

@@ -2,44 +2,44 @@
 use Rattle.std.specs.Prelude.{◌≡◌, ℕ, ◌+◌, ◌≤◌, ℤ, true, List, [], ◌∷◌, map, length, Option, Some, None, option_map, option_and_then, slice_get, if◌then◌else◌}
 use Rattle.std.proofs.Common.{refl, sym, ap, ◌∙◌, subst, arith}
 use Rattle.std.proofs.lemmas.List.{length-map}
-use Rattle.f_tree.specs.Values.{Bytes}
-use Rattle.f_tree.specs.Facts.{Facts, ProgramUnit}
-use Rattle.f_tree.specs.Setting.{IsIn, first_in, later_in}
-use Rattle.f_tree.specs.Meaning.{facts_at}
-use Rattle.l_core.specs.Steps.{Step, Halt}
-use Rattle.lowering.specs.Units.{lines_code, lowered_unit}
-use Rattle.unit_forms.specs.OwnSetting.{own_facts}
-use Rattle.c_tree.specs.Flat.{Flat}
-use Rattle.c_tree.specs.declared.statement.CStmt.{CStmt}
-use Rattle.c_structure.specs.Expressions.{Names}
-use Rattle.c_structure.specs.Statements.{statements_for}
-use Rattle.c_emit.specs.Numbers.{Writing, is_numeric}
-use Rattle.procedure_emission.specs.ProcedureItems.{procedure_item}
-use Rattle.main_translation.specs.Contents.{text_at}
-use Rattle.main_translation.specs.Outlined.{if_returned}
-use Rattle.main_translation_laws.proofs.Lists.{at_in}
-use Rattle.main_translation_laws.proofs.FlowLaws.{in_front, in_back}
-use Rattle.unit_file.specs.UnitFile.{Inventory, WrittenUnit, object_count, writing_of}
-use Rattle.unit_file.specs.UnitNames.{names_of}
-use Rattle.unit_file.specs.UnitItems.{unit_items}
-use Rattle.unit_sites.specs.UnitSites.{UnitsOfFile, Site, behind as number_behind}
-use Rattle.unit_file_laws.specs.KnownUnits.{NamesAreListed}
-use Rattle.unit_translation.specs.UnitFlow.{kind_before, are_in_place}
-use Rattle.unit_translation.specs.UnitContents.{LoweredUnit, program_units, unit_numbers, constants_passed, inventory_of, inventories_of}
-use Rattle.unit_translation.specs.UnitBodies.{all_lowered, unit_outline, items_of, body_of, written_before, written_from, file_before, files_from, written_files}
+use Rattle.named_units.specs.f_tree.Values.{Bytes}
+use Rattle.named_units.specs.f_tree.Facts.{Facts, ProgramUnit}
+use Rattle.named_units.specs.f_tree.Setting.{IsIn, first_in, later_in}
+use Rattle.named_units.specs.f_tree.Meaning.{facts_at}
+use Rattle.named_units.specs.l_core.Steps.{Step, Halt}
+use Rattle.named_main_laws.specs.lowering.Units.{lines_code, lowered_unit}
+use Rattle.unit_translation_laws.specs.unit_forms.OwnSetting.{own_facts}
+use Rattle.named_units.specs.c_tree.Flat.{Flat}
+use Rattle.named_units.specs.c_tree.declared.statement.CStmt.{CStmt}
+use Rattle.named_units.specs.c_structure.Expressions.{Names}
+use Rattle.named_units.specs.c_structure.Statements.{statements_for}
+use Rattle.named_units.specs.c_emit.Numbers.{Writing, is_numeric}
+use Rattle.named_units.specs.procedure_emission.ProcedureItems.{procedure_item}
+use Rattle.named_units.specs.main_translation.Contents.{text_at}
+use Rattle.named_units.specs.main_translation.Outlined.{if_returned}
+use Rattle.named_main_laws.proofs.main_translation_laws.Lists.{at_in}
+use Rattle.named_main_laws.proofs.main_translation_laws.FlowLaws.{in_front, in_back}
+use Rattle.named_units.specs.unit_file.UnitFile.{Inventory, WrittenUnit, object_count, writing_of}
+use Rattle.named_units.specs.unit_file.UnitNames.{names_of}
+use Rattle.named_units.specs.unit_file.UnitItems.{unit_items}
+use Rattle.named_units.specs.unit_sites.UnitSites.{UnitsOfFile, Site, behind as number_behind}
+use Rattle.named_units.specs.unit_file_laws.KnownUnits.{NamesAreListed}
+use Rattle.named_units.specs.unit_translation.UnitFlow.{kind_before, are_in_place}
+use Rattle.named_units.specs.unit_translation.UnitContents.{LoweredUnit, program_units, unit_numbers, constants_passed, inventory_of, inventories_of}
+use Rattle.named_units.specs.unit_translation.UnitBodies.{all_lowered, unit_outline, items_of, body_of, written_before, written_from, file_before, files_from, written_files}
 use Rattle.unit_translation_laws.specs.PlainUnits.{IsPlainUnit, ArePlainUnits}
 use Rattle.unit_translation_laws.proofs.Listed.{names_listed}
 use Rattle.unit_translation_laws.proofs.Renderings.{split}
-use Rattle.named_items.specs.declared.item.Item.{Item}
-use Rattle.named_items.specs.Agreement.{TellsPlaces}
-use Rattle.named_items.specs.Structured.{structured}
-use Rattle.named_items.proofs.Agreeing.{items_are_structured}
-use Rattle.named_items.proofs.NamedItems.{some_same, items_length}
-use Rattle.item_emission.specs.NamedEmission.{item_step}
-use Rattle.named_mains.specs.NamedMains.{items_from, statements_of}
+use Rattle.named_units.specs.named_items.declared.item.Item.{Item}
+use Rattle.named_units.specs.named_items.Agreement.{TellsPlaces}
+use Rattle.named_units.specs.named_items.Structured.{structured}
+use Rattle.named_units.proofs.named_items.Agreeing.{items_are_structured}
+use Rattle.named_units.proofs.named_items.NamedItems.{some_same, items_length}
+use Rattle.named_units.specs.item_emission.NamedEmission.{item_step}
+use Rattle.named_units.specs.named_mains.NamedMains.{items_from, statements_of}
 use Rattle.named_units.specs.NamedUnits.{known_for, layout_for, named_body_of, named_from, named_file_of, named_files_from, named_files}
-use Rattle.unit_item_laws.specs.AgreeingUnits.{IsListed}
-use Rattle.unit_item_laws.proofs.UnitStepsAgree.{unit_emissions_agree}
+use Rattle.named_units.specs.unit_item_laws.AgreeingUnits.{IsListed}
+use Rattle.named_units.proofs.unit_item_laws.UnitStepsAgree.{unit_emissions_agree}
 use Rattle.named_main_laws.proofs.NamedPlaces.{tells_places}
 use Rattle.named_main_laws.proofs.NamedValues.{EmitsEach, all_set}
 use Rattle.named_main_laws.proofs.NamedNames.{stored_named}

@@ -3,24 +3,24 @@
 use Rattle.std.specs.Prelude.{◌≡◌, ℕ, suc, ◌+◌, ◌<◌, ◌≤◌, ◌^◌, nat_lt, true, false, not, List, ◌∷◌, Option, Some, codes, decimal}
 use Rattle.std.proofs.Common.{refl, sym, ap, ◌∙◌, arith}
 use Rattle.std.proofs.lemmas.Bool.{ltb-true}
-use Rattle.f_tree.specs.declared.names.Basic.{Basic}
-use Rattle.f_tree.specs.declared.names.Class.{Class}
-use Rattle.f_tree.specs.declared.names.Class.TheVariants as class
-use Rattle.f_tree.specs.CNames.{is_name, variable_name, MadeName, made_name, NumberTemporary, FunctionResult, IsNumbered}
-use Rattle.f_tree.specs.Facts.{Facts}
-use Rattle.f_tree.specs.Values.{Bytes}
-use Rattle.fortran_laws.proofs.CNameLaws.{variable_name-injective, variable_name-not_made}
-use Rattle.c_tree.specs.declared.types.NumberType.{NumberType}
-use Rattle.c_tree.specs.Terms.{Term}
-use Rattle.c_image.specs.Addresses.{number_term, element_term}
-use Rattle.c_emit.specs.Numbers.{Writing, is_numeric, is_variable, has_bounds, has_number, is_scalar, is_array}
-use Rattle.main_translation_laws.proofs.Names.{same_first}
-use Rattle.unit_file.specs.UnitFile.{Inventory, Bases, result_object, first_temporary, place_or_none, place_of_variable, place_of_parameter, parameter_object, address_in, writing_of}
-use Rattle.unit_file.specs.UnitNames.{object_name, names_of}
-use Rattle.unit_sites.specs.UnitSites.{Site}
-use Rattle.unit_file_laws.specs.KnownUnits.{NamesAreListed}
-use Rattle.unit_item_laws.proofs.UnitObjects.{variable_is, parameter_is, result_is, temporary_is}
-use Rattle.named_items.proofs.WrittenAlike.{left_true, right_true}
+use Rattle.named_units.specs.f_tree.declared.names.Basic.{Basic}
+use Rattle.named_units.specs.f_tree.declared.names.Class.{Class}
+use Rattle.named_units.specs.f_tree.declared.names.Class.TheVariants as class
+use Rattle.named_units.specs.f_tree.CNames.{is_name, variable_name, MadeName, made_name, NumberTemporary, FunctionResult, IsNumbered}
+use Rattle.named_units.specs.f_tree.Facts.{Facts}
+use Rattle.named_units.specs.f_tree.Values.{Bytes}
+use Rattle.named_main_laws.proofs.fortran_laws.CNameLaws.{variable_name-injective, variable_name-not_made}
+use Rattle.named_units.specs.c_tree.declared.types.NumberType.{NumberType}
+use Rattle.named_units.specs.c_tree.Terms.{Term}
+use Rattle.named_units.specs.c_image.Addresses.{number_term, element_term}
+use Rattle.named_units.specs.c_emit.Numbers.{Writing, is_numeric, is_variable, has_bounds, has_number, is_scalar, is_array}
+use Rattle.named_main_laws.proofs.main_translation_laws.Names.{same_first}
+use Rattle.named_units.specs.unit_file.UnitFile.{Inventory, Bases, result_object, first_temporary, place_or_none, place_of_variable, place_of_parameter, parameter_object, address_in, writing_of}
+use Rattle.named_units.specs.unit_file.UnitNames.{object_name, names_of}
+use Rattle.named_units.specs.unit_sites.UnitSites.{Site}
+use Rattle.named_units.specs.unit_file_laws.KnownUnits.{NamesAreListed}
+use Rattle.named_units.proofs.unit_item_laws.UnitObjects.{variable_is, parameter_is, result_is, temporary_is}
+use Rattle.named_units.proofs.named_items.WrittenAlike.{left_true, right_true}
 use Rattle.named_main_laws.proofs.NamedPlaces.{Reach, Own, Pointed, NamesObjects, AreTold}
 use Rattle.named_main_laws.proofs.NamedNames.{temporaries_told}
 use Rattle.named_main_laws.proofs.NamedValues.{WritesObjects}

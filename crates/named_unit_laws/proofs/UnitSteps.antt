@@ -1,24 +1,24 @@
 -- What the items of a unit's steps set, and that what they take is listed. ANSI X3.9-1978, sections 10 to 12 and 15; C89, 3.6.
 use Rattle.std.specs.Prelude.{◌≡◌, ℕ, nat_eq, ℤ, List, position, Option, Some, None, option_map, slice_get}
 use Rattle.std.proofs.Common.{refl, ap, ◌∙◌, arith}
-use Rattle.f_tree.specs.declared.names.Basic.{Basic}
-use Rattle.f_tree.specs.Values.{Bytes}
-use Rattle.f_tree.specs.Facts.{Facts, Output, Listed, UnitKind, MainProgram, SubroutineUnit, FunctionUnit, BlockDataUnit}
-use Rattle.l_core.specs.Pures.{Pure}
-use Rattle.l_core.specs.Steps as step
-use Rattle.l_core.specs.Steps.{Step, Halt}
-use Rattle.c_tree.specs.Terms.{Term, Variable}
-use Rattle.c_tree.specs.Access.{ToNumber}
-use Rattle.c_tree.specs.Flat as flat
-use Rattle.c_tree.specs.Flat.{Flat, Use, Return, Ignored, Kept}
-use Rattle.c_emit.specs.Numbers.{Writing, if_number, value_term}
-use Rattle.main_file.specs.MainItems.{stops_from}
-use Rattle.procedure_emission.specs.ProcedureItems.{Numbers, argument_terms, function_called, call_item, basic_wanted, kept_item, call_for_item, result_term, back_item, back_by_item, procedure_item}
-use Rattle.unit_file.specs.UnitFile.{Inventory}
-use Rattle.unit_file.specs.UnitItems.{unit_items}
-use Rattle.named_items.specs.declared.item.Item.{Item}
-use Rattle.item_emission.specs.NamedEmission.{Kinds, acting_step, item_step}
-use Rattle.unit_item_laws.specs.AgreeingUnits.{known_of_unit, IsListed}
+use Rattle.named_units.specs.f_tree.declared.names.Basic.{Basic}
+use Rattle.named_units.specs.f_tree.Values.{Bytes}
+use Rattle.named_units.specs.f_tree.Facts.{Facts, Output, Listed, UnitKind, MainProgram, SubroutineUnit, FunctionUnit, BlockDataUnit}
+use Rattle.named_units.specs.l_core.Pures.{Pure}
+use Rattle.named_units.specs.l_core.Steps as step
+use Rattle.named_units.specs.l_core.Steps.{Step, Halt}
+use Rattle.named_units.specs.c_tree.Terms.{Term, Variable}
+use Rattle.named_units.specs.c_tree.Access.{ToNumber}
+use Rattle.named_units.specs.c_tree.Flat as flat
+use Rattle.named_units.specs.c_tree.Flat.{Flat, Use, Return, Ignored, Kept}
+use Rattle.named_units.specs.c_emit.Numbers.{Writing, if_number, value_term}
+use Rattle.named_units.specs.main_file.MainItems.{stops_from}
+use Rattle.named_units.specs.procedure_emission.ProcedureItems.{Numbers, argument_terms, function_called, call_item, basic_wanted, kept_item, call_for_item, result_term, back_item, back_by_item, procedure_item}
+use Rattle.named_units.specs.unit_file.UnitFile.{Inventory}
+use Rattle.named_units.specs.unit_file.UnitItems.{unit_items}
+use Rattle.named_units.specs.named_items.declared.item.Item.{Item}
+use Rattle.named_units.specs.item_emission.NamedEmission.{Kinds, acting_step, item_step}
+use Rattle.named_units.specs.unit_item_laws.AgreeingUnits.{known_of_unit, IsListed}
 use Rattle.named_main_laws.proofs.NamedPlaces.{Reach}
 use Rattle.named_main_laws.proofs.NamedValues.{EmitsEach, WritesObjects, MaySet, return_sets, step_sets}
 use Rattle.named_main_laws.proofs.NamedSteps.{stop_placed, start_listed}

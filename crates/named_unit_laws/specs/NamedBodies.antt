@@ -1,8 +1,8 @@
 -- That the functions of units that are made from items by names are those of their lowered texts. ANSI X3.9-1978, sections 10 to 12 and 15; C89, 3.6.
 use Rattle.std.specs.Prelude.{◌≡◌, List, Some}
-use Rattle.unit_sites.specs.UnitSites.{UnitsOfFile}
-use Rattle.unit_translation.specs.UnitContents.{LoweredUnit}
-use Rattle.unit_translation.specs.UnitBodies.{all_lowered, written_files}
+use Rattle.named_units.specs.unit_sites.UnitSites.{UnitsOfFile}
+use Rattle.named_units.specs.unit_translation.UnitContents.{LoweredUnit}
+use Rattle.named_units.specs.unit_translation.UnitBodies.{all_lowered, written_files}
 use Rattle.unit_translation_laws.specs.PlainUnits.{ArePlainUnits}
 use Rattle.named_units.specs.NamedUnits.{named_files}
 

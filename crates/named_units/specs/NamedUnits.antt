@@ -1,14 +1,14 @@
 -- The C functions of units that call each other from the items of their steps by names: an item for each lowered step, the statements that they have, and what
 -- each function declares; and their files. ANSI X3.9-1978, sections 2.4, 10 to 12 and 15; C89, 3.6 and 3.7.1.
 use Rattle.std.specs.Prelude.{ℤ, ◌&&◌, List, [], ◌∷◌, Option, Some, None, is_none, option_map, option_and_then, slice_get, if◌then◌else◌}
-use Rattle.l_core.specs.Steps.{Text}
-use Rattle.c_tree.specs.declared.statement.CStmt.{CStmt}
-use Rattle.item_emission.specs.NamedEmission.{Knowledge}
-use Rattle.named_items.specs.Layouts.{Layout}
+use Rattle.named_mains.specs.l_core.Steps.{Text}
+use Rattle.named_mains.specs.c_tree.declared.statement.CStmt.{CStmt}
+use Rattle.named_mains.specs.item_emission.NamedEmission.{Knowledge}
+use Rattle.named_mains.specs.named_items.Layouts.{Layout}
 use Rattle.named_mains.specs.NamedMains.{items_from, statements_of}
-use Rattle.main_translation.specs.Outlined.{label_at, passes_arms, loop_at}
-use Rattle.unit_file.specs.UnitFile.{WrittenUnit}
-use Rattle.unit_sites.specs.UnitSites.{UnitsOfFile}
+use Rattle.named_mains.specs.main_translation.Outlined.{label_at, passes_arms, loop_at}
+use Rattle.unit_translation.specs.unit_file.UnitFile.{WrittenUnit}
+use Rattle.unit_translation.specs.unit_sites.UnitSites.{UnitsOfFile}
 use Rattle.unit_item_laws.specs.AgreeingUnits.{known_of_unit}
 use Rattle.unit_translation.specs.UnitFlow.{kind_before, are_in_place}
 use Rattle.unit_translation.specs.UnitContents.{LoweredUnit, unit_numbers, constants_passed, inventory_of, inventories_of}

@@ -8,7 +8,7 @@ use Rattle.f_tree.specs.declared.statements.LoopControl.{LoopControl}
 use Rattle.f_tree.specs.declared.statements.Stmt.{Stmt}
 use Rattle.f_tree.specs.Folds.{layer_of}
 use Rattle.f_tree.specs.Lines.{Naming, control_of}
-use Rattle.lowering.specs.Statements.{loop_operands}
+use Rattle.expression_lowering.specs.lowering.Statements.{loop_operands}
 use Rattle.name_facts.specs.declared.table.NameFacts.{NameFacts}
 use Rattle.expression_lowering.specs.declared.answers.LowerError.{LowerError}
 use Rattle.expression_lowering.specs.declared.answers.LowerError.TheVariants.{NotLowered, NoMemory}

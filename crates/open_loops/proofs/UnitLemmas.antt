@@ -19,9 +19,9 @@ use Rattle.f_tree.specs.Uses.{heading_of}
 use Rattle.f_tree.specs.Attributes.{from_all, all_described, attribute_in}
 use Rattle.f_tree.specs.Lines.{Naming, lines_opened, is_text, text_assignment, value_assignment, assignment, is_statement_function, assign_form, form_of, loop_label_in, line_of, program_of, with_ties, unit_read}
 use Rattle.f_tree.specs.Nests.{Range, loop_of, range_to, range_by, ranges_from, ranges_of, is_within, open_at}
-use Rattle.lowering.specs.Statements.{loop_operands}
-use Rattle.lowering.specs.Units.{loop_at_line, loop_lowered, free_of, free_at, ended_at}
-use Rattle.declaration_rows.specs.UnitRows as written
+use Rattle.expression_lowering.specs.lowering.Statements.{loop_operands}
+use Rattle.expression_lowering.specs.lowering.Units.{loop_at_line, loop_lowered, free_of, free_at, ended_at}
+use Rattle.name_facts.specs.declaration_rows.UnitRows as written
 use Rattle.name_facts.specs.declared.table.NameFacts.{NameFacts}
 use Rattle.expression_lowering.specs.TableNames.{AreFactsOf}
 use Rattle.open_loops.specs.declared.places.LoopPlace.{LoopPlace}

@@ -8,7 +8,7 @@ use Rattle.f_tree.specs.Folds.{layer_of}
 use Rattle.f_tree.specs.Facts.{ProgramUnit}
 use Rattle.f_tree.specs.Lines.{Naming}
 use Rattle.f_tree.specs.Nests.{Range}
-use Rattle.lowering.specs.Units.{free_at, ended_at}
+use Rattle.expression_lowering.specs.lowering.Units.{free_at, ended_at}
 use Rattle.name_facts.specs.declared.table.NameFacts.{NameFacts}
 use Rattle.expression_lowering.specs.TableNames.{AreFactsOf}
 use Rattle.statement_lowering.specs.LoweredStatements.{control_lowers}

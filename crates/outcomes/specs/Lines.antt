@@ -7,7 +7,7 @@ use Rattle.shelf_texts.specs.ShelfLoops.{joined}
 use Rattle.f_tree.specs.declared.refusals.Refusal.{Refusal}
 use Rattle.f_tree.specs.RefusalRows.{number_of, text_of}
 use Rattle.outcomes.specs.declared.outcome.Outcome.{Outcome}
-use Rattle.outcomes.specs.declared.outcome.Outcome.TheVariants.{Done, Refused, BadWord, NotThere, Unread, Unwritten, NoFreeName, NoMemory}
+use Rattle.outcomes.specs.declared.outcome.Outcome.TheVariants.{Done, Disagree, Refused, NotPrototype, BadWord, NotThere, Unread, Unwritten, NoFreeName, NoMemory}
 
 -- a place as a message names it: a file by its name, a stream in angle brackets
 abbrev pub shown : Place → List ℕ
@@ -52,6 +52,10 @@ refusal_line name refusal =
     ∷ codes "\n"
     ∷ [])
 
+-- f2c: FILE:LINE: not a prototype
+abbrev pub not_prototype_line : List ℕ → ℕ → List ℕ
+not_prototype_line name line = joined (codes "f2c: " ∷ name ∷ codes ":" ∷ decimal line ∷ codes ": not a prototype\n" ∷ [])
+
 -- f2c: word I: WORD
 abbrev pub bad_word_line : List (List ℕ) → ℕ → List ℕ
 bad_word_line words number =
@@ -76,7 +80,9 @@ no_memory_line = joined (codes "f2c: out of memory\n" ∷ [])
 -- the line of an outcome; a command that did its work writes none
 abbrev pub line_of : List (List ℕ) → Outcome → List ℕ
 line_of words Done = []
+line_of words Disagree = []
 line_of words (Refused refusal name) = refusal_line name refusal
+line_of words (NotPrototype name line) = not_prototype_line name line
 line_of words (BadWord number) = bad_word_line words number
 line_of words (NotThere name) = not_there_line name
 line_of words (Unread place) = shelf_fault_line place

@@ -1,7 +1,8 @@
 //! The lines that outcomes write on Fault. They are put in pieces, so that a message takes no memory.
 
 ghost use Rattle.std.specs.Prelude.{◌≡◌};
-ghost use Rattle.outcomes.specs.Lines.{shown, file_shown, word_shown, row_start, refusal_line, bad_word_line, no_free_name_line, line_of};
+ghost use Rattle.outcomes.specs.Lines.{shown, file_shown, word_shown, row_start, refusal_line, bad_word_line, not_prototype_line, no_free_name_line, line_of};
+ghost use Rattle.outcomes.specs.Outcomes.{IsSilent};
 ghost use Rattle.shelf_texts.specs.Messages.{Said};
 ghost use Rattle.f2c_outside.specs.Texts.{word_at};
 
@@ -86,6 +87,21 @@ fn say_bad_word<H: Shelf>(shelf: &mut H, words: &Words, number: usize)
     say(shelf, &pieces);
 }
 
+/// Says `f2c: FILE:LINE: not a prototype`.
+fn say_not_prototype<H: Shelf>(shelf: &mut H, name: &[u8], line: usize)
+    ensures { Said (not_prototype_line name.now line) (H.state shelf.old) (H.state shelf.new) }
+{
+    let mut printed = Buffer::new();
+    let pieces: [&[u8]; 5] = [
+        b"f2c: ",
+        name,
+        b":",
+        printed.format(line).as_bytes(),
+        b": not a prototype\n",
+    ];
+    say(shelf, &pieces);
+}
+
 /// Says `f2c: no free name for piece K`.
 fn say_no_free_name<H: Shelf>(shelf: &mut H, number: usize)
     ensures { Said (no_free_name_line number) (H.state shelf.old) (H.state shelf.new) }
@@ -102,11 +118,12 @@ fn say_no_free_name<H: Shelf>(shelf: &mut H, number: usize)
 /// Says the line of an outcome. A command that did its work has none.
 pub fn say_outcome<H: Shelf>(shelf: &mut H, words: &Words, outcome: &Outcome)
     ensures said { Said (line_of words.now outcome.now) (H.state shelf.old) (H.state shelf.new) }
-    ensures silent { outcome.now ≡ Outcome.Done → H.state shelf.new ≡ H.state shelf.old }
+    ensures silent { IsSilent outcome.now → H.state shelf.new ≡ H.state shelf.old }
 {
     match outcome {
-        Outcome::Done => {}
+        Outcome::Done | Outcome::Disagree => {}
         Outcome::Refused(refusal, name) => say_refusal(shelf, refusal, name),
+        Outcome::NotPrototype(name, line) => say_not_prototype(shelf, name.as_slice(), *line),
         Outcome::BadWord(number) => say_bad_word(shelf, words, *number),
         Outcome::NoFreeName(number) => say_no_free_name(shelf, *number),
         Outcome::NotThere(name) => {

@@ -11,8 +11,12 @@ use f2c_outside::shelves::Place;
 pub enum Outcome {
     /// The command did its work.
     Done,
+    /// The command did its work, and a call, one at least, disagrees with what it calls.
+    Disagree,
     /// The source has this first refusal, in the file with this name, or in Input.
     Refused(Refusal, Option<Text>),
+    /// The file of this name is no prototype file, and this, counted from 1, is its first line such that the lines up to it are none.
+    NotPrototype(Text, usize),
     /// With the word of this number, counted from 1, no command goes on.
     BadWord(usize),
     /// The file of this name is to be read and is not on the shelf.
@@ -29,16 +33,17 @@ pub enum Outcome {
 
 impl Outcome {
     /// The exit status: 0, 1 for a refusal, 2 for bad words, 3 for a file that is not there or a shelf
-    /// that failed, 5 where memory ran out, 13 where a piece gets no name.
+    /// that failed, 5 where memory ran out, 11 where a call disagrees, 13 where a piece gets no name.
     pub fn status(&self) -> u8
         ensures { result ≡ status_of self.now }
     {
         match self {
             Outcome::Done => 0,
-            Outcome::Refused(_, _) => 1,
+            Outcome::Refused(_, _) | Outcome::NotPrototype(_, _) => 1,
             Outcome::BadWord(_) => 2,
             Outcome::NotThere(_) | Outcome::Unread(_) | Outcome::Unwritten(_) => 3,
             Outcome::NoMemory => 5,
+            Outcome::Disagree => 11,
             Outcome::NoFreeName(_) => 13,
         }
     }

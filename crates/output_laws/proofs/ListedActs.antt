@@ -2,35 +2,35 @@
 use Rattle.std.specs.Prelude.{◌≡◌, ℕ, ℤ, pos, negsuc, Bool, true, false, not, List, [], ◌∷◌, ◌++◌, length, drop, Option, Some, None, Result, Ok, Err, codes, slice_get, if◌then◌else◌}
 use Rattle.std.specs.Ordering.{int_eq}
 use Rattle.std.proofs.Common.{refl, sym, ap, ◌∙◌}
-use Rattle.edit_meaning.specs.Listed as list
-use Rattle.run_state.specs.Units.{Units, is_connected, reads_zero_blanks}
-use Rattle.run_state.specs.declared.refusals.UnitRefusal.{UnitRefusal}
-use Rattle.f_tree.specs.Values.{Datum, IsInt, given_that}
-use Rattle.f_tree.specs.Store.{Truth}
-use Rattle.f_tree.specs.Facts.{Output, Listed, LabelledFormat}
-use Rattle.f_tree.specs.World as fortran
-use Rattle.f_tree.specs.Courses.{Course, Further, IsDone, StopsWith}
-use Rattle.f_tree.specs.Statuses as statuses
-use Rattle.f_tree.specs.Statuses.{fails_with}
-use Rattle.f_tree.specs.Records.{Wrote, StoppedBy, put_lines}
-use Rattle.f_tree.specs.Transfers as source
-use Rattle.f_tree.specs.Transfers.{begins, item_done, finished}
-use Rattle.c_tree.specs.declared.outcome.CValue.{CValue}
-use Rattle.c_tree.specs.declared.outcome.CValue.TheVariants.{Number, Pointer}
-use Rattle.c_tree.specs.declared.types.ListType.TheVariants as list_type
-use Rattle.c_tree.specs.Faults.{Or, after}
-use Rattle.c_tree.specs.Access.{ToList, ToField, NumberField}
-use Rattle.c_tree.specs.Objects.{Object, Place, plain, fetched, read_object, as_number}
-use Rattle.c_tree.specs.Values.{field}
-use Rattle.c_tree.specs.World as c
-use Rattle.c_tree.specs.World.{Reply}
-use Rattle.c_tree.specs.Builtins.{do_lio}
-use Rattle.c_tree.specs.LibraryArguments.{number_through, list_of, list_at, field_number}
-use Rattle.c_tree.specs.Transfers.{refusal_number, asked, numbered, ended_by, Control, unit_control, new_transfer, passed}
-use Rattle.c_tree.specs.TransferStarts.{starts, begun}
-use Rattle.c_tree.specs.TransferOutput.{StopsAt, ItemKind, IntegerItem, LogicalItem, items_at, listed_put, made, put_further, put_last, put_on_unit, write_all}
-use Rattle.c_tree.specs.TransferCalls.{listed_items, ends}
-use Rattle.c_tree.specs.Library.{library}
+use Rattle.faithful.specs.edit_meaning.Listed as list
+use Rattle.faithful.specs.run_state.Units.{Units, is_connected, reads_zero_blanks}
+use Rattle.faithful.specs.run_state.declared.refusals.UnitRefusal.{UnitRefusal}
+use Rattle.faithful.specs.f_tree.Values.{Datum, IsInt, given_that}
+use Rattle.faithful.specs.f_tree.Store.{Truth}
+use Rattle.faithful.specs.f_tree.Facts.{Output, Listed, LabelledFormat}
+use Rattle.faithful.specs.f_tree.World as fortran
+use Rattle.faithful.specs.f_tree.Courses.{Course, Further, IsDone, StopsWith}
+use Rattle.faithful.specs.f_tree.Statuses as statuses
+use Rattle.faithful.specs.f_tree.Statuses.{fails_with}
+use Rattle.faithful.specs.f_tree.Records.{Wrote, StoppedBy, put_lines}
+use Rattle.faithful.specs.f_tree.Transfers as source
+use Rattle.faithful.specs.f_tree.Transfers.{begins, item_done, finished}
+use Rattle.faithful.specs.c_tree.declared.outcome.CValue.{CValue}
+use Rattle.faithful.specs.c_tree.declared.outcome.CValue.TheVariants.{Number, Pointer}
+use Rattle.faithful.specs.c_tree.declared.types.ListType.TheVariants as list_type
+use Rattle.faithful.specs.c_tree.Faults.{Or, after}
+use Rattle.faithful.specs.c_tree.Access.{ToList, ToField, NumberField}
+use Rattle.faithful.specs.c_tree.Objects.{Object, Place, plain, fetched, read_object, as_number}
+use Rattle.faithful.specs.c_tree.Values.{field}
+use Rattle.faithful.specs.c_tree.World as c
+use Rattle.faithful.specs.c_tree.World.{Reply}
+use Rattle.faithful.specs.c_tree.Builtins.{do_lio}
+use Rattle.faithful.specs.c_tree.LibraryArguments.{number_through, list_of, list_at, field_number}
+use Rattle.faithful.specs.c_tree.Transfers.{refusal_number, asked, numbered, ended_by, Control, unit_control, new_transfer, passed}
+use Rattle.faithful.specs.c_tree.TransferStarts.{starts, begun}
+use Rattle.faithful.specs.c_tree.TransferOutput.{StopsAt, ItemKind, IntegerItem, LogicalItem, items_at, listed_put, made, put_further, put_last, put_on_unit, write_all}
+use Rattle.faithful.specs.c_tree.TransferCalls.{listed_items, ends}
+use Rattle.faithful.specs.c_tree.Library.{library}
 use Rattle.faithful.specs.StorageImage.{number_for}
 use Rattle.output_laws.specs.ListedOutputs.{fortran_listing, c_listing, list_object, unit_alone, s_wsle, e_wsle, GoOnOrStop, go_on, stop, EndOrStop, end', stopped, StartsAreAlike, IsInProgress, IsItem, an_integer, a_truth, ItemsAreAlike, EndsAreAlike}
 use Rattle.output_laws.proofs.WrittenRecords.{BothWrite, wrote, refused, both_write}

@@ -3,14 +3,14 @@ use Rattle.std.specs.Prelude.{◌≡◌, ℕ, suc, ℤ, pos, Bool, true, false, 
 use Rattle.std.specs.Ordering.{int_eq}
 use Rattle.std.proofs.Common.{refl, ap, ◌∙◌}
 use Rattle.std.proofs.lemmas.Bool.Decides.{Decides-int_eq}
-use Rattle.run_state.specs.Units.{Units, UnitState, with_unit, with_record, unless_ended, write_at, write_unit}
-use Rattle.run_state.specs.declared.refusals.UnitRefusal.{UnitRefusal}
-use Rattle.run_state.specs.declared.refusals.UnitRefusal.TheVariants.{NotConnected, PastEnd}
-use Rattle.f_tree.specs.World.{World, External}
-use Rattle.f_tree.specs.Statuses.{number_of}
-use Rattle.f_tree.specs.Records.{Writing, Wrote, StoppedBy, written_then, stopped_by, unit_written, put_line, put_lines}
-use Rattle.c_tree.specs.Transfers.{refusal_number}
-use Rattle.c_tree.specs.TransferOutput.{write_all}
+use Rattle.faithful.specs.run_state.Units.{Units, UnitState, with_unit, with_record, unless_ended, write_at, write_unit}
+use Rattle.faithful.specs.run_state.declared.refusals.UnitRefusal.{UnitRefusal}
+use Rattle.faithful.specs.run_state.declared.refusals.UnitRefusal.TheVariants.{NotConnected, PastEnd}
+use Rattle.faithful.specs.f_tree.World.{World, External}
+use Rattle.faithful.specs.f_tree.Statuses.{number_of}
+use Rattle.faithful.specs.f_tree.Records.{Writing, Wrote, StoppedBy, written_then, stopped_by, unit_written, put_line, put_lines}
+use Rattle.faithful.specs.c_tree.Transfers.{refusal_number}
+use Rattle.faithful.specs.c_tree.TransferOutput.{write_all}
 
 -- a unit that is connected and does not stand behind the endfile record
 record MayWrite (unit : ℤ) (units : Units) : Type 0 where

@@ -1,27 +1,27 @@
 -- A list-directed output on a unit, for which nothing is asked where it fails: FORTRAN's acts and the calls of the C library, side by side. The start,
 -- an item and the end each come to the same. ANSI X3.9-1978, sections 12.8, 12.9.5 and 13.6; CSTR 149, on the run time library.
 use Rattle.std.specs.Prelude.{◌≡◌, ℕ, ℤ, pos, false, Bool, List, [], ◌∷◌, ◌++◌, Some, None, Ok, slice_get}
-use Rattle.edit_meaning.specs.Formats.{Empty}
-use Rattle.edit_meaning.specs.ListInput.{Between as StandsBetween}
-use Rattle.edit_meaning.specs.Listed.{ListedValue, Int, Logical}
-use Rattle.run_state.specs.Units.{Units, reads_zero_blanks}
-use Rattle.f_tree.specs.Values.{Datum, IsInt, IsLog}
-use Rattle.f_tree.specs.Store.{Truth}
-use Rattle.f_tree.specs.Facts.{Output, Listed, UnitWord, Controls, LabelledFormat}
-use Rattle.f_tree.specs.World as fortran
-use Rattle.f_tree.specs.Courses.{Course, Further, IsDone, StopsWith}
-use Rattle.f_tree.specs.Transfers.{begins, item_done, finished}
-use Rattle.c_tree.specs.declared.outcome.CValue.{CValue}
-use Rattle.c_tree.specs.declared.outcome.CValue.TheVariants.{Number, Pointer, Null}
-use Rattle.c_tree.specs.declared.types.ListType.TheVariants as list_type
-use Rattle.c_tree.specs.Faults.{Or}
-use Rattle.c_tree.specs.Access.{ToList}
-use Rattle.c_tree.specs.Objects.{Object, Values}
-use Rattle.c_tree.specs.World as c
-use Rattle.c_tree.specs.World.{Reply, no_place, no_course}
-use Rattle.c_tree.specs.Builtins.{Builtin, Begin, Finish, do_lio, ByList, OnUnit, transfer_kind}
-use Rattle.c_tree.specs.LibraryArguments.{number_through}
-use Rattle.c_tree.specs.Library.{library}
+use Rattle.faithful.specs.edit_meaning.Formats.{Empty}
+use Rattle.faithful.specs.edit_meaning.ListInput.{Between as StandsBetween}
+use Rattle.faithful.specs.edit_meaning.Listed.{ListedValue, Int, Logical}
+use Rattle.faithful.specs.run_state.Units.{Units, reads_zero_blanks}
+use Rattle.faithful.specs.f_tree.Values.{Datum, IsInt, IsLog}
+use Rattle.faithful.specs.f_tree.Store.{Truth}
+use Rattle.faithful.specs.f_tree.Facts.{Output, Listed, UnitWord, Controls, LabelledFormat}
+use Rattle.faithful.specs.f_tree.World as fortran
+use Rattle.faithful.specs.f_tree.Courses.{Course, Further, IsDone, StopsWith}
+use Rattle.faithful.specs.f_tree.Transfers.{begins, item_done, finished}
+use Rattle.faithful.specs.c_tree.declared.outcome.CValue.{CValue}
+use Rattle.faithful.specs.c_tree.declared.outcome.CValue.TheVariants.{Number, Pointer, Null}
+use Rattle.faithful.specs.c_tree.declared.types.ListType.TheVariants as list_type
+use Rattle.faithful.specs.c_tree.Faults.{Or}
+use Rattle.faithful.specs.c_tree.Access.{ToList}
+use Rattle.faithful.specs.c_tree.Objects.{Object, Values}
+use Rattle.faithful.specs.c_tree.World as c
+use Rattle.faithful.specs.c_tree.World.{Reply, no_place, no_course}
+use Rattle.faithful.specs.c_tree.Builtins.{Builtin, Begin, Finish, do_lio, ByList, OnUnit, transfer_kind}
+use Rattle.faithful.specs.c_tree.LibraryArguments.{number_through}
+use Rattle.faithful.specs.c_tree.Library.{library}
 use Rattle.faithful.specs.StorageImage.{number_for}
 
 -- the transfer, with its values so far and so many of their records written

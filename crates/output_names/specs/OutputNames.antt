@@ -1,4 +1,4 @@
--- Which words of a command line name FORTRAN files, and the names of the C files that their translations stand in. CSTR 149, section 1 and appendix B.
+-- Which words of a command line name FORTRAN files and prototype files, and the names of the C files that translations stand in. CSTR 149, section 1 and appendix B.
 use Rattle.std.specs.Prelude.{ℕ, suc, ◌-◌, nat_le, nat_lt, nat_eq, Bool, ◌&&◌, List, [], ◌∷◌, ◌++◌, length, take, drop, codes, bytes_eq, if◌then◌else◌}
 
 -- a word ends in `.f`
@@ -8,6 +8,14 @@ has_ending word = bytes_eq (drop (length word - 2) word) (codes ".f")
 -- a word names a file where it ends so, has another byte before, and at most the 255 bytes of a name
 abbrev pub is_file_word : List ℕ → Bool
 is_file_word word = nat_lt 2 (length word) && (nat_le (length word) 255 && has_ending word)
+
+-- a word ends in `.P`
+abbrev pub has_prototype_ending : List ℕ → Bool
+has_prototype_ending word = bytes_eq (drop (length word - 2) word) (codes ".P")
+
+-- a word names a prototype file where it ends so, on the same terms
+abbrev pub is_prototype_word : List ℕ → Bool
+is_prototype_word word = nat_lt 2 (length word) && (nat_le (length word) 255 && has_prototype_ending word)
 
 -- where the part behind the last slash begins, in bytes of which the first has this place
 unfoldable pub last_part_from : ℕ → ℕ → List ℕ → ℕ

@@ -1,9 +1,9 @@
--- The places that the words of a translation name.
+-- The places that the words of a command line name.
 use Rattle.std.specs.Prelude.{ℕ, List, [], ◌∷◌, map}
 use Rattle.std.specs.List.{filter}
 use Rattle.f2c_outside.specs.declared.shelves.Place.{Place}
 use Rattle.f2c_outside.specs.declared.shelves.Place.TheVariants.{Input, Output, File}
-use Rattle.output_names.specs.OutputNames.{is_file_word, output_name}
+use Rattle.output_names.specs.OutputNames.{is_file_word, is_prototype_word, output_name}
 
 -- the words that name files
 abbrev pub file_words : List (List ℕ) → List (List ℕ)
@@ -14,9 +14,16 @@ abbrev pub places_or : Place → List Place → List Place
 places_or other [] = other ∷ []
 places_or other (place ∷ places) = place ∷ places
 
+-- the FORTRAN files that are named, and the prototype files
+abbrev pub files_named : List (List ℕ) → List Place
+files_named words = map File (file_words words)
+
+abbrev pub prototypes_named : List (List ℕ) → List Place
+prototypes_named words = map File (filter is_prototype_word words)
+
 -- the FORTRAN files that are named, or Input
 abbrev pub inputs_of : List (List ℕ) → List Place
-inputs_of words = places_or Input (map File (file_words words))
+inputs_of words = places_or Input (files_named words)
 
 -- the C file of each, or Output
 abbrev pub outputs_of : List (List ℕ) → List Place

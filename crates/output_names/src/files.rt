@@ -10,6 +10,9 @@ use std::alloc::Global;
 /// The ending of a FORTRAN file.
 const ENDING: &[u8] = b".f";
 
+/// The ending of a prototype file.
+const PROTOTYPE_ENDING: &[u8] = b".P";
+
 /// The ending of a C file.
 const C_ENDING: &[u8] = b".c";
 
@@ -29,6 +32,21 @@ pub fn is_file_word(word: &[u8]) -> bool
     ensures { result ≡ names.is_file_word word.now }
 {
     word.len() > 2 && word.len() <= LONGEST_NAME && has_ending(word)
+}
+
+/// Whether a word ends as a prototype file does.
+fn has_prototype_ending(word: &[u8]) -> bool
+    requires { 2 ≤ length word.now }
+    ensures { result ≡ names.has_prototype_ending word.now }
+{
+    &word[word.len() - 2..] == PROTOTYPE_ENDING
+}
+
+/// Whether a word names a prototype file: it ends in `.P`, has a byte before that, and no more than 255 bytes.
+pub fn is_prototype_word(word: &[u8]) -> bool
+    ensures { result ≡ names.is_prototype_word word.now }
+{
+    word.len() > 2 && word.len() <= LONGEST_NAME && has_prototype_ending(word)
 }
 
 /// Where the part behind the last slash begins.
@@ -91,6 +109,14 @@ pub fn have_one_output(one: &[u8], other: &[u8]) -> bool
 /// The name of the FORTRAN file that a word names.
 pub(crate) fn input_name(alloc: Global, word: &[u8]) -> Result<Name, NoMemory>
     requires { IsTrue (names.is_file_word word.now) }
+    ensures { IfOk result (λ name. name ≡ word.now) }
+{
+    name_of(alloc, word)
+}
+
+/// The name of the prototype file that a word names.
+pub(crate) fn prototype_name(alloc: Global, word: &[u8]) -> Result<Name, NoMemory>
+    requires { IsTrue (names.is_prototype_word word.now) }
     ensures { IfOk result (λ name. name ≡ word.now) }
 {
     name_of(alloc, word)

@@ -1,11 +1,12 @@
-//! The places that the words of a translation name.
+//! The places that the words of a command line name.
 
 ghost use Rattle.std.specs.Prelude.{◌≡◌, ◌++◌, ◌∷◌, [], map, IfOk};
+ghost use Rattle.std.specs.List.{filter};
 ghost use Rattle.f2c_outside.specs.declared.shelves.Place.TheVariants as place_of;
 ghost use Rattle.output_names.specs.OutputNames as names;
 ghost use Rattle.output_names.specs.WordPlaces as places_by;
 
-use crate::files::{input_name, is_file_word, output_name};
+use crate::files::{input_name, is_file_word, is_prototype_word, output_name, prototype_name};
 use f2c_outside::shelves::Place;
 use f2c_outside::texts::{NoMemory, Words};
 use plain_data::Items;
@@ -18,6 +19,21 @@ fn with_input(alloc: Global, places: Items<Place>, word: &[u8]) -> Result<Items<
     let mut places = places;
     if is_file_word(word) {
         places.push(Place::File(input_name(alloc, word)?))?;
+    }
+    Ok(places)
+}
+
+/// Places, and the prototype file that a word names, if it names one.
+fn with_prototype(
+    alloc: Global,
+    places: Items<Place>,
+    word: &[u8],
+) -> Result<Items<Place>, NoMemory>
+    ensures { IfOk result (λ more. more ≡ places ++ map place_of.File (filter names.is_prototype_word (word.now ∷ []))) }
+{
+    let mut places = places;
+    if is_prototype_word(word) {
+        places.push(Place::File(prototype_name(alloc, word)?))?;
     }
     Ok(places)
 }
@@ -44,9 +60,9 @@ fn places_or(other: Place, places: Items<Place>) -> Result<Items<Place>, NoMemor
     Ok(places)
 }
 
-/// The FORTRAN files that words name, in their order, or Input where they name none.
-pub fn inputs_of(alloc: Global, words: &Words) -> Result<Items<Place>, NoMemory>
-    ensures { IfOk result (λ places. places ≡ places_by.inputs_of words.now) }
+/// The FORTRAN files that words name, in their order.
+pub fn files_named(alloc: Global, words: &Words) -> Result<Items<Place>, NoMemory>
+    ensures { IfOk result (λ places. places ≡ places_by.files_named words.now) }
 {
     let mut places = Items::new(alloc);
     let mut passed = 0;
@@ -57,6 +73,30 @@ pub fn inputs_of(alloc: Global, words: &Words) -> Result<Items<Place>, NoMemory>
             None => {}
         }
     }
+    Ok(places)
+}
+
+/// The prototype files that words name, in their order.
+pub fn prototypes_named(alloc: Global, words: &Words) -> Result<Items<Place>, NoMemory>
+    ensures { IfOk result (λ places. places ≡ places_by.prototypes_named words.now) }
+{
+    let mut places = Items::new(alloc);
+    let mut passed = 0;
+    while passed < words.len() {
+        passed += 1;
+        match words.get(passed) {
+            Some(word) => places = with_prototype(alloc, places, word)?,
+            None => {}
+        }
+    }
+    Ok(places)
+}
+
+/// The FORTRAN files that words name, in their order, or Input where they name none.
+pub fn inputs_of(alloc: Global, words: &Words) -> Result<Items<Place>, NoMemory>
+    ensures { IfOk result (λ places. places ≡ places_by.inputs_of words.now) }
+{
+    let places = files_named(alloc, words)?;
     places_or(Place::Input, places)
 }
 

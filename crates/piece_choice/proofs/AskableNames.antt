@@ -6,16 +6,16 @@ use Rattle.std.proofs.lemmas.Bool.{and_parts}
 use Rattle.std.proofs.lemmas.Bool.Decides.{nat_tests}
 use Rattle.std.proofs.lemmas.List.{length-append}
 use Rattle.f2c_outside.specs.Texts.{IsName}
-use Rattle.fortran_text.specs.declared.source.Statement.{Statement}
-use Rattle.fortran_text.specs.Cards.{cards_of}
-use Rattle.fortran_text.specs.StatementsOfFile.{statements}
-use Rattle.fortran_lexemes.specs.KindsOfStatements.{begins_with, is_empty}
-use Rattle.fortran_lexemes.specs.declared.kinds.StmtKind.{StmtKind}
-use Rattle.fortran_lexemes.specs.declared.kinds.StmtKind.TheVariants as kind
-use Rattle.split_pieces.specs.Pieces.{Piece, piece_of, texts_of, pieces_of}
-use Rattle.split_pieces.specs.WantedNames.{is_name, nameless, by_run, by_block_run, by_kind, wanted_by, wanted_of}
-use Rattle.split_pieces.specs.declared.wanted.Wanted.TheVariants.{Named, BlockData, Unknown}
-use Rattle.split_pieces.specs.declared.wanted.WantedName.{WantedName}
+use Rattle.fsplit.specs.fortran_text.declared.source.Statement.{Statement}
+use Rattle.fsplit.specs.fortran_text.Cards.{cards_of}
+use Rattle.fsplit.specs.fortran_text.StatementsOfFile.{statements}
+use Rattle.fsplit.specs.fortran_lexemes.KindsOfStatements.{begins_with, is_empty}
+use Rattle.fsplit.specs.fortran_lexemes.declared.kinds.StmtKind.{StmtKind}
+use Rattle.fsplit.specs.fortran_lexemes.declared.kinds.StmtKind.TheVariants as kind
+use Rattle.fsplit.specs.split_pieces.Pieces.{Piece, piece_of, texts_of, pieces_of}
+use Rattle.fsplit.specs.split_pieces.WantedNames.{is_name, nameless, by_run, by_block_run, by_kind, wanted_by, wanted_of}
+use Rattle.fsplit.specs.split_pieces.declared.wanted.Wanted.TheVariants.{Named, BlockData, Unknown}
+use Rattle.fsplit.specs.split_pieces.declared.wanted.WantedName.{WantedName}
 use Rattle.piece_choice.specs.NamesOfPieces.{AreAskable}
 
 abbrev IsAskable : WantedName → Type 0

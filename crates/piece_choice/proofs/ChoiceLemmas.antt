@@ -6,11 +6,11 @@ use Rattle.std.proofs.lemmas.Cmp.{nat_list_eq_equiv}
 use Rattle.std.proofs.lemmas.Map.Keys.{IsDistinct-push}
 use Rattle.f2c_outside.specs.Shelf.{Contents, ShelfState, Rose}
 use Rattle.f2c_outside.specs.Texts.{IsName}
-use Rattle.split_pieces.specs.ChosenNames.{is_free, prefix_of, numbered, first_free, is_named, choice, IsCandidate, behind_choice, names_behind, chosen_names}
-use Rattle.split_pieces.specs.Pieces.{Piece}
-use Rattle.split_pieces.specs.declared.wanted.Wanted.{Wanted}
-use Rattle.split_pieces.specs.declared.wanted.Wanted.TheVariants.{Named}
-use Rattle.split_pieces.specs.declared.wanted.WantedName.{WantedName}
+use Rattle.fsplit.specs.split_pieces.ChosenNames.{is_free, prefix_of, numbered, first_free, is_named, choice, IsCandidate, behind_choice, names_behind, chosen_names}
+use Rattle.fsplit.specs.split_pieces.Pieces.{Piece}
+use Rattle.fsplit.specs.split_pieces.declared.wanted.Wanted.{Wanted}
+use Rattle.fsplit.specs.split_pieces.declared.wanted.Wanted.TheVariants.{Named}
+use Rattle.fsplit.specs.split_pieces.declared.wanted.WantedName.{WantedName}
 use Rattle.piece_names.specs.Asking.{has, IsCause}
 use Rattle.piece_names.specs.declared.choosing.ChoiceFail.{ChoiceFail}
 use Rattle.piece_names.specs.declared.choosing.ChoiceFail.TheVariants as choice_fail

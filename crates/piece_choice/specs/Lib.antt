@@ -1,1 +1,2 @@
 pub mod NamesOfPieces
+pub use Rattle.piece_names.specs as piece_names

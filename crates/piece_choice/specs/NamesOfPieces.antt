@@ -2,10 +2,10 @@
 use Rattle.std.specs.Prelude.{◌≡◌, ℕ, List, [], ◌∷◌, map, Option, Some, None, Ok, Err, IfSome, slice_get}
 use Rattle.f2c_outside.specs.Shelf.{Contents, ShelfState, Rose}
 use Rattle.f2c_outside.specs.Texts.{IsName}
-use Rattle.split_pieces.specs.ChosenNames.{IsCandidate, chosen_names}
-use Rattle.split_pieces.specs.Pieces.{Piece}
-use Rattle.split_pieces.specs.declared.wanted.Wanted.TheVariants.{Named}
-use Rattle.split_pieces.specs.declared.wanted.WantedName.{WantedName}
+use Rattle.fsplit.specs.split_pieces.ChosenNames.{IsCandidate, chosen_names}
+use Rattle.fsplit.specs.split_pieces.Pieces.{Piece}
+use Rattle.fsplit.specs.split_pieces.declared.wanted.Wanted.TheVariants.{Named}
+use Rattle.fsplit.specs.split_pieces.declared.wanted.WantedName.{WantedName}
 use Rattle.piece_names.specs.Asking.{has}
 use Rattle.piece_names.specs.declared.choosing.ChoiceFail.{ChoiceFail}
 use Rattle.piece_names.specs.declared.choosing.ChoiceFail.TheVariants as choice_fail

@@ -4,7 +4,7 @@ ghost use Rattle.std.specs.Prelude.{◌≡◌, length, bytes_eq, IfErr, OnOk};
 ghost use Rattle.std.specs.List.{IsDistinct};
 ghost use Rattle.f2c_outside.specs.declared.shelves.Place.TheVariants as place_of;
 ghost use Rattle.shelf_texts.specs.ShelfLoops.{IsWritten};
-ghost use Rattle.split_pieces.specs.Pieces.{texts_in};
+ghost use Rattle.fsplit.specs.split_pieces.Pieces.{texts_in};
 ghost use Rattle.piece_writer.specs.WrittenPieces.{IsUnwrittenFile, AreWritten, AreNotWritten};
 
 use f2c_outside::shelves::{Place, Shelf};

@@ -3,8 +3,8 @@
 use Rattle.std.proofs.Common.{◌≡◌, ℕ, zero, suc, ◌+◌, ◌≤◌, ◌<◌, ℤ, pos, ◌+ℤ◌, neg_ℤ, Bool, true, false, ◌&&◌, ◌||◌, List, [], ◌∷◌, ◌++◌, bytes_eq, if◌then◌else◌, true≢false, arith, refl, sym, ap, subst, ◌∙◌, inl, inr}
 use Rattle.std.specs.List.{list_any}
 use Rattle.std.proofs.lemmas.Int.{ints}
-use Rattle.f_tree.specs.Values.{Bytes}
-use Rattle.f_tree.specs.Setting.{IsIn, first_in, later_in}
+use Rattle.offset_classes.specs.f_tree.Values.{Bytes}
+use Rattle.offset_classes.specs.f_tree.Setting.{IsIn, first_in, later_in}
 use Rattle.declaration_rows.specs.PlacingRows.{Equation, Reached, is_reached, all_reached_by, with_new, further, further_times, count, reached_from}
 use Rattle.offset_classes.specs.Standing.{Stands, AreConsistent}
 use Rattle.offset_classes.proofs.StandsLaws.{stands_self, stands_along, stands_back, by_ways}

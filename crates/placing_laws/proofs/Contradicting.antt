@@ -3,8 +3,8 @@ use Rattle.std.proofs.Common.{◌≡◌, ℕ, zero, suc, ◌+◌, ℤ, pos, ◌+
 use Rattle.std.specs.List.{list_any}
 use Rattle.std.specs.Ordering.{int_eq}
 use Rattle.std.proofs.lemmas.Int.{ints}
-use Rattle.f_tree.specs.Values.{Bytes}
-use Rattle.f_tree.specs.Setting.{IsIn, first_in, later_in}
+use Rattle.offset_classes.specs.f_tree.Values.{Bytes}
+use Rattle.offset_classes.specs.f_tree.Setting.{IsIn, first_in, later_in}
 use Rattle.declaration_rows.specs.PlacingRows.{Equation, Reached, all_reached_by, with_new, further, further_times, count, reached_from, is_contradicted, contradicts}
 use Rattle.offset_classes.specs.Standing.{Stands, AreConsistent, AreContradictory}
 use Rattle.offset_classes.proofs.StandsLaws.{by_ways}

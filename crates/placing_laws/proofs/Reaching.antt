@@ -3,8 +3,8 @@ use Rattle.std.proofs.Common.{◌≡◌, ℕ, zero, suc, ℤ, pos, ◌+ℤ◌, n
 use Rattle.std.specs.Ordering.{int_eq}
 use Rattle.std.proofs.lemmas.Slice.Eq.{bytes_eq-Decides}
 use Rattle.std.proofs.lemmas.Bool.Decides.{Decides-int_eq}
-use Rattle.f_tree.specs.Values.{Bytes}
-use Rattle.f_tree.specs.Setting.{IsIn, first_in, later_in}
+use Rattle.offset_classes.specs.f_tree.Values.{Bytes}
+use Rattle.offset_classes.specs.f_tree.Setting.{IsIn, first_in, later_in}
 use Rattle.declaration_rows.specs.PlacingRows.{Equation, Reached, is_reached, reached_by, all_reached_by, with_new, further, further_times, count, reached_from}
 use Rattle.offset_classes.specs.Standing.{Link, Stands, onward, backward}
 use Rattle.offset_classes.proofs.StandsLaws.{stands_self}

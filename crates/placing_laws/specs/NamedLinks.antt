@@ -1,6 +1,6 @@
 -- The equations of a unit as links between its names. ANSI X3.9-1978, sections 8.2, 8.3 and 17.1.
 use Rattle.std.specs.Prelude.{List, [], ◌∷◌}
-use Rattle.f_tree.specs.Values.{Bytes}
+use Rattle.offset_classes.specs.f_tree.Values.{Bytes}
 use Rattle.declaration_rows.specs.PlacingRows.{Equation}
 use Rattle.offset_classes.specs.Standing.{Link}
 

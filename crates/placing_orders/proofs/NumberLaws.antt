@@ -3,14 +3,14 @@
 use Rattle.std.proofs.Common.{◌≡◌, ℕ, zero, suc, ◌+◌, ◌<◌, ℤ, pos, ◌+ℤ◌, neg_ℤ, nat_abs, Bool, true, false, not, ◌&&◌, ◌||◌, List, [], ◌∷◌, take, bytes_eq, true≢false, Option, Some, None, arith, refl, sym, ap, subst, ◌∙◌, ◌⊎◌, inl, inr}
 use Rattle.std.specs.Prelude.{int_lt, if◌then◌else◌}
 use Rattle.std.proofs.lemmas.Int.{ints}
-use Rattle.f_tree.specs.Values.{Bytes}
-use Rattle.f_tree.specs.Setting.{IsIn, first_in, later_in}
-use Rattle.f_tree.specs.Uses.{is_among}
-use Rattle.declaration_rows.specs.PlacingRows.{Equation, Placing, Reached, reached_from, contradicts, first_items, extends_before, joins_other, is_joined_or_extended, least_of, first_among, start_by, place_in}
-use Rattle.offset_classes.specs.Standing.{Link, Stands, onward, backward, AreConsistent, AreContradictory}
-use Rattle.offset_classes.specs.Forest.{IsApart, place_at, AreClasses, IsFirstToContradict}
-use Rattle.offset_classes.specs.declared.nodes.Place.{Place}
-use Rattle.offset_classes.proofs.StandsLaws.{stands_self, stands_more, by_ways}
+use Rattle.placing_laws.specs.f_tree.Values.{Bytes}
+use Rattle.placing_laws.specs.f_tree.Setting.{IsIn, first_in, later_in}
+use Rattle.placing_laws.specs.f_tree.Uses.{is_among}
+use Rattle.placing_laws.specs.declaration_rows.PlacingRows.{Equation, Placing, Reached, reached_from, contradicts, first_items, extends_before, joins_other, is_joined_or_extended, least_of, first_among, start_by, place_in}
+use Rattle.placing_laws.specs.offset_classes.Standing.{Link, Stands, onward, backward, AreConsistent, AreContradictory}
+use Rattle.placing_laws.specs.offset_classes.Forest.{IsApart, place_at, AreClasses, IsFirstToContradict}
+use Rattle.placing_laws.specs.offset_classes.declared.nodes.Place.{Place}
+use Rattle.placing_laws.proofs.offset_classes.StandsLaws.{stands_self, stands_more, by_ways}
 use Rattle.placing_laws.specs.NamedLinks.{link_by, links_by}
 use Rattle.placing_laws.proofs.Reaching.{link_in, equation_in, reached_stands, both_true, true_both, or_left, or_right, bytes_same, bytes_self}
 use Rattle.placing_laws.proofs.Completed.{stands_reached}

@@ -2,19 +2,19 @@
 -- is sound have no row of storage but those of their places.
 use Rattle.std.proofs.Common.{◌≡◌, ℤ, pos, Bool, true, false, not, ◌&&◌, ◌||◌, List, [], ◌∷◌, ◌++◌, bytes_eq, true≢false, append_assoc, append-nil, refl, sym, ap, subst, ◌∙◌, if◌then◌else◌}
 use Rattle.std.specs.Prelude.{int_lt}
-use Rattle.f_tree.specs.declared.refusals.Kind.{Kind}
-use Rattle.f_tree.specs.declared.refusals.Kind.TheVariants.{EquivalenceContradiction, CommonJoinedOrExtended}
-use Rattle.f_tree.specs.declared.statements.Stmt.{Stmt}
-use Rattle.f_tree.specs.Values.{Bytes}
-use Rattle.f_tree.specs.Setting.{IsIn, first_in, later_in}
-use Rattle.f_tree.specs.Facts.{Facts}
-use Rattle.f_tree.specs.Lines.{Naming, equivalence_in}
-use Rattle.f_tree.specs.Uses.{is_among}
-use Rattle.declaration_rows.specs.Judgement.{unless}
-use Rattle.declaration_rows.specs.NameRows.{stood}
-use Rattle.declaration_rows.specs.PlacingRows.{Equation, Placing, placing_by, Reached, reached_from, contradicts, first_items, extends_before, joins_other, is_joined_or_extended, is_sound, groups_settled, newly, placing_rows_from}
-use Rattle.offset_classes.specs.Standing.{Link, Stands, AreConsistent}
-use Rattle.offset_classes.proofs.StandsLaws.{stands_more}
+use Rattle.placing_laws.specs.f_tree.declared.refusals.Kind.{Kind}
+use Rattle.placing_laws.specs.f_tree.declared.refusals.Kind.TheVariants.{EquivalenceContradiction, CommonJoinedOrExtended}
+use Rattle.placing_laws.specs.f_tree.declared.statements.Stmt.{Stmt}
+use Rattle.placing_laws.specs.f_tree.Values.{Bytes}
+use Rattle.placing_laws.specs.f_tree.Setting.{IsIn, first_in, later_in}
+use Rattle.placing_laws.specs.f_tree.Facts.{Facts}
+use Rattle.placing_laws.specs.f_tree.Lines.{Naming, equivalence_in}
+use Rattle.placing_laws.specs.f_tree.Uses.{is_among}
+use Rattle.placing_laws.specs.declaration_rows.Judgement.{unless}
+use Rattle.placing_laws.specs.declaration_rows.NameRows.{stood}
+use Rattle.placing_laws.specs.declaration_rows.PlacingRows.{Equation, Placing, placing_by, Reached, reached_from, contradicts, first_items, extends_before, joins_other, is_joined_or_extended, is_sound, groups_settled, newly, placing_rows_from}
+use Rattle.placing_laws.specs.offset_classes.Standing.{Link, Stands, AreConsistent}
+use Rattle.placing_laws.proofs.offset_classes.StandsLaws.{stands_more}
 use Rattle.placing_laws.specs.NamedLinks.{links_by}
 use Rattle.placing_laws.proofs.Reaching.{link_in, equation_in, reached_stands, both_true, true_both, or_left, or_right, bytes_same, bytes_self}
 use Rattle.placing_laws.proofs.Completed.{stands_reached}

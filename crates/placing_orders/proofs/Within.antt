@@ -1,15 +1,15 @@
 -- What statements say of storage is said too where further statements stand behind them: the equations, and the first items of blocks.
 use Rattle.std.proofs.Common.{◌≡◌, Bool, true, false, List, [], ◌∷◌, ◌++◌, map, Option, if◌then◌else◌, append_assoc, refl, sym, ap, subst, ◌∙◌, inl, inr}
-use Rattle.f_tree.specs.declared.statements.Body.{Body}
-use Rattle.f_tree.specs.declared.statements.CommonGroup.{CommonGroup}
-use Rattle.f_tree.specs.declared.statements.EquivalenceGroup.{EquivalenceGroup}
-use Rattle.f_tree.specs.declared.statements.Stmt.{Stmt}
-use Rattle.f_tree.specs.Values.{Bytes}
-use Rattle.f_tree.specs.Setting.{IsIn, first_in, later_in}
-use Rattle.f_tree.specs.Facts.{Member, Block, Facts}
-use Rattle.f_tree.specs.Attributes.{from_all}
-use Rattle.f_tree.specs.Lines.{Naming, member_of, same_block, into_block, blocks_from, common_in, equivalence_in, ties_of, ties_among, tieds_of}
-use Rattle.declaration_rows.specs.PlacingRows.{Equation, member_equations, tie_equation, block_equations, placing_by, first_item, first_items}
+use Rattle.placing_laws.specs.f_tree.declared.statements.Body.{Body}
+use Rattle.placing_laws.specs.f_tree.declared.statements.CommonGroup.{CommonGroup}
+use Rattle.placing_laws.specs.f_tree.declared.statements.EquivalenceGroup.{EquivalenceGroup}
+use Rattle.placing_laws.specs.f_tree.declared.statements.Stmt.{Stmt}
+use Rattle.placing_laws.specs.f_tree.Values.{Bytes}
+use Rattle.placing_laws.specs.f_tree.Setting.{IsIn, first_in, later_in}
+use Rattle.placing_laws.specs.f_tree.Facts.{Member, Block, Facts}
+use Rattle.placing_laws.specs.f_tree.Attributes.{from_all}
+use Rattle.placing_laws.specs.f_tree.Lines.{Naming, member_of, same_block, into_block, blocks_from, common_in, equivalence_in, ties_of, ties_among, tieds_of}
+use Rattle.placing_laws.specs.declaration_rows.PlacingRows.{Equation, member_equations, tie_equation, block_equations, placing_by, first_item, first_items}
 use Rattle.placing_laws.proofs.Reaching.{in_front_of, in_back_of, in_either_of}
 
 pub record AreWithin {A : Type 0} (xs ys : List A) : Type 0 where

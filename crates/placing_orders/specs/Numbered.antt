@@ -1,12 +1,12 @@
 -- Names by numbers: the equations between names as equations between their numbers, and when no block is joined or extended, told of the places
 -- of numbers. ANSI X3.9-1978, sections 8.2.3, 8.3 and 17.1.
 use Rattle.std.specs.Prelude.{◌≡◌, ℕ, ◌<◌, ℤ, pos, int_lt, false, List}
-use Rattle.f_tree.specs.Values.{Bytes}
-use Rattle.f_tree.specs.Setting.{IsIn}
-use Rattle.declaration_rows.specs.PlacingRows.{Equation}
-use Rattle.offset_classes.specs.Standing.{Link, AreBelow}
-use Rattle.offset_classes.specs.Forest.{IsApart}
-use Rattle.offset_classes.specs.declared.nodes.Place.{Place}
+use Rattle.placing_laws.specs.f_tree.Values.{Bytes}
+use Rattle.placing_laws.specs.f_tree.Setting.{IsIn}
+use Rattle.placing_laws.specs.declaration_rows.PlacingRows.{Equation}
+use Rattle.placing_laws.specs.offset_classes.Standing.{Link, AreBelow}
+use Rattle.placing_laws.specs.offset_classes.Forest.{IsApart}
+use Rattle.placing_laws.specs.offset_classes.declared.nodes.Place.{Place}
 
 -- an equation between numbers, as one between names
 abbrev pub named : (ℕ → Bytes) → Link ℕ → Equation

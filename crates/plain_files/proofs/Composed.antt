@@ -3,24 +3,25 @@ use Rattle.std.specs.List.{list_all}
 use Rattle.std.specs.Prelude.{◌≡◌, ℕ, ◌≤◌, Bool, true, List, [], ◌∷◌, ◌++◌, map, Option, Some, None}
 use Rattle.std.proofs.Common.{sym, subst}
 use Rattle.std.proofs.lemmas.Bool.{leb-true}
-use Rattle.f_tree.specs.declared.names.Options.{Options}
-use Rattle.f_tree.specs.declared.refusals.Refusal.{Refusal}
-use Rattle.f_tree.specs.declared.units.File.{File}
-use Rattle.f_tree.specs.declared.units.Unit.{Unit as WrittenUnit}
-use Rattle.f_tree.specs.Facts.{Member, ProgramUnit}
-use Rattle.f_tree.specs.Holding.{EachRunIsMeant}
-use Rattle.f_tree.specs.Lines.{unit_read}
-use Rattle.f_tree.specs.Meaning.{units_in, units_of}
-use Rattle.f_tree.specs.Setting.{IsIn, first_in, later_in, IsSetting}
-use Rattle.f_tree.specs.WellFormed.{AreWellFormed}
-use Rattle.c_tree.specs.Tokens.{begins_with, is_letter}
-use Rattle.c_text.specs.Printed.{printed}
+use Rattle.fortran_totality.specs.f_tree.declared.names.Options.{Options}
+use Rattle.fortran_totality.specs.f_tree.declared.refusals.Refusal.{Refusal}
+use Rattle.fortran_totality.specs.f_tree.declared.units.File.{File}
+use Rattle.fortran_totality.specs.f_tree.declared.units.Unit.{Unit as WrittenUnit}
+use Rattle.fortran_totality.specs.f_tree.Facts.{Bounds, Member, ProgramUnit}
+use Rattle.fortran_totality.specs.f_tree.Valuing.{elements_of}
+use Rattle.fortran_totality.specs.f_tree.Holding.{EachRunIsMeant}
+use Rattle.fortran_totality.specs.f_tree.Lines.{unit_read}
+use Rattle.fortran_totality.specs.f_tree.Meaning.{units_in, units_of}
+use Rattle.fortran_totality.specs.f_tree.Setting.{IsIn, first_in, later_in, IsSetting}
+use Rattle.fortran_totality.specs.f_tree.WellFormed.{AreWellFormed}
+use Rattle.c_spelling.specs.c_tree.Tokens.{begins_with, is_letter}
+use Rattle.c_spelling.specs.c_text.Printed.{printed}
 use Rattle.c_spelling.proofs.Files.{file_spelled}
-use Rattle.declaration_rows.specs.SetRows.{Faults}
+use Rattle.declaration_laws.specs.declaration_rows.SetRows.{Faults}
 use Rattle.declaration_laws.proofs.SetFits.{sets_formed}
-use Rattle.main_translation.specs.Contents.{count_by}
-use Rattle.main_translation_laws.specs.PlainMains.{IsPlainMain}
-use Rattle.main_programs.specs.MainRuns.{plain_setting}
+use Rattle.main_faithfulness.specs.main_translation.Contents.{count_by}
+use Rattle.main_faithfulness.specs.main_translation_laws.PlainMains.{IsPlainMain}
+use Rattle.main_faithfulness.specs.main_programs.MainRuns.{plain_setting}
 use Rattle.main_faithfulness.specs.MainFaithful.{IsMeant}
 use Rattle.main_faithfulness.proofs.Settings.{plain_is_setting}
 use Rattle.main_faithfulness.proofs.Faithfulness.{plain_mains_are_faithful}
@@ -28,7 +29,7 @@ use Rattle.main_file_texts.specs.WellFormedMains.{IsSpellable}
 use Rattle.main_file_texts.proofs.Files.{main_files_are_well_formed}
 use Rattle.plain_mains.proofs.PlainUnits.{plain_mains_are_told}
 use Rattle.plain_files.specs.PlainFiles.{has_element, is_spellable_name, is_spellable, made_file, EachPlainFileIsFaithful}
-use Rattle.c_laws.proofs.TokenSpellings.{and-first, and-second}
+use Rattle.c_spelling.proofs.c_laws.TokenSpellings.{and-first, and-second}
 
 each_of : {A : Type 0} (test : A → Bool) (xs : List A) → list_all test xs ≡ true → (x : A) → IsIn x xs → test x ≡ true
 each_of test [] all x o = elim o [ ]
@@ -46,11 +47,16 @@ unfolding has_element
 some_element None n is same = absurd (cc)
 some_element (Some m) n is same = let here : m ≡ n = cc in subst (λ k. 1 ≤ k) here (leb-true 1 m is)
 
+array_element : (bs : List Bounds) (n : ℕ) → has_element (elements_of bs) ≡ true → count_by bs ≡ Some n → 1 ≤ n
+unfolding count_by
+array_element [] n is same = absurd (cc)
+array_element (b ∷ bs) n is same = some_element (elements_of (b ∷ bs)) n is same
+
 spellable : (unit : ProgramUnit) → is_spellable unit ≡ true → IsSpellable unit
 unfolding is_spellable_name
 spellable unit is = record {
-  letters = λ m o. and-first (begins_with is_letter m.name) (has_element (count_by (unit.attribute m.name).bounds)) (named unit is m o);
-  elements = λ m n o count. some_element (count_by (unit.attribute m.name).bounds) n (and-second (begins_with is_letter m.name) (has_element (count_by (unit.attribute m.name).bounds)) (named unit is m o)) count;
+  letters = λ m o. and-first (begins_with is_letter m.name) (has_element (elements_of (unit.attribute m.name).bounds)) (named unit is m o);
+  elements = λ m n o count. array_element (unit.attribute m.name).bounds n (and-second (begins_with is_letter m.name) (has_element (elements_of (unit.attribute m.name).bounds)) (named unit is m o)) count;
 }
 
 -- ## The set of one file

@@ -1,1 +1,13 @@
 pub mod PlainFiles
+pub use Rattle.main_faithfulness.specs.c_emit
+pub use Rattle.main_faithfulness.specs.c_structure
+pub use Rattle.c_spelling.specs.c_text
+pub use Rattle.c_spelling.specs.c_tree
+pub use Rattle.declaration_laws.specs.declaration_rows
+pub use Rattle.main_faithfulness.specs.faithful
+pub use Rattle.main_faithfulness.specs.l_core
+pub use Rattle.main_faithfulness.specs.linking_laws
+pub use Rattle.main_faithfulness.specs.lowering
+pub use Rattle.main_faithfulness.specs.main_file
+pub use Rattle.main_faithfulness.specs.main_translation
+pub use Rattle.main_faithfulness.specs.plain_forms

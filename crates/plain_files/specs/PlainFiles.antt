@@ -1,26 +1,26 @@
 -- That the printed C file of a plain main program is faithful to its FORTRAN file. ANSI X3.9-1978, sections 2.4, 3.5, 5 and 14; C89, 3.7.
 use Rattle.std.specs.Prelude.{◌≡◌, true, List, [], ◌∷◌, Some}
-use Rattle.f_tree.specs.declared.names.Options.{Options}
-use Rattle.f_tree.specs.declared.refusals.Refusal.{Refusal}
-use Rattle.f_tree.specs.declared.units.File.{File}
-use Rattle.f_tree.specs.declared.units.Unit.{Unit as WrittenUnit}
-use Rattle.f_tree.specs.Facts.{ProgramUnit}
-use Rattle.f_tree.specs.Lines.{unit_read}
-use Rattle.l_core.specs.Steps.{Text}
-use Rattle.lowering.specs.Units.{lowered_unit}
-use Rattle.c_tree.specs.declared.statement.CStmt.{CStmt}
-use Rattle.c_tree.specs.declared.file.CFile.{CFile}
-use Rattle.c_text.specs.Printed.{printed}
+use Rattle.fortran_totality.specs.f_tree.declared.names.Options.{Options}
+use Rattle.fortran_totality.specs.f_tree.declared.refusals.Refusal.{Refusal}
+use Rattle.fortran_totality.specs.f_tree.declared.units.File.{File}
+use Rattle.fortran_totality.specs.f_tree.declared.units.Unit.{Unit as WrittenUnit}
+use Rattle.fortran_totality.specs.f_tree.Facts.{ProgramUnit}
+use Rattle.fortran_totality.specs.f_tree.Lines.{unit_read}
+use Rattle.main_faithfulness.specs.l_core.Steps.{Text}
+use Rattle.main_faithfulness.specs.lowering.Units.{lowered_unit}
+use Rattle.c_spelling.specs.c_tree.declared.statement.CStmt.{CStmt}
+use Rattle.c_spelling.specs.c_tree.declared.file.CFile.{CFile}
+use Rattle.c_spelling.specs.c_text.Printed.{printed}
 use Rattle.c_spelling.specs.Spelled.{file_of_bytes}
-use Rattle.declaration_rows.specs.SetRows.{Faults}
-use Rattle.faithful.specs.Faithful.{Faithful}
-use Rattle.main_file.specs.MainFile.{main_file}
-use Rattle.main_translation.specs.Contents.{inventory_of}
-use Rattle.main_translation.specs.Outlined.{body_of}
-use Rattle.main_translation_laws.specs.PlainMains.{IsPlainText}
-use Rattle.main_programs.specs.MainRuns.{plain_facts}
+use Rattle.declaration_laws.specs.declaration_rows.SetRows.{Faults}
+use Rattle.main_faithfulness.specs.faithful.Faithful.{Faithful}
+use Rattle.main_faithfulness.specs.main_file.MainFile.{main_file}
+use Rattle.main_faithfulness.specs.main_translation.Contents.{inventory_of}
+use Rattle.main_faithfulness.specs.main_translation.Outlined.{body_of}
+use Rattle.main_faithfulness.specs.main_translation_laws.PlainMains.{IsPlainText}
+use Rattle.main_faithfulness.specs.main_programs.MainRuns.{plain_facts}
 use Rattle.plain_mains.specs.PlainUnits.{is_plain_main}
-unfoldable pub use Rattle.plain_forms.specs.SpellableNames.{has_element, is_spellable_name, is_spellable}
+unfoldable pub use Rattle.main_faithfulness.specs.plain_forms.SpellableNames.{has_element, is_spellable_name, is_spellable}
 
 -- the C file that is made for a unit with its lowered text and statements
 abbrev pub made_file : ProgramUnit → Text → List CStmt → CFile

@@ -1,7 +1,7 @@
 -- The setting in which each stored name of a main program has a sequence of its own. ANSI X3.9-1978, sections 2.11, 5 and 17.1.
 use Rattle.std.specs.Prelude.{ℕ, suc, List, [], ◌∷◌, map}
-use Rattle.f_tree.specs.Facts.{Home, Member, ProgramUnit, Facts}
-use Rattle.f_tree.specs.Setting.{Setting, unit_home}
+use Rattle.lowering_laws.specs.f_tree.Facts.{Home, Member, ProgramUnit, Facts}
+use Rattle.lowering_laws.specs.f_tree.Setting.{Setting, unit_home}
 
 -- each stored name in a sequence of its own, as they stand
 abbrev pub homes_from : ℕ → List Member → List Home

@@ -1,20 +1,20 @@
 -- Which written main programs are plain, by a test that computes: the names are integers and logicals with storage of their own, and the statements
 -- are those that are lowered. ANSI X3.9-1978, sections 2.4, 4.1, 5.1, 8, 9, 11.10 and 15.7.
 use Rattle.std.specs.List.{list_all}
-use Rattle.std.specs.Prelude.{◌≡◌, ℕ, nat_eq, nat_lt, pos, Bool, true, false, not, ◌&&◌, ◌||◌, List, [], ◌∷◌, length, Option, Some, None}
-use Rattle.f_tree.specs.declared.names.Class.{Class}
-use Rattle.f_tree.specs.declared.names.Class.TheVariants as class
-use Rattle.f_tree.specs.declared.names.Options.{Options}
-use Rattle.f_tree.specs.declared.units.Unit.{Unit as WrittenUnit}
-use Rattle.f_tree.specs.CNames.{is_name}
-use Rattle.f_tree.specs.Values.{in_range}
-use Rattle.f_tree.specs.Facts.{Bounds, Attribute, UnitKind, MainProgram, SubroutineUnit, FunctionUnit, BlockDataUnit, ProgramUnit}
-use Rattle.f_tree.specs.Valuing.{size_of_dimension}
-use Rattle.f_tree.specs.Nests.{ranges_of, each_ends, each_contained}
-use Rattle.f_tree.specs.Attributes.{from_all, Described, all_described}
-use Rattle.f_tree.specs.Lines.{size_of, is_stored, entries_from, common_in, equivalence_in, data_in, unit_kind, unit_read}
+use Rattle.std.specs.Prelude.{◌≡◌, ℕ, nat_eq, nat_lt, pos, Bool, true, false, not, ◌&&◌, ◌||◌, List, [], ◌∷◌, length, Option, Some, None, is_some}
+use Rattle.lowering_laws.specs.f_tree.declared.names.Class.{Class}
+use Rattle.lowering_laws.specs.f_tree.declared.names.Class.TheVariants as class
+use Rattle.lowering_laws.specs.f_tree.declared.names.Options.{Options}
+use Rattle.lowering_laws.specs.f_tree.declared.units.Unit.{Unit as WrittenUnit}
+use Rattle.lowering_laws.specs.f_tree.CNames.{is_name}
+use Rattle.lowering_laws.specs.f_tree.Values.{in_range}
+use Rattle.lowering_laws.specs.f_tree.Facts.{Bounds, Attribute, UnitKind, MainProgram, SubroutineUnit, FunctionUnit, BlockDataUnit, ProgramUnit}
+use Rattle.lowering_laws.specs.f_tree.Valuing.{elements_of, size_of_dimension}
+use Rattle.lowering_laws.specs.f_tree.Nests.{ranges_of, each_ends, each_contained}
+use Rattle.lowering_laws.specs.f_tree.Attributes.{from_all, Described, all_described}
+use Rattle.lowering_laws.specs.f_tree.Lines.{size_of, is_stored, entries_from, common_in, equivalence_in, data_in, unit_kind, unit_read}
 use Rattle.lowering_laws.specs.Layout.{are_direct, has_end, has_loops, blocks_are_whole, each_branches_well, enters_outside}
-use Rattle.c_emit.specs.Numbers.{is_numeric}
+use Rattle.main_translation.specs.c_emit.Numbers.{is_numeric}
 
 -- ## The unit and its storage
 
@@ -63,9 +63,18 @@ has_plain_lines p = are_direct p.lines && (has_end p.lines && loops_fit p)
 unfoldable pub bound_fits : Bounds → Bool
 bound_fits b = in_range b.lower && in_range (pos (size_of_dimension b))
 
--- each dimension that is written has constant bounds, and they fit
+-- no upper bound is assumed but that of the last dimension (5.1.2.2)
+unfoldable pub only_last_is_assumed : List Bounds → Bool
+only_last_is_assumed [] = true
+only_last_is_assumed (b ∷ bs) = (is_some b.upper || has_none bs) && only_last_is_assumed bs
+
+-- each dimension that is written has bounds that are constant, or the last is assumed, and they fit
 unfoldable pub has_plain_bounds : Attribute → Bool
-has_plain_bounds a = nat_eq (length a.bounds) (length a.dimensions) && list_all bound_fits a.bounds
+has_plain_bounds a = nat_eq (length a.bounds) (length a.dimensions) && (list_all bound_fits a.bounds && only_last_is_assumed a.bounds)
+
+-- and none is assumed, so that the number of elements is known
+unfoldable pub has_constant_bounds : Attribute → Bool
+has_constant_bounds a = has_plain_bounds a && is_some (elements_of a.bounds)
 
 -- a dummy argument or the result of a function
 unfoldable pub is_of_call : Class → Bool
@@ -86,9 +95,9 @@ is_number a = is_numeric a.basic && has_four_units a.width
 unfoldable pub is_plain_variable : Described → Bool
 is_plain_variable d = is_name d.name && (is_number d.attribute && nat_lt (size_of d.attribute) 67108865)
 
--- a name that is no dummy and no result, whose bounds fit, and which is a plain variable if it is stored
+-- a name that is no dummy and no result, whose bounds are constant and fit, and which is a plain variable if it is stored
 unfoldable pub is_plain_name : Described → Bool
-is_plain_name d = not (is_of_call d.attribute.class) && (has_plain_bounds d.attribute && (not (is_stored d.attribute) || is_plain_variable d))
+is_plain_name d = not (is_of_call d.attribute.class) && (has_constant_bounds d.attribute && (not (is_stored d.attribute) || is_plain_variable d))
 
 -- each name of the unit is plain
 unfoldable pub names_are_plain : WrittenUnit → Bool
@@ -102,5 +111,5 @@ is_plain_main options u =
     is_main (unit_kind u) && (has_one_entry u && (has_own_storage u && (has_plain_lines (unit_read options u) && names_are_plain u)))
 
 unfoldable pub plain_units_opened : Unit {0}
-unfolding has_none is_main has_one_entry has_own_storage loops_are_nested loops_are_entered_well loops_fit has_plain_lines bound_fits has_plain_bounds is_of_call has_four_units is_number is_plain_variable is_plain_name names_are_plain is_plain_main
+unfolding has_none is_main has_one_entry has_own_storage loops_are_nested loops_are_entered_well loops_fit has_plain_lines bound_fits only_last_is_assumed has_plain_bounds has_constant_bounds is_of_call has_four_units is_number is_plain_variable is_plain_name names_are_plain is_plain_main
 plain_units_opened = tt

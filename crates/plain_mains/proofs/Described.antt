@@ -1,19 +1,20 @@
--- What holds of each described name of a unit holds of what each name is, and the bounds of each name are constant.
+-- What holds of each described name of a unit holds of what each name is, and the bounds of each name are constant, or assumed.
 use Rattle.std.specs.List.{list_all}
-use Rattle.std.specs.Prelude.{◌≡◌, ℕ, zero, suc, ◌*◌, ℤ, pos, ◌+ℤ◌, ◌-ℤ◌, nat_abs, Bool, true, false, List, [], ◌∷◌, ◌++◌, Option, Some, None, slice_get, bytes_eq, if◌then◌else◌}
-use Rattle.std.proofs.Common.{refl, sym, ap, subst, arith}
+use Rattle.std.specs.Prelude.{◌≡◌, ℕ, zero, suc, ◌<◌, ℤ, Bool, true, false, ◌||◌, List, [], ◌∷◌, length, Option, Some, None, is_some, slice_get, bytes_eq, if◌then◌else◌}
+use Rattle.std.proofs.Common.{refl, sym, ap, subst, ◌∙◌, arith}
 use Rattle.std.proofs.lemmas.Slice.Eq.{bytes_eq-Decides}
 use Rattle.std.proofs.lemmas.Bool.{and_parts}
-use Rattle.f_tree.specs.declared.names.Class.TheVariants as class
-use Rattle.f_tree.specs.declared.units.Unit.{Unit as WrittenUnit}
-use Rattle.f_tree.specs.Values.{Bytes}
-use Rattle.f_tree.specs.Facts.{Dimension, Bounds, Attribute}
-use Rattle.f_tree.specs.Setting.{IsIn, first_in, later_in}
-use Rattle.f_tree.specs.Valuing.{elements_of, extent_of}
-use Rattle.f_tree.specs.Uses.{Use}
-use Rattle.f_tree.specs.Attributes.{Constant, Expansion, bare, bounds_between, constant_term, constant_upper, constant_bounds, without_expansion, with_dimensions, with_expansions, attribute_of, Described, described, attribute_in, all_described}
-use Rattle.main_translation.specs.Contents.{count_by}
-use Rattle.main_programs.specs.MainRuns.{bytes_in}
+use Rattle.main_translation_laws.specs.f_tree.declared.names.Class.TheVariants as class
+use Rattle.main_translation_laws.specs.f_tree.declared.units.Unit.{Unit as WrittenUnit}
+use Rattle.main_translation_laws.specs.f_tree.Values.{Bytes}
+use Rattle.main_translation_laws.specs.f_tree.Facts.{Bounds, Attribute}
+use Rattle.main_translation_laws.specs.f_tree.Setting.{IsIn, first_in, later_in}
+use Rattle.main_translation_laws.specs.f_tree.Valuing.{elements_of, extent_of}
+use Rattle.main_translation_laws.specs.f_tree.Uses.{Use}
+use Rattle.main_translation_laws.specs.f_tree.Attributes.{Constant, Expansion, bare, constant_bounds, without_expansion, with_dimensions, with_expansions, attribute_of, Described, described, attribute_in, all_described}
+use Rattle.main_translation_laws.specs.main_translation.Contents.{count_by}
+use Rattle.main_translation_laws.specs.main_programs.MainRuns.{bytes_in}
+use Rattle.main_translation_laws.specs.plain_forms.PlainUnits.{has_none, only_last_is_assumed}
 use Rattle.main_translation_laws.proofs.Lists.{in_at}
 
 -- ## Lists
@@ -65,52 +66,40 @@ own_described P u uses cs es (y ∷ xs) x none own = by (bytes_eq y x) refl (own
 
 -- ## Constant bounds
 
--- each dimension has its last subscript
-pub data AreClosed : List Bounds → Type 0 where
-  none_closed : AreClosed []
-  one_closed : (lower last : ℤ) {bs : List Bounds} → AreClosed bs → AreClosed (record { lower = lower; upper = Some last } ∷ bs)
-
-closed_between : (a b : Option ℤ) (bs : List Bounds) → AreClosed bs → AreClosed (bounds_between a b ++ bs)
-unfolding bounds_between
-closed_between (Some a) (Some b) bs later = one_closed a b later
-closed_between (Some a) None bs later = later
-closed_between None (Some b) bs later = later
-closed_between None None bs later = later
-
-closed_constant : (ds : List Dimension) → AreClosed (constant_bounds ds)
-unfolding constant_bounds
-closed_constant [] = none_closed
-closed_constant (d ∷ ds) = closed_between (constant_term d.lower) (constant_upper d.upper) (constant_bounds ds) (closed_constant ds)
-
-pub closed_attribute : (u : WrittenUnit) (uses : List Use) (cs : List Constant) (es : List Expansion) (x : Bytes) → AreClosed (attribute_of u uses cs es x).bounds
-unfolding attribute_of with_expansions without_expansion with_dimensions
-closed_attribute u uses cs es x = closed_constant _
-
-pub closed_bare : AreClosed (bare class.Unit None).bounds
-unfolding bare
-closed_bare = none_closed
-
--- the bounds are those of the dimensions that are constant
+-- the bounds are those of the dimensions that are constant or assumed
 pub constant_attribute : (u : WrittenUnit) (x : Bytes) → (attribute_in (all_described u) x).bounds ≡ constant_bounds (attribute_in (all_described u) x).dimensions
 unfolding all_described bare attribute_of with_expansions without_expansion with_dimensions constant_bounds
 constant_attribute u x = own_described (λ a. a.bounds ≡ constant_bounds a.dimensions) u _ _ _ _ x refl refl
 
--- so each has its last subscript, and the number of elements is known
-pub last_of : (bs : List Bounds) → AreClosed bs → (k : ℕ) (b : Bounds) → slice_get bs k ≡ Some b → (last : ℤ) × (b.upper ≡ Some last)
-last_of _ none_closed k b at = absurd (cc)
-last_of _ (one_closed lower last later) zero b at = (last, (let same : record { lower = lower; upper = Some last } ≡ b = cc in ap (λ (c : Bounds). c.upper) (sym same)))
-last_of _ (one_closed lower last later) (suc k) b at = last_of _ later k b at
+-- each dimension but the last has its last subscript
+pub last_of : (bs : List Bounds) → only_last_is_assumed bs ≡ true → (k : ℕ) (b : Bounds) → slice_get bs k ≡ Some b → suc k < length bs → (last : ℤ) × (b.upper ≡ Some last)
+unfolding only_last_is_assumed has_none
+last_of [] closed k b at more = absurd (cc)
+last_of (c ∷ []) closed k b at more = absurd (let no : ⊥ = omega (arith, more) in no)
+last_of (c ∷ d ∷ bs) closed k b at more =
+    let parts = and_parts (is_some c.upper || false) (only_last_is_assumed (d ∷ bs)) closed in
+    by k at more (or_false (is_some c.upper) parts.0) (λ j there within. last_of (d ∷ bs) parts.1 j b there within)
+  where
+    or_false : (t : Bool) → (t || false) ≡ true → t ≡ true
+    or_false true is = refl
+    or_false false is = absurd (cc)
 
-counted_more : (lower last : ℤ) (bs : List Bounds) (n : ℕ) → elements_of bs ≡ Some n →
-    elements_of (record { lower = lower; upper = Some last } ∷ bs) ≡ Some (nat_abs ((last -ℤ lower) +ℤ pos 1) * n)
-unfolding elements_of
-counted_more lower last bs n is = rw is refl
+    written : (upper : Option ℤ) → is_some upper ≡ true → (last : ℤ) × (upper ≡ Some last)
+    written None is = absurd (cc)
+    written (Some last) is = (last, refl)
 
-pub counted_elements : (bs : List Bounds) → AreClosed bs → (n : ℕ) × (elements_of bs ≡ Some n)
-unfolding elements_of
-counted_elements _ none_closed = (1, refl)
-counted_elements _ (one_closed lower last {bs} later) =
-    let m = counted_elements bs later in (nat_abs ((last -ℤ lower) +ℤ pos 1) * m.0, counted_more lower last bs m.0 m.1)
+    by : (k : ℕ) → slice_get (c ∷ d ∷ bs) k ≡ Some b → suc k < length (c ∷ d ∷ bs) → is_some c.upper ≡ true →
+        ((j : ℕ) → slice_get (d ∷ bs) j ≡ Some b → suc j < length (d ∷ bs) → (last : ℤ) × (b.upper ≡ Some last)) → (last : ℤ) × (b.upper ≡ Some last)
+    by zero at more one later = written b.upper (let same : c ≡ b = cc in ap (λ (e : Bounds). is_some e.upper) (sym same) ∙ one)
+    by (suc j) at more one later = later j at (omega (arith, more))
+
+-- where none is assumed, the number of elements is known
+pub counted_elements : (bs : List Bounds) → is_some (elements_of bs) ≡ true → (n : ℕ) × (elements_of bs ≡ Some n)
+counted_elements bs some = by (elements_of bs) some
+  where
+    by : (o : Option ℕ) → is_some o ≡ true → (n : ℕ) × (o ≡ Some n)
+    by None some = absurd (cc)
+    by (Some n) some = (n, refl)
 
 -- ## Sizes
 
@@ -119,7 +108,7 @@ unfolding extent_of
 size_by_count None n is = absurd (cc)
 size_by_count (Some m) n is = omega arith
 
-pub size_is : (bs : List Bounds) → AreClosed bs → extent_of (elements_of bs) 4 ≡ bytes_in (count_by bs)
+pub size_is : (bs : List Bounds) → is_some (elements_of bs) ≡ true → extent_of (elements_of bs) 4 ≡ bytes_in (count_by bs)
 unfolding count_by elements_of extent_of
-size_is [] closed = refl
-size_is (b ∷ bs) closed = let n = counted_elements (b ∷ bs) closed in size_by_count (elements_of (b ∷ bs)) n.0 n.1
+size_is [] some = refl
+size_is (b ∷ bs) some = let n = counted_elements (b ∷ bs) some in size_by_count (elements_of (b ∷ bs)) n.0 n.1

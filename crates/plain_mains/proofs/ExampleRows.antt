@@ -1,10 +1,10 @@
 -- What the test computes to for four main programs.
 use Rattle.std.proofs.Common.{refl}
-use Rattle.f_tree.specs.CNames.{is_name_byte, is_name}
-use Rattle.f_tree.specs.Nests.{nests_opened}
-use Rattle.f_tree.specs.Meaning.{everything}
-use Rattle.lowering_laws.specs.Layout.{layout_opened}
-use Rattle.c_emit.specs.Numbers.{numbers_opened}
+use Rattle.main_translation_laws.specs.f_tree.CNames.{is_name_byte, is_name}
+use Rattle.main_translation_laws.specs.f_tree.Nests.{nests_opened}
+use Rattle.main_translation_laws.specs.f_tree.Meaning.{everything}
+use Rattle.main_translation_laws.specs.lowering_laws.Layout.{layout_opened}
+use Rattle.main_translation_laws.specs.c_emit.Numbers.{numbers_opened}
 use Rattle.plain_mains.specs.PlainUnits.{plain_units_opened}
 use Rattle.plain_mains.specs.Examples.{ExamplesAreTold, examples_opened}
 

@@ -1,27 +1,26 @@
 -- A written unit for which the test computes to true is a plain main program.
 use Rattle.std.specs.List.{list_all}
-use Rattle.std.specs.Prelude.{◌≡◌, ℕ, nat_eq, pos, Bool, true, false, not, ◌&&◌, ◌||◌, List, [], ◌∷◌, map, length, Some, None}
+use Rattle.std.specs.Prelude.{◌≡◌, ℕ, nat_eq, pos, Bool, true, false, not, ◌&&◌, ◌||◌, List, [], ◌∷◌, map, length, Some, None, is_some}
 use Rattle.std.proofs.Common.{refl, ap, ◌∙◌, subst}
-use Rattle.std.proofs.lemmas.Bool.{and_parts}
-use Rattle.f_tree.specs.declared.names.Class.{Class}
-use Rattle.f_tree.specs.declared.names.Class.TheVariants as class
-use Rattle.f_tree.specs.declared.names.Options.{Options}
-use Rattle.f_tree.specs.declared.units.Unit.{Unit as WrittenUnit}
-use Rattle.f_tree.specs.Values.{Bytes, in_range}
-use Rattle.f_tree.specs.Facts.{Bounds, Attribute, UnitKind, MainProgram, SubroutineUnit, FunctionUnit, BlockDataUnit, ProgramUnit}
-use Rattle.f_tree.specs.Valuing.{elements_of, size_of_dimension}
-use Rattle.f_tree.specs.Nests.{ranges_of, each_ends, each_contained}
-use Rattle.f_tree.specs.Reading.{name_or_none}
-use Rattle.f_tree.specs.Attributes.{from_all, bare, all_described, attribute_in, Described}
-use Rattle.f_tree.specs.Lines.{Naming, is_stored, formals_of, entries_from, blocks_from, common_in, ties_of, equivalence_in, data_in, image_of, unit_kind, apart, program_of, with_ties, unit_read}
-use Rattle.lowering_laws.specs.Layout.{are_direct, has_end, has_loops, blocks_are_whole, each_branches_well, enters_outside, LoopsFit, without_loops, with_loops}
-use Rattle.c_emit.specs.Numbers.{is_variable}
-use Rattle.c_emit_laws.specs.EmittedNumbers.{BoundFits}
-use Rattle.fortran_laws.proofs.HomeLemmas.{stored_in_unit}
-use Rattle.fortran_laws.proofs.SimpleAttributes.{each_described}
+use Rattle.std.proofs.lemmas.Bool.{and_parts, eqb-true}
+use Rattle.main_translation_laws.specs.f_tree.declared.names.Class.{Class}
+use Rattle.main_translation_laws.specs.f_tree.declared.names.Class.TheVariants as class
+use Rattle.main_translation_laws.specs.f_tree.declared.names.Options.{Options}
+use Rattle.main_translation_laws.specs.f_tree.declared.units.Unit.{Unit as WrittenUnit}
+use Rattle.main_translation_laws.specs.f_tree.Values.{Bytes, in_range}
+use Rattle.main_translation_laws.specs.f_tree.Facts.{Bounds, Attribute, UnitKind, MainProgram, SubroutineUnit, FunctionUnit, BlockDataUnit, ProgramUnit}
+use Rattle.main_translation_laws.specs.f_tree.Valuing.{elements_of, size_of_dimension}
+use Rattle.main_translation_laws.specs.f_tree.Nests.{ranges_of, each_ends, each_contained}
+use Rattle.main_translation_laws.specs.f_tree.Reading.{name_or_none}
+use Rattle.main_translation_laws.specs.f_tree.Attributes.{from_all, bare, all_described, attribute_in, Described}
+use Rattle.main_translation_laws.specs.f_tree.Lines.{Naming, is_stored, formals_of, entries_from, blocks_from, common_in, ties_of, equivalence_in, data_in, image_of, unit_kind, apart, program_of, with_ties, unit_read}
+use Rattle.main_translation_laws.specs.lowering_laws.Layout.{are_direct, has_end, has_loops, blocks_are_whole, each_branches_well, enters_outside, LoopsFit, without_loops, with_loops}
+use Rattle.main_translation_laws.specs.c_emit.Numbers.{is_variable}
+use Rattle.main_translation_laws.specs.c_emit_laws.EmittedNumbers.{BoundFits}
+use Rattle.main_translation_laws.proofs.fortran_laws.HomeLemmas.{stored_in_unit}
 use Rattle.main_translation_laws.specs.PlainMains.{IsPlainMain}
-use Rattle.plain_mains.specs.PlainUnits.{has_none, is_main, has_one_entry, has_own_storage, loops_are_nested, loops_are_entered_well, loops_fit, has_plain_lines, bound_fits, has_plain_bounds, is_of_call, is_plain_variable, is_plain_name, names_are_plain, is_plain_main, PlainMainsAreTold}
-use Rattle.plain_mains.proofs.Described.{all_in, all_at, each_attribute, AreClosed, closed_attribute, closed_bare, last_of, counted_elements}
+use Rattle.plain_mains.specs.PlainUnits.{has_none, is_main, has_one_entry, has_own_storage, loops_are_nested, loops_are_entered_well, loops_fit, has_plain_lines, bound_fits, only_last_is_assumed, has_plain_bounds, has_constant_bounds, is_of_call, is_plain_variable, is_plain_name, names_are_plain, is_plain_main, PlainMainsAreTold}
+use Rattle.plain_mains.proofs.Described.{all_in, all_at, each_attribute, last_of, counted_elements}
 use Rattle.plain_mains.proofs.StoredNames.{plain_member, distinct_stored}
 
 -- ## The unit and its storage
@@ -91,24 +90,36 @@ plain_lines p is =
 
 -- ## The names
 
+-- as many bounds as dimensions, which have 32 bits, and none is assumed but the last
+pub record AreWhole (a : Attribute) : Type 0 where
+  pub many : length a.bounds ≡ length a.dimensions
+  pub fit : list_all bound_fits a.bounds ≡ true
+  pub closed : only_last_is_assumed a.bounds ≡ true
+
+pub whole_by : (a : Attribute) → has_plain_bounds a ≡ true → AreWhole a
+unfolding has_plain_bounds
+whole_by a plain =
+    let parts = and_parts (nat_eq (length a.bounds) (length a.dimensions)) (list_all bound_fits a.bounds && only_last_is_assumed a.bounds) plain in
+    let bounds = and_parts (list_all bound_fits a.bounds) (only_last_is_assumed a.bounds) parts.1 in
+    record { many = eqb-true (length a.bounds) (length a.dimensions) parts.0; fit = bounds.0; closed = bounds.1 }
+
 -- what the test says of each name, stored or not
 record IsFitting (a : Attribute) : Type 0 where
   no_call : is_of_call a.class ≡ false
-  bounds : list_all bound_fits a.bounds ≡ true
+  whole : AreWhole a
+  counted : is_some (elements_of a.bounds) ≡ true
 
 fitting_bare : IsFitting (bare class.Unit None)
-unfolding bare is_of_call
-fitting_bare = record { no_call = refl; bounds = refl }
+unfolding bare is_of_call only_last_is_assumed elements_of
+fitting_bare = record { no_call = refl; whole = record { many = refl; fit = refl; closed = refl }; counted = refl }
 
 fitting_by : (d : Described) → is_plain_name d ≡ true → IsFitting d.attribute
-unfolding is_plain_name has_plain_bounds
+unfolding is_plain_name has_constant_bounds
 fitting_by d plain =
-    let parts = and_parts (not (is_of_call d.attribute.class)) (has_plain_bounds d.attribute && (not (is_stored d.attribute) || is_plain_variable d)) plain in
-    let rest = and_parts (has_plain_bounds d.attribute) (not (is_stored d.attribute) || is_plain_variable d) parts.1 in
-    record {
-      no_call = denied (is_of_call d.attribute.class) parts.0;
-      bounds = (and_parts (nat_eq (length d.attribute.bounds) (length d.attribute.dimensions)) (list_all bound_fits d.attribute.bounds) rest.0).1;
-    }
+    let parts = and_parts (not (is_of_call d.attribute.class)) (has_constant_bounds d.attribute && (not (is_stored d.attribute) || is_plain_variable d)) plain in
+    let rest = and_parts (has_constant_bounds d.attribute) (not (is_stored d.attribute) || is_plain_variable d) parts.1 in
+    let bounds = and_parts (has_plain_bounds d.attribute) (is_some (elements_of d.attribute.bounds)) rest.0 in
+    record { no_call = denied (is_of_call d.attribute.class) parts.0; whole = whole_by d.attribute bounds.0; counted = bounds.1 }
   where
     denied : (b : Bool) → not b ≡ true → b ≡ false
     denied true is = absurd (cc)
@@ -116,10 +127,6 @@ fitting_by d plain =
 
 each_fits : (u : WrittenUnit) → list_all is_plain_name (all_described u) ≡ true → (x : Bytes) → IsFitting (attribute_in (all_described u) x)
 each_fits u plain x = each_attribute IsFitting (all_described u) x fitting_bare (λ d o. fitting_by d (all_in is_plain_name (all_described u) d plain o))
-
-pub each_closed : (u : WrittenUnit) (x : Bytes) → AreClosed (attribute_in (all_described u) x).bounds
-unfolding all_described
-each_closed u x = each_described (λ a. AreClosed a.bounds) u _ _ _ _ x closed_bare (λ y. closed_attribute u _ _ _ y)
 
 pub bound_is : (b : Bounds) → bound_fits b ≡ true → BoundFits b
 unfolding bound_fits
@@ -164,9 +171,9 @@ plain_by options u main entry storage lines plain =
       sized = λ m o. (plain_member u plain m o).sized;
       within = λ m o. (plain_member u plain m o).within;
       small = λ m o. (plain_member u plain m o).small;
-      counted = λ x b bs is. subst (λ c. (n : ℕ) × (elements_of c ≡ Some n)) is (counted_elements _ (each_closed u x));
-      fits = λ x k b at. bound_is b (all_at bound_fits _ k b (each_fits u plain x).bounds at);
-      closed = λ x k b at behind. last_of _ (each_closed u x) k b at;
+      counted = λ x b bs is. subst (λ c. (n : ℕ) × (elements_of c ≡ Some n)) is (counted_elements _ (each_fits u plain x).counted);
+      fits = λ x k b at. bound_is b (all_at bound_fits _ k b (each_fits u plain x).whole.fit at);
+      closed = λ x k b at behind. last_of _ (each_fits u plain x).whole.closed k b at behind;
     }
 
 pub plain_mains_are_told : PlainMainsAreTold

@@ -1,29 +1,29 @@
 -- The stored names of a main program: no name stands twice among them, and each is what the test says of it.
 use Rattle.std.specs.List.{list_all}
-use Rattle.std.specs.Prelude.{◌≡◌, ◌≢◌, ℕ, ◌<◌, ◌≤◌, nat_lt, Bool, true, false, not, ◌&&◌, ◌||◌, List, [], ◌∷◌, ◌++◌, Option, Some, None, bytes_eq, if◌then◌else◌}
+use Rattle.std.specs.Prelude.{◌≡◌, ◌≢◌, ℕ, ◌<◌, ◌≤◌, nat_lt, Bool, true, false, not, ◌&&◌, ◌||◌, List, [], ◌∷◌, ◌++◌, Option, Some, None, is_some, bytes_eq, if◌then◌else◌}
 use Rattle.std.proofs.Common.{refl, sym, ap, ◌∙◌, subst, arith}
 use Rattle.std.proofs.lemmas.Bool.{and_parts, or_parts, both_ways, ltb-true, eqb-true}
-use Rattle.f_tree.specs.declared.names.Class.{Class}
-use Rattle.f_tree.specs.declared.names.Class.TheVariants as class
-use Rattle.f_tree.specs.declared.statements.UnitKind.{UnitKind}
-use Rattle.f_tree.specs.declared.statements.UnitKind.TheVariants as kind
-use Rattle.f_tree.specs.declared.units.Unit.{Unit as WrittenUnit}
-use Rattle.f_tree.specs.CNames.{is_name}
-use Rattle.f_tree.specs.Values.{Bytes}
-use Rattle.f_tree.specs.Facts.{Attribute, Member}
-use Rattle.f_tree.specs.Setting.{IsIn, first_in, later_in, IsMember, here, there, AreDistinct, no_names, another_name}
-use Rattle.f_tree.specs.Valuing.{elements_of, extent_of}
-use Rattle.f_tree.specs.Uses.{Use, is_among, uses_of_statements, seen_from, first_seen}
-use Rattle.f_tree.specs.Attributes.{from_all, option_list, entry_names_in, own_class, Signs, class_by, own_names, signs_of, class_of, Constant, bare, with_class, without_expansion, with_dimensions, with_expansions, Expansion, arrays_of, attribute_of, Described, described, attribute_in, names_of, all_described}
-use Rattle.f_tree.specs.Lines.{size_by, size_of, is_stored, stored_among}
-use Rattle.c_emit.specs.Numbers.{is_numeric}
-use Rattle.fortran_laws.proofs.SimpleAttributes.{described_name}
-use Rattle.linking_laws.proofs.Places.{same_bytes}
-use Rattle.main_translation.specs.Contents.{count_by}
-use Rattle.main_programs.specs.MainRuns.{bytes_in}
+use Rattle.main_translation_laws.specs.f_tree.declared.names.Class.{Class}
+use Rattle.main_translation_laws.specs.f_tree.declared.names.Class.TheVariants as class
+use Rattle.main_translation_laws.specs.f_tree.declared.statements.UnitKind.{UnitKind}
+use Rattle.main_translation_laws.specs.f_tree.declared.statements.UnitKind.TheVariants as kind
+use Rattle.main_translation_laws.specs.f_tree.declared.units.Unit.{Unit as WrittenUnit}
+use Rattle.main_translation_laws.specs.f_tree.CNames.{is_name}
+use Rattle.main_translation_laws.specs.f_tree.Values.{Bytes}
+use Rattle.main_translation_laws.specs.f_tree.Facts.{Attribute, Member}
+use Rattle.main_translation_laws.specs.f_tree.Setting.{IsIn, first_in, later_in, IsMember, here, there, AreDistinct, no_names, another_name}
+use Rattle.main_translation_laws.specs.f_tree.Valuing.{elements_of, extent_of}
+use Rattle.main_translation_laws.specs.f_tree.Uses.{Use, is_among, uses_of_statements, seen_from, first_seen}
+use Rattle.main_translation_laws.specs.f_tree.Attributes.{from_all, option_list, entry_names_in, own_class, Signs, class_by, own_names, signs_of, class_of, Constant, bare, with_class, without_expansion, with_dimensions, with_expansions, Expansion, arrays_of, attribute_of, Described, described, attribute_in, names_of, all_described}
+use Rattle.main_translation_laws.specs.f_tree.Lines.{size_by, size_of, is_stored, stored_among}
+use Rattle.main_translation_laws.specs.c_emit.Numbers.{is_numeric}
+use Rattle.main_translation_laws.proofs.fortran_laws.SimpleAttributes.{described_name}
+use Rattle.main_translation_laws.proofs.linking_laws.Places.{same_bytes}
+use Rattle.main_translation_laws.specs.main_translation.Contents.{count_by}
+use Rattle.main_translation_laws.specs.main_programs.MainRuns.{bytes_in}
 use Rattle.main_translation_laws.proofs.Lists.{AreApart, none_apart, one_apart}
-use Rattle.plain_mains.specs.PlainUnits.{has_four_units, is_number, is_of_call, has_plain_bounds, is_plain_variable, is_plain_name}
-use Rattle.plain_mains.proofs.Described.{all_in, closed_attribute, size_is}
+use Rattle.plain_mains.specs.PlainUnits.{has_four_units, is_number, is_of_call, has_plain_bounds, has_constant_bounds, is_plain_variable, is_plain_name}
+use Rattle.plain_mains.proofs.Described.{all_in, size_is}
 
 -- ## Names are seen once
 
@@ -175,6 +175,7 @@ pub record IsPlainMember (a : Attribute) (m : Member) : Type 0 where
   pub named : is_name m.name ≡ true
   pub numeric : is_numeric a.basic ≡ true
   pub wide : a.width ≡ Some 4
+  pub counted : is_some (elements_of a.bounds) ≡ true
   pub sized : m.size ≡ bytes_in (count_by a.bounds)
   pub within : extent_of (elements_of a.bounds) 4 ≤ m.size
   pub small : m.size < 2147483648
@@ -189,18 +190,22 @@ variable_of_stored : (a b : Bool) → a ≡ true → (not a || b) ≡ true → b
 variable_of_stored true b is holds = holds
 variable_of_stored false b is holds = absurd (cc)
 
-plain_variable : (d : Described) → is_plain_name d ≡ true → is_stored d.attribute ≡ true → is_plain_variable d ≡ true
+plain_variable : (d : Described) → is_plain_name d ≡ true → is_stored d.attribute ≡ true → (has_constant_bounds d.attribute && is_plain_variable d) ≡ true
 unfolding is_plain_name
 plain_variable d plain stored =
     let behind = (and_parts (not (is_of_call d.attribute.class)) _ plain).1 in
-    variable_of_stored (is_stored d.attribute) (is_plain_variable d) stored (and_parts (has_plain_bounds d.attribute) _ behind).1
+    let parts = and_parts (has_constant_bounds d.attribute) (not (is_stored d.attribute) || is_plain_variable d) behind in
+    ap (λ t. t && is_plain_variable d) parts.0 ∙ variable_of_stored (is_stored d.attribute) (is_plain_variable d) stored parts.1
 
 member_by : (u : WrittenUnit) (uses : List Use) (cs : List Constant) (es : List Expansion) (m : Member) → m.size ≡ size_of (attribute_of u uses cs es m.name) →
-    is_plain_variable (record { name = m.name; attribute = attribute_of u uses cs es m.name }) ≡ true → IsPlainMember (attribute_of u uses cs es m.name) m
-unfolding is_plain_variable is_number size_of size_by
+    (has_constant_bounds (attribute_of u uses cs es m.name) && is_plain_variable (record { name = m.name; attribute = attribute_of u uses cs es m.name })) ≡ true →
+    IsPlainMember (attribute_of u uses cs es m.name) m
+unfolding has_constant_bounds is_plain_variable is_number size_of size_by
 member_by u uses cs es m size plain =
     let a : Attribute = attribute_of u uses cs es m.name in
-    let parts = and_parts (is_name m.name) (is_number a && nat_lt (size_of a) 67108865) plain in
+    let whole = and_parts (has_plain_bounds a && is_some (elements_of a.bounds)) (is_name m.name && (is_number a && nat_lt (size_of a) 67108865)) plain in
+    let counted = (and_parts (has_plain_bounds a) (is_some (elements_of a.bounds)) whole.0).1 in
+    let parts = and_parts (is_name m.name) (is_number a && nat_lt (size_of a) 67108865) whole.1 in
     let rest = and_parts (is_number a) (nat_lt (size_of a) 67108865) parts.1 in
     let number = and_parts (is_numeric a.basic) (has_four_units a.width) rest.0 in
     let wide : a.width ≡ Some 4 = four_units a.width number.1 in
@@ -209,15 +214,16 @@ member_by u uses cs es m size plain =
       named = parts.0;
       numeric = number.0;
       wide = wide;
-      sized = extent ∙ size_is a.bounds (closed_attribute u uses cs es m.name);
+      counted = counted;
+      sized = extent ∙ size_is a.bounds counted;
       within = subst (λ n. extent_of (elements_of a.bounds) 4 ≤ n) (sym extent) (omega arith);
       small = subst (λ n. n < 2147483648) (sym size) (let less : size_of a < 67108865 = ltb-true (size_of a) 67108865 rest.1 in omega (arith, less));
       bounded = ltb-true (size_of a) 67108865 rest.1;
     }
 
--- a test that tells that what is stored is a plain variable
+-- a test that tells that what is stored is a plain variable with constant bounds
 abbrev pub TellsStored : (Described → Bool) → Type 0
-TellsStored test = (d : Described) → test d ≡ true → is_stored d.attribute ≡ true → is_plain_variable d ≡ true
+TellsStored test = (d : Described) → test d ≡ true → is_stored d.attribute ≡ true → (has_constant_bounds d.attribute && is_plain_variable d) ≡ true
 
 plain_among : (test : Described → Bool) → TellsStored test → (u : WrittenUnit) (uses : List Use) (cs : List Constant) (es : List Expansion) (xs : List Bytes) →
     list_all test (described u uses cs es xs) ≡ true → (m : Member) → IsIn m (stored_among (described u uses cs es xs)) → IsPlainMember (attribute_in (described u uses cs es xs) m.name) m

@@ -1,22 +1,22 @@
 -- A main program that is plain, and three that are not, each for one reason. ANSI X3.9-1978, sections 4.1, 5.1, 8.2, 11.1, 11.6 and 11.10.
 use Rattle.std.specs.Prelude.{◌≡◌, ℕ, false, true, List, [], ◌∷◌, ◌++◌, codes, Some, None, pos}
-use Rattle.f_tree.specs.declared.expressions.Expr.{Expr}
-use Rattle.f_tree.specs.declared.expressions.Expr as expr
-use Rattle.f_tree.specs.declared.expressions.BinaryOp.TheVariants as op
-use Rattle.f_tree.specs.declared.names.Basic.TheVariants.{Integer}
-use Rattle.f_tree.specs.declared.names.Options.{Options}
-use Rattle.f_tree.specs.declared.statements.Body.{Body}
-use Rattle.f_tree.specs.declared.statements.Body as body
-use Rattle.f_tree.specs.declared.statements.ControlValue.TheVariants as value
-use Rattle.f_tree.specs.declared.statements.ControlWord.TheVariants as word
-use Rattle.f_tree.specs.declared.statements.Direction.TheVariants as way
-use Rattle.f_tree.specs.declared.statements.ListItem.{ListItem}
-use Rattle.f_tree.specs.declared.statements.ListItem as item
-use Rattle.f_tree.specs.declared.statements.Stmt.{Stmt}
-use Rattle.f_tree.specs.declared.statements.UnitKind.TheVariants as kind
-use Rattle.f_tree.specs.declared.statements.UpperBound.TheVariants as upper
-use Rattle.f_tree.specs.declared.units.Unit.{Unit as WrittenUnit}
-use Rattle.plain_forms.specs.PlainUnits.{is_plain_main}
+use Rattle.main_translation_laws.specs.f_tree.declared.expressions.Expr.{Expr}
+use Rattle.main_translation_laws.specs.f_tree.declared.expressions.Expr as expr
+use Rattle.main_translation_laws.specs.f_tree.declared.expressions.BinaryOp.TheVariants as op
+use Rattle.main_translation_laws.specs.f_tree.declared.names.Basic.TheVariants.{Integer}
+use Rattle.main_translation_laws.specs.f_tree.declared.names.Options.{Options}
+use Rattle.main_translation_laws.specs.f_tree.declared.statements.Body.{Body}
+use Rattle.main_translation_laws.specs.f_tree.declared.statements.Body as body
+use Rattle.main_translation_laws.specs.f_tree.declared.statements.ControlValue.TheVariants as value
+use Rattle.main_translation_laws.specs.f_tree.declared.statements.ControlWord.TheVariants as word
+use Rattle.main_translation_laws.specs.f_tree.declared.statements.Direction.TheVariants as way
+use Rattle.main_translation_laws.specs.f_tree.declared.statements.ListItem.{ListItem}
+use Rattle.main_translation_laws.specs.f_tree.declared.statements.ListItem as item
+use Rattle.main_translation_laws.specs.f_tree.declared.statements.Stmt.{Stmt}
+use Rattle.main_translation_laws.specs.f_tree.declared.statements.UnitKind.TheVariants as kind
+use Rattle.main_translation_laws.specs.f_tree.declared.statements.UpperBound.TheVariants as upper
+use Rattle.main_translation_laws.specs.f_tree.declared.units.Unit.{Unit as WrittenUnit}
+use Rattle.main_translation_laws.specs.plain_forms.PlainUnits.{is_plain_main}
 
 -- a statement on a card
 abbrev pub on_card : ℕ → Body → Stmt

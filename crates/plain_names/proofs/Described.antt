@@ -8,13 +8,13 @@ use Rattle.f_tree.specs.Facts.{Attribute, Member}
 use Rattle.f_tree.specs.Setting.{IsIn, first_in, later_in}
 use Rattle.f_tree.specs.Uses.{Use}
 use Rattle.f_tree.specs.Attributes.{Constant, Expansion, attribute_of, Described, described, attribute_in, all_described}
+use Rattle.f_tree.specs.Valuing.{elements_of}
 use Rattle.f_tree.specs.Lines.{Naming, is_stored, stored_among, program_of, with_ties, unit_read}
-use Rattle.declaration_rows.specs.NameRows.{given_names, all_names}
-use Rattle.c_tree.specs.Tokens.{begins_with, is_letter}
-use Rattle.main_translation.specs.Contents.{count_by}
+use Rattle.name_facts.specs.declaration_rows.NameRows.{given_names, all_names}
+use Rattle.c_emit.specs.c_tree.Tokens.{begins_with, is_letter}
 use Rattle.plain_forms.specs.PlainUnits.{is_plain_name, names_are_plain}
 use Rattle.plain_forms.specs.SpellableNames.{has_element, is_spellable_name, is_spellable}
-use Rattle.fortran_laws.proofs.SimpleAttributes.{described_name}
+use Rattle.plain_forms.proofs.fortran_laws.SimpleAttributes.{described_name}
 use Rattle.std.specs.Borrow.{Bor}
 use Rattle.name_facts.specs.declared.fact.NameFact.{NameFact}
 use Rattle.name_facts.specs.declared.table.NameFacts.{NameFacts}
@@ -58,12 +58,12 @@ asked-known asked u = sym (ap (list_all asked) (all-described u) ∙ all-mapped 
 
 -- what is asked of a stored name
 stored-test : Naming → Member → Bool
-stored-test names m = begins_with is_letter m.name && has_element (count_by (names m.name).bounds)
+stored-test names m = begins_with is_letter m.name && has_element (elements_of (names m.name).bounds)
 
 spelled-one : (names : Naming) (x : Bytes) (b : Bool) (n : _) (ms : List Member) (rest : Bool) → list_all (stored-test names) ms ≡ rest →
-    list_all (stored-test names) (if b then record { name = x; size = n } ∷ ms else ms) ≡ (not b || (begins_with is_letter x && has_element (count_by (names x).bounds))) && rest
+    list_all (stored-test names) (if b then record { name = x; size = n } ∷ ms else ms) ≡ (not b || (begins_with is_letter x && has_element (elements_of (names x).bounds))) && rest
 unfolding stored-test
-spelled-one names x true n ms rest is = ap (λ t. (begins_with is_letter x && has_element (count_by (names x).bounds)) && t) is
+spelled-one names x true n ms rest is = ap (λ t. (begins_with is_letter x && has_element (elements_of (names x).bounds)) && t) is
 spelled-one names x false n ms rest is = is
 
 stored-spelled : (names : Naming) (xs : List Bytes) → list_all (stored-test names) (stored_among (map (looked-up names) xs)) ≡ list_all (λ x. is_spelled (looked-up names x)) xs

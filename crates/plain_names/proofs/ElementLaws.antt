@@ -1,25 +1,20 @@
 -- The elements of an array and the sizes of its dimensions.
 use Rattle.std.proofs.Common.{◌≡◌, ℕ, zero, suc, ◌+◌, ◌*◌, ◌<◌, ◌≤◌, min, pos, true, false, ◌&&◌, List, [], ◌∷◌, map, drop, drop-cons, get_or, length, Option, Some, None, nat_lt, nat_le, refl, sym, ap, ◌∙◌, arith}
-use Rattle.std.specs.Prelude.{nat_abs, ◌-ℤ◌, ◌+ℤ◌}
+use Rattle.std.specs.Prelude.{ℤ, Bool, ◌||◌, nat_abs, nat_eq, ◌-ℤ◌, ◌+ℤ◌, is_some}
 use Rattle.std.proofs.lemmas.Bool.Decides.{nat_tests}
 use Rattle.std.specs.List.{list_all}
 use Rattle.std.proofs.lemmas.List.{drop_all}
 use Rattle.f_tree.specs.Values.{in_range}
 use Rattle.f_tree.specs.Valuing.{elements_of, size_of_dimension}
 use Rattle.name_facts.specs.declared.fact.Bound.{Bound}
+use Rattle.name_facts.specs.Dimensions.{is_closed, elements_in}
 use Rattle.name_facts.specs.GivenFacts.{bounds_of}
-use Rattle.main_translation.specs.Contents.{count_by}
+use Rattle.plain_forms.specs.PlainUnits.{has_none, only_last_is_assumed}
 use Rattle.plain_forms.specs.SpellableNames.{has_element}
-use Rattle.plain_names.specs.Elements.{elements_in, has_length, fits}
+use Rattle.plain_names.specs.Elements.{only_last_is_open, has_length, fits}
 use Rattle.plain_names.proofs.Saturation.{grows, saturates, saturates-more}
 
 -- ## How many elements
-
-pub elements-known : (bs : List Bound) → elements_of (map bounds_of bs) ≡ Some (elements_in bs)
-unfolding elements_of size_of_dimension bounds_of elements_in
-elements-known [] = refl
-elements-known (b ∷ bs) =
-    ap (λ (o : Option ℕ). elim o [ None ↦ None | Some n ↦ Some (nat_abs ((b.upper -ℤ b.lower) +ℤ pos 1) * n) ]) (elements-known bs)
 
 pub count-start : (bs : List Bound) (M : ℕ) → min (elements_in bs) M ≡ min (1 * elements_in bs) M
 count-start bs M = omega arith
@@ -60,21 +55,34 @@ product-some (suc x) (suc y) =
     let both : nat_le 1 (suc x * suc y) ≡ true = grind (arith, nat_tests) in
     ap (λ t. t && nat_le 1 (suc y)) one ∙ other ∙ sym both
 
-pub lengths-known : (bs : List Bound) → list_all has_length bs ≡ nat_le 1 (elements_in bs)
-unfolding has_length elements_in
-lengths-known [] = refl
-lengths-known (b ∷ bs) =
-    ap (λ t. nat_le 1 (size_of_dimension (bounds_of b)) && t) (lengths-known bs) ∙ product-some (size_of_dimension (bounds_of b)) (elements_in bs)
-
-element-some : (bs : List Bound) → has_element (elements_of (map bounds_of bs)) ≡ nat_le 1 (elements_in bs)
-unfolding has_element
-element-some bs = ap has_element (elements-known bs)
-
--- an array has an element where each dimension has one
-pub element-known : (bs : List Bound) → list_all has_length bs ≡ has_element (count_by (map bounds_of bs))
-unfolding has_element count_by
+-- an element is known to be there where each dimension has one
+pub element-known : (bs : List Bound) → list_all has_length bs ≡ has_element (elements_of (map bounds_of bs))
+unfolding has_length has_element elements_of size_of_dimension bounds_of
 element-known [] = refl
-element-known (b ∷ bs) = lengths-known (b ∷ bs) ∙ sym (element-some (b ∷ bs))
+element-known (b ∷ bs) = by b.lower b.upper (list_all has_length bs) (elements_of (map bounds_of bs)) (element-known bs)
+  where
+    none : (t : Bool) → (t && false) ≡ false
+    none true = refl
+    none false = refl
+
+    by : (lower : ℤ) (upper : Option ℤ) (some : Bool) (count : Option ℕ) → some ≡ has_element count →
+        (nat_le 1 (elim upper [ None ↦ 0 | Some u ↦ nat_abs ((u -ℤ lower) +ℤ pos 1) ]) && some)
+        ≡ has_element (elim upper [ None ↦ None | Some u ↦ elim count [ None ↦ None | Some n ↦ Some (nat_abs ((u -ℤ lower) +ℤ pos 1) * n) ] ])
+    by lower None some count is = refl
+    by lower (Some u) some None is = ap (λ t. nat_le 1 (nat_abs ((u -ℤ lower) +ℤ pos 1)) && t) is ∙ none (nat_le 1 (nat_abs ((u -ℤ lower) +ℤ pos 1)))
+    by lower (Some u) some (Some n) is = ap (λ t. nat_le 1 (nat_abs ((u -ℤ lower) +ℤ pos 1)) && t) is ∙ product-some (nat_abs ((u -ℤ lower) +ℤ pos 1)) n
+
+-- ## Whether the last alone is assumed
+
+no-dimension : (bs : List Bound) → nat_eq (length bs) 0 ≡ has_none (map bounds_of bs)
+unfolding has_none
+no-dimension [] = refl
+no-dimension (b ∷ bs) = grind arith
+
+pub last-known : (bs : List Bound) → only_last_is_open bs ≡ only_last_is_assumed (map bounds_of bs)
+unfolding only_last_is_open only_last_is_assumed is_closed bounds_of
+last-known [] = refl
+last-known (b ∷ bs) = ap (λ t. (is_some b.upper || t) && only_last_is_open bs) (no-dimension bs) ∙ ap (λ t. (is_some b.upper || has_none (map bounds_of bs)) && t) (last-known bs)
 
 -- ## Whether it fits
 

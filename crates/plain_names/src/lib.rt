@@ -8,7 +8,7 @@ mod names;
 mod spelling;
 mod units;
 
-pub use name::{has_plain_bounds, is_name, is_number, is_plain_variable};
+pub use name::{has_constant_bounds, has_plain_bounds, is_name, is_number, is_plain_variable};
 pub use names::{has_plain_names, is_spellable};
 pub use spelling::begins_with_letter;
 pub use units::{has_own_storage, have_no_entry, is_main};

@@ -7,9 +7,9 @@ ghost use Rattle.name_facts.specs.GivenFacts.{fact_in};
 ghost use Rattle.plain_forms.specs.PlainUnits as plain;
 ghost use Rattle.plain_names.specs.ToldNames as spec;
 
-use crate::bounds::{all_fit, is_small};
+use crate::bounds::{all_fit, is_small, only_last_is_open};
 use f_tree::{Basic, Class};
-use name_facts::{NameFact, NameFacts};
+use name_facts::{NameFact, NameFacts, all_closed};
 
 /// Whether a class is that of dummy arguments or of the results of functions.
 #[tactic(auto, unfolding(plain_forms::specs::PlainUnits::is_of_call))]
@@ -53,12 +53,21 @@ pub fn is_number(fact: &NameFact) -> bool
     is_numeric(fact.basic) && has_four_units(fact.width)
 }
 
-/// Whether each dimension that is written has constant bounds, and they fit. Section 5.1.1.
+/// Whether each dimension that is written has bounds that are constant, but for a last upper bound `*`, and they fit. Section 5.1.
 #[tactic(auto, unfolding(crate::specs::ToldNames::has_plain_bounds))]
 pub fn has_plain_bounds(fact: &NameFact) -> bool
     ensures { result ≡ spec.has_plain_bounds fact.now }
 {
-    fact.bounds.len() == fact.rank && all_fit(fact.bounds.as_slice())
+    let bounds = fact.bounds.as_slice();
+    bounds.len() == fact.rank && all_fit(bounds) && only_last_is_open(bounds)
+}
+
+/// Whether each dimension that is written has constant bounds, and they fit. Section 5.1.1.
+#[tactic(auto, unfolding(crate::specs::ToldNames::has_constant_bounds))]
+pub fn has_constant_bounds(fact: &NameFact) -> bool
+    ensures { result ≡ spec.has_constant_bounds fact.now }
+{
+    has_plain_bounds(fact) && all_closed(fact.bounds.as_slice())
 }
 
 /// Whether a byte may stand in a name.
@@ -103,11 +112,11 @@ fn is_plain(name: &[u8], fact: &NameFact) -> bool
     ensures { result ≡ spec.is_plain name.now fact.now }
 {
     !is_of_call(fact.class)
-        && has_plain_bounds(fact)
+        && has_constant_bounds(fact)
         && (!is_stored(fact.class) || is_plain_variable(name, fact))
 }
 
-/// Whether a name is no dummy argument and no result of a function, its bounds fit, and it is that of a variable or an array of numbers, if it is
+/// Whether a name is no dummy argument and no result of a function, its bounds are constant and fit, and it is that of a variable or an array of numbers, if it is
 /// stored.
 #[tactic(auto, using(crate::proofs::ToldLaws::unknown_is_plain), unfolding(name_facts::specs::GivenFacts::fact_or))]
 pub(crate) fn is_plain_name(table: &NameFacts, name: &[u8]) -> bool

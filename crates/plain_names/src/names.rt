@@ -4,7 +4,7 @@ ghost use Rattle.std.specs.Prelude.{◌≡◌, ◌&&◌, map};
 ghost use Rattle.std.specs.List.{list_all};
 ghost use Rattle.f_tree.specs.declared.names.Options.{Options as GivenOptions};
 ghost use Rattle.f_tree.specs.Lines.{unit_kind, unit_read};
-ghost use Rattle.declaration_rows.specs.NameRows.{all_names};
+ghost use Rattle.name_facts.specs.declaration_rows.NameRows.{all_names};
 ghost use Rattle.name_facts.specs.GivenFacts.{AreNameFacts, fact_in};
 ghost use Rattle.plain_forms.specs.SpellableNames as spelled;
 ghost use Rattle.plain_forms.specs.PlainUnits.{is_main, has_one_entry, has_own_storage, names_are_plain};

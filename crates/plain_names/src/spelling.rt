@@ -1,7 +1,7 @@
 //! Whether a name can be spelled in C.
 
 ghost use Rattle.std.specs.Prelude.{◌≡◌};
-ghost use Rattle.c_tree.specs.Tokens.{begins_with, is_letter};
+ghost use Rattle.c_emit.specs.c_tree.Tokens.{begins_with, is_letter};
 ghost use Rattle.name_facts.specs.GivenFacts.{fact_in};
 ghost use Rattle.plain_names.specs.ToldNames as spec;
 

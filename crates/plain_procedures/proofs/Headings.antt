@@ -11,8 +11,8 @@ use Rattle.f_tree.specs.Facts.{UnitKind, MainProgram, SubroutineUnit, FunctionUn
 use Rattle.f_tree.specs.declared.names.Class.{Class}
 use Rattle.f_tree.specs.Reading.{name_or_none}
 use Rattle.f_tree.specs.Lines.{unit_kind}
-use Rattle.plain_forms.specs.PlainUnits.{has_none, is_main}
-use Rattle.declaration_rows.specs.NameRows.{given_names}
+use Rattle.unit_forms.specs.plain_forms.PlainUnits.{has_none, is_main}
+use Rattle.name_facts.specs.declaration_rows.NameRows.{given_names}
 use Rattle.name_facts.specs.declared.table.NameFacts.{NameFacts}
 use Rattle.name_facts.specs.GivenFacts.{AreNameFacts, fact_in}
 use Rattle.plain_names.specs.PlainStatements.{is_no_entry}

@@ -9,14 +9,14 @@ use Rattle.f_tree.specs.CNames.{is_name}
 use Rattle.f_tree.specs.Values.{Bytes}
 use Rattle.f_tree.specs.Facts.{Attribute, Dimension, UnitKind}
 use Rattle.f_tree.specs.Lines.{unit_kind}
-use Rattle.declaration_rows.specs.NameRows.{all_names}
+use Rattle.name_facts.specs.declaration_rows.NameRows.{all_names}
 use Rattle.name_facts.specs.declared.fact.NameFact.{NameFact}
 use Rattle.name_facts.specs.declared.table.NameFacts.{NameFacts}
 use Rattle.name_facts.specs.GivenFacts.{IsNameFact, AreNameFacts, fact_in, no_fact}
-use Rattle.plain_forms.specs.PlainUnits as plain
-use Rattle.plain_forms.specs.PlainUnits.{has_none}
+use Rattle.unit_forms.specs.plain_forms.PlainUnits as plain
+use Rattle.unit_forms.specs.plain_forms.PlainUnits.{has_none}
 use Rattle.plain_names.specs.ToldNames.{has_plain_bounds, is_plain_variable}
-use Rattle.plain_names.proofs.ToldLaws.{number-told, bounds-told, variable-told}
+use Rattle.plain_names.proofs.ToldLaws.{number-told, bounds-told, constant-told, variable-told}
 use Rattle.plain_names.proofs.Described.{all_asked}
 use Rattle.unit_forms.specs.PlainProcedures as procedures
 use Rattle.unit_forms.specs.PlainProcedures.{is_function, each_name_is_plain}
@@ -34,7 +34,7 @@ class-told : (kind : UnitKind) (k : Class) (x : Bytes) (a : Attribute) (fact : N
     is_plain_as (is_function kind) k x fact ≡ procedures.is_plain_as kind k (record { name = x; attribute = a })
 unfolding is_plain_as is_plain_stored is_plain_dummy is_plain_procedure is_plain_result Rattle.unit_forms.specs.PlainProcedures.is_plain_as Rattle.unit_forms.specs.PlainProcedures.is_plain_dummy Rattle.unit_forms.specs.PlainProcedures.is_plain_result
 class-told kind class.Stored x a fact told =
-    ap (λ t. t && is_plain_variable x fact) (bounds-told a fact told) ∙ ap (λ t. plain.has_plain_bounds a && t) (variable-told x a fact told)
+    ap (λ t. t && is_plain_variable x fact) (constant-told a fact told) ∙ ap (λ t. plain.has_constant_bounds a && t) (variable-told x a fact told)
 class-told kind class.Dummy x a fact told =
     ap (λ t. is_name x && (t && has_plain_bounds fact)) (number-told a fact told) ∙ ap (λ t. is_name x && (plain.is_number a && t)) (bounds-told a fact told)
 class-told kind class.DummyProcedure x a fact told = ap (λ t. is_name x && t) (no-array a fact told)
@@ -53,7 +53,7 @@ plain-told kind x a fact told = ap (λ k. is_plain_as (is_function kind) k x fac
 
 -- a name that the table does not have
 pub unknown_is_plain : (function : Bool) (x : Bytes) → is_plain function x no_fact ≡ true
-unfolding no_fact is_plain is_plain_as has_plain_bounds
+unfolding no_fact is_plain is_plain_as has_plain_bounds Rattle.plain_names.specs.Elements.only_last_is_open
 unknown_is_plain function x = refl
 
 -- each name of a unit is plain by what the table tells of it

@@ -5,9 +5,9 @@ use Rattle.f_tree.specs.declared.names.Class.TheVariants as class
 use Rattle.f_tree.specs.CNames.{is_name}
 use Rattle.f_tree.specs.Values.{Bytes}
 use Rattle.name_facts.specs.declared.fact.NameFact.{NameFact}
-use Rattle.plain_names.specs.ToldNames.{is_number, has_plain_bounds, is_plain_variable}
+use Rattle.plain_names.specs.ToldNames.{is_number, has_plain_bounds, has_constant_bounds, is_plain_variable}
 
--- a dummy variable, or a dummy array with constant bounds
+-- a dummy variable, or a dummy array with constant bounds, but for a last one that is assumed
 unfoldable pub is_plain_dummy : Bytes → NameFact → Bool
 is_plain_dummy x fact = is_name x && (is_number fact && has_plain_bounds fact)
 
@@ -21,7 +21,7 @@ is_plain_result function fact = function && (is_number fact && nat_eq fact.rank 
 
 -- a variable or an array of numbers
 unfoldable pub is_plain_stored : Bytes → NameFact → Bool
-is_plain_stored x fact = has_plain_bounds fact && is_plain_variable x fact
+is_plain_stored x fact = has_constant_bounds fact && is_plain_variable x fact
 
 -- a name of a class, in a function or in another unit
 unfoldable pub is_plain_as : Bool → Class → Bytes → NameFact → Bool

@@ -7,7 +7,7 @@ ghost use Rattle.plain_procedures.specs.ToldProcedures as spec;
 
 use f_tree::Class;
 use name_facts::{NameFact, NameFacts};
-use plain_names::{has_plain_bounds, is_name, is_number, is_plain_variable};
+use plain_names::{has_constant_bounds, has_plain_bounds, is_name, is_number, is_plain_variable};
 
 /// Whether a class is that of dummy arguments. Section 15.9.2.
 #[tactic(auto, unfolding(unit_forms::specs::PlainProcedures::is_dummy_class))]
@@ -33,7 +33,7 @@ pub(crate) fn is_result_class(class: Class) -> bool
     }
 }
 
-/// Whether a dummy argument is a variable of numbers, or an array of them with constant bounds. Sections 4.1 and 5.5.
+/// Whether a dummy argument is a variable of numbers, or an array of them with constant bounds, but for a last one `*`. Sections 4.1, 5.1.2 and 5.5.
 #[tactic(auto, unfolding(crate::specs::ToldProcedures::is_plain_dummy))]
 fn is_plain_dummy(name: &[u8], fact: &NameFact) -> bool
     ensures { result ≡ spec.is_plain_dummy name.now fact.now }
@@ -62,7 +62,7 @@ fn is_plain_result(function: bool, fact: &NameFact) -> bool
 fn is_plain_stored(name: &[u8], fact: &NameFact) -> bool
     ensures { result ≡ spec.is_plain_stored name.now fact.now }
 {
-    has_plain_bounds(fact) && is_plain_variable(name, fact)
+    has_constant_bounds(fact) && is_plain_variable(name, fact)
 }
 
 /// Whether a name is plain, given its class and what it is.

@@ -3,9 +3,9 @@
 ghost use Rattle.std.specs.Prelude.{◌≡◌, ◌&&◌, map};
 ghost use Rattle.std.specs.List.{list_all};
 ghost use Rattle.f_tree.specs.Lines.{unit_kind};
-ghost use Rattle.declaration_rows.specs.NameRows.{all_names};
+ghost use Rattle.name_facts.specs.declaration_rows.NameRows.{all_names};
 ghost use Rattle.name_facts.specs.GivenFacts.{AreNameFacts, fact_in};
-ghost use Rattle.plain_forms.specs.PlainUnits.{has_own_storage};
+ghost use Rattle.unit_forms.specs.plain_forms.PlainUnits.{has_own_storage};
 ghost use Rattle.unit_forms.specs.PlainProcedures.{may_run, heading_fits, has_no_entries, has_plain_heading, each_name_is_plain};
 ghost use Rattle.plain_procedures.specs.ToldProcedures as spec;
 

@@ -4,25 +4,25 @@ use Rattle.std.specs.Prelude.{◌≡◌, ◌≢◌, ℕ, zero, suc, Bool, true, 
 use Rattle.std.proofs.Common.{refl, sym, ap, ◌∙◌, subst, arith}
 use Rattle.std.proofs.lemmas.List.{map-append}
 use Rattle.std.proofs.lemmas.Slice.Eq.{bytes_eq-Decides}
-use Rattle.f_tree.specs.CNames.{external_name, main_name}
-use Rattle.f_tree.specs.Facts.{UnitKind, MainProgram, SubroutineUnit, FunctionUnit, BlockDataUnit, EntryPoint, ProgramUnit}
-use Rattle.f_tree.specs.Meaning.{has_entry, answers_to}
-use Rattle.f_tree.specs.Setting.{IsIn, first_in, later_in}
-use Rattle.f_tree.specs.Values.{Bytes}
-use Rattle.f_tree.specs.World.{Procedure}
-use Rattle.fortran_laws.proofs.CNameLaws.{external_name-injective}
-use Rattle.l_core.specs.Steps.{Text}
-use Rattle.faithful.specs.StorageImage.{name_of_entries, function_name}
-use Rattle.linking_laws.proofs.Places.{some_same}
-use Rattle.main_file.specs.MainFile.{Called}
-use Rattle.main_translation.specs.Contents.{function_called, calls_of}
-use Rattle.main_translation_laws.proofs.Lists.{AreApart, none_apart, one_apart, InEither, in_one, in_other, in_either, in_part, part_apart, apart_append}
-use Rattle.main_translation_laws.proofs.Contents.{each_of}
-use Rattle.main_file_texts.proofs.Files.{is_in, apart_told, all_names, all_apart_there, names_part}
-use Rattle.unit_file.specs.UnitFile.{Callee}
-use Rattle.unit_file.specs.UnitNames.{called_names}
-use Rattle.unit_programs.proofs.Objects.{found_back}
-use Rattle.unit_translation.specs.UnitContents.{LoweredUnit, program_units, unit_numbers, library_callee, procedures_by, with_name, procedures_in, unit_callee, procedure_callee, inventory_of}
+use Rattle.fortran_totality.specs.f_tree.CNames.{external_name, main_name}
+use Rattle.fortran_totality.specs.f_tree.Facts.{UnitKind, MainProgram, SubroutineUnit, FunctionUnit, BlockDataUnit, EntryPoint, ProgramUnit}
+use Rattle.fortran_totality.specs.f_tree.Meaning.{has_entry, answers_to}
+use Rattle.fortran_totality.specs.f_tree.Setting.{IsIn, first_in, later_in}
+use Rattle.fortran_totality.specs.f_tree.Values.{Bytes}
+use Rattle.fortran_totality.specs.f_tree.World.{Procedure}
+use Rattle.plain_files.proofs.fortran_laws.CNameLaws.{external_name-injective}
+use Rattle.plain_files.specs.l_core.Steps.{Text}
+use Rattle.plain_files.specs.faithful.StorageImage.{name_of_entries, function_name}
+use Rattle.plain_files.proofs.linking_laws.Places.{some_same}
+use Rattle.plain_files.specs.main_file.MainFile.{Called}
+use Rattle.plain_files.specs.main_translation.Contents.{function_called, calls_of}
+use Rattle.plain_files.proofs.main_translation_laws.Lists.{AreApart, none_apart, one_apart, InEither, in_one, in_other, in_either, in_part, part_apart, apart_append}
+use Rattle.plain_files.proofs.main_translation_laws.Contents.{each_of}
+use Rattle.plain_files.proofs.main_file_texts.Files.{is_in, apart_told, all_names, all_apart_there, names_part}
+use Rattle.plain_units.specs.unit_file.UnitFile.{Callee}
+use Rattle.plain_units.specs.unit_file.UnitNames.{called_names}
+use Rattle.plain_units.proofs.unit_programs.Objects.{found_back}
+use Rattle.plain_units.specs.unit_translation.UnitContents.{LoweredUnit, program_units, unit_numbers, library_callee, procedures_by, with_name, procedures_in, unit_callee, procedure_callee, inventory_of}
 use Rattle.plain_unit_files.proofs.Words.{closes, is_underscored, external_closes}
 
 -- ## Names, each once

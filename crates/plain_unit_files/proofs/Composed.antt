@@ -2,36 +2,36 @@
 use Rattle.std.specs.Prelude.{◌≡◌, ℕ, zero, suc, ◌+◌, ◌<◌, ◌≤◌, true, List, [], ◌∷◌, ◌++◌, map, length, Some, slice_get}
 use Rattle.std.proofs.Common.{refl, sym, ap, ◌∙◌, subst, arith}
 use Rattle.std.proofs.lemmas.List.{map-append, length-map}
-use Rattle.f_tree.specs.declared.names.Options.{Options}
-use Rattle.f_tree.specs.declared.units.File.{File}
-use Rattle.f_tree.specs.declared.units.Unit.{Unit as GivenUnit}
-use Rattle.f_tree.specs.Attributes.{arrays_of}
-use Rattle.f_tree.specs.Facts.{ProgramUnit}
-use Rattle.f_tree.specs.Holding.{EachRunIsMeant}
-use Rattle.f_tree.specs.Lines.{unit_read}
-use Rattle.f_tree.specs.Meaning.{units_of}
-use Rattle.f_tree.specs.Setting.{IsIn, first_in, later_in, IsSetting}
-use Rattle.f_tree.specs.Uses.{uses_of_statements}
-use Rattle.f_tree.specs.Values.{Bytes}
-use Rattle.f_tree.specs.WellFormed.{AreWellFormed}
-use Rattle.declaration_rows.specs.GlobalRows.{all_units}
-use Rattle.declaration_laws.proofs.SetFits.{sets_formed}
-use Rattle.c_text.specs.Printed.{printed}
-use Rattle.faithful.specs.Faithful as faithful
-use Rattle.faithful.specs.Faithful.{SpellAll}
-use Rattle.faithful.specs.Signatures.{dummy_of}
-use Rattle.faithful.specs.StorageImage.{function_name}
-use Rattle.linking_laws.specs.Linked as names
-use Rattle.linking_laws.proofs.Places.{some_same, map_at}
-use Rattle.main_translation_laws.proofs.Lists.{at_in}
-use Rattle.unit_forms.specs.OwnSetting.{own_setting}
-use Rattle.unit_forms.specs.SpellableUnits.{is_spellable_unit}
-use Rattle.unit_sites.specs.UnitSites.{UnitsOfFile, file_for, files_of}
-use Rattle.unit_programs.specs.TranslatedUnits.{Rendering}
-use Rattle.unit_translation.specs.UnitContents.{LoweredUnit, program_units, inventory_of}
-use Rattle.unit_translation.specs.UnitBodies.{all_lowered}
-use Rattle.unit_translation_laws.specs.PlainUnits.{IsPlainUnit, ArePlainUnits}
-use Rattle.unit_translation_laws.specs.RenderedUnits.{AreRendered, PlainUnitsAreRendered}
+use Rattle.fortran_totality.specs.f_tree.declared.names.Options.{Options}
+use Rattle.fortran_totality.specs.f_tree.declared.units.File.{File}
+use Rattle.fortran_totality.specs.f_tree.declared.units.Unit.{Unit as GivenUnit}
+use Rattle.fortran_totality.specs.f_tree.Attributes.{arrays_of}
+use Rattle.fortran_totality.specs.f_tree.Facts.{ProgramUnit}
+use Rattle.fortran_totality.specs.f_tree.Holding.{EachRunIsMeant}
+use Rattle.fortran_totality.specs.f_tree.Lines.{unit_read}
+use Rattle.fortran_totality.specs.f_tree.Meaning.{units_of}
+use Rattle.fortran_totality.specs.f_tree.Setting.{IsIn, first_in, later_in, IsSetting}
+use Rattle.fortran_totality.specs.f_tree.Uses.{uses_of_statements}
+use Rattle.fortran_totality.specs.f_tree.Values.{Bytes}
+use Rattle.fortran_totality.specs.f_tree.WellFormed.{AreWellFormed}
+use Rattle.plain_files.specs.declaration_rows.GlobalRows.{all_units}
+use Rattle.plain_files.proofs.declaration_laws.SetFits.{sets_formed}
+use Rattle.plain_files.specs.c_text.Printed.{printed}
+use Rattle.plain_files.specs.faithful.Faithful as faithful
+use Rattle.plain_files.specs.faithful.Faithful.{SpellAll}
+use Rattle.plain_files.specs.faithful.Signatures.{dummy_of}
+use Rattle.plain_files.specs.faithful.StorageImage.{function_name}
+use Rattle.plain_files.specs.linking_laws.Linked as names
+use Rattle.plain_files.proofs.linking_laws.Places.{some_same, map_at}
+use Rattle.plain_files.proofs.main_translation_laws.Lists.{at_in}
+use Rattle.plain_units.specs.unit_forms.OwnSetting.{own_setting}
+use Rattle.plain_units.specs.unit_forms.SpellableUnits.{is_spellable_unit}
+use Rattle.plain_units.specs.unit_sites.UnitSites.{UnitsOfFile, file_for, files_of}
+use Rattle.plain_units.specs.unit_programs.TranslatedUnits.{Rendering}
+use Rattle.plain_units.specs.unit_translation.UnitContents.{LoweredUnit, program_units, inventory_of}
+use Rattle.plain_units.specs.unit_translation.UnitBodies.{all_lowered}
+use Rattle.plain_units.specs.unit_translation_laws.PlainUnits.{IsPlainUnit, ArePlainUnits}
+use Rattle.plain_units.specs.unit_translation_laws.RenderedUnits.{AreRendered, PlainUnitsAreRendered}
 use Rattle.unit_faithfulness.specs.UnitsFaithful.{AreOfFiles, no_files, one_file, AreMeant, EachUnitsSetIsFaithful}
 use Rattle.unit_faithfulness.proofs.Faithfulness.{units_are as units_of_files}
 use Rattle.unit_faithfulness.proofs.Written.{AreFilesFor, none_for, one_for, files_are}

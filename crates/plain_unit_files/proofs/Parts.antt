@@ -2,11 +2,11 @@
 use Rattle.std.specs.Prelude.{◌≡◌, ℕ, suc, ◌+◌, ◌≤◌, List, [], ◌∷◌, ◌++◌, map, length, Some, slice_get}
 use Rattle.std.proofs.Common.{refl, sym, ap, ◌∙◌, arith}
 use Rattle.std.proofs.lemmas.List.{append_assoc, length-map}
-use Rattle.linking_laws.proofs.Places.{map_at}
-use Rattle.unit_file.specs.UnitFile.{WrittenUnit}
-use Rattle.unit_sites.specs.UnitSites.{UnitsOfFile, Site, all_units, inventories, all_inventories, contents_of, sites_in, sites_from, behind}
-use Rattle.unit_places.proofs.Sites.{sites_in_many, site_known}
-use Rattle.unit_programs.specs.TranslatedUnits.{Rendering, written_of, IsTranslatedSet}
+use Rattle.plain_files.proofs.linking_laws.Places.{map_at}
+use Rattle.plain_units.specs.unit_file.UnitFile.{WrittenUnit}
+use Rattle.plain_units.specs.unit_sites.UnitSites.{UnitsOfFile, Site, all_units, inventories, all_inventories, contents_of, sites_in, sites_from, behind}
+use Rattle.plain_units.proofs.unit_places.Sites.{sites_in_many, site_known}
+use Rattle.plain_units.specs.unit_programs.TranslatedUnits.{Rendering, written_of, IsTranslatedSet}
 use Rattle.unit_file_texts.specs.WellFormedUnits.{AreOfOneFile}
 
 abbrev pub sited_of : List Rendering → List Site

@@ -3,46 +3,47 @@
 use Rattle.std.specs.List.{list_all}
 use Rattle.std.specs.Prelude.{◌≡◌, ℕ, suc, ◌+◌, ◌≤◌, ◌^◌, nat_le, ℤ, Bool, true, false, ◌&&◌, List, [], ◌∷◌, ◌++◌, map, length, Option, Some, None, unwrap_or, slice_get}
 use Rattle.std.proofs.Common.{refl, sym, ap, ◌∙◌, subst, arith}
-use Rattle.f_tree.specs.CNames.{variable_name, made_name, FunctionResult, ConstantOf}
-use Rattle.f_tree.specs.CNames as c_names
-use Rattle.f_tree.specs.Facts.{Formal, UnitKind, MainProgram, SubroutineUnit, FunctionUnit, BlockDataUnit, EntryPoint}
-use Rattle.f_tree.specs.Setting.{IsIn, first_in, later_in}
-use Rattle.f_tree.specs.Values.{in_range}
-use Rattle.l_core.specs.Steps.{Starts, Step, Acts, Text}
-use Rattle.c_tree.specs.declared.types.NumberType.{NumberType}
-use Rattle.c_tree.specs.CWords.{is_name}
-use Rattle.c_tree.specs.Flat.{Flat}
-use Rattle.c_tree.specs.Tokens.{begins_with, is_letter}
-use Rattle.c_laws.proofs.TokenSpellings.{and-first, and-second}
-use Rattle.c_emit.specs.Calls.{unit_of}
-use Rattle.c_emit.specs.Flats.{flat_of}
-use Rattle.c_emit.specs.Numbers.{Writing}
-use Rattle.c_structure.specs.Statements.{Outline}
-use Rattle.faithful.specs.Signatures.{named_formals}
-use Rattle.faithful.specs.StorageImage.{name_of_entries, function_name}
-use Rattle.linking_laws.specs.Linked.{AreDistinct}
-use Rattle.main_file.specs.MainFile.{Listing, Called, temporary_names, list_names}
-use Rattle.main_translation.specs.Contents.{count_by, variable_of, listings_from, calls_of}
-use Rattle.main_translation_laws.proofs.Lists.{InEither, in_one, in_other, in_either, in_map, in_part, in_at, at_in, distinct_by, none_by}
-use Rattle.main_translation_laws.proofs.Contents.{each_of, small_magnitude, listings_count}
-use Rattle.main_translation_laws.proofs.Storage.{name_is, count_is}
-use Rattle.main_file_texts.proofs.Words.{constant_word, variable_word}
-use Rattle.main_file_texts.proofs.Files.{label_word, started_fits, split, listing_fits, all_words, all_names, all_words_there, names_part, temporaries_words, lists_words}
-use Rattle.plain_forms.specs.SpellableNames.{has_element, is_spellable_name}
+use Rattle.fortran_totality.specs.f_tree.CNames.{variable_name, made_name, FunctionResult, ConstantOf}
+use Rattle.fortran_totality.specs.f_tree.CNames as c_names
+use Rattle.fortran_totality.specs.f_tree.Facts.{Bounds, Formal, UnitKind, MainProgram, SubroutineUnit, FunctionUnit, BlockDataUnit, EntryPoint}
+use Rattle.fortran_totality.specs.f_tree.Valuing.{elements_of}
+use Rattle.fortran_totality.specs.f_tree.Setting.{IsIn, first_in, later_in}
+use Rattle.fortran_totality.specs.f_tree.Values.{in_range}
+use Rattle.plain_files.specs.l_core.Steps.{Starts, Step, Acts, Text}
+use Rattle.plain_files.specs.c_tree.declared.types.NumberType.{NumberType}
+use Rattle.plain_files.specs.c_tree.CWords.{is_name}
+use Rattle.plain_files.specs.c_tree.Flat.{Flat}
+use Rattle.plain_files.specs.c_tree.Tokens.{begins_with, is_letter}
+use Rattle.plain_files.proofs.c_laws.TokenSpellings.{and-first, and-second}
+use Rattle.plain_files.specs.c_emit.Calls.{unit_of}
+use Rattle.plain_files.specs.c_emit.Flats.{flat_of}
+use Rattle.plain_files.specs.c_emit.Numbers.{Writing}
+use Rattle.plain_files.specs.c_structure.Statements.{Outline}
+use Rattle.plain_files.specs.faithful.Signatures.{named_formals}
+use Rattle.plain_files.specs.faithful.StorageImage.{name_of_entries, function_name}
+use Rattle.plain_files.specs.linking_laws.Linked.{AreDistinct}
+use Rattle.plain_files.specs.main_file.MainFile.{Listing, Called, temporary_names, list_names}
+use Rattle.plain_files.specs.main_translation.Contents.{count_by, variable_of, listings_from, calls_of}
+use Rattle.plain_files.proofs.main_translation_laws.Lists.{InEither, in_one, in_other, in_either, in_map, in_part, in_at, at_in, distinct_by, none_by}
+use Rattle.plain_files.proofs.main_translation_laws.Contents.{each_of, small_magnitude, listings_count}
+use Rattle.plain_files.proofs.main_translation_laws.Storage.{name_is, count_is}
+use Rattle.plain_files.proofs.main_file_texts.Words.{constant_word, variable_word}
+use Rattle.plain_files.proofs.main_file_texts.Files.{label_word, started_fits, split, listing_fits, all_words, all_names, all_words_there, names_part, temporaries_words, lists_words}
+use Rattle.plain_files.specs.plain_forms.SpellableNames.{has_element, is_spellable_name}
 use Rattle.plain_files.proofs.Composed.{named}
-use Rattle.procedure_emission.specs.ProcedureItems.{Numbers, procedure_item}
-use Rattle.unit_file.specs.UnitFile.{Variable, Parameter, Inventory, result_names, lasting_names}
-use Rattle.unit_file.specs.UnitItems.{unit_items}
-use Rattle.unit_file.specs.UnitNames.{constant_names, called_names, own_names}
-use Rattle.linking_laws.proofs.Places.{some_at}
-use Rattle.unit_sites.specs.UnitSites.{UnitsOfFile, inventories}
-use Rattle.unit_file_laws.specs.KnownUnits.{unit_writing}
-use Rattle.unit_forms.specs.SpellableUnits.{is_called_well, is_spellable_unit}
-use Rattle.unit_programs.specs.TranslatedUnits.{Rendering, written_of, numbers_of}
-use Rattle.unit_translation.specs.UnitContents.{LoweredUnit, parameter_for, formals_in, parameters_in, procedures_in, inventory_of}
-use Rattle.unit_translation.specs.UnitBodies.{all_lowered}
-use Rattle.unit_translation_laws.specs.PlainUnits.{IsPlainUnit, ArePlainUnits}
-use Rattle.unit_translation_laws.specs.RenderedUnits.{AreRendered}
+use Rattle.plain_units.specs.procedure_emission.ProcedureItems.{Numbers, procedure_item}
+use Rattle.plain_units.specs.unit_file.UnitFile.{Variable, Parameter, Inventory, result_names, lasting_names}
+use Rattle.plain_units.specs.unit_file.UnitItems.{unit_items}
+use Rattle.plain_units.specs.unit_file.UnitNames.{constant_names, called_names, own_names}
+use Rattle.plain_files.proofs.linking_laws.Places.{some_at}
+use Rattle.plain_units.specs.unit_sites.UnitSites.{UnitsOfFile, inventories}
+use Rattle.plain_units.specs.unit_file_laws.KnownUnits.{unit_writing}
+use Rattle.plain_units.specs.unit_forms.SpellableUnits.{is_called_well, is_spellable_unit}
+use Rattle.plain_units.specs.unit_programs.TranslatedUnits.{Rendering, written_of, numbers_of}
+use Rattle.plain_units.specs.unit_translation.UnitContents.{LoweredUnit, parameter_for, formals_in, parameters_in, procedures_in, inventory_of}
+use Rattle.plain_units.specs.unit_translation.UnitBodies.{all_lowered}
+use Rattle.plain_units.specs.unit_translation_laws.PlainUnits.{IsPlainUnit, ArePlainUnits}
+use Rattle.plain_units.specs.unit_translation_laws.RenderedUnits.{AreRendered}
 use Rattle.unit_file_texts.specs.WellFormedUnits.{parameter_words, local_words, has_elements, is_short, IsSpellable, AreSpellable, AreOfOneFile}
 use Rattle.unit_file_texts.proofs.UnitTexts.{stands_in}
 use Rattle.plain_unit_files.proofs.ToldApart.{called_well, formals_spelled, stored_spelled, kind_named}
@@ -79,8 +80,13 @@ unit_listings_fit numbers w label n (st ∷ later) items h l o =
 
 element_told : (count : Option ℕ) → has_element count ≡ true → nat_le 1 (unwrap_or count 1) ≡ true
 unfolding has_element
-element_told None is = refl
+element_told None is = absurd (cc)
 element_told (Some n) is = is
+
+array_told : (bs : List Bounds) → has_element (elements_of bs) ≡ true → nat_le 1 (unwrap_or (count_by bs) 1) ≡ true
+unfolding count_by
+array_told [] is = refl
+array_told (b ∷ bs) is = element_told (elements_of (b ∷ bs)) is
 
 module _ (lfs : List (List LoweredUnit)) (plain : ArePlainUnits (all_lowered lfs)) (spelled : (j : ℕ) (u : LoweredUnit) → slice_get (all_lowered lfs) j ≡ Some u → is_spellable_unit u.unit ≡ true) where
   abbrev us : List LoweredUnit
@@ -174,7 +180,7 @@ module _ (lfs : List (List LoweredUnit)) (plain : ArePlainUnits (all_lowered lfs
         let called = ap (λ (x : Variable). x.name) (sym from.is) ∙ name_is u.unit from.from in
         let both = named u.unit (stored_spelled u.unit (spelled j u at)) from.from from.among in
         subst (λ x. is_name x ≡ true) (ap variable_name (sym called) ∙ found.is)
-        (variable_word from.from.name (and-first (begins_with is_letter from.from.name) (has_element (count_by (u.unit.attribute from.from.name).bounds)) both) (one.storage.named from.from from.among))
+        (variable_word from.from.name (and-first (begins_with is_letter from.from.name) (has_element (elements_of (u.unit.attribute from.from.name).bounds)) both) (one.storage.named from.from from.among))
 
     lists_few : 1 + length (listings_from 0 u.text.steps) ≤ 2 ^ 64
     lists_few = let few = listings_count 0 u.text.steps in let fits = one.text.steps in omega (arith, few, fits)
@@ -218,7 +224,7 @@ module _ (lfs : List (List LoweredUnit)) (plain : ArePlainUnits (all_lowered lfs
         let both = named u.unit (stored_spelled u.unit (spelled j u at)) from.from from.among in
         let count = ap (λ (x : Variable). x.count) (sym from.is) ∙ count_is u.unit from.from in
         subst (λ count. nat_le 1 (unwrap_or count 1) ≡ true) (sym count)
-        (element_told (count_by (u.unit.attribute from.from.name).bounds) (and-second (begins_with is_letter from.from.name) (has_element (count_by (u.unit.attribute from.from.name).bounds)) both)))
+        (array_told (u.unit.attribute from.from.name).bounds (and-second (begins_with is_letter from.from.name) (has_element (elements_of (u.unit.attribute from.from.name).bounds)) both)))
 
   -- ## A file
 

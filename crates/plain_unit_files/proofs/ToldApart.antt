@@ -3,31 +3,31 @@ use Rattle.std.specs.List.{list_any, list_all}
 use Rattle.std.specs.Prelude.{◌≡◌, ◌≢◌, ℕ, Bool, true, false, not, ◌&&◌, ◌||◌, List, [], ◌∷◌, ◌++◌, map, codes, Option, Some, None, bytes_eq, if◌then◌else◌}
 use Rattle.std.proofs.Common.{refl, sym, ap, ◌∙◌, subst}
 use Rattle.std.proofs.lemmas.List.{append_cancel_right}
-use Rattle.f_tree.specs.declared.names.Options.{Options}
-use Rattle.f_tree.specs.declared.refusals.Kind.TheVariants.{GlobalNameTwice, TwoMainPrograms}
-use Rattle.f_tree.specs.declared.refusals.Refusal.{Refusal}
-use Rattle.f_tree.specs.declared.statements.UnitKind.{UnitKind as GivenKind}
-use Rattle.f_tree.specs.declared.statements.UnitKind.TheVariants as kind
-use Rattle.f_tree.specs.declared.units.Unit.{Unit as GivenUnit}
-use Rattle.f_tree.specs.Attributes.{option_list}
-use Rattle.f_tree.specs.CNames.{is_name, has_underscore, external_name, main_name}
-use Rattle.f_tree.specs.Facts.{UnitKind, MainProgram, SubroutineUnit, FunctionUnit, BlockDataUnit, EntryPoint, ProgramUnit}
-use Rattle.f_tree.specs.Lines.{unit_kind, program_of, with_ties, unit_read}
-use Rattle.f_tree.specs.Reading.{name_or_none}
-use Rattle.f_tree.specs.Setting.{IsIn, first_in, later_in}
-use Rattle.f_tree.specs.Values.{Bytes}
-use Rattle.fortran_laws.proofs.CNameLaws.{external_name-injective}
-use Rattle.c_tree.specs.Tokens.{begins_with, is_letter}
-use Rattle.c_laws.proofs.TokenSpellings.{and-first, and-second}
-use Rattle.declaration_rows.specs.Judgement.{unless}
-use Rattle.declaration_rows.specs.GlobalRows.{Global, globals_of_statements, globals_of_unit, globals_of, clashes, refused_at, global_rows, is_main_program, main_rows, units_global_rows}
-use Rattle.faithful.specs.Signatures.{named_formals}
-use Rattle.faithful.specs.StorageImage.{name_of_entries, function_name}
-use Rattle.linking_laws.specs.Linked as names
-use Rattle.linking_laws.proofs.Places.{same_bytes}
-use Rattle.main_translation_laws.proofs.Lists.{AreApart, none_apart, one_apart, in_map, distinct_by}
-use Rattle.plain_forms.specs.SpellableNames.{is_spellable}
-use Rattle.unit_forms.specs.SpellableUnits.{is_called_well, is_spellable_entry, is_spellable_unit}
+use Rattle.fortran_totality.specs.f_tree.declared.names.Options.{Options}
+use Rattle.fortran_totality.specs.f_tree.declared.refusals.Kind.TheVariants.{GlobalNameTwice, TwoMainPrograms}
+use Rattle.fortran_totality.specs.f_tree.declared.refusals.Refusal.{Refusal}
+use Rattle.fortran_totality.specs.f_tree.declared.statements.UnitKind.{UnitKind as GivenKind}
+use Rattle.fortran_totality.specs.f_tree.declared.statements.UnitKind.TheVariants as kind
+use Rattle.fortran_totality.specs.f_tree.declared.units.Unit.{Unit as GivenUnit}
+use Rattle.fortran_totality.specs.f_tree.Attributes.{option_list}
+use Rattle.fortran_totality.specs.f_tree.CNames.{is_name, has_underscore, external_name, main_name}
+use Rattle.fortran_totality.specs.f_tree.Facts.{UnitKind, MainProgram, SubroutineUnit, FunctionUnit, BlockDataUnit, EntryPoint, ProgramUnit}
+use Rattle.fortran_totality.specs.f_tree.Lines.{unit_kind, program_of, with_ties, unit_read}
+use Rattle.fortran_totality.specs.f_tree.Reading.{name_or_none}
+use Rattle.fortran_totality.specs.f_tree.Setting.{IsIn, first_in, later_in}
+use Rattle.fortran_totality.specs.f_tree.Values.{Bytes}
+use Rattle.plain_files.proofs.fortran_laws.CNameLaws.{external_name-injective}
+use Rattle.plain_files.specs.c_tree.Tokens.{begins_with, is_letter}
+use Rattle.plain_files.proofs.c_laws.TokenSpellings.{and-first, and-second}
+use Rattle.plain_files.specs.declaration_rows.Judgement.{unless}
+use Rattle.plain_files.specs.declaration_rows.GlobalRows.{Global, globals_of_statements, globals_of_unit, globals_of, clashes, refused_at, global_rows, is_main_program, main_rows, units_global_rows}
+use Rattle.plain_files.specs.faithful.Signatures.{named_formals}
+use Rattle.plain_files.specs.faithful.StorageImage.{name_of_entries, function_name}
+use Rattle.plain_files.specs.linking_laws.Linked as names
+use Rattle.plain_files.proofs.linking_laws.Places.{same_bytes}
+use Rattle.plain_files.proofs.main_translation_laws.Lists.{AreApart, none_apart, one_apart, in_map, distinct_by}
+use Rattle.plain_files.specs.plain_forms.SpellableNames.{is_spellable}
+use Rattle.plain_units.specs.unit_forms.SpellableUnits.{is_called_well, is_spellable_entry, is_spellable_unit}
 
 -- ## No row
 

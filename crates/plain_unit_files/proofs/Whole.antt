@@ -1,12 +1,12 @@
 -- The laws of plain units, of their files and of printed texts, put together.
 use Rattle.std.specs.Prelude.{List}
-use Rattle.f_tree.specs.declared.names.Options.{Options}
-use Rattle.f_tree.specs.declared.units.File.{File}
-use Rattle.f_tree.specs.Holding.{EachRunIsMeant}
-use Rattle.unit_translation.specs.UnitContents.{LoweredUnit, program_units}
-use Rattle.unit_translation.specs.UnitBodies.{all_lowered}
-use Rattle.unit_translation_laws.specs.PlainUnits.{ArePlainUnits}
-use Rattle.unit_translation_laws.proofs.Translated.{plain_units_are_rendered, plain_units_run_alike}
+use Rattle.fortran_totality.specs.f_tree.declared.names.Options.{Options}
+use Rattle.fortran_totality.specs.f_tree.declared.units.File.{File}
+use Rattle.fortran_totality.specs.f_tree.Holding.{EachRunIsMeant}
+use Rattle.plain_units.specs.unit_translation.UnitContents.{LoweredUnit, program_units}
+use Rattle.plain_units.specs.unit_translation.UnitBodies.{all_lowered}
+use Rattle.plain_units.specs.unit_translation_laws.PlainUnits.{ArePlainUnits}
+use Rattle.plain_units.proofs.unit_translation_laws.Translated.{plain_units_are_rendered, plain_units_run_alike}
 use Rattle.unit_faithfulness.proofs.Settings.{own_is_setting}
 use Rattle.unit_faithfulness.proofs.Written.{storage_in}
 use Rattle.unit_faithfulness.proofs.Faithfulness.{units_sets_are_faithful_by}

@@ -5,12 +5,12 @@ use Rattle.std.proofs.Common.{refl, sym, ap, ◌∙◌, arith}
 use Rattle.std.proofs.lemmas.Bool.Decides.{nat_tests}
 use Rattle.std.proofs.lemmas.Fmt.{decimal_by_steps}
 use Rattle.std.proofs.lemmas.List.{reverse-append}
-use Rattle.f_tree.specs.CNames as names
-use Rattle.f_tree.specs.CNames.{has_underscore, external_name, constant_name, made_name, ConstantOf}
-use Rattle.c_tree.specs.Tokens.{begins_with, is_letter, is_word_byte}
-use Rattle.c_tree.specs.CWords.{words, is_name, is_among}
-use Rattle.c_laws.proofs.TokenSpellings.{and-first}
-use Rattle.main_file_texts.proofs.Words.{named_by, passed_by, all_bytes, all_append, begins_append}
+use Rattle.fortran_totality.specs.f_tree.CNames as names
+use Rattle.fortran_totality.specs.f_tree.CNames.{has_underscore, external_name, constant_name, made_name, ConstantOf}
+use Rattle.plain_files.specs.c_tree.Tokens.{begins_with, is_letter, is_word_byte}
+use Rattle.plain_files.specs.c_tree.CWords.{words, is_name, is_among}
+use Rattle.plain_files.proofs.c_laws.TokenSpellings.{and-first}
+use Rattle.plain_files.proofs.main_file_texts.Words.{named_by, passed_by, all_bytes, all_append, begins_append}
 
 -- ## The last byte
 

@@ -1,23 +1,23 @@
 -- That the printed C files of plain units that call each other are faithful to their FORTRAN files. ANSI X3.9-1978, sections 2.4, 3.5, 5, 14 and 15; C89, 3.7.
 use Rattle.std.specs.Prelude.{◌≡◌, ℕ, ◌≤◌, true, List, map, length, Some, slice_get}
-use Rattle.f_tree.specs.declared.names.Options.{Options}
-use Rattle.f_tree.specs.declared.refusals.Refusal.{Refusal}
-use Rattle.f_tree.specs.declared.units.Unit.{Unit as GivenUnit}
-use Rattle.f_tree.specs.declared.units.File.{File}
-use Rattle.f_tree.specs.Lines.{unit_read}
-use Rattle.f_tree.specs.Setting.{IsIn}
-use Rattle.declaration_rows.specs.SetRows.{Faults}
-use Rattle.declaration_rows.specs.GlobalRows.{all_units, units_global_rows}
-use Rattle.lowering.specs.Units.{lowered_unit}
-use Rattle.c_text.specs.Printed.{printed}
-use Rattle.faithful.specs.Faithful.{Faithful}
-use Rattle.unit_forms.specs.OwnSetting.{own_facts}
-use Rattle.unit_forms.specs.PlainProcedures.{is_plain_unit}
-use Rattle.unit_forms.specs.SpellableUnits.{is_spellable_unit}
-use Rattle.unit_sites.specs.UnitSites.{UnitsOfFile, file_for}
-use Rattle.unit_translation.specs.UnitContents.{LoweredUnit, program_units}
-use Rattle.unit_translation.specs.UnitBodies.{all_lowered, written_files}
-use Rattle.unit_translation_laws.specs.PlainUnits.{IsPlainUnitText}
+use Rattle.fortran_totality.specs.f_tree.declared.names.Options.{Options}
+use Rattle.fortran_totality.specs.f_tree.declared.refusals.Refusal.{Refusal}
+use Rattle.fortran_totality.specs.f_tree.declared.units.Unit.{Unit as GivenUnit}
+use Rattle.fortran_totality.specs.f_tree.declared.units.File.{File}
+use Rattle.fortran_totality.specs.f_tree.Lines.{unit_read}
+use Rattle.fortran_totality.specs.f_tree.Setting.{IsIn}
+use Rattle.plain_files.specs.declaration_rows.SetRows.{Faults}
+use Rattle.plain_files.specs.declaration_rows.GlobalRows.{all_units, units_global_rows}
+use Rattle.plain_files.specs.lowering.Units.{lowered_unit}
+use Rattle.plain_files.specs.c_text.Printed.{printed}
+use Rattle.plain_files.specs.faithful.Faithful.{Faithful}
+use Rattle.plain_units.specs.unit_forms.OwnSetting.{own_facts}
+use Rattle.plain_units.specs.unit_forms.PlainProcedures.{is_plain_unit}
+use Rattle.plain_units.specs.unit_forms.SpellableUnits.{is_spellable_unit}
+use Rattle.plain_units.specs.unit_sites.UnitSites.{UnitsOfFile, file_for}
+use Rattle.plain_units.specs.unit_translation.UnitContents.{LoweredUnit, program_units}
+use Rattle.plain_units.specs.unit_translation.UnitBodies.{all_lowered, written_files}
+use Rattle.plain_units.specs.unit_translation_laws.PlainUnits.{IsPlainUnitText}
 use Rattle.unit_faithfulness.specs.UnitsFaithful.{AreOfFiles}
 
 -- files break no row: none of their declarations, and no name stands for two things among all their units

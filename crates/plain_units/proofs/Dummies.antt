@@ -4,27 +4,27 @@ use Rattle.std.specs.Prelude.{◌≡◌, ◌≢◌, ℕ, suc, Bool, true, false,
 use Rattle.std.proofs.Common.{refl, ap, ◌∙◌, subst}
 use Rattle.std.proofs.lemmas.Bool.{and_parts, or_parts, both_ways}
 use Rattle.std.proofs.lemmas.Slice.Eq.{bytes_eq-Decides}
-use Rattle.f_tree.specs.declared.names.Class.{Class}
-use Rattle.f_tree.specs.declared.names.Class.TheVariants as class
-use Rattle.f_tree.specs.declared.statements.Body.{Body, Entry, IfOne', more_of-Body}
-use Rattle.f_tree.specs.declared.statements.DummyArgument.{DummyArgument}
-use Rattle.f_tree.specs.declared.statements.DummyArgument.TheVariants as dummy
-use Rattle.f_tree.specs.declared.statements.Stmt.{Stmt}
-use Rattle.f_tree.specs.declared.statements.UnitKind.{UnitKind}
-use Rattle.f_tree.specs.declared.statements.UnitKind.TheVariants as kind
-use Rattle.f_tree.specs.declared.units.Unit.{Unit as WrittenUnit}
-use Rattle.f_tree.specs.Folds.{layer_of}
-use Rattle.f_tree.specs.Values.{Bytes}
-use Rattle.f_tree.specs.Setting.{IsIn, first_in, later_in}
-use Rattle.f_tree.specs.Uses.{is_among}
-use Rattle.f_tree.specs.Attributes.{from_all, named_dummies, entry_dummies_in, own_class, Signs, class_by, all_dummies, signs_of, class_of, bare, with_class, with_dimensions, without_expansion, with_expansions, attribute_of, attribute_in, all_described}
-use Rattle.f_tree.specs.Lines.{formals_of, entry_in, entries_from}
-use Rattle.faithful.specs.Signatures.{named_formals}
-use Rattle.linking_laws.proofs.Places.{same_bytes}
-use Rattle.main_translation_laws.proofs.Lists.{AreApart, none_apart, one_apart}
+use Rattle.plain_mains.specs.f_tree.declared.names.Class.{Class}
+use Rattle.plain_mains.specs.f_tree.declared.names.Class.TheVariants as class
+use Rattle.plain_mains.specs.f_tree.declared.statements.Body.{Body, Entry, IfOne', more_of-Body}
+use Rattle.plain_mains.specs.f_tree.declared.statements.DummyArgument.{DummyArgument}
+use Rattle.plain_mains.specs.f_tree.declared.statements.DummyArgument.TheVariants as dummy
+use Rattle.plain_mains.specs.f_tree.declared.statements.Stmt.{Stmt}
+use Rattle.plain_mains.specs.f_tree.declared.statements.UnitKind.{UnitKind}
+use Rattle.plain_mains.specs.f_tree.declared.statements.UnitKind.TheVariants as kind
+use Rattle.plain_mains.specs.f_tree.declared.units.Unit.{Unit as WrittenUnit}
+use Rattle.plain_mains.specs.f_tree.Folds.{layer_of}
+use Rattle.plain_mains.specs.f_tree.Values.{Bytes}
+use Rattle.plain_mains.specs.f_tree.Setting.{IsIn, first_in, later_in}
+use Rattle.plain_mains.specs.f_tree.Uses.{is_among}
+use Rattle.plain_mains.specs.f_tree.Attributes.{from_all, named_dummies, entry_dummies_in, own_class, Signs, class_by, all_dummies, signs_of, class_of, bare, with_class, with_dimensions, without_expansion, with_expansions, attribute_of, attribute_in, all_described}
+use Rattle.plain_mains.specs.f_tree.Lines.{formals_of, entry_in, entries_from}
+use Rattle.plain_mains.specs.faithful.Signatures.{named_formals}
+use Rattle.plain_mains.proofs.linking_laws.Places.{same_bytes}
+use Rattle.plain_mains.proofs.main_translation_laws.Lists.{AreApart, none_apart, one_apart}
 use Rattle.plain_mains.proofs.Described.{own_described}
 use Rattle.plain_mains.proofs.StoredNames.{either_class}
-use Rattle.unit_forms.specs.PlainProcedures.{each_stands_once, is_dummy_class}
+use Rattle.unit_translation_laws.specs.unit_forms.PlainProcedures.{each_stands_once, is_dummy_class}
 
 -- ## The list
 

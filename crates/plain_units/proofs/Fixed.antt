@@ -1,14 +1,14 @@
 -- Bounds that are constant are the same at each call: a term that has a value without a unit and without storage has it everywhere.
-use Rattle.std.specs.Prelude.{◌≡◌, ℕ, zero, suc, ◌≤◌, ℤ, pos, ◌+ℤ◌, ◌-ℤ◌, int_le, int_lt, List, [], ◌∷◌, ◌++◌, length, Option, Some, None, slice_get, Bool, true, false, if◌then◌else◌}
+use Rattle.std.specs.Prelude.{◌≡◌, ℕ, zero, suc, ◌≤◌, ℤ, pos, ◌+ℤ◌, ◌-ℤ◌, int_le, int_lt, List, [], ◌∷◌, ◌++◌, length, Option, Some, None, option_map, slice_get, Bool, true, false, if◌then◌else◌}
 use Rattle.std.proofs.Common.{refl, sym, ap, ◌∙◌, subst, arith}
-use Rattle.f_tree.specs.Values.{Bytes, Datum, IsInt, IsLog, IsText, IsSpot, IsProc, IsLabel, Nothing, BadDimension, NoMeaning, Checked, Gives, Fails, given_that}
-use Rattle.f_tree.specs.Terms.{Term, Val, Fetch, At, All, Element, Alone, Part, Joined, Before, Between, Intrinsically, Refer, Bind, Bound, Terms, NoMore, More, valued_then}
-use Rattle.f_tree.specs.Store.{Store, fetch_in, fetch}
-use Rattle.f_tree.specs.Facts.{Dimension, Bounds, Facts, Frame}
-use Rattle.f_tree.specs.Valuing.{Red, Valued, Bad, Asks, then_by, at_once, prefixed, Left, Decided, Wants, Wrong, left_of, right_after, operated, applied, named_as, whole, element, array_whole, alone, part, as_characters, piece, pieces, joined, fetched, reduce, reduce_all}
-use Rattle.f_tree.specs.Association.{integer_of, sized, dimension_by, dimensions_by}
-use Rattle.c_emit_laws.proofs.Choices.{got}
-use Rattle.f_tree.specs.Attributes.{bare, no_program, no_facts, no_frame, integer_if_valued, constant_term, bounds_between, constant_upper, constant_bounds}
+use Rattle.plain_mains.specs.f_tree.Values.{Bytes, Datum, IsInt, IsLog, IsText, IsSpot, IsProc, IsLabel, Nothing, BadDimension, NoMeaning, Checked, Gives, Fails, given_that}
+use Rattle.plain_mains.specs.f_tree.Terms.{Term, Val, Fetch, At, All, Element, Alone, Part, Joined, Before, Between, Intrinsically, Refer, Bind, Bound, Terms, NoMore, More, valued_then}
+use Rattle.plain_mains.specs.f_tree.Store.{Store, fetch_in, fetch}
+use Rattle.plain_mains.specs.f_tree.Facts.{Dimension, Bounds, Facts, Frame}
+use Rattle.plain_mains.specs.f_tree.Valuing.{Red, Valued, Bad, Asks, then_by, at_once, prefixed, Left, Decided, Wants, Wrong, left_of, right_after, operated, applied, named_as, whole, element, array_whole, alone, part, as_characters, piece, pieces, joined, fetched, reduce, reduce_all}
+use Rattle.plain_mains.specs.f_tree.Association.{integer_of, sized, dimension_by, dimensions_by}
+use Rattle.plain_mains.proofs.c_emit_laws.Choices.{got}
+use Rattle.plain_mains.specs.f_tree.Attributes.{bare, no_program, no_facts, no_frame, integer_if_valued, constant_term, bounds_between, constant_upper, constant_bounds}
 
 -- ## Values that stay
 
@@ -173,19 +173,45 @@ sized_if lower upper b is = by (int_lt upper lower) (int_le ((upper -ℤ lower) 
     by false true is = sym (cc)
     by false false is = absurd (cc)
 
-upper_at_call : (c : Facts) (f : Frame) (s : Store) (from : Term) (upper : Option Term) (lower last : ℤ) (b : Bounds) → constant_term from ≡ Some lower → constant_upper upper ≡ Some last →
-    dimension_by c f s (record { lower = from; upper = upper }) ≡ Gives b → b ≡ record { lower = lower; upper = Some last }
+-- an upper bound that is written is a number, where it is constant
+record IsWritten (t : Term) (upper : Option ℤ) : Type 0 where
+  last : ℤ
+  is : constant_term t ≡ Some last
+  same : upper ≡ Some last
+
+written_is : (t : Term) (o upper : Option ℤ) → constant_term t ≡ o → option_map Some o ≡ Some upper → IsWritten t upper
+written_is t None upper is high = absurd (cc)
+written_is t (Some z) upper is high = record { last = z; is = is; same = sym (cc) }
+
+given_same : (x y : ℤ) → Gives x ≡ Gives y → x ≡ y
+given_same x y same = cc
+
+-- one that is not written is assumed at the call
+abbrev assumed_above : ℤ → Checked Bounds
+assumed_above lower = Gives (record { lower = lower; upper = None })
+
+assumed_if : (lower : ℤ) (b : Bounds) → assumed_above lower ≡ Gives b → b ≡ record { lower = lower; upper = None }
+assumed_if lower b is = sym (cc)
+
+assumed_is : (upper : Option ℤ) → Some None ≡ Some upper → None ≡ upper
+assumed_is upper is = cc
+
+-- the bounds at a call are those that are constant, and an upper bound that is assumed is assumed there
+upper_at_call : (c : Facts) (f : Frame) (s : Store) (from : Term) (written : Option Term) (lower : ℤ) (upper : Option ℤ) (b : Bounds) → constant_term from ≡ Some lower →
+    constant_upper written ≡ Some upper → dimension_by c f s (record { lower = from; upper = written }) ≡ Gives b → b ≡ record { lower = lower; upper = upper }
 unfolding dimension_by constant_upper
-upper_at_call c f s from None lower last b low high is = absurd (cc)
-upper_at_call c f s from (Some t) lower last b low high is =
+upper_at_call c f s from None lower upper b low high is =
+    let first = got (integer_of (reduce c f s [] from)) assumed_above b is in
+    let one : lower ≡ first.value = given_same lower first.value (sym (at_call c f s from lower low) ∙ first.is) in
+    assumed_if first.value b first.gives ∙ ap (λ z. record { lower = z; upper = None }) (sym one) ∙ ap (λ o. record { lower = lower; upper = o }) (assumed_is upper high)
+upper_at_call c f s from (Some t) lower upper b low high is =
     let first = got (integer_of (reduce c f s [] from)) (λ z. given_that (integer_of (reduce c f s [] t)) (sized z)) b is in
     let second = got (integer_of (reduce c f s [] t)) (sized first.value) b first.gives in
+    let known = written_is t (constant_term t) upper refl high in
     let one : lower ≡ first.value = given_same lower first.value (sym (at_call c f s from lower low) ∙ first.is) in
-    let other : last ≡ second.value = given_same last second.value (sym (at_call c f s t last high) ∙ second.is) in
+    let other : known.last ≡ second.value = given_same known.last second.value (sym (at_call c f s t known.last known.is) ∙ second.is) in
     sized_if first.value second.value b second.gives ∙ ap (λ z. record { lower = z; upper = Some second.value }) (sym one) ∙ ap (λ z. record { lower = lower; upper = Some z }) (sym other)
-  where
-    given_same : (x y : ℤ) → Gives x ≡ Gives y → x ≡ y
-    given_same x y same = cc
+    ∙ ap (λ o. record { lower = lower; upper = o }) (sym known.same)
 
 -- a dimension gives one pair of bounds, or none
 few_bounds : (ds : List Dimension) → length (constant_bounds ds) ≤ length ds
@@ -193,12 +219,12 @@ unfolding constant_bounds bounds_between
 few_bounds [] = omega arith
 few_bounds (d ∷ ds) = by (constant_term d.lower) (constant_upper d.upper) (constant_bounds ds) (few_bounds ds)
   where
-    by : (a b : Option ℤ) (bs : List Bounds) → length bs ≤ length ds → length (bounds_between a b ++ bs) ≤ suc (length ds)
+    by : (a : Option ℤ) (b : Option (Option ℤ)) (bs : List Bounds) → length bs ≤ length ds → length (bounds_between a b ++ bs) ≤ suc (length ds)
     by (Some a) (Some b) bs few = omega (arith, few)
     by (Some a) None bs few = omega (arith, few)
     by None b bs few = omega (arith, few)
 
--- where each dimension has constant bounds, these are the bounds at each call
+-- where each dimension has bounds that are constant or assumed, these are the bounds at each call
 module _ (c : Facts) (f : Frame) (s : Store) where
   pub fixed_bounds : (ds : List Dimension) → length (constant_bounds ds) ≡ length ds → (bounds : List Bounds) → dimensions_by c f s ds ≡ Gives bounds → bounds ≡ constant_bounds ds
   unfolding constant_bounds dimensions_by bounds_between
@@ -208,10 +234,10 @@ module _ (c : Facts) (f : Frame) (s : Store) where
       let second = got (dimensions_by c f s ds) (λ bs. Gives (first.value ∷ bs)) bounds first.gives in
       by (constant_term d.lower) (constant_upper d.upper) refl refl all first.value second.value first.is (λ all. fixed_bounds ds all second.value second.is) (cc)
     where
-      by : (a b : Option ℤ) → constant_term d.lower ≡ a → constant_upper d.upper ≡ b → length (bounds_between a b ++ constant_bounds ds) ≡ suc (length ds) →
+      by : (a : Option ℤ) (b : Option (Option ℤ)) → constant_term d.lower ≡ a → constant_upper d.upper ≡ b → length (bounds_between a b ++ constant_bounds ds) ≡ suc (length ds) →
           (one : Bounds) (more : List Bounds) → dimension_by c f s d ≡ Gives one → (length (constant_bounds ds) ≡ length ds → more ≡ constant_bounds ds) → one ∷ more ≡ bounds →
           bounds ≡ bounds_between a b ++ constant_bounds ds
       by (Some a) (Some b) low high all one more first second whole =
-          sym whole ∙ ap (λ x. x ∷ more) (upper_at_call c f s d.lower d.upper a b one low high first) ∙ ap (λ xs. record { lower = a; upper = Some b } ∷ xs) (second (omega (arith, all)))
+          sym whole ∙ ap (λ x. x ∷ more) (upper_at_call c f s d.lower d.upper a b one low high first) ∙ ap (λ xs. record { lower = a; upper = b } ∷ xs) (second (omega (arith, all)))
       by (Some a) None low high all one more first second whole = absurd (let few = few_bounds ds in let no : ⊥ = omega (arith, all, few) in no)
       by None b low high all one more first second whole = absurd (let few = few_bounds ds in let no : ⊥ = omega (arith, all, few) in no)

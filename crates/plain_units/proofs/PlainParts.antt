@@ -1,42 +1,42 @@
 -- A written unit for which the test computes to true has plain parts.
 use Rattle.std.specs.List.{list_all}
-use Rattle.std.specs.Prelude.{◌≡◌, ◌≢◌, ℕ, nat_eq, Bool, true, false, not, ◌&&◌, ◌||◌, List, [], ◌∷◌, length, Option, Some, None, if◌then◌else◌}
+use Rattle.std.specs.Prelude.{◌≡◌, ◌≢◌, ℕ, Bool, true, false, not, ◌&&◌, ◌||◌, List, [], ◌∷◌, length, Option, Some, None, is_some, if◌then◌else◌}
 use Rattle.std.proofs.Common.{refl, sym, ap, ◌∙◌, subst}
-use Rattle.std.proofs.lemmas.Bool.{and_parts, eqb-true}
-use Rattle.f_tree.specs.declared.names.Basic.{Basic}
-use Rattle.f_tree.specs.declared.names.Basic.TheVariants.{Integer, Logical, Character, Untyped}
-use Rattle.f_tree.specs.declared.names.Class.{Class}
-use Rattle.f_tree.specs.declared.names.Class.TheVariants as class
-use Rattle.f_tree.specs.declared.names.Options.{Options}
-use Rattle.f_tree.specs.declared.statements.DummyArgument.{DummyArgument}
-use Rattle.f_tree.specs.declared.units.Unit.{Unit as WrittenUnit}
-use Rattle.f_tree.specs.CNames.{is_name, CalledDummy, PassedDummy}
-use Rattle.f_tree.specs.Values.{Bytes}
-use Rattle.f_tree.specs.Facts.{Attribute, UnitKind, MainProgram, SubroutineUnit, FunctionUnit, BlockDataUnit, ProgramUnit}
-use Rattle.f_tree.specs.Setting.{IsIn}
-use Rattle.f_tree.specs.Valuing.{elements_of}
-use Rattle.f_tree.specs.Meaning.{facts_at}
-use Rattle.f_tree.specs.Reading.{name_or_none}
-use Rattle.f_tree.specs.Uses.{Use, uses_of_statements}
-use Rattle.f_tree.specs.Attributes.{named_dummies, is_used_as, called, with_list, bare, constant_bounds, arrays_of, Described, attribute_in, all_described}
-use Rattle.f_tree.specs.Lines.{is_stored, formals_of, entries_from, unit_kind, program_of, with_ties, unit_read}
-use Rattle.c_emit.specs.Numbers.{is_numeric}
-use Rattle.faithful.specs.Signatures.{named_formals, function_dummy, procedure_dummy, variable_dummy, dummy_of}
-use Rattle.fortran_laws.proofs.HomeLemmas.{stored_in_unit}
-use Rattle.main_programs.specs.MainRuns as main
-use Rattle.main_translation.specs.Contents.{count_by}
-use Rattle.main_translation_laws.proofs.Lists.{distinct_by}
-use Rattle.plain_forms.specs.PlainUnits.{has_none, has_own_storage, has_plain_lines, bound_fits, has_plain_bounds, has_four_units, is_plain_variable}
-use Rattle.plain_forms.specs.PlainUnits as plain_form
+use Rattle.std.proofs.lemmas.Bool.{and_parts}
+use Rattle.plain_mains.specs.f_tree.declared.names.Basic.{Basic}
+use Rattle.plain_mains.specs.f_tree.declared.names.Basic.TheVariants.{Integer, Logical, Character, Untyped}
+use Rattle.plain_mains.specs.f_tree.declared.names.Class.{Class}
+use Rattle.plain_mains.specs.f_tree.declared.names.Class.TheVariants as class
+use Rattle.plain_mains.specs.f_tree.declared.names.Options.{Options}
+use Rattle.plain_mains.specs.f_tree.declared.statements.DummyArgument.{DummyArgument}
+use Rattle.plain_mains.specs.f_tree.declared.units.Unit.{Unit as WrittenUnit}
+use Rattle.plain_mains.specs.f_tree.CNames.{is_name, CalledDummy, PassedDummy}
+use Rattle.plain_mains.specs.f_tree.Values.{Bytes}
+use Rattle.plain_mains.specs.f_tree.Facts.{Attribute, UnitKind, MainProgram, SubroutineUnit, FunctionUnit, BlockDataUnit, ProgramUnit}
+use Rattle.plain_mains.specs.f_tree.Setting.{IsIn}
+use Rattle.plain_mains.specs.f_tree.Valuing.{elements_of}
+use Rattle.plain_mains.specs.f_tree.Meaning.{facts_at}
+use Rattle.plain_mains.specs.f_tree.Reading.{name_or_none}
+use Rattle.plain_mains.specs.f_tree.Uses.{Use, uses_of_statements}
+use Rattle.plain_mains.specs.f_tree.Attributes.{named_dummies, is_used_as, called, with_list, bare, constant_bounds, arrays_of, Described, attribute_in, all_described}
+use Rattle.plain_mains.specs.f_tree.Lines.{is_stored, formals_of, entries_from, unit_kind, program_of, with_ties, unit_read}
+use Rattle.plain_mains.specs.c_emit.Numbers.{is_numeric}
+use Rattle.plain_mains.specs.faithful.Signatures.{named_formals, function_dummy, procedure_dummy, variable_dummy, dummy_of}
+use Rattle.plain_mains.proofs.fortran_laws.HomeLemmas.{stored_in_unit}
+use Rattle.plain_mains.specs.main_programs.MainRuns as main
+use Rattle.plain_mains.specs.main_translation.Contents.{count_by}
+use Rattle.plain_mains.proofs.main_translation_laws.Lists.{distinct_by}
+use Rattle.plain_mains.specs.plain_forms.PlainUnits.{has_none, has_own_storage, has_plain_lines, bound_fits, only_last_is_assumed, has_plain_bounds, has_constant_bounds, has_four_units, is_plain_variable}
+use Rattle.plain_mains.specs.plain_forms.PlainUnits as plain_form
 use Rattle.plain_mains.proofs.Described.{all_in, all_at, each_told, constant_attribute, last_of, counted_elements}
 use Rattle.plain_mains.proofs.StoredNames.{four_units, TellsStored, told_member, stored_member, distinct_stored}
-use Rattle.plain_mains.proofs.PlainUnits.{none_is, own_storage, plain_lines, each_closed, bound_is}
-use Rattle.procedure_emission.specs.EmittedUnits.{is_number_pointer, is_function_pointer}
-use Rattle.unit_forms.specs.OwnSetting.{own_facts}
-use Rattle.unit_forms.specs.PlainProcedures.{may_run, is_function, heading_fits, has_no_entries, is_plain_dummy, is_plain_result, is_plain_as, is_plain_name, each_name_is_plain, each_stands_once, is_dummy_class, is_result_class, class_in, names_dummies, names_its_result, has_plain_heading, is_plain_unit}
-use Rattle.unit_programs.specs.OwnStorage as unit
-use Rattle.unit_programs.specs.TranslatedUnits.{AreFixed}
-use Rattle.unit_translation.specs.UnitContents.{LoweredUnit, program_units, parameter_for}
+use Rattle.plain_mains.proofs.PlainUnits.{none_is, own_storage, plain_lines, AreWhole, whole_by, bound_is}
+use Rattle.unit_translation_laws.specs.procedure_emission.EmittedUnits.{is_number_pointer, is_function_pointer}
+use Rattle.unit_translation_laws.specs.unit_forms.OwnSetting.{own_facts}
+use Rattle.unit_translation_laws.specs.unit_forms.PlainProcedures.{may_run, is_function, heading_fits, has_no_entries, is_plain_dummy, is_plain_result, is_plain_as, is_plain_name, each_name_is_plain, each_stands_once, is_dummy_class, is_result_class, class_in, names_dummies, names_its_result, has_plain_heading, is_plain_unit}
+use Rattle.unit_translation_laws.specs.unit_programs.OwnStorage as unit
+use Rattle.unit_translation_laws.specs.unit_programs.TranslatedUnits.{AreFixed}
+use Rattle.unit_translation_laws.specs.unit_translation.UnitContents.{LoweredUnit, program_units, parameter_for}
 use Rattle.unit_translation_laws.specs.PlainUnits.{HasPlainDummies, IsPlainDummy, is_number, is_procedure, HasPlainResult, HasPlainStorage, HasPlainBounds}
 use Rattle.plain_units.specs.PlainParts.{HasPlainParts, PlainUnitsAreTold}
 use Rattle.plain_units.proofs.Fixed.{fixed_bounds}
@@ -71,7 +71,7 @@ abbrev named_in : WrittenUnit → Bytes → Attribute
 named_in u x = attribute_in (all_described u) x
 
 told : (u : WrittenUnit) → each_name_is_plain u ≡ true → (x : Bytes) → is_plain_name (unit_kind u) (record { name = x; attribute = named_in u x }) ≡ true
-unfolding each_name_is_plain is_plain_name is_plain_as has_plain_bounds bare
+unfolding each_name_is_plain is_plain_name is_plain_as has_plain_bounds only_last_is_assumed bare
 told u plain x = each_told (is_plain_name (unit_kind u)) (all_described u) x plain refl
 
 by_class : (kind : UnitKind) (k : Class) (d : Described) → d.attribute.class ≡ k → is_plain_name kind d ≡ true → is_plain_as kind k d ≡ true
@@ -96,7 +96,7 @@ stored_is a is = stored_class a.class is
 
 tells_stored : (kind : UnitKind) → TellsStored (is_plain_name kind)
 unfolding is_plain_as
-tells_stored kind d plain stored = (and_parts (has_plain_bounds d.attribute) (is_plain_variable d) (by_class kind class.Stored d (stored_is d.attribute stored) plain)).1
+tells_stored kind d plain stored = by_class kind class.Stored d (stored_is d.attribute stored) plain
 
 -- ## Bounds
 
@@ -104,25 +104,22 @@ no_bounds : (a : Attribute) → a.bounds ≡ constant_bounds a.dimensions → ha
 unfolding constant_bounds
 no_bounds a constant none = constant ∙ ap constant_bounds (none_is a.dimensions none)
 
--- as many bounds as dimensions, and they have 32 bits
-record AreWhole (a : Attribute) : Type 0 where
-  many : length a.bounds ≡ length a.dimensions
-  fit : list_all bound_fits a.bounds ≡ true
-
-whole_by : (a : Attribute) → has_plain_bounds a ≡ true → AreWhole a
-unfolding has_plain_bounds
-whole_by a plain =
-    let parts = and_parts (nat_eq (length a.bounds) (length a.dimensions)) (list_all bound_fits a.bounds) plain in record { many = eqb-true (length a.bounds) (length a.dimensions) parts.0; fit = parts.1 }
+none_assumed : only_last_is_assumed [] ≡ true
+unfolding only_last_is_assumed
+none_assumed = refl
 
 none_whole : (a : Attribute) → a.bounds ≡ constant_bounds a.dimensions → has_none a.dimensions ≡ true → AreWhole a
 none_whole a constant none = let empty = no_bounds a constant none in record {
   many = ap length empty ∙ ap length (sym (none_is a.dimensions none));
   fit = ap (list_all bound_fits) empty;
+  closed = ap only_last_is_assumed empty ∙ none_assumed;
 }
 
 whole_as : (kind : UnitKind) (k : Class) (d : Described) → d.attribute.bounds ≡ constant_bounds d.attribute.dimensions → is_plain_as kind k d ≡ true → AreWhole d.attribute
-unfolding is_plain_as is_plain_dummy is_plain_result
-whole_as kind class.Stored d constant plain = whole_by d.attribute (and_parts (has_plain_bounds d.attribute) (is_plain_variable d) plain).0
+unfolding is_plain_as is_plain_dummy is_plain_result has_constant_bounds
+whole_as kind class.Stored d constant plain =
+    let parts = and_parts (has_plain_bounds d.attribute && is_some (elements_of d.attribute.bounds)) (is_plain_variable d) plain in
+    whole_by d.attribute (and_parts (has_plain_bounds d.attribute) (is_some (elements_of d.attribute.bounds)) parts.0).0
 whole_as kind class.Dummy d constant plain =
     let parts = and_parts (is_name d.name) (plain_form.is_number d.attribute && has_plain_bounds d.attribute) plain in
     whole_by d.attribute (and_parts (plain_form.is_number d.attribute) (has_plain_bounds d.attribute) parts.1).1
@@ -142,11 +139,12 @@ each_whole u plain x =
     whole_as (unit_kind u) (named_in u x).class own (constant_attribute u x) (by_class (unit_kind u) (named_in u x).class own refl (told u plain x))
 
 plain_bounds : (options : Options) (u : WrittenUnit) → each_name_is_plain u ≡ true → HasPlainBounds (unit_read options u)
-unfolding unit_read with_ties program_of
+unfolding unit_read with_ties program_of each_name_is_plain
 plain_bounds options u plain = record {
-  counted = λ m b bs o is. subst (λ c. (n : ℕ) × (elements_of c ≡ Some n)) is (counted_elements _ (each_closed u m.name));
+  counted = λ m b bs o is.
+      subst (λ c. (n : ℕ) × (elements_of c ≡ Some n)) is (counted_elements _ (told_member (is_plain_name (unit_kind u)) (tells_stored (unit_kind u)) u plain m o).counted);
   fits = λ x k b at. bound_is b (all_at bound_fits _ k b (each_whole u plain x).fit at);
-  closed = λ x k b at behind. last_of _ (each_closed u x) k b at;
+  closed = λ x k b at behind. last_of _ (each_whole u plain x).closed k b at behind;
 }
 
 -- ## Storage
@@ -182,7 +180,7 @@ record IsNumber (a : Attribute) : Type 0 where
   wide : a.width ≡ Some 4
 
 number_by : (a : Attribute) → plain_form.is_number a ≡ true → IsNumber a
-unfolding Rattle.plain_forms.specs.PlainUnits.is_number
+unfolding Rattle.plain_mains.specs.plain_forms.PlainUnits.is_number
 number_by a is = let parts = and_parts (is_numeric a.basic) (has_four_units a.width) is in record { numeric = parts.0; wide = four_units a.width parts.1 }
 
 -- ## The result

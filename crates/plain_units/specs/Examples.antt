@@ -1,19 +1,20 @@
--- A function and a subroutine that are plain, and the function with one thing more or another, by which it is not. ANSI X3.9-1978, sections 4.1, 5.5, 8.6, 15.5.1,
--- 15.6, 15.7 and 15.9.2.
+-- Functions and a subroutine that are plain, and the function with one thing more or another, by which it is not. ANSI X3.9-1978, sections 4.1, 5.1.2.2, 5.5,
+-- 8.6, 15.5.1, 15.6, 15.7 and 15.9.2.
 use Rattle.std.specs.Prelude.{◌≡◌, false, true, List, [], ◌∷◌, ◌++◌, codes, Some, None}
-use Rattle.f_tree.specs.declared.expressions.Expr as expr
-use Rattle.f_tree.specs.declared.expressions.BinaryOp.TheVariants as op
-use Rattle.f_tree.specs.declared.names.Basic.TheVariants.{Integer, Character}
-use Rattle.f_tree.specs.declared.names.Options.{Options}
-use Rattle.f_tree.specs.declared.statements.Body as body
-use Rattle.f_tree.specs.declared.statements.DummyArgument.{DummyArgument}
-use Rattle.f_tree.specs.declared.statements.DummyArgument.TheVariants as dummy
-use Rattle.f_tree.specs.declared.statements.Stmt.{Stmt}
-use Rattle.f_tree.specs.declared.statements.UnitKind.TheVariants as kind
-use Rattle.f_tree.specs.declared.statements.UpperBound.TheVariants as upper
-use Rattle.f_tree.specs.declared.units.Unit.{Unit as WrittenUnit}
+use Rattle.plain_mains.specs.f_tree.declared.expressions.Expr as expr
+use Rattle.plain_mains.specs.f_tree.declared.expressions.BinaryOp.TheVariants as op
+use Rattle.plain_mains.specs.f_tree.declared.names.Basic.TheVariants.{Integer, Character}
+use Rattle.plain_mains.specs.f_tree.declared.names.Options.{Options}
+use Rattle.plain_mains.specs.f_tree.declared.statements.Body as body
+use Rattle.plain_mains.specs.f_tree.declared.statements.Dimension.{Dimension as WrittenDimension}
+use Rattle.plain_mains.specs.f_tree.declared.statements.DummyArgument.{DummyArgument}
+use Rattle.plain_mains.specs.f_tree.declared.statements.DummyArgument.TheVariants as dummy
+use Rattle.plain_mains.specs.f_tree.declared.statements.Stmt.{Stmt}
+use Rattle.plain_mains.specs.f_tree.declared.statements.UnitKind.TheVariants as kind
+use Rattle.plain_mains.specs.f_tree.declared.statements.UpperBound.TheVariants as upper
+use Rattle.plain_mains.specs.f_tree.declared.units.Unit.{Unit as WrittenUnit}
 use Rattle.plain_mains.specs.Examples.{on_card, number, element, array_up_to}
-use Rattle.unit_forms.specs.PlainProcedures.{is_plain_unit}
+use Rattle.unit_translation_laws.specs.unit_forms.PlainProcedures.{is_plain_unit}
 
 -- `INTEGER FUNCTION LAST` with a list of dummies and some statements
 abbrev pub function_of : List DummyArgument → List Stmt → WrittenUnit
@@ -75,17 +76,43 @@ constant_as_dummy = function_of its_dummies (declared ++ on_card 3 (body.Paramet
 unfoldable pub result_as_dummy : WrittenUnit
 result_as_dummy = function_of (its_dummies ++ dummy.Named (codes "last") ∷ []) (declared ++ valued)
 
--- the first two are plain, and the others are not
+-- a dimension from 1 up to a bound that is not written, but `*`
+abbrev pub assumed : WrittenDimension
+assumed = record { lower = None; upper = upper.Star }
+
+-- the function with `INTEGER A` of some dimensions, and `EXTERNAL K`
+abbrev pub with_dimensions : List WrittenDimension → WrittenUnit
+with_dimensions ds =
+    function_of its_dummies
+    (on_card 1 (body.Declare (record { basic = Integer; length = None }) (record { name = codes "a"; dimensions = ds; length = None } ∷ [])) ∷ on_card 2 (body.External (codes "k" ∷ [])) ∷ valued)
+
+-- with `INTEGER A(*)`
+unfoldable pub array_of_any_length : WrittenUnit
+array_of_any_length = with_dimensions (assumed ∷ [])
+
+-- with `INTEGER A(*,2)`
+unfoldable pub first_bound_assumed : WrittenUnit
+first_bound_assumed = with_dimensions (assumed ∷ record { lower = None; upper = upper.Value (number 2) } ∷ [])
+
+-- with `DIMENSION B(*)`, which is no dummy
+unfoldable pub stored_of_any_length : WrittenUnit
+stored_of_any_length =
+    function_of its_dummies (declared ++ on_card 3 (body.Dimension (record { name = codes "b"; dimensions = assumed ∷ [] } ∷ [])) ∷ valued)
+
+-- the first three are plain, and the others are not
 pub record ExamplesAreTold : Type 0 where
   pub function : (options : Options) → is_plain_unit options element_and_function ≡ true
   pub subroutine : (options : Options) → is_plain_unit options variable_stepped ≡ true
+  pub any_length : (options : Options) → is_plain_unit options array_of_any_length ≡ true
   pub text : (options : Options) → is_plain_unit options dummy_of_text ≡ false
   pub many : (options : Options) → is_plain_unit options result_of_many ≡ false
   pub twice : (options : Options) → is_plain_unit options dummy_twice ≡ false
   pub entered : (options : Options) → is_plain_unit options entered_twice ≡ false
   pub constant : (options : Options) → is_plain_unit options constant_as_dummy ≡ false
   pub result : (options : Options) → is_plain_unit options result_as_dummy ≡ false
+  pub first_assumed : (options : Options) → is_plain_unit options first_bound_assumed ≡ false
+  pub stored_assumed : (options : Options) → is_plain_unit options stored_of_any_length ≡ false
 
 unfoldable pub examples_opened : Unit {0}
-unfolding element_and_function variable_stepped dummy_of_text result_of_many dummy_twice entered_twice constant_as_dummy result_as_dummy
+unfolding element_and_function variable_stepped dummy_of_text result_of_many dummy_twice entered_twice constant_as_dummy result_as_dummy array_of_any_length first_bound_assumed stored_of_any_length
 examples_opened = tt

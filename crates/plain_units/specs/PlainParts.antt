@@ -1,17 +1,17 @@
 -- That a written unit for which the test computes to true is what the law of units that call each other asks for, its lowered text aside.
 -- ANSI X3.9-1978, sections 2.4, 4.1, 5.1, 5.5, 8, 9, 11.10 and 15.
 use Rattle.std.specs.Prelude.{◌≡◌, ◌≢◌, ℕ, true, List, [], ◌∷◌}
-use Rattle.f_tree.specs.declared.names.Options.{Options}
-use Rattle.f_tree.specs.declared.units.Unit.{Unit as GivenUnit}
-use Rattle.f_tree.specs.Values.{Bytes}
-use Rattle.f_tree.specs.Facts.{Formal, MainProgram, BlockDataUnit}
-use Rattle.f_tree.specs.Uses.{uses_of_statements}
-use Rattle.f_tree.specs.Attributes.{arrays_of}
-use Rattle.f_tree.specs.Lines.{unit_read}
-use Rattle.lowering_laws.specs.Layout.{are_direct, has_end, LoopsFit}
-use Rattle.faithful.specs.Signatures.{dummy_of}
-use Rattle.unit_forms.specs.PlainProcedures.{is_plain_unit}
-use Rattle.unit_translation.specs.UnitContents.{LoweredUnit}
+use Rattle.plain_mains.specs.f_tree.declared.names.Options.{Options}
+use Rattle.plain_mains.specs.f_tree.declared.units.Unit.{Unit as GivenUnit}
+use Rattle.plain_mains.specs.f_tree.Values.{Bytes}
+use Rattle.plain_mains.specs.f_tree.Facts.{Formal, MainProgram, BlockDataUnit}
+use Rattle.plain_mains.specs.f_tree.Uses.{uses_of_statements}
+use Rattle.plain_mains.specs.f_tree.Attributes.{arrays_of}
+use Rattle.plain_mains.specs.f_tree.Lines.{unit_read}
+use Rattle.plain_mains.specs.lowering_laws.Layout.{are_direct, has_end, LoopsFit}
+use Rattle.plain_mains.specs.faithful.Signatures.{dummy_of}
+use Rattle.unit_translation_laws.specs.unit_forms.PlainProcedures.{is_plain_unit}
+use Rattle.unit_translation_laws.specs.unit_translation.UnitContents.{LoweredUnit}
 use Rattle.unit_translation_laws.specs.PlainUnits.{HasPlainDummies, HasPlainResult, HasPlainStorage, HasPlainBounds}
 
 -- what is asked of a unit among several, besides its lowered text

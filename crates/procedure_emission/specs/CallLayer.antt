@@ -2,32 +2,32 @@
 -- it knows is so while it is active and while it waits, and it gives back the transfer that it found.
 -- ANSI X3.9-1978, sections 2.13, 12.9 and 15; C89, 3.1.2.4, 3.3.2.2 and 3.6.6.4.
 use Rattle.std.specs.Prelude.{◌≡◌, ℕ, nat_eq, ℤ, pos, Bool, true, false, List, [], ◌∷◌, ◌++◌, Option, Some, None}
-use Rattle.simulation.specs.LocalSimulation.{Kit, Pairing, Couple}
-use Rattle.f_tree.specs.declared.names.Basic.TheVariants.{Integer, Logical, Character, Untyped}
-use Rattle.f_tree.specs.declared.names.Class.TheVariants as class
-use Rattle.f_tree.specs.Values.{Bytes, Spot, Datum, IsInt, IsLog, IsText, IsSpot, IsProc, IsLabel, Nothing, Gives, in_range}
-use Rattle.f_tree.specs.Terms.{Wanted, AsSubroutine, AsFunction}
-use Rattle.f_tree.specs.Store.{Store, Truth, fetch}
-use Rattle.f_tree.specs.Facts.{FunctionUnit, ProgramUnit, Frame}
-use Rattle.f_tree.specs.Setting.{IsIn}
-use Rattle.f_tree.specs.World as fortran
-use Rattle.f_tree.specs.World.{Called, Procedure, Passed}
-use Rattle.f_tree.specs.Association.{serves, alternate_of}
-use Rattle.l_core.specs.Steps.{Text}
-use Rattle.l_core.specs.Machine.{View, lowered}
-use Rattle.l_core.specs.Costs.{cost}
-use Rattle.c_tree.specs.declared.outcome.CValue.{CValue}
-use Rattle.c_tree.specs.declared.outcome.CValue.TheVariants.{Number, Pointer, Function}
-use Rattle.c_tree.specs.Access.{ToFunction}
-use Rattle.c_tree.specs.Objects.{Object, Values}
-use Rattle.c_tree.specs.World as c
-use Rattle.c_tree.specs.Steps as c_steps
-use Rattle.c_tree.specs.Steps.{language}
-use Rattle.faithful.specs.StorageImage.{number_for}
-use Rattle.c_image.specs.World.{World, Extends}
-use Rattle.c_image.specs.Addresses.{Through, IsSound}
-use Rattle.c_emit_laws.specs.EmittedNumbers.{IsKnown}
-use Rattle.c_emit_laws.specs.EmittedTypes.{AreTyped}
+use Rattle.emitted_texts.specs.simulation.LocalSimulation.{Kit, Pairing, Couple}
+use Rattle.emitted_texts.specs.f_tree.declared.names.Basic.TheVariants.{Integer, Logical, Character, Untyped}
+use Rattle.emitted_texts.specs.f_tree.declared.names.Class.TheVariants as class
+use Rattle.emitted_texts.specs.f_tree.Values.{Bytes, Spot, Datum, IsInt, IsLog, IsText, IsSpot, IsProc, IsLabel, Nothing, Gives, in_range}
+use Rattle.emitted_texts.specs.f_tree.Terms.{Wanted, AsSubroutine, AsFunction}
+use Rattle.emitted_texts.specs.f_tree.Store.{Store, Truth, fetch}
+use Rattle.emitted_texts.specs.f_tree.Facts.{FunctionUnit, ProgramUnit, Frame}
+use Rattle.emitted_texts.specs.f_tree.Setting.{IsIn}
+use Rattle.emitted_texts.specs.f_tree.World as fortran
+use Rattle.emitted_texts.specs.f_tree.World.{Called, Procedure, Passed}
+use Rattle.emitted_texts.specs.f_tree.Association.{serves, alternate_of}
+use Rattle.emitted_texts.specs.l_core.Steps.{Text}
+use Rattle.emitted_texts.specs.l_core.Machine.{View, lowered}
+use Rattle.emitted_texts.specs.l_core.Costs.{cost}
+use Rattle.emitted_texts.specs.c_tree.declared.outcome.CValue.{CValue}
+use Rattle.emitted_texts.specs.c_tree.declared.outcome.CValue.TheVariants.{Number, Pointer, Function}
+use Rattle.emitted_texts.specs.c_tree.Access.{ToFunction}
+use Rattle.emitted_texts.specs.c_tree.Objects.{Object, Values}
+use Rattle.emitted_texts.specs.c_tree.World as c
+use Rattle.emitted_texts.specs.c_tree.Steps as c_steps
+use Rattle.emitted_texts.specs.c_tree.Steps.{language}
+use Rattle.emitted_texts.specs.faithful.StorageImage.{number_for}
+use Rattle.emitted_texts.specs.c_image.World.{World, Extends}
+use Rattle.emitted_texts.specs.c_image.Addresses.{Through, IsSound}
+use Rattle.emitted_texts.specs.c_emit_laws.EmittedNumbers.{IsKnown}
+use Rattle.emitted_texts.specs.c_emit_laws.EmittedTypes.{AreTyped}
 use Rattle.emitted_texts.specs.SecondLayer.{Surroundings, Emission, IsFree, BothStand, lengths_of, IsTemporary, OutputIsOn}
 use Rattle.emitted_texts.specs.SecondLayer as second
 use Rattle.procedure_emission.specs.Reading.{IsPlain, numbers_kept}

@@ -3,35 +3,35 @@
 -- procedures.
 -- ANSI X3.9-1978, sections 5.5, 14, 15.5, 15.6, 15.8 and 15.9; C89, 3.1.2.4, 3.6.6.4 and 3.7.1.
 use Rattle.std.specs.Prelude.{◌≡◌, ◌≢◌, ℕ, suc, ◌+◌, ◌<◌, ◌≤◌, nat_eq, nat_lt, ℤ, pos, Bool, true, false, List, [], ◌∷◌, length, Some, None, slice_get}
-use Rattle.f_tree.specs.declared.names.Basic.{Basic}
-use Rattle.f_tree.specs.declared.names.Basic.TheVariants.{Logical}
-use Rattle.f_tree.specs.declared.names.Class.TheVariants as class
-use Rattle.f_tree.specs.Values.{Bytes, Spot, IsInt, IsText, IsSpot, Gives}
-use Rattle.f_tree.specs.Store.{Store}
-use Rattle.f_tree.specs.Facts.{Direction, Layout, Controls, Bounds, Formal, Named, Alternate, FunctionUnit, BlockDataUnit, EntryPoint, Frame}
-use Rattle.f_tree.specs.Setting.{IsIn}
-use Rattle.f_tree.specs.Valuing.{whole, size_of_dimension}
-use Rattle.f_tree.specs.World.{Called}
-use Rattle.f_tree.specs.Association.{dimensions_by}
-use Rattle.l_core.specs.Pures.{Pure, Pures}
-use Rattle.l_core.specs.Steps.{Starts, Step, Keep, Back, BackBy, Halt, Acts, Text}
-use Rattle.l_core.specs.Costs.{cost}
-use Rattle.c_tree.specs.declared.types.ResultType.{ResultType}
-use Rattle.c_tree.specs.declared.types.ResultType.TheVariants as result
-use Rattle.c_tree.specs.declared.types.ParameterType.{ParameterType}
-use Rattle.c_tree.specs.declared.types.ParameterType.TheVariants as parameter
-use Rattle.c_tree.specs.Access.{ToNumber, ToPointer, ToFunction}
-use Rattle.c_tree.specs.Declarations.{unset_values}
-use Rattle.c_tree.specs.Flat.{Flat}
-use Rattle.c_image.specs.Addresses.{Alone, Through, Reaches, IsSound}
-use Rattle.c_image.specs.Elements.{Written}
-use Rattle.c_image.specs.Held.{Holds}
-use Rattle.c_image.specs.Knowing.{IsApart}
-use Rattle.c_emit.specs.Numbers.{is_numeric}
-use Rattle.c_emit.specs.Types.{type_of}
-use Rattle.c_emit.specs.Calls.{unit_of}
-use Rattle.c_emit_laws.specs.EmittedNumbers.{BoundFits}
-use Rattle.output_laws.specs.ListedOutputs.{list_object}
+use Rattle.emitted_texts.specs.f_tree.declared.names.Basic.{Basic}
+use Rattle.emitted_texts.specs.f_tree.declared.names.Basic.TheVariants.{Logical}
+use Rattle.emitted_texts.specs.f_tree.declared.names.Class.TheVariants as class
+use Rattle.emitted_texts.specs.f_tree.Values.{Bytes, Spot, IsInt, IsText, IsSpot, Gives}
+use Rattle.emitted_texts.specs.f_tree.Store.{Store}
+use Rattle.emitted_texts.specs.f_tree.Facts.{Direction, Layout, Controls, Bounds, Formal, Named, Alternate, FunctionUnit, BlockDataUnit, EntryPoint, Frame}
+use Rattle.emitted_texts.specs.f_tree.Setting.{IsIn}
+use Rattle.emitted_texts.specs.f_tree.Valuing.{whole, size_of_dimension}
+use Rattle.emitted_texts.specs.f_tree.World.{Called}
+use Rattle.emitted_texts.specs.f_tree.Association.{dimensions_by}
+use Rattle.emitted_texts.specs.l_core.Pures.{Pure, Pures}
+use Rattle.emitted_texts.specs.l_core.Steps.{Starts, Step, Keep, Back, BackBy, Halt, Acts, Text}
+use Rattle.emitted_texts.specs.l_core.Costs.{cost}
+use Rattle.emitted_texts.specs.c_tree.declared.types.ResultType.{ResultType}
+use Rattle.emitted_texts.specs.c_tree.declared.types.ResultType.TheVariants as result
+use Rattle.emitted_texts.specs.c_tree.declared.types.ParameterType.{ParameterType}
+use Rattle.emitted_texts.specs.c_tree.declared.types.ParameterType.TheVariants as parameter
+use Rattle.emitted_texts.specs.c_tree.Access.{ToNumber, ToPointer, ToFunction}
+use Rattle.emitted_texts.specs.c_tree.Declarations.{unset_values}
+use Rattle.emitted_texts.specs.c_tree.Flat.{Flat}
+use Rattle.emitted_texts.specs.c_image.Addresses.{Alone, Through, Reaches, IsSound}
+use Rattle.emitted_texts.specs.c_image.Elements.{Written}
+use Rattle.emitted_texts.specs.c_image.Held.{Holds}
+use Rattle.emitted_texts.specs.c_image.Knowing.{IsApart}
+use Rattle.emitted_texts.specs.c_emit.Numbers.{is_numeric}
+use Rattle.emitted_texts.specs.c_emit.Types.{type_of}
+use Rattle.emitted_texts.specs.c_emit.Calls.{unit_of}
+use Rattle.emitted_texts.specs.c_emit_laws.EmittedNumbers.{BoundFits}
+use Rattle.emitted_texts.specs.output_laws.ListedOutputs.{list_object}
 use Rattle.emitted_texts.specs.SecondLayer.{Room, Surroundings, Emission}
 use Rattle.emitted_texts.specs.Emitted.{IsInFrame, leads, stage_behind, is_of_output}
 use Rattle.procedure_emission.specs.ProcedureItems.{procedure_item}

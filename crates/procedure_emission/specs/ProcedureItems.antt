@@ -2,28 +2,28 @@
 -- its place, or of the object that holds its value; a procedure by its function, and a dummy procedure by its parameter. Alternate returns are not passed
 -- yet. ANSI X3.9-1978, sections 15.5, 15.6, 15.8 and 15.9; C89, 3.3.2.2 and 3.6.6.4.
 use Rattle.std.specs.Prelude.{ℕ, Bool, true, false, List, [], ◌∷◌, Option, Some, None, option_map}
-use Rattle.f_tree.specs.declared.names.Basic.{Basic}
-use Rattle.f_tree.specs.declared.names.Basic.TheVariants.{Integer, Logical}
-use Rattle.f_tree.specs.declared.names.Class.{Class}
-use Rattle.f_tree.specs.declared.names.Class.TheVariants as class
-use Rattle.f_tree.specs.Values.{Bytes}
-use Rattle.f_tree.specs.Terms.{Wanted, AsFunction, Callee}
-use Rattle.f_tree.specs.Facts.{UnitKind, SubroutineUnit, FunctionUnit, EntryPoint}
-use Rattle.f_tree.specs.World.{Called, Procedure}
-use Rattle.l_core.specs.Pures.{Pure, Constant, Temporary, Name, ElementOf, Pures, NoPure, AndPure}
-use Rattle.l_core.specs.Steps as step
-use Rattle.l_core.specs.Steps.{Step}
-use Rattle.c_tree.specs.declared.types.CastType.TheVariants as to
-use Rattle.c_tree.specs.declared.types.FunctionType.TheVariants as pointer
-use Rattle.c_tree.specs.Access.{ToNumber, ToPointer, ToFunction}
-use Rattle.c_tree.specs.Terms as c
-use Rattle.c_tree.specs.Terms.{Term}
-use Rattle.c_tree.specs.Flat as flat
-use Rattle.c_tree.specs.Flat.{Flat, Invoke, Return, Use, Ignored, Kept}
-use Rattle.c_image.specs.Addresses.{Address, Alone, Through, number_term}
-use Rattle.c_emit.specs.Numbers.{Writing, has_number, has_bounds, one_more, if_number, value_term, place_term}
-use Rattle.c_emit.specs.Calls.{address_of, held_term}
-use Rattle.c_emit.specs.Flats.{returned_by, flat_of}
+use Rattle.emitted_texts.specs.f_tree.declared.names.Basic.{Basic}
+use Rattle.emitted_texts.specs.f_tree.declared.names.Basic.TheVariants.{Integer, Logical}
+use Rattle.emitted_texts.specs.f_tree.declared.names.Class.{Class}
+use Rattle.emitted_texts.specs.f_tree.declared.names.Class.TheVariants as class
+use Rattle.emitted_texts.specs.f_tree.Values.{Bytes}
+use Rattle.emitted_texts.specs.f_tree.Terms.{Wanted, AsFunction, Callee}
+use Rattle.emitted_texts.specs.f_tree.Facts.{UnitKind, SubroutineUnit, FunctionUnit, EntryPoint}
+use Rattle.emitted_texts.specs.f_tree.World.{Called, Procedure}
+use Rattle.emitted_texts.specs.l_core.Pures.{Pure, Constant, Temporary, Name, ElementOf, Pures, NoPure, AndPure}
+use Rattle.emitted_texts.specs.l_core.Steps as step
+use Rattle.emitted_texts.specs.l_core.Steps.{Step}
+use Rattle.emitted_texts.specs.c_tree.declared.types.CastType.TheVariants as to
+use Rattle.emitted_texts.specs.c_tree.declared.types.FunctionType.TheVariants as pointer
+use Rattle.emitted_texts.specs.c_tree.Access.{ToNumber, ToPointer, ToFunction}
+use Rattle.emitted_texts.specs.c_tree.Terms as c
+use Rattle.emitted_texts.specs.c_tree.Terms.{Term}
+use Rattle.emitted_texts.specs.c_tree.Flat as flat
+use Rattle.emitted_texts.specs.c_tree.Flat.{Flat, Invoke, Return, Use, Ignored, Kept}
+use Rattle.emitted_texts.specs.c_image.Addresses.{Address, Alone, Through, number_term}
+use Rattle.emitted_texts.specs.c_emit.Numbers.{Writing, has_number, has_bounds, one_more, if_number, value_term, place_term}
+use Rattle.emitted_texts.specs.c_emit.Calls.{address_of, held_term}
+use Rattle.emitted_texts.specs.c_emit.Flats.{returned_by, flat_of}
 
 -- the number of the function for each name by which a unit is called
 abbrev pub Numbers : Type 0

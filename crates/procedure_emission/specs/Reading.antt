@@ -1,13 +1,13 @@
 -- What temporaries keep, and of what type that is which they keep behind each step: numbers and truth values, and nothing behind a call of a
 -- subroutine. ANSI X3.9-1978, sections 6.1 and 15.6.
 use Rattle.std.specs.Prelude.{ℕ, nat_eq, ℤ, Bool, Option, Some, None, if◌then◌else◌}
-use Rattle.f_tree.specs.declared.names.Basic.{Basic}
-use Rattle.f_tree.specs.Values.{Datum, IsInt, IsLog, Nothing}
-use Rattle.l_core.specs.Pures.{Temporaries}
-use Rattle.l_core.specs.Steps.{Step, Keep, Compute, CallFor, CallSub}
-use Rattle.c_emit.specs.Numbers.{Writing}
-use Rattle.c_emit.specs.LibraryFunctions.{library_type}
-use Rattle.c_emit.specs.Types.{type_of}
+use Rattle.emitted_texts.specs.f_tree.declared.names.Basic.{Basic}
+use Rattle.emitted_texts.specs.f_tree.Values.{Datum, IsInt, IsLog, Nothing}
+use Rattle.emitted_texts.specs.l_core.Pures.{Temporaries}
+use Rattle.emitted_texts.specs.l_core.Steps.{Step, Keep, Compute, CallFor, CallSub}
+use Rattle.emitted_texts.specs.c_emit.Numbers.{Writing}
+use Rattle.emitted_texts.specs.c_emit.LibraryFunctions.{library_type}
+use Rattle.emitted_texts.specs.c_emit.Types.{type_of}
 use Rattle.procedure_emission.specs.ProcedureItems.{basic_wanted}
 
 -- what a temporary may keep

@@ -5,7 +5,7 @@ use Rattle.std.proofs.lemmas.Bool.{eqb-true}
 use Rattle.std.specs.Borrow.{Bor}
 use Rattle.c_tree.specs.declared.declaration.CParam.{CParam}
 use Rattle.c_tree.specs.CWords.{is_among, is_name}
-use Rattle.fortran_text.specs.Lines.{lines}
+use Rattle.cards.specs.fortran_text.Lines.{lines}
 use Rattle.c_tree.specs.declared.types.ParameterType.{ParameterType}
 use Rattle.prototypes.specs.declared.prototype.Prototype.{Prototype}
 use Rattle.prototypes.specs.PrototypeText.{are_parameters}

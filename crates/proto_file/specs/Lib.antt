@@ -1,3 +1,4 @@
 pub mod Failures
 pub mod Lists
 pub mod Parts
+pub use Rattle.prototypes.specs as prototypes

@@ -1,9 +1,9 @@
 -- What the text of a list of prototypes spells, and which FORTRAN file has the prototypes of a C tree.
 use Rattle.std.specs.Prelude.{◌≡◌, ℕ, List}
-use Rattle.f_tree.specs.declared.names.Options.{Options}
-use Rattle.f_tree.specs.declared.units.File.{File}
+use Rattle.cards.specs.f_tree.declared.names.Options.{Options}
+use Rattle.cards.specs.f_tree.declared.units.File.{File}
 use Rattle.c_tree.specs.declared.file.CFile.{CFile}
-use Rattle.faithful.specs.Signatures.{HasSignatures}
+use Rattle.prototypes.specs.faithful.Signatures.{HasSignatures}
 use Rattle.prototypes.specs.declared.prototype.Prototype.{Prototype}
 use Rattle.prototypes.specs.PrototypeText.{Spells}
 use Rattle.prototypes.specs.FilePrototypes.{file_prototypes}

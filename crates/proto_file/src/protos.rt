@@ -43,7 +43,7 @@ impl Protos {
     }
 
     /// The prototypes, in their order.
-    pub(crate) fn as_slice(&self) -> &[Prototype]
+    pub fn as_slice(&self) -> &[Prototype]
         ensures { result.now ≡ self.now }
     {
         self.lines.as_slice()

@@ -4,7 +4,7 @@ use Rattle.std.specs.Prelude.{◌&&◌}
 use Rattle.std.specs.List.{list_all, concat}
 use Rattle.std.proofs.lemmas.Bool.{and_parts, and_from}
 use Rattle.std.proofs.lemmas.List.Folds.{list_all-append}
-use Rattle.fortran_text.specs.Lines.{lines}
+use Rattle.prototypes.specs.fortran_text.Lines.{lines}
 use Rattle.prototypes.specs.declared.prototype.Prototype.{Prototype}
 use Rattle.prototypes.specs.PrototypeText.{prototype_line, prototype_text, is_prototype, Spells, most_bytes, IsPrototypeFile, IsFile, first_lines}
 use Rattle.prototype_laws.specs.Reading.{line_prototype}

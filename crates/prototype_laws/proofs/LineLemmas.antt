@@ -4,18 +4,18 @@ use Rattle.std.specs.Prelude.{◌==◌, ◌&&◌, not, ◌⊎◌, codes}
 use Rattle.std.specs.List.{list_all, concat}
 use Rattle.std.proofs.lemmas.Bool.{and_parts, and_from, cases_Bool, eqb-true, not-true, both_ways}
 use Rattle.std.proofs.lemmas.List.Folds.{list_all-append}
-use Rattle.c_tree.specs.declared.declaration.CParam.{CParam}
-use Rattle.c_tree.specs.declared.types.ResultType.{ResultType}
-use Rattle.c_tree.specs.declared.types.ResultType.TheVariants as result
-use Rattle.c_tree.specs.declared.types.ParameterType.{ParameterType}
-use Rattle.c_tree.specs.declared.types.ParameterType.TheVariants as parameter
-use Rattle.c_tree.specs.declared.types.FunctionType.TheVariants as function
-use Rattle.c_tree.specs.Tokens.{is_word_byte}
-use Rattle.c_tree.specs.CWords.{is_among, is_name}
-use Rattle.c_text.specs.Types.{result_word, parameter_front}
-use Rattle.c_text.specs.Lists.{after_commas}
-use Rattle.c_text.specs.Declarations.{printed_param, printed_params}
-use Rattle.fortran_text.specs.Lines.{before_lines, lines}
+use Rattle.prototypes.specs.c_tree.declared.declaration.CParam.{CParam}
+use Rattle.prototypes.specs.c_tree.declared.types.ResultType.{ResultType}
+use Rattle.prototypes.specs.c_tree.declared.types.ResultType.TheVariants as result
+use Rattle.prototypes.specs.c_tree.declared.types.ParameterType.{ParameterType}
+use Rattle.prototypes.specs.c_tree.declared.types.ParameterType.TheVariants as parameter
+use Rattle.prototypes.specs.c_tree.declared.types.FunctionType.TheVariants as function
+use Rattle.prototypes.specs.c_tree.Tokens.{is_word_byte}
+use Rattle.prototypes.specs.c_tree.CWords.{is_among, is_name}
+use Rattle.prototypes.specs.c_text.Types.{result_word, parameter_front}
+use Rattle.prototypes.specs.c_text.Lists.{after_commas}
+use Rattle.prototypes.specs.c_text.Declarations.{printed_param, printed_params}
+use Rattle.prototypes.specs.fortran_text.Lines.{before_lines, lines}
 use Rattle.prototypes.specs.declared.prototype.Prototype.{Prototype}
 use Rattle.prototypes.specs.PrototypeText.{prototype_line, prototype_text, are_parameters, is_prototype}
 use Rattle.prototype_laws.proofs.WordLemmas.{name_word}

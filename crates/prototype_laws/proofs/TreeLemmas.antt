@@ -9,18 +9,18 @@ use Rattle.std.proofs.lemmas.List.Elements.{filter-append}
 use Rattle.std.proofs.lemmas.List.Folds.{list_any-append}
 use Rattle.std.proofs.lemmas.Slice.Eq.{bytes_eq-Decides, slice_eq-Decides}
 use Rattle.std.proofs.Math.Seq.{drop-append_seam}
-use Rattle.f_tree.specs.declared.names.Options.{Options}
-use Rattle.f_tree.specs.declared.units.Unit.{Unit as WrittenUnit}
-use Rattle.f_tree.specs.declared.units.File.{File}
-use Rattle.f_tree.specs.Facts.{UnitKind, MainProgram, SubroutineUnit, FunctionUnit, BlockDataUnit, EntryPoint, ProgramUnit}
-use Rattle.f_tree.specs.Uses.{Use, uses_of_statements}
-use Rattle.f_tree.specs.Attributes.{Described, arrays_of, all_described}
-use Rattle.f_tree.specs.Lines.{unit_read}
-use Rattle.f_tree.specs.CNames.{Dummy, has_underscore, external_name, main_name, entries_name, GivesNothing, entries_parameters_of}
-use Rattle.c_tree.specs.declared.declaration.CParam.{CParam}
-use Rattle.c_tree.specs.declared.file.CFunction.{CFunction}
-use Rattle.c_tree.specs.declared.file.CFile.{CFile}
-use Rattle.faithful.specs.Signatures.{Parameter, Signature, signature, signature_of, entry_signature, dummy_of, gives_of, is_dummy, procedure_signatures, signatures_by, unit_signatures, file_signatures}
+use Rattle.prototypes.specs.f_tree.declared.names.Options.{Options}
+use Rattle.prototypes.specs.f_tree.declared.units.Unit.{Unit as WrittenUnit}
+use Rattle.prototypes.specs.f_tree.declared.units.File.{File}
+use Rattle.prototypes.specs.f_tree.Facts.{UnitKind, MainProgram, SubroutineUnit, FunctionUnit, BlockDataUnit, EntryPoint, ProgramUnit}
+use Rattle.prototypes.specs.f_tree.Uses.{Use, uses_of_statements}
+use Rattle.prototypes.specs.f_tree.Attributes.{Described, arrays_of, all_described}
+use Rattle.prototypes.specs.f_tree.Lines.{unit_read}
+use Rattle.prototypes.specs.f_tree.CNames.{Dummy, has_underscore, external_name, main_name, entries_name, GivesNothing, entries_parameters_of}
+use Rattle.prototypes.specs.c_tree.declared.declaration.CParam.{CParam}
+use Rattle.prototypes.specs.c_tree.declared.file.CFunction.{CFunction}
+use Rattle.prototypes.specs.c_tree.declared.file.CFile.{CFile}
+use Rattle.prototypes.specs.faithful.Signatures.{Parameter, Signature, signature, signature_of, entry_signature, dummy_of, gives_of, is_dummy, procedure_signatures, signatures_by, unit_signatures, file_signatures}
 use Rattle.prototypes.specs.declared.prototype.Prototype.{Prototype}
 use Rattle.prototypes.specs.FilePrototypes.{prototype_of, prototypes_by, unit_prototypes, file_prototypes}
 use Rattle.prototypes.specs.TreePrototypes.{is_called_outside, function_prototype, function_prototypes, tree_prototypes}

@@ -4,7 +4,7 @@ use Rattle.std.specs.Prelude.{nat_le, ◌⊎◌, Result, Ok, Err, if◌then◌el
 use Rattle.std.specs.List.{concat}
 use Rattle.std.proofs.lemmas.Bool.{cases_order, leb-true, le-leb}
 use Rattle.std.proofs.lemmas.List.{take-take}
-use Rattle.fortran_text.specs.Lines.{lines}
+use Rattle.prototypes.specs.fortran_text.Lines.{lines}
 use Rattle.prototypes.specs.declared.prototype.Prototype.{Prototype}
 use Rattle.prototypes.specs.PrototypeText.{prototype_line, is_prototype, most_bytes, IsPrototypeFile, RefusedLine}
 use Rattle.prototype_laws.specs.Reading.{line_prototype, prototype_within, behind_line, prototypes_behind, reading}

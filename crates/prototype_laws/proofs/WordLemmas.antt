@@ -4,18 +4,18 @@ use Rattle.std.specs.Prelude.{◌&&◌, not, codes, bytes_eq, if◌then◌else�
 use Rattle.std.specs.List.{list_all}
 use Rattle.std.proofs.lemmas.Bool.{and_parts}
 use Rattle.std.proofs.lemmas.Slice.Eq.{bytes_eq-Decides}
-use Rattle.c_tree.specs.declared.declaration.CParam.{CParam}
-use Rattle.c_tree.specs.declared.types.ResultType.{ResultType}
-use Rattle.c_tree.specs.declared.types.ResultType.TheVariants as result
-use Rattle.c_tree.specs.declared.types.ParameterType.{ParameterType}
-use Rattle.c_tree.specs.declared.types.ParameterType.TheVariants as parameter
-use Rattle.c_tree.specs.declared.types.FunctionType.TheVariants as function
-use Rattle.c_tree.specs.Tokens.{begins_with, is_letter, is_word_byte}
-use Rattle.c_tree.specs.CWords.{is_among, is_name}
-use Rattle.c_tree.specs.CWords as c
-use Rattle.c_text.specs.Types.{result_word, parameter_front}
-use Rattle.c_text.specs.Lists.{after_commas}
-use Rattle.c_text.specs.Declarations.{printed_param, printed_params}
+use Rattle.prototypes.specs.c_tree.declared.declaration.CParam.{CParam}
+use Rattle.prototypes.specs.c_tree.declared.types.ResultType.{ResultType}
+use Rattle.prototypes.specs.c_tree.declared.types.ResultType.TheVariants as result
+use Rattle.prototypes.specs.c_tree.declared.types.ParameterType.{ParameterType}
+use Rattle.prototypes.specs.c_tree.declared.types.ParameterType.TheVariants as parameter
+use Rattle.prototypes.specs.c_tree.declared.types.FunctionType.TheVariants as function
+use Rattle.prototypes.specs.c_tree.Tokens.{begins_with, is_letter, is_word_byte}
+use Rattle.prototypes.specs.c_tree.CWords.{is_among, is_name}
+use Rattle.prototypes.specs.c_tree.CWords as c
+use Rattle.prototypes.specs.c_text.Types.{result_word, parameter_front}
+use Rattle.prototypes.specs.c_text.Lists.{after_commas}
+use Rattle.prototypes.specs.c_text.Declarations.{printed_param, printed_params}
 use Rattle.prototypes.specs.declared.prototype.Prototype.{Prototype}
 use Rattle.prototypes.specs.PrototypeText.{prototype_line, are_parameters, is_prototype}
 use Rattle.prototype_laws.specs.Reading.{before_words, words, result_named, function_named, type_named, behind_type, params_behind, with_parts, prototype_in, if_told, line_prototype}

@@ -1,10 +1,10 @@
 -- What holds of prototype files.
 use Rattle.std.specs.Prelude.{◌≡◌, ℕ, true, List, map}
 use Rattle.std.specs.List.{list_all}
-use Rattle.f_tree.specs.declared.names.Options.{Options}
-use Rattle.f_tree.specs.declared.units.File.{File}
-use Rattle.c_tree.specs.declared.file.CFile.{CFile}
-use Rattle.faithful.specs.Signatures.{signature_of, file_signatures}
+use Rattle.prototypes.specs.f_tree.declared.names.Options.{Options}
+use Rattle.prototypes.specs.f_tree.declared.units.File.{File}
+use Rattle.prototypes.specs.c_tree.declared.file.CFile.{CFile}
+use Rattle.prototypes.specs.faithful.Signatures.{signature_of, file_signatures}
 use Rattle.prototypes.specs.declared.prototype.Prototype.{Prototype}
 use Rattle.prototypes.specs.PrototypeText.{prototype_text, is_prototype, Spells, IsPrototypeFile, IsFile, RefusedLine}
 use Rattle.prototypes.specs.FilePrototypes.{file_prototypes}

@@ -1,13 +1,13 @@
 -- A reader of prototype files that keeps no derivation: each line is read by its words, and has to be the line of what is read.
 use Rattle.std.specs.Prelude.{ℕ, suc, ◌+◌, nat_le, Bool, true, false, ◌&&◌, List, [], ◌∷◌, ◌++◌, length, codes, Option, Some, None, Result, Ok, Err, bytes_eq, if◌then◌else◌}
-use Rattle.c_tree.specs.declared.declaration.CParam.{CParam}
-use Rattle.c_tree.specs.declared.types.ResultType.{ResultType}
-use Rattle.c_tree.specs.declared.types.ResultType.TheVariants as result
-use Rattle.c_tree.specs.declared.types.ParameterType.{ParameterType}
-use Rattle.c_tree.specs.declared.types.ParameterType.TheVariants as parameter
-use Rattle.c_tree.specs.declared.types.FunctionType.TheVariants as function
-use Rattle.c_tree.specs.Tokens.{begins_with, is_word_byte}
-use Rattle.fortran_text.specs.Lines.{lines}
+use Rattle.prototypes.specs.c_tree.declared.declaration.CParam.{CParam}
+use Rattle.prototypes.specs.c_tree.declared.types.ResultType.{ResultType}
+use Rattle.prototypes.specs.c_tree.declared.types.ResultType.TheVariants as result
+use Rattle.prototypes.specs.c_tree.declared.types.ParameterType.{ParameterType}
+use Rattle.prototypes.specs.c_tree.declared.types.ParameterType.TheVariants as parameter
+use Rattle.prototypes.specs.c_tree.declared.types.FunctionType.TheVariants as function
+use Rattle.prototypes.specs.c_tree.Tokens.{begins_with, is_word_byte}
+use Rattle.prototypes.specs.fortran_text.Lines.{lines}
 use Rattle.prototypes.specs.declared.prototype.Prototype.{Prototype}
 use Rattle.prototypes.specs.PrototypeText.{prototype_line, is_prototype, most_bytes}
 

@@ -2,13 +2,13 @@
 -- for it. The main program and BLOCK DATA have none. ANSI X3.9-1978, sections 14, 15.5 to 15.7 and 16.
 use Rattle.std.specs.Prelude.{List, [], map}
 use Rattle.std.specs.List.{flat_map}
-use Rattle.f_tree.specs.declared.names.Options.{Options}
-use Rattle.f_tree.specs.declared.units.Unit.{Unit as WrittenUnit}
-use Rattle.f_tree.specs.declared.units.File.{File}
-use Rattle.f_tree.specs.Facts.{UnitKind, MainProgram, BlockDataUnit, ProgramUnit}
-use Rattle.f_tree.specs.Uses.{Use, uses_of_statements}
-use Rattle.f_tree.specs.Attributes.{arrays_of}
-use Rattle.f_tree.specs.Lines.{unit_read}
+use Rattle.fortran_text.specs.f_tree.declared.names.Options.{Options}
+use Rattle.fortran_text.specs.f_tree.declared.units.Unit.{Unit as WrittenUnit}
+use Rattle.fortran_text.specs.f_tree.declared.units.File.{File}
+use Rattle.fortran_text.specs.f_tree.Facts.{UnitKind, MainProgram, BlockDataUnit, ProgramUnit}
+use Rattle.fortran_text.specs.f_tree.Uses.{Use, uses_of_statements}
+use Rattle.fortran_text.specs.f_tree.Attributes.{arrays_of}
+use Rattle.fortran_text.specs.f_tree.Lines.{unit_read}
 use Rattle.faithful.specs.Signatures.{Signature, entry_signature, dummy_of}
 use Rattle.prototypes.specs.declared.prototype.Prototype.{Prototype}
 

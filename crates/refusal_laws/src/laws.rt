@@ -1,10 +1,10 @@
 //! What leaves no choice: the first refusal of the cards of a file, and names in C.
 
 ghost use Rattle.std.specs.Prelude.{◌≡◌, ℕ, List, false, Bool};
-ghost use Rattle.f_tree.specs.declared.refusals.Kind.{Kind};
-ghost use Rattle.f_tree.specs.CNames.{external_name, is_reserved, variable_name};
-ghost use Rattle.f_tree.specs.RefusalRows.{number_of};
-ghost use Rattle.fortran_text.specs.FirstFault.{FaultOfFile, IsFirst};
+ghost use Rattle.fortran_laws.specs.f_tree.declared.refusals.Kind.{Kind};
+ghost use Rattle.fortran_laws.specs.f_tree.CNames.{external_name, is_reserved, variable_name};
+ghost use Rattle.fortran_laws.specs.f_tree.RefusalRows.{number_of};
+ghost use Rattle.cards.specs.fortran_text.FirstFault.{FaultOfFile, IsFirst};
 
 /// Two first refusals of the cards of a file stand at one card and are one row. Section 3.2 of the standard, ANSI X3.9-1978.
 pub fn first_refusals_of_cards_are_one()

@@ -1,1 +1,2 @@
 pub mod GlobalSteps
+pub use Rattle.declaration_rows.specs as declaration_rows

@@ -1,12 +1,12 @@
 -- When a source is accepted, and its first refusal: by phase, then file, then card, then number. A later phase is read only where no earlier one
 -- refuses. ANSI X3.9-1978, sections 3 to 18; MIL-STD-1753.
 use Rattle.std.specs.Prelude.{ℕ, ◌<◌, List, [], ◌∷◌, ◌++◌}
-use Rattle.f_tree.specs.declared.names.Options.{Options}
-use Rattle.f_tree.specs.declared.refusals.Refusal.{Refusal}
-use Rattle.f_tree.specs.declared.units.Unit.{Unit as ProgramUnit}
-use Rattle.f_tree.specs.declared.units.FileSet.{FileSet}
-use Rattle.f_tree.specs.RefusalRows.{IsNotAfter}
-use Rattle.f_tree.specs.Setting.{IsIn}
+use Rattle.declaration_rows.specs.f_tree.declared.names.Options.{Options}
+use Rattle.declaration_rows.specs.f_tree.declared.refusals.Refusal.{Refusal}
+use Rattle.declaration_rows.specs.f_tree.declared.units.Unit.{Unit as ProgramUnit}
+use Rattle.declaration_rows.specs.f_tree.declared.units.FileSet.{FileSet}
+use Rattle.declaration_rows.specs.f_tree.RefusalRows.{IsNotAfter}
+use Rattle.declaration_rows.specs.f_tree.Setting.{IsIn}
 use Rattle.fortran_grammar.specs.SyntaxRows.{unit_deep_rows}
 use Rattle.declaration_rows.specs.GlobalRows.{all_units}
 use Rattle.declaration_rows.specs.SetRows.{set_faults}

@@ -1,17 +1,17 @@
 -- The files of a source and the files that they include. MIL-STD-1753: INCLUDE. Files are numbered from 0; those that are included are numbered
 -- behind the others, in the order in which they are first mentioned.
 use Rattle.std.specs.Prelude.{◌≡◌, ℕ, suc, ◌+◌, nat_lt, false, List, [], ◌∷◌, ◌++◌, length, bytes_eq, Option, Some, None, if◌then◌else◌}
-use Rattle.f_tree.specs.declared.units.File.{File}
-use Rattle.f_tree.specs.declared.units.FileSet.{FileSet}
-use Rattle.f_tree.specs.declared.units.Part.{Part}
-use Rattle.f_tree.specs.Uses.{is_among}
-use Rattle.fortran_text.specs.FirstFault.{most_cards}
-use Rattle.fortran_text.specs.StatementsOfFile.{file_cards}
-use Rattle.fortran_text.specs.declared.source.Statement.{Statement}
-use Rattle.fortran_lexemes.specs.KindsOfStatements.{kind_of_statement}
-use Rattle.fortran_lexemes.specs.Lexemes.{Lexemes, Quoted, Word}
-use Rattle.fortran_lexemes.specs.declared.kinds.StmtKind.{StmtKind}
-use Rattle.fortran_lexemes.specs.declared.kinds.StmtKind.TheVariants as kind
+use Rattle.declaration_rows.specs.f_tree.declared.units.File.{File}
+use Rattle.declaration_rows.specs.f_tree.declared.units.FileSet.{FileSet}
+use Rattle.declaration_rows.specs.f_tree.declared.units.Part.{Part}
+use Rattle.declaration_rows.specs.f_tree.Uses.{is_among}
+use Rattle.declaration_rows.specs.fortran_text.FirstFault.{most_cards}
+use Rattle.declaration_rows.specs.fortran_text.StatementsOfFile.{file_cards}
+use Rattle.declaration_rows.specs.fortran_text.declared.source.Statement.{Statement}
+use Rattle.fortran_grammar.specs.fortran_lexemes.KindsOfStatements.{kind_of_statement}
+use Rattle.fortran_grammar.specs.fortran_lexemes.Lexemes.{Lexemes, Quoted, Word}
+use Rattle.fortran_grammar.specs.fortran_lexemes.declared.kinds.StmtKind.{StmtKind}
+use Rattle.fortran_grammar.specs.fortran_lexemes.declared.kinds.StmtKind.TheVariants as kind
 use Rattle.fortran_grammar.specs.UnitsOfFile.{is_labelled, pieces_of, may_stand, SpellsFile}
 use Rattle.fortran_grammar.specs.IncludedFiles.{SpellsPart, file_with_parts}
 

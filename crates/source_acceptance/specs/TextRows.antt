@@ -1,14 +1,14 @@
 -- The rows of refusals of the cards and of the statements of a source. ANSI X3.9-1978, sections 3 to 16; MIL-STD-1753: INCLUDE.
 use Rattle.std.specs.Prelude.{◌≡◌, ℕ, ◌+◌, Bool, true, false, List, length, Some, slice_get}
-use Rattle.f_tree.specs.declared.names.Options.{Options}
-use Rattle.f_tree.specs.declared.refusals.Kind.{Kind}
-use Rattle.f_tree.specs.declared.refusals.Kind.TheVariants.{FileTooLong, EndOrIncludeInAnIncludedFile}
-use Rattle.f_tree.specs.declared.refusals.Refusal.{Refusal}
-use Rattle.f_tree.specs.Setting.{IsIn}
-use Rattle.fortran_text.specs.CharactersOfText.{is_end}
-use Rattle.fortran_text.specs.FirstFault.{FaultOfCards, FaultOfFile, IsSound}
-use Rattle.fortran_text.specs.StatementsOfFile.{file_cards}
-use Rattle.fortran_text.specs.declared.source.Statement.{Statement}
+use Rattle.declaration_rows.specs.f_tree.declared.names.Options.{Options}
+use Rattle.declaration_rows.specs.f_tree.declared.refusals.Kind.{Kind}
+use Rattle.declaration_rows.specs.f_tree.declared.refusals.Kind.TheVariants.{FileTooLong, EndOrIncludeInAnIncludedFile}
+use Rattle.declaration_rows.specs.f_tree.declared.refusals.Refusal.{Refusal}
+use Rattle.declaration_rows.specs.f_tree.Setting.{IsIn}
+use Rattle.declaration_rows.specs.fortran_text.CharactersOfText.{is_end}
+use Rattle.declaration_rows.specs.fortran_text.FirstFault.{FaultOfCards, FaultOfFile, IsSound}
+use Rattle.declaration_rows.specs.fortran_text.StatementsOfFile.{file_cards}
+use Rattle.declaration_rows.specs.fortran_text.declared.source.Statement.{Statement}
 use Rattle.fortran_grammar.specs.SyntaxRows.{FaultOfStatements}
 use Rattle.source_acceptance.specs.SourceFiles.{Included, Source, included_name, statements_in, passes_at}
 

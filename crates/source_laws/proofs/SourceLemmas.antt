@@ -1,15 +1,15 @@
 -- The laws of sources, from those of files, of verdicts and of runs.
 use Rattle.std.specs.Prelude.{◌≡◌, ℕ, zero, suc}
 use Rattle.std.proofs.Common.{refl, sym, ap, ◌∙◌, subst}
-use Rattle.f_tree.specs.declared.names.Options.{Options}
-use Rattle.f_tree.specs.declared.refusals.Refusal.{Refusal}
-use Rattle.f_tree.specs.declared.units.FileSet.{FileSet}
-use Rattle.f_tree.specs.Setting.{IsIn}
-use Rattle.f_tree.specs.Meaning.{units_of}
-use Rattle.f_tree.specs.WellFormed.{AreWellFormed}
-use Rattle.declaration_rows.specs.SetRows.{set_faults}
-use Rattle.source_acceptance.specs.SourceFiles.{Source}
-use Rattle.source_acceptance.specs.Acceptance.{Phase, Cards, Syntax, Nesting, Declarations, Storage, Sharing, place_of, tree_faults, Fault, of_trees, IsFirstRefusal, IsAccepted}
+use Rattle.fortran_totality.specs.f_tree.declared.names.Options.{Options}
+use Rattle.fortran_totality.specs.f_tree.declared.refusals.Refusal.{Refusal}
+use Rattle.fortran_totality.specs.f_tree.declared.units.FileSet.{FileSet}
+use Rattle.fortran_totality.specs.f_tree.Setting.{IsIn}
+use Rattle.fortran_totality.specs.f_tree.Meaning.{units_of}
+use Rattle.fortran_totality.specs.f_tree.WellFormed.{AreWellFormed}
+use Rattle.declaration_laws.specs.declaration_rows.SetRows.{set_faults}
+use Rattle.source_verdict.specs.source_acceptance.SourceFiles.{Source}
+use Rattle.source_verdict.specs.source_acceptance.Acceptance.{Phase, Cards, Syntax, Nesting, Declarations, Storage, Sharing, place_of, tree_faults, Fault, of_trees, IsFirstRefusal, IsAccepted}
 use Rattle.source_laws.specs.SourceStatements.{EachSourceSpellsOneSet, OneFirstRefusal, NoAcceptedSourceIsRefused, EachAcceptedSourceIsMeant}
 use Rattle.source_verdict.proofs.OneSet.{one_set}
 use Rattle.source_verdict.proofs.OneRefusal.{Compared, lower, higher, equal, compared, SamePlace, both_ways}

@@ -1,16 +1,16 @@
 -- What is said of sources: that they are read in one way, and that those which are accepted are meant.
 use Rattle.std.specs.Prelude.{◌≡◌, ℕ, Some}
-use Rattle.run_state.specs.Units.{Units}
-use Rattle.f_tree.specs.declared.names.Options.{Options}
-use Rattle.f_tree.specs.declared.refusals.Refusal.{Refusal}
-use Rattle.f_tree.specs.declared.units.FileSet.{FileSet}
-use Rattle.f_tree.specs.RefusalRows.{number_of}
-use Rattle.f_tree.specs.Values.{NoMeaning}
-use Rattle.f_tree.specs.Setting.{Setting, IsSetting}
-use Rattle.f_tree.specs.Meaning.{units_of, ftn, act_of}
-use Rattle.f_tree.specs.WellFormed.{AreWellFormed}
-use Rattle.source_acceptance.specs.SourceFiles.{Source, SpellsSource}
-use Rattle.source_acceptance.specs.Acceptance.{IsFirstRefusal, IsAccepted}
+use Rattle.fortran_totality.specs.run_state.Units.{Units}
+use Rattle.fortran_totality.specs.f_tree.declared.names.Options.{Options}
+use Rattle.fortran_totality.specs.f_tree.declared.refusals.Refusal.{Refusal}
+use Rattle.fortran_totality.specs.f_tree.declared.units.FileSet.{FileSet}
+use Rattle.fortran_totality.specs.f_tree.RefusalRows.{number_of}
+use Rattle.fortran_totality.specs.f_tree.Values.{NoMeaning}
+use Rattle.fortran_totality.specs.f_tree.Setting.{Setting, IsSetting}
+use Rattle.fortran_totality.specs.f_tree.Meaning.{units_of, ftn, act_of}
+use Rattle.fortran_totality.specs.f_tree.WellFormed.{AreWellFormed}
+use Rattle.source_verdict.specs.source_acceptance.SourceFiles.{Source, SpellsSource}
+use Rattle.source_verdict.specs.source_acceptance.Acceptance.{IsFirstRefusal, IsAccepted}
 
 -- A source spells one set at most.
 abbrev pub EachSourceSpellsOneSet : Type 0

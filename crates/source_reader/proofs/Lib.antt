@@ -8,3 +8,4 @@ pub mod TreeLemmas
 pub mod SourceFacts
 pub mod CardTheorem
 pub mod TreeTheorem
+pub use Rattle.source_verdict.proofs as source_verdict

@@ -13,7 +13,7 @@ use Rattle.fortran_text.specs.FirstFault.{IsFirst}
 use Rattle.fortran_text.specs.StatementsOfFile.{FileCards, file_cards}
 use Rattle.fortran_grammar.specs.UnitsOfFile.{SpellsFile}
 use Rattle.fortran_grammar.specs.IncludedFiles.{SpellsPart, file_with_parts}
-use Rattle.grammar_laws.proofs.FileLemmas.{one_file as one_tree, one_part as one_part_tree}
+use Rattle.expression_parse.proofs.grammar_laws.FileLemmas.{one_file as one_tree, one_part as one_part_tree}
 use Rattle.source_acceptance.specs.SourceFiles.{Included, Source, statements_in, names_of, SpellFiles, no_files, one_file, SpellParts, no_parts, one_part, files_with_parts, SpellsSource}
 use Rattle.source_reader.specs.Along.{Along, no_pair, one_pair}
 use Rattle.source_reader.specs.PartReading.{IsPartClear}

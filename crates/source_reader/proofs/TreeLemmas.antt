@@ -15,7 +15,7 @@ use Rattle.fortran_text.specs.StatementsOfFile.{FileCards}
 use Rattle.fortran_text.specs.declared.source.Statement.{Statement}
 use Rattle.fortran_grammar.specs.IncludedFiles.{SpellsPart, part_named}
 use Rattle.fortran_grammar.specs.SyntaxRows.{unit_deep_rows}
-use Rattle.declaration_rows.specs.GlobalRows.{all_units}
+use Rattle.source_acceptance.specs.declaration_rows.GlobalRows.{all_units}
 use Rattle.file_parse.specs.FileTrees.{HasNoFault, IsFileTree, IsPartTree}
 use Rattle.file_parse.specs.FirstRefusals.{IsFirstAmong}
 use Rattle.file_parse.specs.ReadSoFar.{AreClear, AreTrees}

@@ -9,7 +9,7 @@ use Rattle.f_tree.specs.declared.units.FileSet.{FileSet}
 use Rattle.f_tree.specs.declared.units.Part.{Part}
 use Rattle.fortran_text.specs.StatementsOfFile.{FileCards}
 use Rattle.fortran_grammar.specs.IncludedFiles.{file_with_parts}
-use Rattle.declaration_rows.specs.GlobalRows.{all_units}
+use Rattle.source_acceptance.specs.declaration_rows.GlobalRows.{all_units}
 use Rattle.file_parse.specs.FirstRefusals.{IsFirstAmong}
 use Rattle.source_acceptance.specs.SourceFiles.{Source, IsWhole, SpellsSource}
 use Rattle.source_acceptance.specs.Acceptance.{Phase, Cards, Syntax, Nesting, place_of, Fault, IsFirstRefusal, deep_rows_of}

@@ -3,7 +3,7 @@
 ghost use Rattle.std.specs.Prelude.{◌≡◌, length, map, IfOk};
 ghost use Rattle.source_reader.specs.Trees.{AreFileTrees, ArePartTrees, IsAfter, IsUnless, IsSpliced};
 ghost use Rattle.file_parse.specs.FirstRefusals.{IsFirstAmong};
-ghost use Rattle.declaration_rows.specs.GlobalRows.{all_units};
+ghost use Rattle.source_acceptance.specs.declaration_rows.GlobalRows.{all_units};
 ghost use Rattle.source_acceptance.specs.Acceptance.{deep_rows_of};
 
 use crate::counts::by_name;

@@ -10,14 +10,14 @@ use Rattle.f_tree.specs.declared.units.File.{File}
 use Rattle.f_tree.specs.declared.units.Unit.{Unit as GivenUnit}
 use Rattle.c_tree.specs.declared.file.CFile.{CFile}
 use Rattle.c_tree.specs.declared.statement.CStmt.{CStmt}
-use Rattle.declaration_rows.specs.GlobalRows.{all_units}
-use Rattle.declaration_rows.specs.Verdicts.{first_of}
-use Rattle.unit_file.specs.UnitFile.{WrittenUnit}
-use Rattle.unit_sites.specs.UnitSites.{UnitsOfFile, files_of as c_files}
-use Rattle.unit_translation.specs.UnitContents.{LoweredUnit, constants_passed, inventory_of}
-use Rattle.unit_translation.specs.UnitBodies.{all_lowered, written_before}
-use Rattle.named_units.specs.NamedUnits.{named_body_of, named_from, named_file_of, named_files_from, named_files}
-use Rattle.translated_files.specs.TranslatedFiles.{lowered_files, has_units, each_has_units, made_files, files_of, form_row, row_unless, rows_of_lowering, rows_of_bodies, rows_of_files, rows_behind, units_not_translated, row_of_none, files_without_units, files_not_translated}
+use Rattle.set_judge.specs.declaration_rows.GlobalRows.{all_units}
+use Rattle.set_judge.specs.declaration_rows.Verdicts.{first_of}
+use Rattle.source_reader.specs.unit_file.UnitFile.{WrittenUnit}
+use Rattle.source_reader.specs.unit_sites.UnitSites.{UnitsOfFile, files_of as c_files}
+use Rattle.source_reader.specs.unit_translation.UnitContents.{LoweredUnit, constants_passed, inventory_of}
+use Rattle.source_reader.specs.unit_translation.UnitBodies.{all_lowered, written_before}
+use Rattle.source_reader.specs.named_units.NamedUnits.{named_body_of, named_from, named_file_of, named_files_from, named_files}
+use Rattle.source_reader.specs.translated_files.TranslatedFiles.{lowered_files, has_units, each_has_units, made_files, files_of, form_row, row_unless, rows_of_lowering, rows_of_bodies, rows_of_files, rows_behind, units_not_translated, row_of_none, files_without_units, files_not_translated}
 use Rattle.translator.specs.TranslatedFiles.{AreTranslations}
 use Rattle.source_translator.specs.TranslatedSource.{AreTranslated}
 

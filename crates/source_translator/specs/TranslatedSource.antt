@@ -7,12 +7,12 @@ use Rattle.f_tree.specs.declared.refusals.Refusal.{Refusal}
 use Rattle.f_tree.specs.declared.units.File.{File}
 use Rattle.f_tree.specs.declared.units.FileSet.{FileSet}
 use Rattle.c_tree.specs.declared.file.CFile.{CFile}
-use Rattle.declaration_rows.specs.GlobalRows.{all_units, units_global_rows}
-use Rattle.declaration_rows.specs.Verdicts.{first_of}
-use Rattle.translated_files.specs.TranslatedFiles.{files_of, files_not_translated}
-use Rattle.source_acceptance.specs.SourceFiles.{Source}
-use Rattle.source_verdict.specs.SourceRows.{IsAccepted}
-use Rattle.source_verdict.specs.Fronts.{IsFirstOfAll}
+use Rattle.set_judge.specs.declaration_rows.GlobalRows.{all_units, units_global_rows}
+use Rattle.set_judge.specs.declaration_rows.Verdicts.{first_of}
+use Rattle.source_reader.specs.translated_files.TranslatedFiles.{files_of, files_not_translated}
+use Rattle.source_reader.specs.source_acceptance.SourceFiles.{Source}
+use Rattle.source_reader.specs.source_verdict.SourceRows.{IsAccepted}
+use Rattle.source_reader.specs.source_verdict.Fronts.{IsFirstOfAll}
 use Rattle.source_reader.specs.SourceReading.{entries}
 use Rattle.source_reader.specs.Sources.{source_of}
 

@@ -9,9 +9,9 @@ use c_tree::file::CFile;
 use f_tree::names::Options;
 use f_tree::{Fail, Text};
 use plain_data::Items;
-use source_reader::{NamedFiles, read_source};
+use source_judge::read_declared;
+use source_reader::NamedFiles;
 use std::alloc::Global;
-use unit_judge::set_fault;
 
 /// The C files of a source, one for each file that is named, in their order, from the files that are named and the bytes of those that they include,
 /// which are given in the order of their names. INCLUDE statements are replaced before.
@@ -30,12 +30,8 @@ pub fn translate_source(
     requires { length included.now ≡ length named.now.names }
     ensures { (files : List (List ℕ)) → IsNamed options.now files named.now → IsSourceTranslated options.now files named.now.names included.now result }
 {
-    let set = match read_source(alloc, named, included, options) {
-        Ok(set) => set,
-        Err(fail) => return Err(fail),
-    };
-    match set_fault(alloc, *options, set.files.as_slice())? {
-        Some(refusal) => Err(Fail::Refused(refusal)),
-        None => translate_set(alloc, *options, set.files.as_slice()),
+    match read_declared(alloc, named, included, options) {
+        Ok(set) => translate_set(alloc, *options, set.files.as_slice()),
+        Err(fail) => Err(fail),
     }
 }

@@ -2,12 +2,12 @@
 -- cards.
 use Rattle.std.specs.Prelude.{◌≡◌, ℕ, zero, suc, ◌+◌, nat_lt, Bool, List, [], ◌∷◌, length, bytes_eq, slice_get, Option, Some, None, if◌then◌else◌}
 use Rattle.std.proofs.Common.{refl, sym, ap, subst, ◌∙◌}
-use Rattle.f_tree.specs.declared.names.Options.{Options}
-use Rattle.f_tree.specs.declared.refusals.Kind.{Kind}
-use Rattle.f_tree.specs.declared.refusals.Refusal.{Refusal}
-use Rattle.f_tree.specs.Setting.{IsIn, first_in, later_in}
-use Rattle.fortran_text.specs.FirstFault.{most_cards, FaultOfCards, IsSound}
-use Rattle.fortran_text.specs.declared.source.Statement.{Statement}
+use Rattle.refusal_order.specs.f_tree.declared.names.Options.{Options}
+use Rattle.refusal_order.specs.f_tree.declared.refusals.Kind.{Kind}
+use Rattle.refusal_order.specs.f_tree.declared.refusals.Refusal.{Refusal}
+use Rattle.refusal_order.specs.f_tree.Setting.{IsIn, first_in, later_in}
+use Rattle.refusal_order.specs.fortran_text.FirstFault.{most_cards, FaultOfCards, IsSound}
+use Rattle.refusal_order.specs.fortran_text.declared.source.Statement.{Statement}
 use Rattle.source_acceptance.specs.SourceFiles.{Included, Source, included_name, names_in, statements_in, cards_of_included, passes_at}
 use Rattle.source_acceptance.specs.Acceptance.{HasFile, HasIncluded, Counts, CardFault, of_file, of_included, too_many_included, end_or_include}
 use Rattle.source_verdict.proofs.LongFiles.{Alike, the_same, both_refused, alike_back}

@@ -2,23 +2,23 @@
 use Rattle.std.specs.Prelude.{◌≡◌, ℕ, ◌<◌, ◌≤◌, List, [], ◌∷◌, ◌++◌, length, Option, Some, None}
 use Rattle.std.proofs.Common.{refl, sym, ap, subst, ◌∙◌, arith}
 use Rattle.std.proofs.lemmas.List.{append-nil, length-append}
-use Rattle.f_tree.specs.declared.names.Options.{Options}
-use Rattle.f_tree.specs.declared.refusals.Refusal.{Refusal}
-use Rattle.f_tree.specs.declared.units.File.{File}
-use Rattle.f_tree.specs.declared.units.FileSet.{FileSet}
-use Rattle.f_tree.specs.declared.units.Unit.{Unit as ProgramUnit}
-use Rattle.f_tree.specs.RefusalRows.{IsNotAfter}
-use Rattle.f_tree.specs.Setting.{IsIn, first_in, later_in}
-use Rattle.fortran_grammar.specs.SyntaxRows.{unit_deep_rows}
-use Rattle.declaration_rows.specs.GlobalRows.{all_units, units_global_rows}
-use Rattle.declaration_rows.specs.SetRows.{set_faults}
-use Rattle.declaration_rows.specs.Verdicts.{first_of, IsFirstOf}
+use Rattle.refusal_order.specs.f_tree.declared.names.Options.{Options}
+use Rattle.refusal_order.specs.f_tree.declared.refusals.Refusal.{Refusal}
+use Rattle.refusal_order.specs.f_tree.declared.units.File.{File}
+use Rattle.refusal_order.specs.f_tree.declared.units.FileSet.{FileSet}
+use Rattle.refusal_order.specs.f_tree.declared.units.Unit.{Unit as ProgramUnit}
+use Rattle.refusal_order.specs.f_tree.RefusalRows.{IsNotAfter}
+use Rattle.refusal_order.specs.f_tree.Setting.{IsIn, first_in, later_in}
+use Rattle.grammar_laws.specs.fortran_grammar.SyntaxRows.{unit_deep_rows}
+use Rattle.refusal_order.specs.declaration_rows.GlobalRows.{all_units, units_global_rows}
+use Rattle.refusal_order.specs.declaration_rows.SetRows.{set_faults}
+use Rattle.refusal_order.specs.declaration_rows.Verdicts.{first_of, IsFirstOf}
 use Rattle.refusal_order.proofs.RefusalOrder.{IsChosen, none_there, first_there, first_is_chosen}
 use Rattle.source_acceptance.specs.SourceFiles.{Included, Source, names_of, mentioned_from, first_mentions, IsWhole, SpellsSource}
 use Rattle.source_acceptance.specs.Acceptance as table
 use Rattle.source_acceptance.specs.Acceptance.{CardFault, SyntaxFault, deep_rows_of, tree_faults}
 use Rattle.translated_files.specs.TranslatedFiles.{files_not_translated}
-use Rattle.source_verdict.specs.SourceRows.{Phase, Cards, Syntax, Nesting, Declarations, Forms, Sharing, place_of, Fault, of_cards, of_syntax, of_nests, of_declarations, of_forms, of_sharing, IsRead, IsFirstRefusal, IsAccepted}
+use Rattle.source_verdict.specs.SourceRows.{Phase, Cards, Syntax, Nesting, Declarations, Forms, Sharing, place_of, Purpose, Translation, FaultFor, of_cards, of_syntax, of_nests, of_declarations, of_forms, of_sharing, IsReadFor, IsFirstRefusalFor, IsAcceptedFor}
 use Rattle.source_verdict.specs.Fronts.{IsSourceOf}
 use Rattle.source_verdict.proofs.OneSet.{one_set}
 
@@ -31,13 +31,13 @@ no_syntax_of_trees : (options : Options) (set : FileSet) (r : Refusal) → IsIn 
 unfolding tree_faults
 no_syntax_of_trees options set r among = elim among [ ]
 
-pub cards_down : (options : Options) (source : Source) (r : Refusal) → table.Fault options source table.Cards r → Fault options source Cards r
-cards_down options source r (table.of_cards _ h) = of_cards r h
-cards_down options source r (table.of_trees _ set _ spells among) = absurd (no_cards_of_trees options set r among)
+pub cards_down : (purpose : Purpose) (options : Options) (source : Source) (r : Refusal) → table.Fault options source table.Cards r → FaultFor purpose options source Cards r
+cards_down purpose options source r (table.of_cards _ h) = of_cards r h
+cards_down purpose options source r (table.of_trees _ set _ spells among) = absurd (no_cards_of_trees options set r among)
 
-pub syntax_down : (options : Options) (source : Source) (r : Refusal) → table.Fault options source table.Syntax r → Fault options source Syntax r
-syntax_down options source r (table.of_syntax _ h) = of_syntax r h
-syntax_down options source r (table.of_trees _ set _ spells among) = absurd (no_syntax_of_trees options set r among)
+pub syntax_down : (purpose : Purpose) (options : Options) (source : Source) (r : Refusal) → table.Fault options source table.Syntax r → FaultFor purpose options source Syntax r
+syntax_down purpose options source r (table.of_syntax _ h) = of_syntax r h
+syntax_down purpose options source r (table.of_trees _ set _ spells among) = absurd (no_syntax_of_trees options set r among)
 
 -- what is in one of two lists
 data InEither {A : Type 0} (x : A) (xs ys : List A) : Type 0 where
@@ -111,20 +111,20 @@ trees_of_deep : (options : Options) (set : FileSet) (r : Refusal) → IsIn r (de
 unfolding tree_faults
 trees_of_deep options set r among = among
 
-pub nests_down : (options : Options) (source : Source) (r : Refusal) → table.Fault options source table.Nesting r → Fault options source Nesting r
-nests_down options source r (table.of_trees _ set _ spells among) =
+pub nests_down : (purpose : Purpose) (options : Options) (source : Source) (r : Refusal) → table.Fault options source table.Nesting r → FaultFor purpose options source Nesting r
+nests_down purpose options source r (table.of_trees _ set _ spells among) =
     let in_unit = unit_of_row (all_units set.files) r (deep_of_trees options set r among) in
     let in_file = file_of_unit set.files in_unit.unit in_unit.is in
     of_nests set in_file.file in_unit.unit r spells in_file.is in_file.has in_unit.row
 
-pub cards_up : (options : Options) (source : Source) (r : Refusal) → Fault options source Cards r → table.Fault options source table.Cards r
-cards_up options source r (of_cards _ h) = table.of_cards r h
+pub cards_up : (purpose : Purpose) (options : Options) (source : Source) (r : Refusal) → FaultFor purpose options source Cards r → table.Fault options source table.Cards r
+cards_up purpose options source r (of_cards _ h) = table.of_cards r h
 
-pub syntax_up : (options : Options) (source : Source) (r : Refusal) → Fault options source Syntax r → table.Fault options source table.Syntax r
-syntax_up options source r (of_syntax _ h) = table.of_syntax r h
+pub syntax_up : (purpose : Purpose) (options : Options) (source : Source) (r : Refusal) → FaultFor purpose options source Syntax r → table.Fault options source table.Syntax r
+syntax_up purpose options source r (of_syntax _ h) = table.of_syntax r h
 
-pub nests_up : (options : Options) (source : Source) (r : Refusal) → Fault options source Nesting r → table.Fault options source table.Nesting r
-nests_up options source r (of_nests set file unit _ spells is has row) =
+pub nests_up : (purpose : Purpose) (options : Options) (source : Source) (r : Refusal) → FaultFor purpose options source Nesting r → table.Fault options source table.Nesting r
+nests_up purpose options source r (of_nests set file unit _ spells is has row) =
     table.of_trees table.Nesting set r spells (trees_of_deep options set r (row_of_unit (all_units set.files) unit r (unit_of_file set.files file unit is has) row))
 
 -- THE FIRST REFUSAL of an early phase
@@ -138,74 +138,74 @@ none_before : (earlier : Phase) → place_of earlier < place_of Cards → ⊥
 unfolding place_of
 none_before earlier before = omega (arith, before)
 
-refused_by_cards : (options : Options) (source : Source) (r : Refusal) → table.Fault options source table.Cards r → IsLeast options source table.Cards r →
-    IsFirstRefusal options source r
-refused_by_cards options source r holds least = record {
+refused_by_cards : (purpose : Purpose) (options : Options) (source : Source) (r : Refusal) → table.Fault options source table.Cards r → IsLeast options source table.Cards r →
+    IsFirstRefusalFor purpose options source r
+refused_by_cards purpose options source r holds least = record {
   phase = Cards;
   read = λ earlier q before. absurd (none_before earlier before);
-  holds = cards_down options source r holds;
-  least = λ q h. least q (cards_up options source q h);
+  holds = cards_down purpose options source r holds;
+  least = λ q h. least q (cards_up purpose options source q h);
 }
 
-before_syntax : (options : Options) (source : Source) → IsClear options source table.Cards → IsRead options source Syntax
+before_syntax : (purpose : Purpose) (options : Options) (source : Source) → IsClear options source table.Cards → IsReadFor purpose options source Syntax
 unfolding place_of
-before_syntax options source cards Cards q before h = cards q (cards_up options source q h)
-before_syntax options source cards Syntax q before h = absurd (omega (arith, before))
-before_syntax options source cards Nesting q before h = absurd (omega (arith, before))
-before_syntax options source cards Declarations q before h = absurd (omega (arith, before))
-before_syntax options source cards Forms q before h = absurd (omega (arith, before))
-before_syntax options source cards Sharing q before h = absurd (omega (arith, before))
+before_syntax purpose options source cards Cards q before h = cards q (cards_up purpose options source q h)
+before_syntax purpose options source cards Syntax q before h = absurd (omega (arith, before))
+before_syntax purpose options source cards Nesting q before h = absurd (omega (arith, before))
+before_syntax purpose options source cards Declarations q before h = absurd (omega (arith, before))
+before_syntax purpose options source cards Forms q before h = absurd (omega (arith, before))
+before_syntax purpose options source cards Sharing q before h = absurd (omega (arith, before))
 
-refused_by_syntax : (options : Options) (source : Source) (r : Refusal) → IsClear options source table.Cards → table.Fault options source table.Syntax r →
-    IsLeast options source table.Syntax r → IsFirstRefusal options source r
-refused_by_syntax options source r cards holds least = record {
+refused_by_syntax : (purpose : Purpose) (options : Options) (source : Source) (r : Refusal) → IsClear options source table.Cards → table.Fault options source table.Syntax r →
+    IsLeast options source table.Syntax r → IsFirstRefusalFor purpose options source r
+refused_by_syntax purpose options source r cards holds least = record {
   phase = Syntax;
-  read = before_syntax options source cards;
-  holds = syntax_down options source r holds;
-  least = λ q h. least q (syntax_up options source q h);
+  read = before_syntax purpose options source cards;
+  holds = syntax_down purpose options source r holds;
+  least = λ q h. least q (syntax_up purpose options source q h);
 }
 
-before_nests : (options : Options) (source : Source) → IsClear options source table.Cards → IsClear options source table.Syntax → IsRead options source Nesting
+before_nests : (purpose : Purpose) (options : Options) (source : Source) → IsClear options source table.Cards → IsClear options source table.Syntax → IsReadFor purpose options source Nesting
 unfolding place_of
-before_nests options source cards rows Cards q before h = cards q (cards_up options source q h)
-before_nests options source cards rows Syntax q before h = rows q (syntax_up options source q h)
-before_nests options source cards rows Nesting q before h = absurd (omega (arith, before))
-before_nests options source cards rows Declarations q before h = absurd (omega (arith, before))
-before_nests options source cards rows Forms q before h = absurd (omega (arith, before))
-before_nests options source cards rows Sharing q before h = absurd (omega (arith, before))
+before_nests purpose options source cards rows Cards q before h = cards q (cards_up purpose options source q h)
+before_nests purpose options source cards rows Syntax q before h = rows q (syntax_up purpose options source q h)
+before_nests purpose options source cards rows Nesting q before h = absurd (omega (arith, before))
+before_nests purpose options source cards rows Declarations q before h = absurd (omega (arith, before))
+before_nests purpose options source cards rows Forms q before h = absurd (omega (arith, before))
+before_nests purpose options source cards rows Sharing q before h = absurd (omega (arith, before))
 
-refused_by_nests : (options : Options) (source : Source) (r : Refusal) → IsClear options source table.Cards → IsClear options source table.Syntax →
-    table.Fault options source table.Nesting r → IsLeast options source table.Nesting r → IsFirstRefusal options source r
-refused_by_nests options source r cards rows holds least = record {
+refused_by_nests : (purpose : Purpose) (options : Options) (source : Source) (r : Refusal) → IsClear options source table.Cards → IsClear options source table.Syntax →
+    table.Fault options source table.Nesting r → IsLeast options source table.Nesting r → IsFirstRefusalFor purpose options source r
+refused_by_nests purpose options source r cards rows holds least = record {
   phase = Nesting;
-  read = before_nests options source cards rows;
-  holds = nests_down options source r holds;
-  least = λ q h. least q (nests_up options source q h);
+  read = before_nests purpose options source cards rows;
+  holds = nests_down purpose options source r holds;
+  least = λ q h. least q (nests_up purpose options source q h);
 }
 
 earlier_clear : (options : Options) (source : Source) (r : Refusal) (first : table.IsFirstRefusal options source r) (phase earlier : table.Phase) → first.phase ≡ phase →
     table.place_of earlier < table.place_of phase → IsClear options source earlier
 earlier_clear options source r first phase earlier is before q h = first.read earlier q (subst (λ p. table.place_of earlier < table.place_of p) (sym is) before) h
 
-by_phase : (options : Options) (source : Source) (r : Refusal) (first : table.IsFirstRefusal options source r) (phase : table.Phase) → first.phase ≡ phase →
-    table.place_of phase ≤ 2 → IsFirstRefusal options source r
+by_phase : (purpose : Purpose) (options : Options) (source : Source) (r : Refusal) (first : table.IsFirstRefusal options source r) (phase : table.Phase) → first.phase ≡ phase →
+    table.place_of phase ≤ 2 → IsFirstRefusalFor purpose options source r
 unfolding table.place_of
-by_phase options source r first table.Cards is early =
-    refused_by_cards options source r (subst (λ p. table.Fault options source p r) is first.holds) (subst (λ p. IsLeast options source p r) is first.least)
-by_phase options source r first table.Syntax is early =
-    refused_by_syntax options source r (earlier_clear options source r first table.Syntax table.Cards is (omega arith))
+by_phase purpose options source r first table.Cards is early =
+    refused_by_cards purpose options source r (subst (λ p. table.Fault options source p r) is first.holds) (subst (λ p. IsLeast options source p r) is first.least)
+by_phase purpose options source r first table.Syntax is early =
+    refused_by_syntax purpose options source r (earlier_clear options source r first table.Syntax table.Cards is (omega arith))
     (subst (λ p. table.Fault options source p r) is first.holds) (subst (λ p. IsLeast options source p r) is first.least)
-by_phase options source r first table.Nesting is early =
-    refused_by_nests options source r (earlier_clear options source r first table.Nesting table.Cards is (omega arith))
+by_phase purpose options source r first table.Nesting is early =
+    refused_by_nests purpose options source r (earlier_clear options source r first table.Nesting table.Cards is (omega arith))
     (earlier_clear options source r first table.Nesting table.Syntax is (omega arith))
     (subst (λ p. table.Fault options source p r) is first.holds) (subst (λ p. IsLeast options source p r) is first.least)
-by_phase options source r first table.Declarations is early = absurd (omega (arith, early))
-by_phase options source r first table.Storage is early = absurd (omega (arith, early))
-by_phase options source r first table.Sharing is early = absurd (omega (arith, early))
+by_phase purpose options source r first table.Declarations is early = absurd (omega (arith, early))
+by_phase purpose options source r first table.Storage is early = absurd (omega (arith, early))
+by_phase purpose options source r first table.Sharing is early = absurd (omega (arith, early))
 
-pub early_refusal : (options : Options) (source : Source) (r : Refusal) (first : table.IsFirstRefusal options source r) → table.place_of first.phase ≤ 2 →
-    IsFirstRefusal options source r
-early_refusal options source r first early = by_phase options source r first first.phase refl early
+pub early_refusal : (purpose : Purpose) (options : Options) (source : Source) (r : Refusal) (first : table.IsFirstRefusal options source r) → table.place_of first.phase ≤ 2 →
+    IsFirstRefusalFor purpose options source r
+early_refusal purpose options source r first early = by_phase purpose options source r first first.phase refl early
 
 -- DECLARATIONS, FORMS AND WHAT UNITS SHARE, where no earlier phase refuses
 pub record IsSpelledClear (options : Options) (source : Source) (set : FileSet) : Type 0 where
@@ -235,107 +235,115 @@ no_row : (rs : List Refusal) → first_of rs ≡ None → (q : Refusal) → IsIn
 no_row rs none q among = none_among q rs (none_chosen rs (first_of rs) (first_is_chosen rs) none) among
 
 -- the rows of declarations and of forms are those of the one set
-declared_in_set : (options : Options) (source : Source) (set : FileSet) → SpellsSource source set → (q : Refusal) → Fault options source Declarations q →
+declared_in_set : (purpose : Purpose) (options : Options) (source : Source) (set : FileSet) → SpellsSource source set → (q : Refusal) → FaultFor purpose options source Declarations q →
     IsIn q (set_faults options set)
-declared_in_set options source set spells q (of_declarations other _ its among) =
+declared_in_set purpose options source set spells q (of_declarations other _ its among) =
     subst (λ (s : FileSet). IsIn q (set_faults options s)) (one_set source other set its spells) among
 
-formed_in_set : (options : Options) (source : Source) (set : FileSet) → SpellsSource source set → (q : Refusal) → Fault options source Forms q →
+formed_in_set : (purpose : Purpose) (options : Options) (source : Source) (set : FileSet) → SpellsSource source set → (q : Refusal) → FaultFor purpose options source Forms q →
     IsIn q (files_not_translated options set.files)
-formed_in_set options source set spells q (of_forms other _ its among) =
+formed_in_set purpose options source set spells q (of_forms translated other _ its among) =
     subst (λ (s : FileSet). IsIn q (files_not_translated options s.files)) (one_set source other set its spells) among
 
-before_declarations : (options : Options) (source : Source) (set : FileSet) → IsSpelledClear options source set → IsRead options source Declarations
+before_declarations : (purpose : Purpose) (options : Options) (source : Source) (set : FileSet) → IsSpelledClear options source set → IsReadFor purpose options source Declarations
 unfolding place_of
-before_declarations options source set clear Cards q before h = clear.cards q (cards_up options source q h)
-before_declarations options source set clear Syntax q before h = clear.rows q (syntax_up options source q h)
-before_declarations options source set clear Nesting q before h = clear.nests q (nests_up options source q h)
-before_declarations options source set clear Declarations q before h = absurd (omega (arith, before))
-before_declarations options source set clear Forms q before h = absurd (omega (arith, before))
-before_declarations options source set clear Sharing q before h = absurd (omega (arith, before))
+before_declarations purpose options source set clear Cards q before h = clear.cards q (cards_up purpose options source q h)
+before_declarations purpose options source set clear Syntax q before h = clear.rows q (syntax_up purpose options source q h)
+before_declarations purpose options source set clear Nesting q before h = clear.nests q (nests_up purpose options source q h)
+before_declarations purpose options source set clear Declarations q before h = absurd (omega (arith, before))
+before_declarations purpose options source set clear Forms q before h = absurd (omega (arith, before))
+before_declarations purpose options source set clear Sharing q before h = absurd (omega (arith, before))
 
-pub declarations_refused : (options : Options) (source : Source) (set : FileSet) (r : Refusal) → IsSpelledClear options source set →
-    first_of (set_faults options set) ≡ Some r → IsFirstRefusal options source r
-declarations_refused options source set r clear is =
+pub declarations_refused : (purpose : Purpose) (options : Options) (source : Source) (set : FileSet) (r : Refusal) → IsSpelledClear options source set →
+    first_of (set_faults options set) ≡ Some r → IsFirstRefusalFor purpose options source r
+declarations_refused purpose options source set r clear is =
     let first : IsFirstOf (set_faults options set) r = first_among (set_faults options set) r is in
     record {
       phase = Declarations;
-      read = before_declarations options source set clear;
+      read = before_declarations purpose options source set clear;
       holds = of_declarations set r clear.spells first.is;
-      least = λ q h. first.least q (declared_in_set options source set clear.spells q h);
+      least = λ q h. first.least q (declared_in_set purpose options source set clear.spells q h);
     }
 
-before_forms : (options : Options) (source : Source) (set : FileSet) → IsSpelledClear options source set → first_of (set_faults options set) ≡ None →
-    IsRead options source Forms
+before_forms : (purpose : Purpose) (options : Options) (source : Source) (set : FileSet) → IsSpelledClear options source set → first_of (set_faults options set) ≡ None →
+    IsReadFor purpose options source Forms
 unfolding place_of
-before_forms options source set clear declared Cards q before h = clear.cards q (cards_up options source q h)
-before_forms options source set clear declared Syntax q before h = clear.rows q (syntax_up options source q h)
-before_forms options source set clear declared Nesting q before h = clear.nests q (nests_up options source q h)
-before_forms options source set clear declared Declarations q before h =
-    no_row (set_faults options set) declared q (declared_in_set options source set clear.spells q h)
-before_forms options source set clear declared Forms q before h = absurd (omega (arith, before))
-before_forms options source set clear declared Sharing q before h = absurd (omega (arith, before))
+before_forms purpose options source set clear declared Cards q before h = clear.cards q (cards_up purpose options source q h)
+before_forms purpose options source set clear declared Syntax q before h = clear.rows q (syntax_up purpose options source q h)
+before_forms purpose options source set clear declared Nesting q before h = clear.nests q (nests_up purpose options source q h)
+before_forms purpose options source set clear declared Declarations q before h =
+    no_row (set_faults options set) declared q (declared_in_set purpose options source set clear.spells q h)
+before_forms purpose options source set clear declared Forms q before h = absurd (omega (arith, before))
+before_forms purpose options source set clear declared Sharing q before h = absurd (omega (arith, before))
 
 pub forms_refused : (options : Options) (source : Source) (set : FileSet) (r : Refusal) → IsSpelledClear options source set →
-    first_of (set_faults options set) ≡ None → first_of (files_not_translated options set.files) ≡ Some r → IsFirstRefusal options source r
+    first_of (set_faults options set) ≡ None → first_of (files_not_translated options set.files) ≡ Some r → IsFirstRefusalFor Translation options source r
 forms_refused options source set r clear declared is =
     let first : IsFirstOf (files_not_translated options set.files) r = first_among (files_not_translated options set.files) r is in
     record {
       phase = Forms;
-      read = before_forms options source set clear declared;
-      holds = of_forms set r clear.spells first.is;
-      least = λ q h. first.least q (formed_in_set options source set clear.spells q h);
+      read = before_forms Translation options source set clear declared;
+      holds = of_forms refl set r clear.spells first.is;
+      least = λ q h. first.least q (formed_in_set Translation options source set clear.spells q h);
     }
 
+-- no form of the one set is without a translation, where that is judged
+abbrev pub AreFormed : Purpose → Options → FileSet → Type 0
+AreFormed purpose options set = purpose ≡ Translation → first_of (files_not_translated options set.files) ≡ None
+
+no_form : (purpose : Purpose) (options : Options) (source : Source) (set : FileSet) → SpellsSource source set → AreFormed purpose options set → (q : Refusal) →
+    FaultFor purpose options source Forms q → ⊥
+no_form purpose options source set spells formed q (of_forms translated other _ its among) =
+    no_row (files_not_translated options set.files) (formed translated) q
+    (formed_in_set purpose options source set spells q (of_forms translated other q its among))
+
 -- what the units of the one set share
-shared_in_set : (options : Options) (source : Source) (set : FileSet) → SpellsSource source set → (q : Refusal) → Fault options source Sharing q →
+shared_in_set : (purpose : Purpose) (options : Options) (source : Source) (set : FileSet) → SpellsSource source set → (q : Refusal) → FaultFor purpose options source Sharing q →
     IsIn q (units_global_rows (all_units set.files))
-shared_in_set options source set spells q (of_sharing other _ its among) =
+shared_in_set purpose options source set spells q (of_sharing other _ its among) =
     subst (λ (s : FileSet). IsIn q (units_global_rows (all_units s.files))) (one_set source other set its spells) among
 
-before_sharing : (options : Options) (source : Source) (set : FileSet) → IsSpelledClear options source set → first_of (set_faults options set) ≡ None →
-    first_of (files_not_translated options set.files) ≡ None → IsRead options source Sharing
+before_sharing : (purpose : Purpose) (options : Options) (source : Source) (set : FileSet) → IsSpelledClear options source set → first_of (set_faults options set) ≡ None →
+    AreFormed purpose options set → IsReadFor purpose options source Sharing
 unfolding place_of
-before_sharing options source set clear declared formed Cards q before h = clear.cards q (cards_up options source q h)
-before_sharing options source set clear declared formed Syntax q before h = clear.rows q (syntax_up options source q h)
-before_sharing options source set clear declared formed Nesting q before h = clear.nests q (nests_up options source q h)
-before_sharing options source set clear declared formed Declarations q before h =
-    no_row (set_faults options set) declared q (declared_in_set options source set clear.spells q h)
-before_sharing options source set clear declared formed Forms q before h =
-    no_row (files_not_translated options set.files) formed q (formed_in_set options source set clear.spells q h)
-before_sharing options source set clear declared formed Sharing q before h = absurd (omega (arith, before))
+before_sharing purpose options source set clear declared formed Cards q before h = clear.cards q (cards_up purpose options source q h)
+before_sharing purpose options source set clear declared formed Syntax q before h = clear.rows q (syntax_up purpose options source q h)
+before_sharing purpose options source set clear declared formed Nesting q before h = clear.nests q (nests_up purpose options source q h)
+before_sharing purpose options source set clear declared formed Declarations q before h =
+    no_row (set_faults options set) declared q (declared_in_set purpose options source set clear.spells q h)
+before_sharing purpose options source set clear declared formed Forms q before h = no_form purpose options source set clear.spells formed q h
+before_sharing purpose options source set clear declared formed Sharing q before h = absurd (omega (arith, before))
 
-pub sharing_refused : (options : Options) (source : Source) (set : FileSet) (r : Refusal) → IsSpelledClear options source set →
-    first_of (set_faults options set) ≡ None → first_of (files_not_translated options set.files) ≡ None →
-    first_of (units_global_rows (all_units set.files)) ≡ Some r → IsFirstRefusal options source r
-sharing_refused options source set r clear declared formed is =
+pub sharing_refused : (purpose : Purpose) (options : Options) (source : Source) (set : FileSet) (r : Refusal) → IsSpelledClear options source set →
+    first_of (set_faults options set) ≡ None → AreFormed purpose options set →
+    first_of (units_global_rows (all_units set.files)) ≡ Some r → IsFirstRefusalFor purpose options source r
+sharing_refused purpose options source set r clear declared formed is =
     let first : IsFirstOf (units_global_rows (all_units set.files)) r = first_among (units_global_rows (all_units set.files)) r is in
     record {
       phase = Sharing;
-      read = before_sharing options source set clear declared formed;
+      read = before_sharing purpose options source set clear declared formed;
       holds = of_sharing set r clear.spells first.is;
-      least = λ q h. first.least q (shared_in_set options source set clear.spells q h);
+      least = λ q h. first.least q (shared_in_set purpose options source set clear.spells q h);
     }
 
-no_fault : (options : Options) (source : Source) (set : FileSet) → IsSpelledClear options source set → first_of (set_faults options set) ≡ None →
-    first_of (files_not_translated options set.files) ≡ None → first_of (units_global_rows (all_units set.files)) ≡ None → (phase : Phase) (r : Refusal) →
-    Fault options source phase r → ⊥
-no_fault options source set clear declared formed shared Cards r h = clear.cards r (cards_up options source r h)
-no_fault options source set clear declared formed shared Syntax r h = clear.rows r (syntax_up options source r h)
-no_fault options source set clear declared formed shared Nesting r h = clear.nests r (nests_up options source r h)
-no_fault options source set clear declared formed shared Declarations r h =
-    no_row (set_faults options set) declared r (declared_in_set options source set clear.spells r h)
-no_fault options source set clear declared formed shared Forms r h =
-    no_row (files_not_translated options set.files) formed r (formed_in_set options source set clear.spells r h)
-no_fault options source set clear declared formed shared Sharing r h =
-    no_row (units_global_rows (all_units set.files)) shared r (shared_in_set options source set clear.spells r h)
+no_fault : (purpose : Purpose) (options : Options) (source : Source) (set : FileSet) → IsSpelledClear options source set → first_of (set_faults options set) ≡ None →
+    AreFormed purpose options set → first_of (units_global_rows (all_units set.files)) ≡ None → (phase : Phase) (r : Refusal) →
+    FaultFor purpose options source phase r → ⊥
+no_fault purpose options source set clear declared formed shared Cards r h = clear.cards r (cards_up purpose options source r h)
+no_fault purpose options source set clear declared formed shared Syntax r h = clear.rows r (syntax_up purpose options source r h)
+no_fault purpose options source set clear declared formed shared Nesting r h = clear.nests r (nests_up purpose options source r h)
+no_fault purpose options source set clear declared formed shared Declarations r h =
+    no_row (set_faults options set) declared r (declared_in_set purpose options source set clear.spells r h)
+no_fault purpose options source set clear declared formed shared Forms r h = no_form purpose options source set clear.spells formed r h
+no_fault purpose options source set clear declared formed shared Sharing r h =
+    no_row (units_global_rows (all_units set.files)) shared r (shared_in_set purpose options source set clear.spells r h)
 
-pub set_accepted : (options : Options) (source : Source) (set : FileSet) → IsSpelledClear options source set → first_of (set_faults options set) ≡ None →
-    first_of (files_not_translated options set.files) ≡ None → first_of (units_global_rows (all_units set.files)) ≡ None → IsAccepted options source set
-set_accepted options source set clear declared formed shared = record {
+pub set_accepted : (purpose : Purpose) (options : Options) (source : Source) (set : FileSet) → IsSpelledClear options source set → first_of (set_faults options set) ≡ None →
+    AreFormed purpose options set → first_of (units_global_rows (all_units set.files)) ≡ None → IsAcceptedFor purpose options source set
+set_accepted purpose options source set clear declared formed shared = record {
   whole = clear.whole;
   spelled = clear.spells;
-  sound = no_fault options source set clear declared formed shared;
+  sound = no_fault purpose options source set clear declared formed shared;
 }
 
 -- and what is accepted breaks no row of declarations nor of what units share, and has no form that is not translated
@@ -346,16 +354,16 @@ not_empty rs none _ (first_there r first) = absurd (none r first.is)
 pub is_empty : (rs : List Refusal) → ((r : Refusal) → IsIn r rs → ⊥) → rs ≡ []
 is_empty rs none = not_empty rs none (first_of rs) (first_is_chosen rs)
 
-pub accepted_declarations : (options : Options) (source : Source) (set : FileSet) → IsAccepted options source set → set_faults options set ≡ []
-accepted_declarations options source set accepted =
+pub accepted_declarations : (purpose : Purpose) (options : Options) (source : Source) (set : FileSet) → IsAcceptedFor purpose options source set → set_faults options set ≡ []
+accepted_declarations purpose options source set accepted =
     is_empty (set_faults options set) (λ r among. accepted.sound Declarations r (of_declarations set r accepted.spelled among))
 
-pub accepted_forms : (options : Options) (source : Source) (set : FileSet) → IsAccepted options source set → files_not_translated options set.files ≡ []
+pub accepted_forms : (options : Options) (source : Source) (set : FileSet) → IsAcceptedFor Translation options source set → files_not_translated options set.files ≡ []
 accepted_forms options source set accepted =
-    is_empty (files_not_translated options set.files) (λ r among. accepted.sound Forms r (of_forms set r accepted.spelled among))
+    is_empty (files_not_translated options set.files) (λ r among. accepted.sound Forms r (of_forms refl set r accepted.spelled among))
 
-pub accepted_sharing : (options : Options) (source : Source) (set : FileSet) → IsAccepted options source set → units_global_rows (all_units set.files) ≡ []
-accepted_sharing options source set accepted =
+pub accepted_sharing : (purpose : Purpose) (options : Options) (source : Source) (set : FileSet) → IsAcceptedFor purpose options source set → units_global_rows (all_units set.files) ≡ []
+accepted_sharing purpose options source set accepted =
     is_empty (units_global_rows (all_units set.files)) (λ r among. accepted.sound Sharing r (of_sharing set r accepted.spelled among))
 
 -- A WHOLE SOURCE has no further files

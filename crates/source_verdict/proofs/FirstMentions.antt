@@ -3,8 +3,8 @@ use Rattle.std.specs.Prelude.{◌≡◌, ℕ, zero, suc, ◌+◌, ◌≤◌, Boo
 use Rattle.std.proofs.Common.{refl, sym, ap, subst, ◌∙◌, arith, append_assoc}
 use Rattle.std.proofs.lemmas.List.{take-append-drop, length-append}
 use Rattle.std.proofs.lemmas.Slice.Eq.{bytes_eq-Decides}
-use Rattle.f_tree.specs.Setting.{IsIn, first_in, later_in}
-use Rattle.f_tree.specs.Uses.{is_among}
+use Rattle.refusal_order.specs.f_tree.Setting.{IsIn, first_in, later_in}
+use Rattle.refusal_order.specs.f_tree.Uses.{is_among}
 use Rattle.source_acceptance.specs.SourceFiles.{names_in, statements_in, mentioned_from, first_mentions}
 
 -- a list that begins with another

@@ -6,17 +6,17 @@ use Rattle.std.proofs.lemmas.Bool.{ltb-true, ltb-false}
 use Rattle.std.proofs.lemmas.List.{take-append-drop}
 use Rattle.std.proofs.lemmas.Option.{slice_get-map, slice_get_within}
 use Rattle.std.proofs.lemmas.Slice.Eq.{bytes_eq-Decides}
-use Rattle.f_tree.specs.declared.names.Options.{Options}
-use Rattle.f_tree.specs.declared.refusals.Kind.{Kind}
-use Rattle.f_tree.specs.declared.refusals.Refusal.{Refusal}
-use Rattle.f_tree.specs.declared.units.FileSet.{FileSet}
-use Rattle.f_tree.specs.RefusalRows.{IsNotAfter}
-use Rattle.f_tree.specs.Setting.{IsIn, first_in, later_in}
-use Rattle.fortran_text.specs.FirstFault.{most_bytes, FaultOfFile, of_cards as cards_of_file, IsSound}
+use Rattle.refusal_order.specs.f_tree.declared.names.Options.{Options}
+use Rattle.refusal_order.specs.f_tree.declared.refusals.Kind.{Kind}
+use Rattle.refusal_order.specs.f_tree.declared.refusals.Refusal.{Refusal}
+use Rattle.refusal_order.specs.f_tree.declared.units.FileSet.{FileSet}
+use Rattle.refusal_order.specs.f_tree.RefusalRows.{IsNotAfter}
+use Rattle.refusal_order.specs.f_tree.Setting.{IsIn, first_in, later_in}
+use Rattle.refusal_order.specs.fortran_text.FirstFault.{most_bytes, FaultOfFile, of_cards as cards_of_file, IsSound}
 use Rattle.source_acceptance.specs.SourceFiles.{Included, Source, names_of, names_in, statements_in, cards_of_included, passes_at, IsWhole}
 use Rattle.source_acceptance.specs.Acceptance.{Counts, CardFault, of_file, of_included, too_many_included, end_or_include}
-use Rattle.source_verdict.specs.SourceRows.{Phase, Cards, Syntax, Nesting, Declarations, Forms, Sharing, place_of, Fault, of_cards, IsFirstRefusal, IsAccepted}
-use Rattle.source_verdict.specs.Fronts.{front_of, fronts, IsSourceOf, IsFirstOfAll, IsReadOf, RefusedByFronts, AcceptedByFronts}
+use Rattle.source_verdict.specs.SourceRows.{Phase, Cards, Syntax, Nesting, Declarations, Forms, Sharing, place_of, Purpose, FaultFor, of_cards, IsFirstRefusalFor, IsAcceptedFor}
+use Rattle.source_verdict.specs.Fronts.{front_of, fronts, IsSourceOf, IsFirstOfAllFor, IsReadOf, RefusedByFronts, AcceptedByFronts}
 use Rattle.source_verdict.proofs.LongFiles.{Alike, the_same, both_refused, alike_back, front_alike, a_fault, front_fault, whole_where_short}
 use Rattle.source_verdict.proofs.AlikeSources.{AlikeIncluded, no_more, one_more, AlikeSources, sources_back, cards_same, CountSame, passes_alike, card_fault, same_source}
 use Rattle.source_verdict.proofs.EarlyPhases.{names_append}
@@ -52,31 +52,31 @@ unfolding place_of
 none_before_cards earlier before = omega (arith, before)
 
 -- a first refusal by cards
-card_of : (options : Options) (source : Source) (r : Refusal) → Fault options source Cards r → CardFault options source r
-card_of options source r (of_cards _ h) = h
+card_of : (purpose : Purpose) (options : Options) (source : Source) (r : Refusal) → FaultFor purpose options source Cards r → CardFault options source r
+card_of purpose options source r (of_cards _ h) = h
 
-first_by_cards : (options : Options) (source : Source) (r : Refusal) → CardFault options source r → ((q : Refusal) → CardFault options source q → IsNotAfter r q) →
-    IsFirstRefusal options source r
-first_by_cards options source r holds least = record {
+first_by_cards : (purpose : Purpose) (options : Options) (source : Source) (r : Refusal) → CardFault options source r → ((q : Refusal) → CardFault options source q → IsNotAfter r q) →
+    IsFirstRefusalFor purpose options source r
+first_by_cards purpose options source r holds least = record {
   phase = Cards;
   read = λ earlier q before. absurd (none_before_cards earlier before);
   holds = of_cards r holds;
-  least = λ q h. least q (card_of options source q h);
+  least = λ q h. least q (card_of purpose options source q h);
 }
 
 -- ALIKE SOURCES have one first refusal
-alike_by : (options : Options) (s t : Source) (r : Refusal) → AlikeSources options.long_cards s t → (first : IsFirstRefusal options s r) → CardsOrLater first.phase →
-    IsFirstRefusal options t r
-alike_by options s t r same first (is_cards is) =
-    first_by_cards options t r (card_fault options s t r same (card_of options s r (subst (λ p. Fault options s p r) is first.holds)))
+alike_by : (purpose : Purpose) (options : Options) (s t : Source) (r : Refusal) → AlikeSources options.long_cards s t → (first : IsFirstRefusalFor purpose options s r) → CardsOrLater first.phase →
+    IsFirstRefusalFor purpose options t r
+alike_by purpose options s t r same first (is_cards is) =
+    first_by_cards purpose options t r (card_fault options s t r same (card_of purpose options s r (subst (λ p. FaultFor purpose options s p r) is first.holds)))
     (λ q h.
     first.least q
-    (subst (λ p. Fault options s p q) (sym is) (of_cards q (card_fault options t s q (sources_back options.long_cards s t same) h))))
-alike_by options s t r same first (is_later behind) =
-    subst (λ x. IsFirstRefusal options x r) (same_source options s t (λ q h. first.read Cards q behind (of_cards q h)) same) first
+    (subst (λ p. FaultFor purpose options s p q) (sym is) (of_cards q (card_fault options t s q (sources_back options.long_cards s t same) h))))
+alike_by purpose options s t r same first (is_later behind) =
+    subst (λ x. IsFirstRefusalFor purpose options x r) (same_source options s t (λ q h. first.read Cards q behind (of_cards q h)) same) first
 
-alike_refusal : (options : Options) (s t : Source) (r : Refusal) → AlikeSources options.long_cards s t → IsFirstRefusal options s r → IsFirstRefusal options t r
-alike_refusal options s t r same first = alike_by options s t r same first (cards_or_later first.phase)
+alike_refusal : (purpose : Purpose) (options : Options) (s t : Source) (r : Refusal) → AlikeSources options.long_cards s t → IsFirstRefusalFor purpose options s r → IsFirstRefusalFor purpose options t r
+alike_refusal purpose options s t r same first = alike_by purpose options s t r same first (cards_or_later first.phase)
 
 -- FILES THAT ARE READ WHOLE, and the first that is too long
 unfoldable AreShort : List (List ℕ) → Type 0
@@ -121,10 +121,10 @@ fronts_of_source read source reads short = record {
   included = reads.included;
 }
 
-short_refused : (options : Options) (read : List Included) (r : Refusal) (source : Source) → IsFirstOfAll options (map front_of source.files) read r →
-    IsReadOf source.files read source → AreShort source.files → IsFirstRefusal options source r
-short_refused options read r source first reads short =
-    alike_refusal options (front_source source) source r (short_alike options source short)
+short_refused : (purpose : Purpose) (options : Options) (read : List Included) (r : Refusal) (source : Source) → IsFirstOfAllFor purpose options (map front_of source.files) read r →
+    IsReadOf source.files read source → AreShort source.files → IsFirstRefusalFor purpose options source r
+short_refused purpose options read r source first reads short =
+    alike_refusal purpose options (front_source source) source r (short_alike options source short)
     (first (front_source source) (fronts_of_source read source reads short))
 
 -- THE FAULTS UP TO A FILE that has one are those of another source
@@ -198,22 +198,22 @@ later_file r q place low high = record {
   number = λ same card. absurd (omega (arith, low, high, same));
 }
 
-module _ (options : Options) (s t : Source) (place : ℕ) (there : Moves options.long_cards s t place) (back : Moves options.long_cards t s place) (r : Refusal) where
+module _ (purpose : Purpose) (options : Options) (s t : Source) (place : ℕ) (there : Moves options.long_cards s t place) (back : Moves options.long_cards t s place) (r : Refusal) where
   least_by : r.file ≤ place → ((q : Refusal) → CardFault options s q → IsNotAfter r q) → (q : Refusal) → CardFault options t q → (past : Bool) → nat_lt place q.file ≡ past →
       IsNotAfter r q
   least_by low least q h true is = later_file r q place low (ltb-true place q.file is)
   least_by low least q h false is = least q (moved options t s place back q (ltb-false place q.file is) h)
 
-  moved_by : (first : IsFirstRefusal options s r) → CardsOrLater first.phase → IsFirstRefusal options t r
+  moved_by : (first : IsFirstRefusalFor purpose options s r) → CardsOrLater first.phase → IsFirstRefusalFor purpose options t r
   moved_by first (is_later behind) =
       absurd (first.read Cards (its_row options s t place there) behind (of_cards (its_row options s t place there) (has_row options s t place there)))
   moved_by first (is_cards is) =
-      let holds : CardFault options s r = card_of options s r (subst (λ p. Fault options s p r) is first.holds) in
-      let least : ((q : Refusal) → CardFault options s q → IsNotAfter r q) = λ q h. first.least q (subst (λ p. Fault options s p q) (sym is) (of_cards q h)) in
+      let holds : CardFault options s r = card_of purpose options s r (subst (λ p. FaultFor purpose options s p r) is first.holds) in
+      let least : ((q : Refusal) → CardFault options s q → IsNotAfter r q) = λ q h. first.least q (subst (λ p. FaultFor purpose options s p q) (sym is) (of_cards q h)) in
       let low : r.file ≤ place = (least (its_row options s t place there) (has_row options s t place there)).file in
-      first_by_cards options t r (moved options s t place there r low holds) (λ q h. least_by low least q h (nat_lt place q.file) refl)
+      first_by_cards purpose options t r (moved options s t place there r low holds) (λ q h. least_by low least q h (nat_lt place q.file) refl)
 
-  moved_refusal : IsFirstRefusal options s r → IsFirstRefusal options t r
+  moved_refusal : IsFirstRefusalFor purpose options s r → IsFirstRefusalFor purpose options t r
   moved_refusal first = moved_by first (cards_or_later first.phase)
 
 -- A FILE THAT IS TOO LONG: what is included behind it may be anything
@@ -411,28 +411,28 @@ module _ (options : Options) (before : List (List ℕ)) (long : List ℕ) (behin
         counted = λ file one counts within at counting name among. sym (counted_before file one counts whole within at counting name among);
       }
 
-  refused_long : (read rest : List Included) (r : Refusal) → IsWhole whole_source → fronts included ≡ read ++ rest → length read ≤ count →
-      IsFirstOfAll options (map front_of files) read r → IsFirstRefusal options whole_source r
-  refused_long read rest r whole is few first =
-      moved_refusal options known_source whole_source (length before) (there whole) (back whole) r (first known_source (knows read rest whole is few))
+  refused_long : (purpose : Purpose) (read rest : List Included) (r : Refusal) → IsWhole whole_source → fronts included ≡ read ++ rest → length read ≤ count →
+      IsFirstOfAllFor purpose options (map front_of files) read r → IsFirstRefusalFor purpose options whole_source r
+  refused_long purpose read rest r whole is few first =
+      moved_refusal purpose options known_source whole_source (length before) (there whole) (back whole) r (first known_source (knows read rest whole is few))
 
-long_refused : (options : Options) (fs : List (List ℕ)) (read : List Included) (r : Refusal) (included : List Included) (before : List (List ℕ)) (long : List ℕ) (behind : List (List ℕ)) →
-    fs ≡ before ++ long ∷ behind → AreShort before → most_bytes < length long → IsFirstOfAll options (map front_of fs) read r →
-    IsReadOf fs read (record { files = fs; included = included }) → IsFirstRefusal options (record { files = fs; included = included }) r
-long_refused options fs read r included before long behind is short past first reads =
-    subst (λ f. IsFirstRefusal options (record { files = f; included = included }) r) (sym is)
-    (refused_long options before long behind included short past read reads.rest r (subst (λ f. IsWhole (record { files = f; included = included })) is reads.whole)
-    reads.included (reads.within before long behind is past) (subst (λ f. IsFirstOfAll options (map front_of f) read r) is first))
+long_refused : (purpose : Purpose) (options : Options) (fs : List (List ℕ)) (read : List Included) (r : Refusal) (included : List Included) (before : List (List ℕ)) (long : List ℕ) (behind : List (List ℕ)) →
+    fs ≡ before ++ long ∷ behind → AreShort before → most_bytes < length long → IsFirstOfAllFor purpose options (map front_of fs) read r →
+    IsReadOf fs read (record { files = fs; included = included }) → IsFirstRefusalFor purpose options (record { files = fs; included = included }) r
+long_refused purpose options fs read r included before long behind is short past first reads =
+    subst (λ f. IsFirstRefusalFor purpose options (record { files = f; included = included }) r) (sym is)
+    (refused_long options before long behind included short past purpose read reads.rest r (subst (λ f. IsWhole (record { files = f; included = included })) is reads.whole)
+    reads.included (reads.within before long behind is past) (subst (λ f. IsFirstOfAllFor purpose options (map front_of f) read r) is first))
 
-by_length : (options : Options) (read : List Included) (r : Refusal) (source : Source) → IsFirstOfAll options (map front_of source.files) read r →
-    IsReadOf source.files read source → FirstLong source.files → IsFirstRefusal options source r
-by_length options read r source first reads (none_long short) = short_refused options read r source first reads short
-by_length options read r source first reads (one_long before long behind is short past) =
-    long_refused options source.files read r source.included before long behind is short past first reads
+by_length : (purpose : Purpose) (options : Options) (read : List Included) (r : Refusal) (source : Source) → IsFirstOfAllFor purpose options (map front_of source.files) read r →
+    IsReadOf source.files read source → FirstLong source.files → IsFirstRefusalFor purpose options source r
+by_length purpose options read r source first reads (none_long short) = short_refused purpose options read r source first reads short
+by_length purpose options read r source first reads (one_long before long behind is short past) =
+    long_refused purpose options source.files read r source.included before long behind is short past first reads
 
 pub refused_by_fronts : RefusedByFronts
-refused_by_fronts options files read r source first reads =
-    by_length options read r source (subst (λ fs. IsFirstOfAll options (map front_of fs) read r) (sym reads.files_are) first)
+refused_by_fronts purpose options files read r source first reads =
+    by_length purpose options read r source (subst (λ fs. IsFirstOfAllFor purpose options (map front_of fs) read r) (sym reads.files_are) first)
     (subst (λ fs. IsReadOf fs read source) (sym reads.files_are) reads) (first_long source.files)
 
 -- WHAT IS ACCEPTED was read whole
@@ -444,18 +444,18 @@ none_too_long options files read none (one_long before long behind is short past
     absurd (none (record { file = length before; card = fault.0; kind = _ })
     (of_file (front_of long) (front_there files (length before) long (ap (λ fs. slice_get fs (length before)) is ∙ at_seam before behind long)) (cards_of_file fault.1)))
 
-accepted_short : (options : Options) (files : List (List ℕ)) (read : List Included) (set : FileSet) →
-    IsAccepted options (record { files = map front_of files; included = read }) set → AreShort files
-accepted_short options files read set accepted = none_too_long options files read (λ q h. accepted.sound Cards q (of_cards q h)) (first_long files)
+accepted_short : (purpose : Purpose) (options : Options) (files : List (List ℕ)) (read : List Included) (set : FileSet) →
+    IsAcceptedFor purpose options (record { files = map front_of files; included = read }) set → AreShort files
+accepted_short purpose options files read set accepted = none_too_long options files read (λ q h. accepted.sound Cards q (of_cards q h)) (first_long files)
 
-pub accepted_fronts : (options : Options) (files : List (List ℕ)) (read : List Included) (set : FileSet) →
-    IsAccepted options (record { files = map front_of files; included = read }) set → map front_of files ≡ files
-accepted_fronts options files read set accepted = whole_files files (accepted_short options files read set accepted)
+pub accepted_fronts : (purpose : Purpose) (options : Options) (files : List (List ℕ)) (read : List Included) (set : FileSet) →
+    IsAcceptedFor purpose options (record { files = map front_of files; included = read }) set → map front_of files ≡ files
+accepted_fronts purpose options files read set accepted = whole_files files (accepted_short purpose options files read set accepted)
 
 pub accepted_by_fronts : AcceptedByFronts
-accepted_by_fronts options files read set source accepted files_are included =
+accepted_by_fronts purpose options files read set source accepted files_are included =
     sym (same_source options (record { files = map front_of files; included = read }) source (λ q h. accepted.sound Cards q (of_cards q h))
     (record {
-      files = accepted_fronts options files read set accepted ∙ sym files_are;
+      files = accepted_fronts purpose options files read set accepted ∙ sym files_are;
       included = subst (λ is. AlikeIncluded options.long_cards is source.included) included (fronts_alike options.long_cards source.included);
     }))

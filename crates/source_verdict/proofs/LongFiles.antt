@@ -3,12 +3,12 @@ use Rattle.std.specs.Prelude.{◌≡◌, ℕ, zero, suc, ◌<◌, ◌≤◌, nat
 use Rattle.std.proofs.Common.{refl, sym, ap, ◌∙◌, arith}
 use Rattle.std.proofs.lemmas.Bool.{ltb-true, ltb-false, lt-ltb}
 use Rattle.std.proofs.lemmas.List.{take-take, take_all, length-take-le}
-use Rattle.f_tree.specs.declared.refusals.Kind.{Kind}
-use Rattle.f_tree.specs.declared.refusals.Kind.TheVariants.{FileTooLong}
-use Rattle.fortran_text.specs.Lines.{lines, before_lines}
-use Rattle.fortran_text.specs.FirstFault.{most_bytes, most_cards, judged, card_of_byte, lesser, too_long, FaultOfCards, at_card, past_limit, FaultOfFile, of_cards, not_ended, IsSound}
-use Rattle.fortran_text.specs.CardRows as card_rows
-use Rattle.fortran_text.specs.Cards.{cards_of}
+use Rattle.refusal_order.specs.f_tree.declared.refusals.Kind.{Kind}
+use Rattle.refusal_order.specs.f_tree.declared.refusals.Kind.TheVariants.{FileTooLong}
+use Rattle.refusal_order.specs.fortran_text.Lines.{lines, before_lines}
+use Rattle.refusal_order.specs.fortran_text.FirstFault.{most_bytes, most_cards, judged, card_of_byte, lesser, too_long, FaultOfCards, at_card, past_limit, FaultOfFile, of_cards, not_ended, IsSound}
+use Rattle.refusal_order.specs.fortran_text.CardRows as card_rows
+use Rattle.refusal_order.specs.fortran_text.Cards.{cards_of}
 use Rattle.source_verdict.specs.Fronts.{front_of}
 
 -- A FRONT has no more lines

@@ -2,11 +2,11 @@
 use Rattle.std.specs.Prelude.{◌≡◌, ℕ, zero, suc, nat_lt, Bool, true, false, ◌<◌, ◌≤◌}
 use Rattle.std.proofs.lemmas.Bool.{ltb-true, ltb-false}
 use Rattle.std.proofs.Common.{refl, sym, ap, ◌∙◌, subst, arith}
-use Rattle.f_tree.specs.declared.names.Options.{Options}
-use Rattle.f_tree.specs.declared.refusals.Refusal.{Refusal}
-use Rattle.f_tree.specs.RefusalRows.{number_of, IsNotAfter}
+use Rattle.refusal_order.specs.f_tree.declared.names.Options.{Options}
+use Rattle.refusal_order.specs.f_tree.declared.refusals.Refusal.{Refusal}
+use Rattle.refusal_order.specs.f_tree.RefusalRows.{number_of, IsNotAfter}
 use Rattle.source_acceptance.specs.SourceFiles.{Source}
-use Rattle.source_verdict.specs.SourceRows.{Phase, Cards, Syntax, Nesting, Declarations, Forms, Sharing, place_of, Fault, IsFirstRefusal, AcceptedIsNotRefused, OneSetIsAccepted, OneFirstRefusal}
+use Rattle.source_verdict.specs.SourceRows.{Phase, Cards, Syntax, Nesting, Declarations, Forms, Sharing, place_of, Purpose, Translation, Checking, FaultFor, of_cards, of_syntax, of_nests, of_declarations, of_forms, of_sharing, IsFirstRefusalFor, AcceptedIsNotRefused, OneSetIsAccepted, OneFirstRefusal, TranslatedIsChecked}
 use Rattle.source_verdict.proofs.OneSet.{one_set}
 
 -- two numbers, compared
@@ -65,24 +65,41 @@ phase_back Sharing = refl
 same_phase : (p q : Phase) → place_of p ≡ place_of q → p ≡ q
 same_phase p q same = sym (phase_back p) ∙ (ap phase_at same ∙ phase_back q)
 
-in_one_phase : (options : Options) (source : Source) (r q : Refusal) (one : IsFirstRefusal options source r) (other : IsFirstRefusal options source q) →
+in_one_phase : (purpose : Purpose) (options : Options) (source : Source) (r q : Refusal) (one : IsFirstRefusalFor purpose options source r) (other : IsFirstRefusalFor purpose options source q) →
     one.phase ≡ other.phase → SamePlace r q
-in_one_phase options source r q one other same =
-    both_ways r q (one.least q (subst (λ p. Fault options source p q) (sym same) other.holds)) (other.least r (subst (λ p. Fault options source p r) same one.holds))
+in_one_phase purpose options source r q one other same =
+    both_ways r q (one.least q (subst (λ p. FaultFor purpose options source p q) (sym same) other.holds)) (other.least r (subst (λ p. FaultFor purpose options source p r) same one.holds))
 
-by_phases : (options : Options) (source : Source) (r q : Refusal) (one : IsFirstRefusal options source r) (other : IsFirstRefusal options source q) →
+by_phases : (purpose : Purpose) (options : Options) (source : Source) (r q : Refusal) (one : IsFirstRefusalFor purpose options source r) (other : IsFirstRefusalFor purpose options source q) →
     Compared (place_of one.phase) (place_of other.phase) → SamePlace r q
-by_phases options source r q one other (lower less) = absurd (other.read one.phase r less one.holds)
-by_phases options source r q one other (higher less) = absurd (one.read other.phase q less other.holds)
-by_phases options source r q one other (equal same) = in_one_phase options source r q one other (same_phase one.phase other.phase same)
+by_phases purpose options source r q one other (lower less) = absurd (other.read one.phase r less one.holds)
+by_phases purpose options source r q one other (higher less) = absurd (one.read other.phase q less other.holds)
+by_phases purpose options source r q one other (equal same) = in_one_phase purpose options source r q one other (same_phase one.phase other.phase same)
 
 pub one_refusal : OneFirstRefusal
-one_refusal options source r q one other =
-    let same : SamePlace r q = by_phases options source r q one other (compared (place_of one.phase) (place_of other.phase)) in
+one_refusal purpose options source r q one other =
+    let same : SamePlace r q = by_phases purpose options source r q one other (compared (place_of one.phase) (place_of other.phase)) in
     (same.file, same.card, same.number)
 
 pub not_refused : AcceptedIsNotRefused
-not_refused options source set r accepted first = accepted.sound first.phase r first.holds
+not_refused purpose options source set r accepted first = accepted.sound first.phase r first.holds
 
 pub one_accepted : OneSetIsAccepted
-one_accepted options source one other a b = one_set source one other a.spelled b.spelled
+one_accepted purpose options source one other a b = one_set source one other a.spelled b.spelled
+
+-- WHAT IS ACCEPTED FOR A TRANSLATION is accepted for checking: fewer rows are judged for that
+for_translation : (options : Options) (source : Source) (phase : Phase) (r : Refusal) → FaultFor Checking options source phase r →
+    FaultFor Translation options source phase r
+for_translation options source _ _ (of_cards r h) = of_cards r h
+for_translation options source _ _ (of_syntax r h) = of_syntax r h
+for_translation options source _ _ (of_nests set file unit r spells is has row) = of_nests set file unit r spells is has row
+for_translation options source _ _ (of_declarations set r spells among) = of_declarations set r spells among
+for_translation options source _ _ (of_forms translated set r spells among) = absurd (cc)
+for_translation options source _ _ (of_sharing set r spells among) = of_sharing set r spells among
+
+pub translated_checked : TranslatedIsChecked
+translated_checked options source set accepted = record {
+  whole = accepted.whole;
+  spelled = accepted.spelled;
+  sound = λ phase r h. accepted.sound phase r (for_translation options source phase r h);
+}

@@ -1,9 +1,9 @@
 -- A source spells one set of trees at most.
 use Rattle.std.specs.Prelude.{◌≡◌, ℕ, suc, List, [], ◌∷◌, length}
 use Rattle.std.proofs.Common.{refl, sym, ap, ◌∙◌}
-use Rattle.f_tree.specs.declared.units.File.{File}
-use Rattle.f_tree.specs.declared.units.FileSet.{FileSet}
-use Rattle.f_tree.specs.declared.units.Part.{Part}
+use Rattle.refusal_order.specs.f_tree.declared.units.File.{File}
+use Rattle.refusal_order.specs.f_tree.declared.units.FileSet.{FileSet}
+use Rattle.refusal_order.specs.f_tree.declared.units.Part.{Part}
 use Rattle.source_acceptance.specs.SourceFiles.{Included, Source, statements_in, SpellFiles, no_files, one_file, SpellParts, no_parts, one_part, files_with_parts, SpellsSource}
 use Rattle.grammar_laws.proofs.FileLemmas.{one_file as one_tree, one_part as one_part_tree}
 

@@ -1,4 +1,4 @@
-//! When a source is accepted for translation, which is its first refusal, and the laws of both. The functions here do nothing; their contracts are
+//! When a source is accepted for translation, or for the check of its calls, which is its first refusal, and the laws of both. The functions here do nothing; their contracts are
 //! the laws.
 #![tactic(auto)]
 

@@ -5,13 +5,13 @@ use Rattle.std.specs.List.{concat, IsDistinct}
 use Rattle.f2c_outside.specs.declared.shelves.Place.{Place}
 use Rattle.f2c_outside.specs.Shelf.{Contents, ShelfState, Rose, Lacks, bytes_of}
 use Rattle.f_tree.specs.declared.refusals.Refusal.{Refusal}
-use Rattle.fortran_text.specs.FirstFault.{too_long}
+use Rattle.fsplit.specs.fortran_text.FirstFault.{too_long}
 use Rattle.shelf_texts.specs.ShelfLoops.{Both, IsFront, IsKept, IsRead}
 use Rattle.shelf_texts.proofs.Writing.{front_of}
-use Rattle.split_pieces.specs.Pieces.{Piece, texts_in, pieces_of, AllButLastEnd, IsPastLimit}
+use Rattle.fsplit.specs.split_pieces.Pieces.{Piece, texts_in, pieces_of, AllButLastEnd, IsPastLimit}
 use Rattle.fsplit.proofs.PieceLemmas.{texts-pieces_of}
-use Rattle.split_pieces.specs.ChosenNames.{chosen_names}
-use Rattle.piece_names.specs.Asking.{has, OnlyAsked}
+use Rattle.fsplit.specs.split_pieces.ChosenNames.{chosen_names}
+use Rattle.piece_choice.specs.piece_names.Asking.{has, OnlyAsked}
 use Rattle.piece_choice.specs.NamesOfPieces.{wanted_names, AreChosen, AreNew}
 use Rattle.piece_writer.specs.WrittenPieces.{AreMadeUpTo}
 use Rattle.split_command.specs.Listing.{listing}

@@ -4,9 +4,9 @@ use Rattle.std.specs.Prelude.{◌⊎◌, nat_lt, if◌then◌else◌}
 use Rattle.std.proofs.lemmas.Bool.{cases_lt, lt-ltb, le-ltb}
 use Rattle.std.proofs.lemmas.List.{take-take, take_all, length-take-le}
 use Rattle.f_tree.specs.declared.refusals.Kind.{Kind}
-use Rattle.fortran_text.specs.FirstFault.{most_bytes, most_cards, card_of_byte, lesser, too_long}
-use Rattle.fortran_text.specs.Lines.{lines}
-use Rattle.split_pieces.specs.Pieces.{IsPastLimit}
+use Rattle.fsplit.specs.fortran_text.FirstFault.{most_bytes, most_cards, card_of_byte, lesser, too_long}
+use Rattle.fsplit.specs.fortran_text.Lines.{lines}
+use Rattle.fsplit.specs.split_pieces.Pieces.{IsPastLimit}
 use Rattle.fsplit.proofs.LimitLemmas.{IsShort, short_of_limit, lines_take}
 
 -- the lesser of the card past the limit and one that is not behind the last

@@ -4,11 +4,11 @@ use Rattle.std.specs.List.{concat, IsDistinct}
 use Rattle.f2c_outside.specs.declared.shelves.Place.{Place}
 use Rattle.f2c_outside.specs.Shelf.{ShelfState, Contents, Rose, IsFile, Lacks, bytes_of}
 use Rattle.f_tree.specs.declared.refusals.Refusal.{Refusal}
-use Rattle.fortran_text.specs.FirstFault.{too_long}
+use Rattle.fsplit.specs.fortran_text.FirstFault.{too_long}
 use Rattle.shelf_texts.specs.ShelfLoops.{Both, IsFront, IsKept}
-use Rattle.split_pieces.specs.ChosenNames.{chosen_names}
-use Rattle.split_pieces.specs.Pieces.{texts_of, pieces_of, AllButLastEnd, IsPastLimit}
-use Rattle.piece_names.specs.Asking.{has}
+use Rattle.fsplit.specs.split_pieces.ChosenNames.{chosen_names}
+use Rattle.fsplit.specs.split_pieces.Pieces.{texts_of, pieces_of, AllButLastEnd, IsPastLimit}
+use Rattle.piece_choice.specs.piece_names.Asking.{has}
 use Rattle.piece_choice.specs.NamesOfPieces.{wanted_names, AreChosen, AreNew, IsInQuestion}
 use Rattle.split_command.specs.Listing.{listing}
 use Rattle.split_command.specs.SplitFiles.{IsSplit, IsHalfSplit}

@@ -4,7 +4,7 @@ ghost use Rattle.std.specs.Prelude.{◌≡◌, length, bytes_eq, IfOk, IfErr, On
 ghost use Rattle.std.specs.List.{IsDistinct};
 ghost use Rattle.f2c_outside.specs.Shelf.{IsSource};
 ghost use Rattle.shelf_texts.specs.ShelfLoops.{IsRead};
-ghost use Rattle.split_pieces.specs.Pieces.{texts_in};
+ghost use Rattle.fsplit.specs.split_pieces.Pieces.{texts_in};
 ghost use Rattle.split_command.specs.Listing.{listing};
 ghost use Rattle.split_command.specs.SplitFiles.{IsAllWritten, IsHalfWritten};
 ghost use Rattle.split_command.specs.SplitEnds.{IsUnread, BytesSplit, SplitEnded};

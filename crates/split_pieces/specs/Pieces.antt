@@ -2,15 +2,15 @@
 -- program unit, and is written on one initial card; 3.2: cards are the lines of a file.
 use Rattle.std.specs.Prelude.{◌≡◌, ℕ, Bool, true, false, ◌&&◌, List, [], ◌∷◌, ◌++◌, map, replicate, Some, if◌then◌else◌}
 use Rattle.std.specs.List.{list_any, concat}
-use Rattle.f_tree.specs.declared.refusals.Kind.{Kind}
-use Rattle.f_tree.specs.declared.refusals.Kind.TheVariants.{FileTooLong}
-use Rattle.fortran_text.specs.Cards.{columns_of}
-use Rattle.fortran_text.specs.CharactersOfText.{is_end}
-use Rattle.fortran_text.specs.FirstFault.{too_long}
-use Rattle.fortran_text.specs.KindsOfCards.{kind_of, text_of}
-use Rattle.fortran_text.specs.Lines.{lines}
-use Rattle.fortran_text.specs.declared.source.CardKind.{CardKind}
-use Rattle.fortran_text.specs.declared.source.CardKind.TheVariants.{Comment, Initial, Continuation}
+use Rattle.fortran_lexemes.specs.f_tree.declared.refusals.Kind.{Kind}
+use Rattle.fortran_lexemes.specs.f_tree.declared.refusals.Kind.TheVariants.{FileTooLong}
+use Rattle.fortran_lexemes.specs.fortran_text.Cards.{columns_of}
+use Rattle.fortran_lexemes.specs.fortran_text.CharactersOfText.{is_end}
+use Rattle.fortran_lexemes.specs.fortran_text.FirstFault.{too_long}
+use Rattle.fortran_lexemes.specs.fortran_text.KindsOfCards.{kind_of, text_of}
+use Rattle.fortran_lexemes.specs.fortran_text.Lines.{lines}
+use Rattle.fortran_lexemes.specs.fortran_text.declared.source.CardKind.{CardKind}
+use Rattle.fortran_lexemes.specs.fortran_text.declared.source.CardKind.TheVariants.{Comment, Initial, Continuation}
 use Rattle.split_pieces.specs.WantedNames.{wanted_of}
 use Rattle.split_pieces.specs.declared.wanted.WantedName.{WantedName}
 

@@ -3,10 +3,10 @@
 use Rattle.std.specs.Prelude.{ℕ, zero, Bool, true, false, ◌||◌, ◌&&◌, ◌==◌, nat_eq, nat_le, List, [], ◌∷◌, ◌++◌, length, take, drop, codes, Option, Some, None, is_some, if◌then◌else◌}
 use Rattle.std.specs.Char.{is_ascii_lowercase}
 use Rattle.std.specs.List.{starts_with, prefix_len}
-use Rattle.fortran_text.specs.Cards.{cards_of}
-use Rattle.fortran_text.specs.CharactersOfText.{characters, is_letter_or_digit}
-use Rattle.fortran_text.specs.StatementsOfFile.{statements}
-use Rattle.fortran_text.specs.declared.source.Statement.{Statement}
+use Rattle.fortran_lexemes.specs.fortran_text.Cards.{cards_of}
+use Rattle.fortran_lexemes.specs.fortran_text.CharactersOfText.{characters, is_letter_or_digit}
+use Rattle.fortran_lexemes.specs.fortran_text.StatementsOfFile.{statements}
+use Rattle.fortran_lexemes.specs.fortran_text.declared.source.Statement.{Statement}
 use Rattle.fortran_lexemes.specs.KindsOfStatements.{word_of, outside_constants, nesting_behind, begins_with, is_empty, kind_of_statement}
 use Rattle.fortran_lexemes.specs.declared.kinds.StmtKind.{StmtKind}
 use Rattle.fortran_lexemes.specs.declared.kinds.StmtKind.TheVariants as kind

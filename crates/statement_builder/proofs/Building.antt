@@ -154,3 +154,11 @@ dropped_two old new last one two = two ∙ ap (drop 1) one ∙ drop-drop 1 1 old
 pub underway_start : (l : Layout) (position count turns : ℕ) (queue : List Item) (written : List CStmt) → written ≡ [] → count ≤ length queue → IsUnderway l position count turns queue written position count turns queue
 underway_start l position count turns queue written none room =
     subst (λ zs. IsUnderway l position count turns queue zs position count turns queue) (sym none) (underway_first l position count turns queue room)
+
+-- items that are let go of, one at a time
+pub passed_one : (whole old new : List Item) (left fewer : ℕ) → 0 < left → fewer ≡ left - 1 → new ≡ drop 1 old → drop left old ≡ whole → drop fewer new ≡ whole
+passed_one whole old new left fewer some less gone is =
+    (λ k. drop (less k) (gone k)) ∙ drop-drop (left - 1) 1 old ∙ (let sum : 1 + (left - 1) ≡ left = omega (arith, some) in ap (λ k. drop k old) sum) ∙ is
+
+pub passed_all : (whole rest : List Item) (left : ℕ) → left ≡ 0 → drop left rest ≡ whole → rest ≡ whole
+passed_all whole rest left none is = sym (ap (λ k. drop k rest) none) ∙ is

@@ -104,9 +104,9 @@ pub carried_nothing : (write : Writer) (n : ℕ) (queue : List Item) → None �
 unfolding carried
 carried_nothing write n queue = refl
 
-pub carried_statement : (write : Writer) (n : ℕ) (queue : List Item) (s : CStmt) → Some (part s 0) ≡ carried write n (Whole s) queue
+pub carried_whole : (write : Writer) (n : ℕ) (queue : List Item) (p : Part) → Some p ≡ carried write n (Whole p) queue
 unfolding carried
-carried_statement write n queue s = refl
+carried_whole write n queue p = refl
 
 pub carried_one : (write : Writer) (n size : ℕ) (queue : List Item) (test : CExpr) → one_arm write n test size queue ≡ carried write n (OneArm test size) queue
 unfolding carried
@@ -143,7 +143,7 @@ for_taken head size None turn p h = absurd (cc)
 taken_is : (write : Writer) (n : ℕ) (queue : List Item) (plan : Plan) (p : Part) → Some p ≡ carried write n plan queue → p.taken ≡ popped plan + steps plan
 unfolding carried one_arm two_arms turns_for
 taken_is write n queue Unwritten p h = absurd (cc)
-taken_is write n queue (Whole s) p h = ap (λ q. q.taken) (some_same p (part s 0) h)
+taken_is write n queue (Whole q) p h = let same : p.taken ≡ q.taken = ap (λ r. r.taken) (some_same p q h) in omega (arith, same)
 taken_is write n queue (OneArm test size) p h = let same = if_taken test size (write (n + 1) (take size queue)) p h in omega (arith, same)
 taken_is write n queue (TwoArms test size other) p h =
     let same = if_else_taken test (size + 1 + other) (write (n + 1) (take size queue)) (write (n + size + 2) (take other (drop (size + 1) queue))) p h in omega (arith, same)
@@ -154,7 +154,7 @@ taken_is write n queue (Turns head size) p h =
 ahead_is : (write : Writer) (n : ℕ) (old new : List Item) (plan : Plan) (p : Part) → Some p ≡ carried write n plan new → Ahead old new plan → new ≡ drop (popped plan) old
 unfolding carried
 ahead_is write n old new Unwritten p h ahead = absurd (cc)
-ahead_is write n old new (Whole s) p h ahead = ahead
+ahead_is write n old new (Whole q) p h ahead = ahead
 ahead_is write n old new (OneArm test size) p h ahead = ahead
 ahead_is write n old new (TwoArms test size other) p h ahead = ahead
 ahead_is write n old new (Turns head size) p h ahead = ahead
@@ -179,7 +179,7 @@ part_built l write n i later new plan found r plans made is = is ∙ ap (marked 
 -- the items ahead are as many as belong to a plan
 pub room_ahead : (count : ℕ) (old new : List Item) (plan : Plan) → count ≤ length old → Ahead old new plan → popped plan + steps plan ≤ count → steps plan ≤ length new
 room_ahead count old new Unwritten room ahead fits = omega arith
-room_ahead count old new (Whole s) room ahead fits = omega arith
+room_ahead count old new (Whole p) room ahead fits = let long = ap length ahead in omega (arith, long, room, fits)
 room_ahead count old new (OneArm test size) room ahead fits = let long = ap length ahead in omega (arith, long, room, fits)
 room_ahead count old new (TwoArms test size other) room ahead fits = let long = ap length ahead in omega (arith, long, room, fits)
 room_ahead count old new (Turns head size) room ahead fits = let long = ap length ahead ∙ length-drop 1 old in omega (arith, long, room, fits)

@@ -1,4 +1,5 @@
 pub mod Building
+pub mod BuiltCases
 pub mod Carrying
 pub mod Labels
 pub mod PlannedItems

@@ -5,16 +5,17 @@ use Rattle.std.proofs.lemmas.Bool.{and_from, and_parts, leb-true, lt-ltb, le-leb
 use Rattle.std.proofs.lemmas.List.{length-drop, length-take-le}
 use Rattle.c_tree.specs.declared.expression.CExpr.{CExpr}
 use Rattle.c_tree.specs.declared.statement.CStmt.{CStmt}
+use Rattle.named_items.specs.declared.item.Case.{Case}
 use Rattle.named_items.specs.declared.item.Item.{Item}
 use Rattle.named_items.specs.declared.item.Item.TheVariants as item
 use Rattle.named_items.specs.declared.part.Head.{Head}
 use Rattle.named_items.specs.declared.part.Part.{Part}
 use Rattle.named_items.specs.Layouts.{Layout}
-use Rattle.named_items.specs.Structured.{Writer, statement_of, alone, if_by, if_else_by, end_of_arm, one_arm, two_arms, arms_for, branch_for, test_for, plain_for, next_for, is_loop, for_by, turns_for, head_for, loop_for, part_for}
+use Rattle.named_items.specs.Structured.{Writer, part, statement_of, alone, if_by, if_else_by, end_of_arm, one_arm, two_arms, arms_for, branch_for, test_for, switch_for, plain_for, next_for, is_loop, for_by, turns_for, head_for, loop_for, part_for}
 use Rattle.statement_builder.specs.declared.plan.Plan.{Plan}
 use Rattle.statement_builder.specs.declared.plan.Plan.TheVariants.{Unwritten, Whole, OneArm, TwoArms, Turns}
 use Rattle.statement_builder.specs.Plans.{carried, whole, turns, loop_plan, popped, steps, Ahead}
-use Rattle.statement_builder.proofs.Building.{take_less, drop_less, get_less}
+use Rattle.statement_builder.proofs.Building.{some_same, take_less, drop_less, get_less}
 
 -- ## What comes of a plan
 
@@ -55,20 +56,20 @@ carried_turns write n count size queue head less =
     ap (λ found. for_by head size (next_for head.variable found) (write (n + 2) (take size queue))) (sym (get_less size count queue less))
     ∙ ap (λ xs. for_by head size (next_for head.variable (slice_get (take count queue) size)) (write (n + 2) xs)) (sym (take_less size count queue (omega (arith, less))))
 
-pub carried_whole : (write : Writer) (n : ℕ) (queue : List Item) (s : Option CStmt) → carried write n (whole s) queue ≡ alone s
-unfolding carried whole alone
+pub carried_whole : (write : Writer) (n : ℕ) (queue : List Item) (found : Option Part) → carried write n (whole found) queue ≡ found
+unfolding carried whole
 carried_whole write n queue None = refl
-carried_whole write n queue (Some s) = refl
+carried_whole write n queue (Some p) = refl
 
-pub whole_popped : (s : Option CStmt) → popped (whole s) ≡ 0
+pub whole_popped : (found : Option Part) → popped (whole found) ≡ 0
 unfolding whole
 whole_popped None = refl
-whole_popped (Some s) = refl
+whole_popped (Some p) = refl
 
-pub whole_steps : (s : Option CStmt) → steps (whole s) ≡ 0
+pub whole_steps : (found : Option Part) (count : ℕ) → ((p : Part) → found ≡ Some p → p.taken ≤ count) → steps (whole found) ≤ count
 unfolding whole
-whole_steps None = refl
-whole_steps (Some s) = refl
+whole_steps None count less = omega arith
+whole_steps (Some p) count less = less p refl
 
 -- ## Tests
 
@@ -156,10 +157,17 @@ pub plain_test : (l : Layout) (write : Writer) (n on off : ℕ) (later : List It
 unfolding plain_for
 plain_test l write n on off later test i is = ap (λ j. plain_for l write n j later) (sym is)
 
-pub plain_other : (l : Layout) (write : Writer) (n : ℕ) (later : List Item) (i : Item) → ((e : CExpr) (on off : ℕ) → i ≡ item.Branch e on off → ⊥) → alone (statement_of l i) ≡ plain_for l write n i later
+pub plain_switch : (l : Layout) (write : Writer) (n otherwise : ℕ) (later : List Item) (value : CExpr) (cases given : List Case) (i : Item) → i ≡ item.Select value cases otherwise → given ≡ cases
+    → switch_for l n value given otherwise later ≡ plain_for l write n i later
 unfolding plain_for
-plain_other l write n later (item.Branch e on off) other = absurd (other e on off refl)
-plain_other l write n later i other = refl
+plain_switch l write n otherwise later value cases given i is same = ap (λ cs. switch_for l n value cs otherwise later) same ∙ ap (λ j. plain_for l write n j later) (sym is)
+
+pub plain_other : (l : Layout) (write : Writer) (n : ℕ) (later : List Item) (i : Item) → ((e : CExpr) (on off : ℕ) → i ≡ item.Branch e on off → ⊥)
+    → ((e : CExpr) (cases : List Case) (otherwise : ℕ) → i ≡ item.Select e cases otherwise → ⊥) → alone (statement_of l i) ≡ plain_for l write n i later
+unfolding plain_for
+plain_other l write n later (item.Branch e on off) other another = absurd (other e on off refl)
+plain_other l write n later (item.Select e cases otherwise) other another = absurd (another e cases otherwise refl)
+plain_other l write n later i other another = refl
 
 pub part_plain : (l : Layout) (write : Writer) (found : Option ℕ) (n : ℕ) (i : Item) (later : List Item) → found ≡ None → plain_for l write n i later ≡ part_for l write found n i later
 unfolding part_for
@@ -207,16 +215,21 @@ head_other l write n size (suc count) [] a b other = refl
 head_other l write n size (suc count) (item.Branch e on off ∷ later) a b other = absurd (other (item.Branch e on off) later refl e on off refl)
 head_other l write n size (suc count) (i ∷ later) a b other = refl
 
--- ## Plans of statements of their own
+-- ## Plans of statements that are built already
 
-pub whole_planned : (write : Writer) (n : ℕ) (queue : List Item) (plan : Plan) (s : Option CStmt) (given : Option Part) → plan ≡ whole s → alone s ≡ given → carried write n plan queue ≡ given
-whole_planned write n queue plan s given is same = ap (λ p. carried write n p queue) is ∙ carried_whole write n queue s ∙ same
+pub whole_planned : (write : Writer) (n : ℕ) (queue : List Item) (plan : Plan) (found given : Option Part) → plan ≡ whole found → found ≡ given → carried write n plan queue ≡ given
+whole_planned write n queue plan found given is same = ap (λ p. carried write n p queue) is ∙ carried_whole write n queue found ∙ same
 
-pub whole_taken : (plan : Plan) (s : Option CStmt) → plan ≡ whole s → popped plan ≡ 0
-whole_taken plan s is = ap popped is ∙ whole_popped s
+pub whole_taken : (plan : Plan) (found : Option Part) → plan ≡ whole found → popped plan ≡ 0
+whole_taken plan found is = ap popped is ∙ whole_popped found
 
-pub whole_counted : (plan : Plan) (s : Option CStmt) (count : ℕ) → plan ≡ whole s → steps plan ≤ count
-whole_counted plan s count is = let none : steps plan ≡ 0 = ap steps is ∙ whole_steps s in omega (arith, none)
+pub whole_counted : (plan : Plan) (found : Option Part) (count : ℕ) → plan ≡ whole found → ((p : Part) → found ≡ Some p → p.taken ≤ count) → steps plan ≤ count
+whole_counted plan found count is less = subst (λ q. steps q ≤ count) (sym is) (whole_steps found count less)
+
+pub alone_taken : (s : Option CStmt) (found : Option Part) (count : ℕ) → found ≡ alone s → (p : Part) → found ≡ Some p → p.taken ≤ count
+unfolding alone
+alone_taken None found count is p h = absurd (cc)
+alone_taken (Some s) found count is p h = let none : p.taken ≡ 0 = ap (λ q. q.taken) (some_same p (part s 0) (sym h ∙ is)) in omega (arith, none)
 
 -- ## Plans of loops
 
@@ -263,7 +276,7 @@ turns_built l write n size count c on off queue later a b e plan more room first
 
 pub ahead_same : (queue : List Item) (plan : Plan) → popped plan ≡ 0 → Ahead queue queue plan
 ahead_same queue Unwritten none = tt
-ahead_same queue (Whole s) none = refl
+ahead_same queue (Whole p) none = refl
 ahead_same queue (OneArm test size) none = refl
 ahead_same queue (TwoArms test size other) none = refl
 ahead_same queue (Turns head size) none = absurd (omega arith)
@@ -313,6 +326,8 @@ unfolding loop_plan
 loop_built l write n size count c queue later a b (item.Branch e on off) plan more room first is = turns_built l write n size count c on off queue later a b e plan more room first is
 loop_built l write n size count c queue later a b (item.Assign x y) plan more room first is =
     none_planned write n later plan _ is (head_after l write n size count c queue later a b (item.Assign x y) first (λ e on off h. cc))
+loop_built l write n size count c queue later a b (item.Select value cases otherwise) plan more room first is =
+    none_planned write n later plan _ is (head_after l write n size count c queue later a b (item.Select value cases otherwise) first (λ e on off h. cc))
 loop_built l write n size count c queue later a b (item.Jump p) plan more room first is = none_planned write n later plan _ is (head_after l write n size count c queue later a b (item.Jump p) first (λ e on off h. cc))
 loop_built l write n size count c queue later a b (item.Call callee es) plan more room first is =
     none_planned write n later plan _ is (head_after l write n size count c queue later a b (item.Call callee es) first (λ e on off h. cc))

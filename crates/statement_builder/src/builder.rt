@@ -7,7 +7,7 @@ ghost use Rattle.statement_builder.specs.Plans.{Carries, carried, steps};
 ghost use Rattle.statement_builder.specs.Taking.{Leaves, Takes};
 
 use crate::growth::next_for;
-use crate::parts::{for_by, if_by, if_else_by, marked, nothing, passed};
+use crate::parts::{for_by, if_by, if_else_by, marked, nothing, pass, passed};
 use crate::plan::Plan;
 use crate::planning::plan_part;
 use crate::span::Span;
@@ -111,10 +111,10 @@ fn carry(
 {
     match plan {
         Plan::Unwritten => Ok(None),
-        Plan::Whole(statement) => Ok(Some(Part {
-            statement,
-            taken: 0,
-        })),
+        Plan::Whole(part) => {
+            pass(items, part.taken);
+            Ok(Some(part))
+        }
         Plan::OneArm(test, size) => one_arm(alloc, layout, items, span, test, size),
         Plan::TwoArms(test, size, other) => {
             two_arms(alloc, layout, items, span, test, size, other)

@@ -3,6 +3,7 @@
 
 mod alike;
 mod builder;
+mod cases;
 mod growth;
 mod loop_tests;
 mod parts;

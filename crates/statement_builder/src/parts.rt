@@ -1,16 +1,17 @@
 //! Statements with the items that belong to them, from parts that are built already.
 
-ghost use Rattle.std.specs.Prelude.{◌≡◌, ◌+◌, ◌<◌, ◌^◌, option_copied, IfOk, Option, Some, None};
+ghost use Rattle.std.specs.Prelude.{◌≡◌, ◌+◌, ◌<◌, ◌^◌, drop, option_copied, IfOk, Option, Some, None};
 ghost use Rattle.c_tree.specs.declared.statement.CStmt.TheVariants as stmt;
 ghost use Rattle.c_structure.specs.Statements.{with_label};
 ghost use Rattle.named_items.specs.Layouts.{layout_of};
 ghost use Rattle.named_items.specs.Structured as spec;
 
 use c_tree::expression::{CCall, CExpr};
-use c_tree::statement::{CNext, CStmt};
+use c_tree::statement::{CCase, CNext, CStmt};
 use named_items::{Callee, Head, Item, Layout, Part};
 use plain_data::{Boxed, Items};
 use std::alloc::{AllocError, Global};
+use std::collections::VecDeque;
 
 /// Nothing, in place of what is given.
 pub(crate) fn nothing<T: Drop, U>(_given: T) -> Option<U>
@@ -21,6 +22,17 @@ pub(crate) fn nothing<T: Drop, U>(_given: T) -> Option<U>
 
 /// Lets go of what is given.
 pub(crate) fn passed<T: Drop>(_given: T) {}
+
+/// Lets go of so many items.
+pub(crate) fn pass(items: &mut VecDeque<Item>, count: usize)
+    ensures { items.new.items ≡ drop count items.old.items }
+{
+    let mut left = count;
+    while left > 0 {
+        left -= 1;
+        passed(items.pop_front());
+    }
+}
 
 /// A statement with a label.
 fn with_name(alloc: Global, name: &[u8], statement: CStmt) -> Result<CStmt, AllocError>
@@ -107,7 +119,7 @@ pub(crate) fn statement_of(
 {
     match item {
         Item::Assign(place, value) => Ok(Some(CStmt::Set(place, value))),
-        Item::Branch(_, _, _) => Ok(None),
+        Item::Branch(_, _, _) | Item::Select(_, _, _) => Ok(None),
         Item::Jump(position) => goto_label(alloc, layout.label(position)),
         Item::Call(callee, arguments) => Ok(Some(call_of(callee, arguments))),
         Item::SetCall(target, callee, arguments) => Ok(Some(set_call_of(
@@ -115,6 +127,34 @@ pub(crate) fn statement_of(
         ))),
         Item::Return(value) => Ok(Some(CStmt::Return(value))),
         Item::Nothing => Ok(Some(CStmt::Empty)),
+    }
+}
+
+/// A statement to which no items behind the first belong.
+#[tactic(auto, unfolding(named_items::specs::Structured::alone))]
+pub(crate) fn alone(statement: Option<CStmt>) -> Option<Part>
+    ensures { result ≡ spec.alone statement }
+{
+    match statement {
+        Some(statement) => Some(Part {
+            statement,
+            taken: 0,
+        }),
+        None => None,
+    }
+}
+
+/// A `switch` to which so many jumps belong.
+#[tactic(auto, unfolding(named_items::specs::Structured::switch_by))]
+pub(crate) fn switch_by(value: CExpr, size: usize, cases: Option<Items<CCase>>) -> Option<Part>
+    ensures { result ≡ spec.switch_by value size cases }
+{
+    match cases {
+        Some(cases) => Some(Part {
+            statement: CStmt::Switch(value, cases),
+            taken: size,
+        }),
+        None => None,
     }
 }
 

@@ -1,16 +1,15 @@
 //! How an item is written with those behind it, before they are.
 
 use c_tree::expression::CExpr;
-use c_tree::statement::CStmt;
-use named_items::Head;
+use named_items::{Head, Part};
 
 /// How an item is written with those behind it.
 #[derive(Drop)]
 pub(crate) enum Plan {
     /// Nothing is built for it.
     Unwritten,
-    /// A statement of its own.
-    Whole(CStmt),
+    /// A statement that is built already, with the items that belong to it: the jumps of its cases, where it is a `switch`.
+    Whole(Part),
     /// An `if` whose block has so many items.
     OneArm(CExpr, usize),
     /// An `if` with an `else`, whose blocks have so many items, with a jump between them.

@@ -5,13 +5,13 @@ ghost use Rattle.named_items.specs.Layouts.{layout_of};
 ghost use Rattle.named_items.specs.Structured as spec;
 ghost use Rattle.statement_builder.specs.Plans.{Ahead, Plans, loop_plan, popped, steps, turns, whole};
 
+use crate::cases::switch_for;
 use crate::loop_tests::{at, end_of_arm, is_loop};
-use crate::parts::statement_of;
+use crate::parts::{alone, statement_of};
 use crate::plan::Plan;
 use crate::span::Span;
 use c_tree::expression::CExpr;
-use c_tree::statement::CStmt;
-use named_items::{Head, Item, Layout};
+use named_items::{Case, Head, Item, Layout, Part};
 use std::alloc::{AllocError, Global};
 use std::collections::VecDeque;
 
@@ -93,15 +93,35 @@ fn plan_test(
     }
 }
 
-/// A statement of its own, where there is one.
+/// A statement with the items that belong to it, where there is one.
 #[tactic(auto, unfolding(crate::specs::Plans::whole))]
-fn plan_whole(statement: Option<CStmt>) -> Plan
-    ensures { result ≡ whole statement }
+fn plan_whole(part: Option<Part>) -> Plan
+    ensures { result ≡ whole part }
 {
-    match statement {
-        Some(statement) => Plan::Whole(statement),
+    match part {
+        Some(part) => Plan::Whole(part),
         None => Plan::Unwritten,
     }
+}
+
+/// A value that picks one of the jumps behind it.
+fn plan_switch(
+    alloc: Global,
+    layout: &Layout,
+    items: &VecDeque<Item>,
+    span: Span,
+    value: CExpr,
+    cases: &[Case],
+    otherwise: usize,
+) -> Result<Plan, AllocError>
+    requires within { span.count ≤ length items.now.items }
+    requires fits { span.position + 1 + span.count < 2 ^ 64 }
+    ensures built { IfOk result (Plans span.position items.now.items (λ write. spec.switch_for (layout_of layout.now) span.position value cases.now otherwise (take span.count items.now.items))) }
+    ensures taken { IfOk result (λ plan. popped plan ≡ 0) }
+    ensures counted { IfOk result (λ plan. steps plan ≤ span.count) }
+{
+    let found = switch_for(alloc, layout, items, span, value, cases, otherwise)?;
+    Ok(plan_whole(found))
 }
 
 /// An item that begins no loop.
@@ -120,7 +140,18 @@ fn plan_plain(
 {
     match item {
         Item::Branch(test, on, off) => Ok(plan_test(layout, items, span, test, on, off)),
-        item => Ok(plan_whole(statement_of(alloc, layout, item)?)),
+        Item::Select(value, cases, otherwise) => {
+            plan_switch(
+                alloc,
+                layout,
+                items,
+                span,
+                value,
+                cases.as_slice(),
+                otherwise,
+            )
+        }
+        item => Ok(plan_whole(alone(statement_of(alloc, layout, item)?))),
     }
 }
 

@@ -5,8 +5,8 @@ use Rattle.std.proofs.lemmas.List.{append-nil}
 use Rattle.f_tree.specs.declared.expressions.Expr.{Expr}
 use Rattle.f_tree.specs.Terms.{Term, NoMore, More, any_refers}
 use Rattle.f_tree.specs.Lines.{Naming, value_of}
-use Rattle.l_core.specs.Pures as core
-use Rattle.l_core.specs.Steps as act
+use Rattle.lowered_tree.specs.l_core.Pures as core
+use Rattle.lowered_tree.specs.l_core.Steps as act
 use Rattle.lowering.specs.Expressions as low
 use Rattle.lowering.specs.Statements.{behind_operands, with_operands, form_code}
 use Rattle.lowered_tree.specs.declared.steps.Step.{Step}

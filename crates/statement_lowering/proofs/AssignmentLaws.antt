@@ -8,8 +8,8 @@ use Rattle.f_tree.specs.Facts.{Form, Passes}
 use Rattle.f_tree.specs.Uses.{heading_of}
 use Rattle.f_tree.specs.Reading.{read}
 use Rattle.f_tree.specs.Lines.{Naming, is_text, is_statement_function, value_assignment, text_assignment, assignment, assign_form}
-use Rattle.l_core.specs.Pures as core
-use Rattle.l_core.specs.Steps as act
+use Rattle.lowered_tree.specs.l_core.Pures as core
+use Rattle.lowered_tree.specs.l_core.Steps as act
 use Rattle.lowering.specs.Expressions as low
 use Rattle.lowering.specs.Statements.{put_code, unless_code, form_code}
 use Rattle.lowered_tree.specs.declared.steps.Step.{Step}

@@ -14,8 +14,8 @@ use Rattle.f_tree.specs.Facts.{Attribute}
 use Rattle.f_tree.specs.Terms.{Function, Term, terms, refers, any_refers}
 use Rattle.f_tree.specs.Reading.{Read, read, valued_only, placed, function_named, function_read, intrinsic_read, expanded_read, joined_read, name_read, applied_read, binary_read, layer_read}
 use Rattle.f_tree.specs.Lines.{Naming, place_of, arguments_of}
-use Rattle.l_core.specs.Pures as core
-use Rattle.l_core.specs.Steps as act
+use Rattle.lowered_tree.specs.l_core.Pures as core
+use Rattle.lowered_tree.specs.l_core.Steps as act
 use Rattle.lowering.specs.Expressions as low
 use Rattle.lowering.specs.Statements as code
 use Rattle.lowering.specs.Statements.{wants_no_value, branch_code, call_code, with_operands, form_code, head_code}

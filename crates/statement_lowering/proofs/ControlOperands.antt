@@ -13,7 +13,7 @@ use Rattle.f_tree.specs.Terms.{Term, Val, All, Alone, Terms, NoMore, More, terms
 use Rattle.f_tree.specs.Uses.{heading_of}
 use Rattle.f_tree.specs.Reading.{read, name_or_none}
 use Rattle.f_tree.specs.Lines.{Naming, standard_unit, settled}
-use Rattle.l_core.specs.Pures as core
+use Rattle.lowered_tree.specs.l_core.Pures as core
 use Rattle.lowering.specs.Expressions as low
 use Rattle.lowered_tree.specs.declared.steps.Step.{Step}
 use Rattle.lowered_tree.specs.Shapes.{pure_of, steps_of}

@@ -8,8 +8,8 @@ use Rattle.f_tree.specs.declared.statements.Direction.TheVariants as way
 use Rattle.f_tree.specs.Facts as fact
 use Rattle.f_tree.specs.Terms.{terms}
 use Rattle.f_tree.specs.Lines.{Naming, way_of, controls_of, controls_written, auxiliary_of, auxiliary_form}
-use Rattle.l_core.specs.Pures as core
-use Rattle.l_core.specs.Steps as act
+use Rattle.lowered_tree.specs.l_core.Pures as core
+use Rattle.lowered_tree.specs.l_core.Steps as act
 use Rattle.lowering.specs.Expressions as low
 use Rattle.lowering.specs.Statements.{auxiliary_code, with_operands, form_code, head_code}
 use Rattle.lowered_tree.specs.declared.pures.Pure.{Pure}

@@ -6,7 +6,7 @@ use Rattle.f_tree.specs.declared.statements.Control.{Control}
 use Rattle.f_tree.specs.Facts as fact
 use Rattle.f_tree.specs.Terms.{Term, Terms, NoMore, More, terms, refers, any_refers}
 use Rattle.f_tree.specs.Lines.{Naming, controls_written, nothing_written}
-use Rattle.l_core.specs.Pures as core
+use Rattle.lowered_tree.specs.l_core.Pures as core
 use Rattle.lowering.specs.Expressions as low
 use Rattle.lowered_tree.specs.declared.pures.Pure.{Pure}
 use Rattle.lowered_tree.specs.declared.steps.Step.{Step}

@@ -1,5 +1,7 @@
 pub mod Additions
 pub mod StatementCodes
+pub mod BranchLaws
+pub mod LabelLists
 pub mod StatementRules
 pub mod TargetForms
 pub mod AssignmentLaws

@@ -9,8 +9,8 @@ use Rattle.f_tree.specs.Values.{Bytes, Datum, IsInt, IsLog, IsText, IsSpot, IsPr
 use Rattle.f_tree.specs.Terms.{IsLessOrEqual, IsGreaterOrEqual, Term, At, NoMore, More, refers, any_refers}
 use Rattle.f_tree.specs.Reading.{read}
 use Rattle.f_tree.specs.Lines.{Naming, value_of, step_of, control_of}
-use Rattle.l_core.specs.Pures as core
-use Rattle.l_core.specs.Steps as act
+use Rattle.lowered_tree.specs.l_core.Pures as core
+use Rattle.lowered_tree.specs.l_core.Steps as act
 use Rattle.lowering.specs.Expressions as low
 use Rattle.lowering.specs.Expressions.{expressions_opened}
 use Rattle.lowering.specs.Statements.{loop_operands, loop_code, loop_test, test_by, with_operands, form_code, head_code}

@@ -1,16 +1,16 @@
 -- The steps of each form, by its operands.
-use Rattle.std.specs.Prelude.{◌≡◌, ℕ, pos, Bool, List, [], ◌∷◌, length, Option, Some, None}
+use Rattle.std.specs.Prelude.{◌≡◌, ℕ, pos, Bool, List, [], ◌∷◌, length, map, Option, Some, None}
 use Rattle.std.proofs.Common.{refl, ap}
 use Rattle.f_tree.specs.declared.expressions.Expr.{Expr}
 use Rattle.f_tree.specs.Values.{Bytes, IsInt}
 use Rattle.f_tree.specs.Terms.{IsLess, IsEqual, NoMore, More, any_refers}
 use Rattle.f_tree.specs.Reading.{read}
 use Rattle.f_tree.specs.Lines.{Naming, value_of, value_assignment, return_form}
-use Rattle.l_core.specs.Pures as core
-use Rattle.l_core.specs.Steps as act
+use Rattle.lowered_tree.specs.l_core.Pures as core
+use Rattle.lowered_tree.specs.l_core.Steps as act
 use Rattle.lowering.specs.Expressions as low
 use Rattle.lowering.specs.Expressions.{expressions_opened}
-use Rattle.lowering.specs.Statements.{behind_operands, with_operands, put_code, put_label_code, jump_by_code, guard_code, select_code, sign_code, unless_code, back_code, form_code, head_code}
+use Rattle.lowering.specs.Statements.{behind_operands, with_operands, put_code, put_label_code, each_once, jump_by_code, guard_code, select_code, sign_code, unless_code, back_code, form_code, head_code}
 use Rattle.statement_lowering.specs.StatementForms as form
 
 pub code-passing : (once : Bool) (k n : ℕ) (names : Naming) → form_code once k n (form.passing names) ≡ Some []
@@ -54,7 +54,7 @@ pub code-returning : (once : Bool) (k n : ℕ) (e : Expr) (names : Naming) →
 unfolding form_code head_code form.returning return_form
 code-returning once k n e names = refl
 
-pub closes-select : (labels : List ℕ) (p : core.Pure) → select_code labels (core.AndPure p core.NoPure) ≡ Some (act.Select p labels ∷ [])
+pub closes-select : (labels : List ℕ) (p : core.Pure) → select_code labels (core.AndPure p core.NoPure) ≡ Some (act.Select p (length labels) ∷ map act.Jump labels)
 unfolding select_code
 closes-select labels p = refl
 
@@ -67,7 +67,7 @@ unfolding back_code
 closes-back p = refl
 
 pub code-going_assigned : (once : Bool) (k n : ℕ) (x : Bytes) (labels : List ℕ) (names : Naming) →
-    form_code once k n (form.going_assigned x labels names) ≡ Some (act.JumpBy (core.Name x) labels ∷ [])
+    form_code once k n (form.going_assigned x labels names) ≡ Some (act.JumpBy (core.Name x) (each_once labels) ∷ map act.Jump (each_once labels))
 unfolding form_code head_code form.going_assigned with_operands behind_operands jump_by_code expressions_opened any_refers
 code-going_assigned once k n x labels names = refl
 

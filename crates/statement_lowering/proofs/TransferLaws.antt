@@ -20,8 +20,8 @@ use Rattle.f_tree.specs.Facts.{Attribute}
 use Rattle.f_tree.specs.Terms.{Function, Term, NoMore, More, terms}
 use Rattle.f_tree.specs.Reading.{Read, read, valued_only, placed, function_named, function_read, intrinsic_read, expanded_read, joined_read, name_read, applied_read, binary_read, layer_read}
 use Rattle.f_tree.specs.Lines.{Naming, value_of, place_of, settled, item_of, job_of, jobs_of, controls_of, controls_written, layout_written, way_of, transfer_form}
-use Rattle.l_core.specs.Pures as core
-use Rattle.l_core.specs.Steps as act
+use Rattle.lowered_tree.specs.l_core.Pures as core
+use Rattle.lowered_tree.specs.l_core.Steps as act
 use Rattle.lowering.specs.Expressions as low
 use Rattle.lowering.specs.Statements.{item_purpose, item_code, work_code, begin_code, with_operands, form_code, head_code}
 use Rattle.lowered_tree.specs.declared.pures.Pure.{Pure}

@@ -7,8 +7,8 @@ use Rattle.f_tree.specs.Values.{Bytes}
 use Rattle.f_tree.specs.Terms.{Add, Term, At, NoMore, More, refers, any_refers}
 use Rattle.f_tree.specs.Reading.{read}
 use Rattle.f_tree.specs.Lines.{Naming, value_of, step_of, control_of}
-use Rattle.l_core.specs.Pures as core
-use Rattle.l_core.specs.Steps as act
+use Rattle.lowered_tree.specs.l_core.Pures as core
+use Rattle.lowered_tree.specs.l_core.Steps as act
 use Rattle.lowering.specs.Expressions as low
 use Rattle.lowering.specs.Statements.{loop_operands, test_by, back_by, turn_code}
 use Rattle.lowered_tree.specs.declared.steps.Step.{Step}

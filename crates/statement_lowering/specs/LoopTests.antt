@@ -2,7 +2,7 @@
 use Rattle.std.specs.Prelude.{pos, int_lt, Bool, true, false, Option, Some, None}
 use Rattle.f_tree.specs.Values.{Datum, IsInt}
 use Rattle.f_tree.specs.Terms.{IsLess, IsLessOrEqual, IsGreaterOrEqual}
-use Rattle.l_core.specs.Pures.{Pure, Constant, Load, Operated, Chosen}
+use Rattle.lowered_tree.specs.l_core.Pures.{Pure, Constant, Load, Operated, Chosen}
 
 -- whether a number is below 0
 unfoldable pub sign_of : Datum → Option Bool

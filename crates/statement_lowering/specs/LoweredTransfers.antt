@@ -14,7 +14,7 @@ use Rattle.f_tree.specs.declared.statements.Direction.{Direction}
 use Rattle.f_tree.specs.Folds.{fold_expr, fold_item}
 use Rattle.f_tree.specs.Terms.{Term, terms}
 use Rattle.f_tree.specs.Lines.{Naming}
-use Rattle.l_core.specs.Pures as core
+use Rattle.lowered_tree.specs.l_core.Pures as core
 use Rattle.lowering.specs.Expressions as low
 use Rattle.lowered_tree.specs.declared.pures.Pure.{Pure}
 use Rattle.lowered_tree.specs.declared.steps.Step.{Step}

@@ -3,8 +3,8 @@
 ghost use Rattle.std.specs.Prelude.{◌≡◌, true, IfOk, option_map};
 ghost use Rattle.f_tree.specs.Uses.{heading_of};
 ghost use Rattle.f_tree.specs.Lines as lines;
-ghost use Rattle.l_core.specs.Pures as core;
-ghost use Rattle.l_core.specs.Steps as act;
+ghost use Rattle.lowered_tree.specs.l_core.Pures as core;
+ghost use Rattle.lowered_tree.specs.l_core.Steps as act;
 ghost use Rattle.lowering.specs.Expressions as low;
 ghost use Rattle.lowered_tree.specs.Shapes.{step_of};
 ghost use Rattle.name_facts.specs.GivenFacts.{fact_in};

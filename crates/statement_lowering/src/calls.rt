@@ -4,7 +4,7 @@ ghost use Rattle.std.specs.Prelude.{◌≡◌, ◌++◌, ◌∷◌, true, IfOk, 
 ghost use Rattle.f_tree.specs.Terms as term;
 ghost use Rattle.f_tree.specs.Lines as lines;
 ghost use Rattle.f_tree.specs.Lines.{Naming};
-ghost use Rattle.l_core.specs.Steps as act;
+ghost use Rattle.lowered_tree.specs.l_core.Steps as act;
 ghost use Rattle.lowering.specs.Expressions as low;
 ghost use Rattle.lowering.specs.Statements as code;
 ghost use Rattle.lowered_tree.specs.Shapes.{pures_of, steps_of};

@@ -3,8 +3,8 @@
 ghost use Rattle.std.specs.Prelude.{◌≡◌, ◌&&◌, ◌++◌, ◌∷◌, [], Bool, None, IfOk, OnOk, length, pos};
 ghost use Rattle.f_tree.specs.Values.{IsInt};
 ghost use Rattle.f_tree.specs.Terms.{IsLess, IsEqual};
-ghost use Rattle.l_core.specs.Pures as core;
-ghost use Rattle.l_core.specs.Steps as act;
+ghost use Rattle.lowered_tree.specs.l_core.Pures as core;
+ghost use Rattle.lowered_tree.specs.l_core.Steps as act;
 ghost use Rattle.lowered_tree.specs.Shapes.{operator_of, pure_of, steps_of};
 ghost use Rattle.expression_lowering.specs.TableNames.{is_lowered_value};
 ghost use Rattle.statement_lowering.specs.StatementForms as form;

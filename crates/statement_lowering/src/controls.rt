@@ -8,7 +8,7 @@ ghost use Rattle.f_tree.specs.Uses.{heading_of};
 ghost use Rattle.f_tree.specs.Reading.{read, name_or_none};
 ghost use Rattle.f_tree.specs.Lines as lines;
 ghost use Rattle.f_tree.specs.Lines.{Naming};
-ghost use Rattle.l_core.specs.Pures as core;
+ghost use Rattle.lowered_tree.specs.l_core.Pures as core;
 ghost use Rattle.lowering.specs.Expressions as low;
 ghost use Rattle.lowered_tree.specs.Shapes as shapes;
 ghost use Rattle.lowered_tree.specs.Shapes.{pure_of};

@@ -13,6 +13,7 @@ mod calls;
 mod conditions;
 mod controls;
 mod copies;
+mod label_lists;
 mod loops;
 mod statement;
 mod transfers;

@@ -4,8 +4,8 @@ ghost use Rattle.std.specs.Prelude.{◌≡◌, ◌++◌, ◌∷◌, [], true, So
 ghost use Rattle.f_tree.specs.Facts as fact;
 ghost use Rattle.f_tree.specs.Lines as lines;
 ghost use Rattle.f_tree.specs.Lines.{Naming};
-ghost use Rattle.l_core.specs.Pures as core;
-ghost use Rattle.l_core.specs.Steps as act;
+ghost use Rattle.lowered_tree.specs.l_core.Pures as core;
+ghost use Rattle.lowered_tree.specs.l_core.Steps as act;
 ghost use Rattle.lowering.specs.Statements as code;
 ghost use Rattle.lowered_tree.specs.Shapes as shapes;
 ghost use Rattle.lowered_tree.specs.Shapes.{pure_of, pures_of, step_of, steps_of};

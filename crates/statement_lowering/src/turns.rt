@@ -3,8 +3,8 @@
 ghost use Rattle.std.specs.Prelude.{◌≡◌, ◌++◌, ◌∷◌, [], true, IfOk, OnOk};
 ghost use Rattle.f_tree.specs.Terms.{Add};
 ghost use Rattle.f_tree.specs.Lines.{Naming, control_of};
-ghost use Rattle.l_core.specs.Pures as core;
-ghost use Rattle.l_core.specs.Steps as act;
+ghost use Rattle.lowered_tree.specs.l_core.Pures as core;
+ghost use Rattle.lowered_tree.specs.l_core.Steps as act;
 ghost use Rattle.lowering.specs.Statements.{loop_operands, test_by, back_by};
 ghost use Rattle.lowered_tree.specs.Shapes.{pure_of, step_of, steps_of};
 ghost use Rattle.expression_lowering.specs.TableNames.{AreFactsOf};

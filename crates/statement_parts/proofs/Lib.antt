@@ -1,2 +1,3 @@
 pub mod PartForms
 pub mod CallForms
+pub use Rattle.found_rows.proofs as found_rows

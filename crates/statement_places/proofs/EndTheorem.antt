@@ -13,7 +13,7 @@ use Rattle.f_tree.specs.Facts.{LoopMark, NoLoop, OpensLoop, ClosesLoop, Line, Pr
 use Rattle.f_tree.specs.Places.{has_label, label_from, place_of_label, loop_end_from, terminal_of}
 use Rattle.f_tree.specs.Nests.{Range, loop_of, range_to, range_by, ranges_from, ranges_of, is_within, open_at}
 use Rattle.f_tree.specs.Lines.{Naming, loop_label_in, loop_mark_of, form_of, line_of, program_of, with_ties, unit_read}
-use Rattle.declaration_rows.specs.UnitRows as written
+use Rattle.name_facts.specs.declaration_rows.UnitRows as written
 use Rattle.lowering.specs.Units.{range_of}
 use Rattle.statement_places.specs.LaidOut.{AreEnds}
 use Rattle.statement_places.proofs.BodyForms.{loop_in, loop_of_form}

@@ -14,3 +14,4 @@ pub mod EndTheorem
 pub mod WayLemmas
 pub mod WayTheorem
 pub mod PlaceTheorem
+pub use Rattle.loop_ranges.proofs as loop_ranges

@@ -6,9 +6,9 @@ use Rattle.f_tree.specs.declared.statements.Body as whole
 use Rattle.f_tree.specs.declared.statements.Body.{Body, IfOne', more_of-Body}
 use Rattle.f_tree.specs.declared.statements.Stmt.{Stmt}
 use Rattle.f_tree.specs.Folds.{fold_body, layer_of}
-use Rattle.l_core.specs.Steps as act
-use Rattle.lowered_tree.specs.declared.steps.Step.{Step}
-use Rattle.lowered_tree.specs.Shapes.{steps_of}
+use Rattle.lowering.specs.l_core.Steps as act
+use Rattle.expression_lowering.specs.lowered_tree.declared.steps.Step.{Step}
+use Rattle.expression_lowering.specs.lowered_tree.Shapes.{steps_of}
 use Rattle.name_facts.specs.declared.table.NameFacts.{NameFacts}
 use Rattle.expression_lowering.specs.declared.answers.LowerError.{LowerError}
 use Rattle.expression_lowering.specs.declared.answers.LowerError.TheVariants.{NotLowered, NoMemory}

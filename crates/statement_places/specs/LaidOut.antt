@@ -4,7 +4,7 @@ use Rattle.f_tree.specs.declared.names.Options.{Options}
 use Rattle.f_tree.specs.declared.statements.Stmt.{Stmt}
 use Rattle.f_tree.specs.declared.units.Unit.{Unit as WrittenUnit}
 use Rattle.f_tree.specs.Lines.{unit_read}
-use Rattle.declaration_rows.specs.UnitRows.{range_to, range_in}
+use Rattle.name_facts.specs.declaration_rows.UnitRows.{range_to, range_in}
 use Rattle.name_table.specs.declared.LabelTable.{LabelTable}
 use Rattle.open_loops.specs.declared.places.LoopPlace.{LoopPlace}
 use Rattle.statement_places.specs.declared.sizes.Size.{Size}

@@ -6,7 +6,7 @@ use Rattle.f_tree.specs.declared.statements.Body.TheOpen as body
 use Rattle.f_tree.specs.declared.statements.Stmt.{Stmt}
 use Rattle.f_tree.specs.Folds.{layer_of}
 use Rattle.f_tree.specs.Lines.{Naming, mark_of, form_of}
-use Rattle.l_core.specs.Steps.{Step}
+use Rattle.lowering.specs.l_core.Steps.{Step}
 use Rattle.lowering.specs.Statements.{form_code}
 use Rattle.lowering.specs.Units.{is_named, skip_size}
 use Rattle.name_facts.specs.declared.table.NameFacts.{NameFacts}

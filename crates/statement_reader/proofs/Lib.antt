@@ -1,1 +1,2 @@
 pub mod ReaderLemmas
+pub use Rattle.stmt_parse.proofs.grammar_laws

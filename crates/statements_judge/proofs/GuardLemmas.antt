@@ -9,7 +9,7 @@ use Rattle.declaration_rows.specs.Judgement.{unless}
 use Rattle.declaration_rows.specs.StatementRows.{statement_rows_opened, Broken, layer_broken, broken}
 use Rattle.declaration_rows.specs.StatementRows as rows
 use Rattle.refusal_order.specs.Earliest.{less, least as lesser, least_of as least}
-use Rattle.kind_order.proofs.LeastLemmas.{lesser-joined, least-append}
+use Rattle.expression_judge.proofs.kind_order.LeastLemmas.{lesser-joined, least-append}
 use Rattle.loop_ranges.specs.LoopForms.{begun_by, form_of}
 
 -- a site at which each loop ends, or none

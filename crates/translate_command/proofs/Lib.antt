@@ -1,8 +1,3 @@
-mod ListLemmas
-mod PlaceLemmas
-mod ReadLemmas
-mod SourceLemmas
 mod TextLemmas
 mod WriteLemmas
 mod Endings
-pub mod Rows

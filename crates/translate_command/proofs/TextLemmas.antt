@@ -8,18 +8,18 @@ use Rattle.f_tree.specs.declared.units.FileSet.{FileSet}
 use Rattle.f_tree.specs.declared.units.Part.{Part}
 use Rattle.c_tree.specs.declared.file.CFile.{CFile}
 use Rattle.c_text.specs.Printed.{printed}
-use Rattle.faithful.specs.Faithful as faithful
-use Rattle.faithful.specs.Faithful.{SpellAll}
-use Rattle.faithful.specs.Signatures as signed
-use Rattle.faithful.specs.Signatures.{EachHasSignatures}
-use Rattle.translated_files.specs.TranslatedFiles.{files_of}
+use Rattle.source_files.specs.faithful.Faithful as faithful
+use Rattle.source_files.specs.faithful.Faithful.{SpellAll}
+use Rattle.source_files.specs.faithful.Signatures as signed
+use Rattle.source_files.specs.faithful.Signatures.{EachHasSignatures}
+use Rattle.source_files.specs.translated_files.TranslatedFiles.{files_of}
 use Rattle.translated_sets.specs.FaithfulSets.{translations_of, EachAcceptedSetIsFaithful}
-use Rattle.source_acceptance.specs.SourceFiles as sources
-use Rattle.source_acceptance.specs.SourceFiles.{Source, SpellFiles, files_with_parts, SpellsSource}
-use Rattle.source_verdict.specs.SourceRows.{IsAccepted}
+use Rattle.source_files.specs.source_acceptance.SourceFiles as sources
+use Rattle.source_files.specs.source_acceptance.SourceFiles.{Source, SpellFiles, files_with_parts, SpellsSource}
+use Rattle.source_files.specs.source_verdict.SourceRows.{IsAccepted}
 use Rattle.source_translator.specs.TranslatedSource.{AreFilesOfSource}
-use Rattle.translate_command.specs.SourceOnShelf.{AreTextsOf}
-use Rattle.translate_command.proofs.ListLemmas.{further, map_append}
+use Rattle.translate_command.specs.TranslatedTexts.{AreTextsOf}
+use Rattle.source_files.proofs.ListLemmas.{further, map_append}
 
 -- EACH FILE spells one tree
 spelled_length : (file : ℕ) (files : List (List ℕ)) (trees : List File) → SpellFiles file files trees → length trees ≡ length files

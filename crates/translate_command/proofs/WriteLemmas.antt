@@ -7,7 +7,7 @@ use Rattle.f2c_outside.specs.declared.shelves.Place.{Place}
 use Rattle.f2c_outside.specs.Shelf.{ShelfState, Contents, begun, added}
 use Rattle.shelf_texts.specs.ShelfLoops.{IsWritten, IsUnwritten, IsFrontWritten, written}
 use Rattle.translate_command.specs.WrittenTexts.{all_written, AreWritten, IsStoppedAt, AreUnwritten}
-use Rattle.translate_command.proofs.ListLemmas.{further, some_same}
+use Rattle.source_files.proofs.ListLemmas.{further, some_same}
 
 -- ONE MORE place
 written_more : (places : List Place) (texts : List (List ℕ)) (place : Place) (text : List ℕ) (c : Contents) → length texts ≡ length places →

@@ -1,5 +1,5 @@
-pub mod SourceOnShelf
-pub mod SourceReads
-pub mod SourceTexts
+pub mod Fails
+pub mod TranslatedTexts
 pub mod WrittenTexts
-pub mod TranslateRows
+pub mod SourceTexts
+pub mod TranslateEnds

@@ -1,12 +1,11 @@
-//! The command that translates: FORTRAN files are read from places of a shelf, judged as one set, and their translations written to others.
+//! The command that translates: the FORTRAN files of a source are read, judged as one set, and their translations written to places of a shelf.
 //! ANSI X3.9-1978, sections 2 to 18; MIL-STD-1753: INCLUDE.
 #![tactic(auto)]
 
 mod command;
-mod included;
-mod places;
-mod sources;
+mod failing;
 mod texts;
 mod writing;
 
 pub use command::translate;
+pub use failing::TranslateFail;

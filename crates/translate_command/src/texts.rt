@@ -2,15 +2,15 @@
 
 ghost use Rattle.std.specs.Prelude.{◌≡◌, ◌<◌, List, length, map, ℕ, IfOk, IfErr};
 ghost use Rattle.c_text.specs.Printed.{printed};
-ghost use Rattle.source_reader.specs.SourceReading.{IsNamed};
+ghost use Rattle.source_files.specs.source_reader.SourceReading.{IsNamed};
 ghost use Rattle.translate_command.specs.SourceTexts.{AreTextsFor, IsRefusedFor};
 
-use crate::sources::SourceRead;
 use c_text::print_c;
 use c_tree::file::CFile;
 use f_tree::names::Options;
 use f_tree::{Fail, Text};
 use plain_data::Items;
+use source_files::SourceRead;
 use source_translator::translate_source;
 use std::alloc::{AllocError, Global};
 use translated_sets::sets::accepted_sets_are_faithful;

@@ -3,12 +3,10 @@
 ghost use Rattle.std.specs.Prelude.{◌≡◌, OnOk, IfErr};
 ghost use Rattle.std.specs.List.{All};
 ghost use Rattle.f2c_outside.specs.Shelf.{IsTarget};
-ghost use Rattle.translate_command.specs.SourceTexts.{WroteTexts};
-ghost use Rattle.translate_command.specs.WrittenTexts.{AreWritten, IsStoppedAt};
+ghost use Rattle.translate_command.specs.WrittenTexts.{AreWritten, AreUnwritten, IsStoppedAt};
 
 use f_tree::Text;
 use f2c_outside::shelves::{Place, Shelf};
-use outcomes::Outcome;
 use plain_data::Items;
 use shelf_texts::write_place;
 
@@ -28,18 +26,19 @@ fn write_texts<H: Shelf>(shelf: &mut H, places: &[Place], texts: &[Text]) -> Res
     Ok(())
 }
 
-/// Writes to each place its text, or says which place was being written when the shelf failed.
+/// Writes to each place its text. An error is the place that was being written when the shelf failed.
 pub(crate) fn write_translations<H: Shelf>(
     shelf: &mut H,
     places: Items<Place>,
     texts: &[Text],
-) -> Outcome
+) -> Result<(), Place>
     requires { All IsTarget places }
-    ensures { WroteTexts places texts.now (H.state shelf.old) (H.state shelf.new) result }
+    ensures ok { OnOk result (AreWritten places texts.now (H.state shelf.old) (H.state shelf.new)) }
+    ensures err { IfErr result (λ place. AreUnwritten places texts.now place (H.state shelf.old) (H.state shelf.new)) }
 {
     let mut places = places;
     match write_texts(shelf, places.as_slice(), texts) {
-        Err(number) => Outcome::Unwritten(places.remove(number)),
-        Ok(()) => Outcome::Done,
+        Err(number) => Err(places.remove(number)),
+        Ok(()) => Ok(()),
     }
 }

@@ -2,17 +2,17 @@
 use Rattle.std.specs.Prelude.{◌≡◌, ℕ, suc, ◌+◌, ℤ, Bool, true, ◌&&◌, List, [], ◌∷◌, ◌++◌, length, Option, Some, None, option_map, option_and_then, if◌then◌else◌}
 use Rattle.std.proofs.Common.{refl, sym, ap, ◌∙◌, subst, arith}
 use Rattle.std.proofs.lemmas.List.{append_assoc}
-use Rattle.f_tree.specs.declared.names.Options.{Options}
-use Rattle.f_tree.specs.declared.refusals.Refusal.{Refusal}
-use Rattle.f_tree.specs.declared.units.File.{File}
-use Rattle.f_tree.specs.declared.units.Unit.{Unit as GivenUnit}
-use Rattle.declaration_rows.specs.GlobalRows.{all_units}
-use Rattle.c_tree.specs.declared.statement.CStmt.{CStmt}
-use Rattle.unit_file.specs.UnitFile.{WrittenUnit}
-use Rattle.unit_sites.specs.UnitSites.{UnitsOfFile, files_of as c_files}
-use Rattle.unit_translation.specs.UnitContents.{LoweredUnit, constants_passed, inventory_of}
-use Rattle.unit_translation.specs.UnitBodies.{all_lowered, written_before}
-use Rattle.named_units.specs.NamedUnits.{named_body_of, named_from, named_file_of, named_files_from, named_files}
+use Rattle.translated_files.specs.f_tree.declared.names.Options.{Options}
+use Rattle.translated_files.specs.f_tree.declared.refusals.Refusal.{Refusal}
+use Rattle.translated_files.specs.f_tree.declared.units.File.{File}
+use Rattle.translated_files.specs.f_tree.declared.units.Unit.{Unit as GivenUnit}
+use Rattle.translated_files.specs.declaration_rows.GlobalRows.{all_units}
+use Rattle.translated_files.specs.c_tree.declared.statement.CStmt.{CStmt}
+use Rattle.translated_files.specs.unit_file.UnitFile.{WrittenUnit}
+use Rattle.translated_files.specs.unit_sites.UnitSites.{UnitsOfFile, files_of as c_files}
+use Rattle.translated_files.specs.unit_translation.UnitContents.{LoweredUnit, constants_passed, inventory_of}
+use Rattle.translated_files.specs.unit_translation.UnitBodies.{all_lowered, written_before}
+use Rattle.translated_files.specs.named_units.NamedUnits.{named_body_of, named_from, named_file_of, named_files_from, named_files}
 use Rattle.translated_laws.proofs.Translated.{nothing_before, nothing_behind}
 use Rattle.translated_files.specs.TranslatedFiles.{lowered_at, lowered_before, lowered_from, files_before, lowered_files, has_units, each_has_units, made_files, files_of, form_row, row_unless, rows_of_lowering, rows_of_bodies, rows_of_files, rows_behind, units_not_translated, row_of_none, files_without_units, files_not_translated}
 use Rattle.translated_file_laws.specs.FaithfulFiles.{EachTranslatedSetHasFiles}

@@ -3,39 +3,39 @@ use Rattle.std.specs.List.{list_all}
 use Rattle.std.specs.Prelude.{◌≡◌, ℕ, zero, suc, ◌+◌, ◌^◌, ◌<◌, ◌≤◌, nat_lt, nat_le, Bool, true, false, ◌&&◌, List, [], ◌∷◌, ◌++◌, map, length, Option, Some, None, option_and_then, slice_get, if◌then◌else◌}
 use Rattle.std.proofs.Common.{refl, sym, ap, ◌∙◌, subst, arith}
 use Rattle.std.proofs.lemmas.Bool.{leb-true, ltb-true}
-use Rattle.f_tree.specs.declared.names.Options.{Options}
-use Rattle.f_tree.specs.declared.units.File.{File}
-use Rattle.f_tree.specs.declared.units.Unit.{Unit as GivenUnit}
-use Rattle.f_tree.specs.Values.{Bytes}
-use Rattle.f_tree.specs.Facts.{ProgramUnit}
-use Rattle.f_tree.specs.Uses.{uses_of_statements}
-use Rattle.f_tree.specs.Attributes.{arrays_of}
-use Rattle.f_tree.specs.Lines.{unit_read}
-use Rattle.f_tree.specs.Setting.{IsIn, first_in, later_in}
-use Rattle.declaration_rows.specs.GlobalRows.{all_units}
-use Rattle.declaration_rows.specs.NameRows.{given_names}
-use Rattle.l_core.specs.Steps.{Text}
-use Rattle.lowering.specs.Units.{lowered_unit}
-use Rattle.c_tree.specs.declared.file.CFile.{CFile}
-use Rattle.c_text.specs.Printed.{printed}
-use Rattle.faithful.specs.Faithful.{Faithful}
-use Rattle.faithful.specs.Signatures.{dummy_of}
-use Rattle.main_translation.specs.Outlined.{labels_in}
-use Rattle.unit_forms.specs.OwnSetting.{own_facts}
-use Rattle.unit_forms.specs.PlainProcedures.{is_plain_unit}
-use Rattle.unit_forms.specs.SpellableUnits.{is_spellable_unit}
-use Rattle.unit_sites.specs.UnitSites.{UnitsOfFile, file_for, files_of as c_files}
-use Rattle.unit_translation.specs.UnitContents.{LoweredUnit, program_units, temporaries_kept}
-use Rattle.unit_translation.specs.UnitBodies.{all_lowered}
-use Rattle.unit_translation_laws.specs.PlainUnits.{IsPlainUnitText}
-use Rattle.unit_faithfulness.specs.UnitsFaithful as faithful
-use Rattle.unit_faithfulness.specs.UnitsFaithful.{AreOfFile, AreOfFiles}
+use Rattle.translated_files.specs.f_tree.declared.names.Options.{Options}
+use Rattle.translated_files.specs.f_tree.declared.units.File.{File}
+use Rattle.translated_files.specs.f_tree.declared.units.Unit.{Unit as GivenUnit}
+use Rattle.translated_files.specs.f_tree.Values.{Bytes}
+use Rattle.translated_files.specs.f_tree.Facts.{ProgramUnit}
+use Rattle.translated_files.specs.f_tree.Uses.{uses_of_statements}
+use Rattle.translated_files.specs.f_tree.Attributes.{arrays_of}
+use Rattle.translated_files.specs.f_tree.Lines.{unit_read}
+use Rattle.translated_files.specs.f_tree.Setting.{IsIn, first_in, later_in}
+use Rattle.translated_files.specs.declaration_rows.GlobalRows.{all_units}
+use Rattle.translated_files.specs.declaration_rows.NameRows.{given_names}
+use Rattle.translated_files.specs.l_core.Steps.{Text}
+use Rattle.translated_files.specs.lowering.Units.{lowered_unit}
+use Rattle.translated_files.specs.c_tree.declared.file.CFile.{CFile}
+use Rattle.named_unit_laws.specs.c_text.Printed.{printed}
+use Rattle.translated_files.specs.faithful.Faithful.{Faithful}
+use Rattle.translated_files.specs.faithful.Signatures.{dummy_of}
+use Rattle.translated_files.specs.main_translation.Outlined.{labels_in}
+use Rattle.translated_files.specs.unit_forms.OwnSetting.{own_facts}
+use Rattle.translated_files.specs.unit_forms.PlainProcedures.{is_plain_unit}
+use Rattle.translated_files.specs.unit_forms.SpellableUnits.{is_spellable_unit}
+use Rattle.translated_files.specs.unit_sites.UnitSites.{UnitsOfFile, file_for, files_of as c_files}
+use Rattle.translated_files.specs.unit_translation.UnitContents.{LoweredUnit, program_units, temporaries_kept}
+use Rattle.translated_files.specs.unit_translation.UnitBodies.{all_lowered}
+use Rattle.named_unit_laws.specs.unit_translation_laws.PlainUnits.{IsPlainUnitText}
+use Rattle.plain_unit_files.specs.unit_faithfulness.UnitsFaithful as faithful
+use Rattle.plain_unit_files.specs.unit_faithfulness.UnitsFaithful.{AreOfFile, AreOfFiles}
 use Rattle.plain_unit_files.specs.PlainUnitFiles.{AreMadeOf, EachPlainUnitSetIsFaithful}
 use Rattle.plain_unit_files.proofs.Whole.{plain_units_of}
-use Rattle.named_units.specs.NamedUnits.{named_files}
+use Rattle.translated_files.specs.named_units.NamedUnits.{named_files}
 use Rattle.named_unit_laws.specs.NamedBodies.{EachNamedUnitIsAUnit}
-use Rattle.translated_forms.specs.LoweredForms.{statements_lower}
-use Rattle.translated_forms.specs.TranslatedForms.{stop_fits}
+use Rattle.translated_files.specs.translated_forms.LoweredForms.{statements_lower}
+use Rattle.translated_files.specs.translated_forms.TranslatedForms.{stop_fits}
 use Rattle.translated_laws.proofs.Translated.{left, right, each_of, mapped, stops}
 use Rattle.translated_files.specs.TranslatedFiles.{text_fits, procedure_names, procedures_are_defined, passes_tests, lowered_by, lowered_at, lowered_before, lowered_from, files_before, lowered_files, has_units, each_has_units, made_files, files_of}
 use Rattle.translated_file_laws.specs.FaithfulFiles.{translations_of, EachTranslationIsFaithful}

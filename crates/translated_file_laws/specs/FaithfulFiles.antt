@@ -1,10 +1,10 @@
 -- That the translations of the FORTRAN files of a set of which all forms are translated are faithful to them. ANSI X3.9-1978, sections 2.4, 3.5, 14 and 15.
 use Rattle.std.specs.Prelude.{◌≡◌, ℕ, ◌<◌, List, [], map, length, Option, Some, option_map}
-use Rattle.f_tree.specs.declared.names.Options.{Options}
-use Rattle.f_tree.specs.declared.units.File.{File}
-use Rattle.c_tree.specs.declared.file.CFile.{CFile}
-use Rattle.c_text.specs.Printed.{printed}
-use Rattle.faithful.specs.Faithful.{Faithful}
+use Rattle.translated_files.specs.f_tree.declared.names.Options.{Options}
+use Rattle.translated_files.specs.f_tree.declared.units.File.{File}
+use Rattle.translated_files.specs.c_tree.declared.file.CFile.{CFile}
+use Rattle.named_unit_laws.specs.c_text.Printed.{printed}
+use Rattle.translated_files.specs.faithful.Faithful.{Faithful}
 pub use Rattle.plain_unit_files.specs.PlainUnitFiles.{IsFaultless}
 use Rattle.translated_files.specs.TranslatedFiles.{files_of, files_not_translated}
 

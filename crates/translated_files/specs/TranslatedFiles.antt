@@ -3,38 +3,38 @@
 -- own, which call procedures of the set, and of the statements that lowering and emission know. ANSI X3.9-1978, sections 2.4, 3.5, 4.1, 8 to 12, 14 and 15.
 use Rattle.std.specs.List.{list_all, list_any}
 use Rattle.std.specs.Prelude.{ℕ, suc, ◌+◌, ◌^◌, nat_lt, nat_le, ℤ, Bool, true, false, ◌&&◌, List, [], ◌∷◌, ◌++◌, map, length, Option, Some, None, option_map, option_and_then, bytes_eq, if◌then◌else◌}
-use Rattle.f_tree.specs.declared.expressions.Expr.{Expr}
-use Rattle.f_tree.specs.declared.expressions.Expr.TheOpen as expr
-use Rattle.f_tree.specs.declared.names.Class.{Class}
-use Rattle.f_tree.specs.declared.names.Class.TheVariants as class
-use Rattle.f_tree.specs.declared.names.Options.{Options}
-use Rattle.f_tree.specs.declared.refusals.Kind.TheVariants.{NotBuiltYet}
-use Rattle.f_tree.specs.declared.refusals.Refusal.{Refusal}
-use Rattle.f_tree.specs.declared.statements.Body.{Body}
-use Rattle.f_tree.specs.declared.statements.Body.TheOpen as body
-use Rattle.f_tree.specs.declared.statements.Stmt.{Stmt}
-use Rattle.f_tree.specs.declared.units.File.{File}
-use Rattle.f_tree.specs.declared.units.Unit.{Unit as GivenUnit}
-use Rattle.f_tree.specs.Values.{Bytes}
-use Rattle.f_tree.specs.Facts.{UnitKind, MainProgram, SubroutineUnit, FunctionUnit, BlockDataUnit}
-use Rattle.f_tree.specs.Folds.{fold_body, fold_expr}
-use Rattle.f_tree.specs.Uses.{uses_of_statements}
-use Rattle.f_tree.specs.Reading.{name_or_none}
-use Rattle.f_tree.specs.Attributes.{arrays_of, Described, all_described}
-use Rattle.f_tree.specs.Lines.{unit_kind, unit_read}
-use Rattle.declaration_rows.specs.GlobalRows.{all_units}
-use Rattle.declaration_rows.specs.NameRows.{given_names}
-use Rattle.l_core.specs.Steps.{Text}
-use Rattle.lowering.specs.Units.{lowered_unit}
-use Rattle.c_tree.specs.declared.file.CFile.{CFile}
-use Rattle.faithful.specs.Signatures.{dummy_of}
-use Rattle.main_translation.specs.Outlined.{labels_in}
+use Rattle.unit_forms.specs.f_tree.declared.expressions.Expr.{Expr}
+use Rattle.unit_forms.specs.f_tree.declared.expressions.Expr.TheOpen as expr
+use Rattle.unit_forms.specs.f_tree.declared.names.Class.{Class}
+use Rattle.unit_forms.specs.f_tree.declared.names.Class.TheVariants as class
+use Rattle.unit_forms.specs.f_tree.declared.names.Options.{Options}
+use Rattle.unit_forms.specs.f_tree.declared.refusals.Kind.TheVariants.{NotBuiltYet}
+use Rattle.unit_forms.specs.f_tree.declared.refusals.Refusal.{Refusal}
+use Rattle.unit_forms.specs.f_tree.declared.statements.Body.{Body}
+use Rattle.unit_forms.specs.f_tree.declared.statements.Body.TheOpen as body
+use Rattle.unit_forms.specs.f_tree.declared.statements.Stmt.{Stmt}
+use Rattle.unit_forms.specs.f_tree.declared.units.File.{File}
+use Rattle.unit_forms.specs.f_tree.declared.units.Unit.{Unit as GivenUnit}
+use Rattle.unit_forms.specs.f_tree.Values.{Bytes}
+use Rattle.unit_forms.specs.f_tree.Facts.{UnitKind, MainProgram, SubroutineUnit, FunctionUnit, BlockDataUnit}
+use Rattle.unit_forms.specs.f_tree.Folds.{fold_body, fold_expr}
+use Rattle.unit_forms.specs.f_tree.Uses.{uses_of_statements}
+use Rattle.unit_forms.specs.f_tree.Reading.{name_or_none}
+use Rattle.unit_forms.specs.f_tree.Attributes.{arrays_of, Described, all_described}
+use Rattle.unit_forms.specs.f_tree.Lines.{unit_kind, unit_read}
+use Rattle.translated_forms.specs.declaration_rows.GlobalRows.{all_units}
+use Rattle.translated_forms.specs.declaration_rows.NameRows.{given_names}
+use Rattle.unit_forms.specs.l_core.Steps.{Text}
+use Rattle.unit_forms.specs.lowering.Units.{lowered_unit}
+use Rattle.unit_forms.specs.c_tree.declared.file.CFile.{CFile}
+use Rattle.unit_forms.specs.faithful.Signatures.{dummy_of}
+use Rattle.unit_forms.specs.main_translation.Outlined.{labels_in}
 use Rattle.unit_forms.specs.OwnSetting.{own_facts}
 use Rattle.unit_forms.specs.PlainProcedures.{is_plain_unit}
 use Rattle.unit_forms.specs.SpellableUnits.{is_spellable_unit}
-use Rattle.unit_translation.specs.UnitContents.{LoweredUnit, temporaries_kept, constants_passed}
-use Rattle.unit_sites.specs.UnitSites.{UnitsOfFile, files_of as c_files}
-use Rattle.unit_translation.specs.UnitBodies.{all_lowered}
+use Rattle.named_units.specs.unit_translation.UnitContents.{LoweredUnit, temporaries_kept, constants_passed}
+use Rattle.named_units.specs.unit_sites.UnitSites.{UnitsOfFile, files_of as c_files}
+use Rattle.named_units.specs.unit_translation.UnitBodies.{all_lowered}
 use Rattle.named_units.specs.NamedUnits.{named_body_of, named_files}
 use Rattle.translated_forms.specs.LoweredForms.{statements_lower}
 use Rattle.translated_forms.specs.TranslatedForms.{stop_fits, layer_form}

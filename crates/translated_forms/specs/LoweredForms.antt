@@ -1,22 +1,22 @@
 -- Which statements of a unit are lowered, by what its names are. ANSI X3.9-1978, sections 6, 10 to 12 and 15.
 use Rattle.std.specs.List.{list_all}
 use Rattle.std.specs.Prelude.{Bool, true, false, not, ◌&&◌, ◌||◌, List, Option, Some, None}
-use Rattle.f_tree.specs.declared.expressions.Expr.{Expr}
-use Rattle.f_tree.specs.declared.expressions.Expr.TheOpen as expr
-use Rattle.f_tree.specs.declared.statements.Body.{Body}
-use Rattle.f_tree.specs.declared.statements.Body.TheOpen as body
-use Rattle.f_tree.specs.declared.statements.Control.{Control}
-use Rattle.f_tree.specs.declared.statements.ControlValue.{ControlValue}
-use Rattle.f_tree.specs.declared.statements.ControlValue.TheVariants as value
-use Rattle.f_tree.specs.declared.statements.ListItem.{ListItem}
-use Rattle.f_tree.specs.declared.statements.ListItem.TheOpen as item
-use Rattle.f_tree.specs.declared.statements.LoopControl.{LoopControl}
-use Rattle.f_tree.specs.declared.statements.Stmt.{Stmt}
-use Rattle.f_tree.specs.Values.{Bytes}
-use Rattle.f_tree.specs.Folds.{fold_expr, fold_item, fold_body}
-use Rattle.f_tree.specs.Lines.{Naming}
-use Rattle.f_tree.specs.Uses.{heading_of}
-use Rattle.expression_lowering.specs.TableNames.{name_lowers, applied_lowers, operator_lowers, all_lower}
+use Rattle.statement_lowering.specs.f_tree.declared.expressions.Expr.{Expr}
+use Rattle.statement_lowering.specs.f_tree.declared.expressions.Expr.TheOpen as expr
+use Rattle.statement_lowering.specs.f_tree.declared.statements.Body.{Body}
+use Rattle.statement_lowering.specs.f_tree.declared.statements.Body.TheOpen as body
+use Rattle.statement_lowering.specs.f_tree.declared.statements.Control.{Control}
+use Rattle.statement_lowering.specs.f_tree.declared.statements.ControlValue.{ControlValue}
+use Rattle.statement_lowering.specs.f_tree.declared.statements.ControlValue.TheVariants as value
+use Rattle.statement_lowering.specs.f_tree.declared.statements.ListItem.{ListItem}
+use Rattle.statement_lowering.specs.f_tree.declared.statements.ListItem.TheOpen as item
+use Rattle.statement_lowering.specs.f_tree.declared.statements.LoopControl.{LoopControl}
+use Rattle.statement_lowering.specs.f_tree.declared.statements.Stmt.{Stmt}
+use Rattle.statement_lowering.specs.f_tree.Values.{Bytes}
+use Rattle.statement_lowering.specs.f_tree.Folds.{fold_expr, fold_item, fold_body}
+use Rattle.statement_lowering.specs.f_tree.Lines.{Naming}
+use Rattle.statement_lowering.specs.f_tree.Uses.{heading_of}
+use Rattle.statement_lowering.specs.expression_lowering.TableNames.{name_lowers, applied_lowers, operator_lowers, all_lower}
 use Rattle.statement_lowering.specs.LoweredStatements.{is_function_class, variable_is_text, element_is_text}
 
 -- ## Expressions

@@ -2,36 +2,36 @@
 -- where its unit begins. A file is translated that is one main program of integers and logicals, with storage of their own, and of the statements
 -- that lowering and emission know. ANSI X3.9-1978, sections 2.4, 4.1, 8 to 12 and 14.
 use Rattle.std.specs.List.{list_all}
-use Rattle.std.specs.Prelude.{◌+◌, ◌^◌, nat_lt, nat_le, Bool, true, false, ◌&&◌, List, [], ◌∷◌, ◌++◌, length, Option, Some, None, is_none, option_map, if◌then◌else◌}
-use Rattle.f_tree.specs.declared.names.Basic.{Basic}
-use Rattle.f_tree.specs.declared.names.Basic.TheVariants.{Character}
-use Rattle.f_tree.specs.declared.names.Options.{Options}
-use Rattle.f_tree.specs.declared.refusals.Kind.TheVariants.{NotBuiltYet}
-use Rattle.f_tree.specs.declared.refusals.Refusal.{Refusal}
-use Rattle.f_tree.specs.declared.statements.Body.{Body}
-use Rattle.f_tree.specs.declared.statements.Body.TheOpen as body
-use Rattle.f_tree.specs.declared.statements.Control.{Control}
-use Rattle.f_tree.specs.declared.statements.ControlValue.{ControlValue}
-use Rattle.f_tree.specs.declared.statements.ControlValue.TheVariants as value
-use Rattle.f_tree.specs.declared.statements.ControlWord.{ControlWord}
-use Rattle.f_tree.specs.declared.statements.ControlWord.TheVariants as word
-use Rattle.f_tree.specs.declared.statements.Direction.{Direction}
-use Rattle.f_tree.specs.declared.statements.Direction.TheVariants as way
-use Rattle.f_tree.specs.declared.statements.ListItem.{ListItem}
-use Rattle.f_tree.specs.declared.statements.ListItem.TheOpen as item
-use Rattle.f_tree.specs.declared.statements.Stmt.{Stmt}
-use Rattle.f_tree.specs.declared.units.File.{File}
-use Rattle.f_tree.specs.declared.units.Unit.{Unit as WrittenUnit}
-use Rattle.f_tree.specs.Facts.{ProgramUnit}
-use Rattle.f_tree.specs.Folds.{fold_body, fold_item}
-use Rattle.f_tree.specs.Lines.{unit_read}
-use Rattle.declaration_rows.specs.NameRows.{given_names}
-use Rattle.l_core.specs.Steps.{Step, Halt, Text}
-use Rattle.lowering.specs.Units.{lowered_unit}
-use Rattle.c_tree.specs.declared.file.CFile.{CFile}
-use Rattle.main_file.specs.MainFile.{main_file}
-use Rattle.main_translation.specs.Contents.{temporaries_in, inventory_of}
-use Rattle.main_translation.specs.Outlined.{labels_in}
+use Rattle.std.specs.Prelude.{ℕ, ◌+◌, ◌^◌, nat_lt, nat_le, Bool, true, false, ◌&&◌, List, [], ◌∷◌, ◌++◌, length, Option, Some, None, is_none, option_map, if◌then◌else◌}
+use Rattle.statement_lowering.specs.f_tree.declared.names.Basic.{Basic}
+use Rattle.statement_lowering.specs.f_tree.declared.names.Basic.TheVariants.{Character}
+use Rattle.statement_lowering.specs.f_tree.declared.names.Options.{Options}
+use Rattle.statement_lowering.specs.f_tree.declared.refusals.Kind.TheVariants.{NotBuiltYet}
+use Rattle.statement_lowering.specs.f_tree.declared.refusals.Refusal.{Refusal}
+use Rattle.statement_lowering.specs.f_tree.declared.statements.Body.{Body}
+use Rattle.statement_lowering.specs.f_tree.declared.statements.Body.TheOpen as body
+use Rattle.statement_lowering.specs.f_tree.declared.statements.Control.{Control}
+use Rattle.statement_lowering.specs.f_tree.declared.statements.ControlValue.{ControlValue}
+use Rattle.statement_lowering.specs.f_tree.declared.statements.ControlValue.TheVariants as value
+use Rattle.statement_lowering.specs.f_tree.declared.statements.ControlWord.{ControlWord}
+use Rattle.statement_lowering.specs.f_tree.declared.statements.ControlWord.TheVariants as word
+use Rattle.statement_lowering.specs.f_tree.declared.statements.Direction.{Direction}
+use Rattle.statement_lowering.specs.f_tree.declared.statements.Direction.TheVariants as way
+use Rattle.statement_lowering.specs.f_tree.declared.statements.ListItem.{ListItem}
+use Rattle.statement_lowering.specs.f_tree.declared.statements.ListItem.TheOpen as item
+use Rattle.statement_lowering.specs.f_tree.declared.statements.Stmt.{Stmt}
+use Rattle.statement_lowering.specs.f_tree.declared.units.File.{File}
+use Rattle.statement_lowering.specs.f_tree.declared.units.Unit.{Unit as WrittenUnit}
+use Rattle.statement_lowering.specs.f_tree.Facts.{ProgramUnit}
+use Rattle.statement_lowering.specs.f_tree.Folds.{fold_body, fold_item}
+use Rattle.statement_lowering.specs.f_tree.Lines.{unit_read}
+use Rattle.statement_lowering.specs.declaration_rows.NameRows.{given_names}
+use Rattle.statement_lowering.specs.l_core.Steps.{Step, Halt, Text}
+use Rattle.statement_lowering.specs.lowering.Units.{lowered_unit}
+use Rattle.named_mains.specs.c_tree.declared.file.CFile.{CFile}
+use Rattle.named_mains.specs.main_file.MainFile.{main_file}
+use Rattle.named_mains.specs.main_translation.Contents.{temporaries_in, inventory_of}
+use Rattle.named_mains.specs.main_translation.Outlined.{labels_in}
 use Rattle.named_mains.specs.NamedMains.{named_body_of}
 use Rattle.plain_forms.specs.OwnStorage.{plain_facts}
 use Rattle.plain_forms.specs.PlainUnits.{is_plain_main}
@@ -105,17 +105,20 @@ is_output way.Read = false
 unfoldable pub is_listed : Direction → List Control → List ListItem → Bool
 is_listed way controls items = is_output way && (list_all (λ (c : Control). is_plain_word c.word c.value) controls && list_all (fold_item layer_single) items)
 
+-- are labels written
+unfoldable pub are_written : List ℕ → Bool
+are_written [] = false
+are_written (label ∷ labels) = true
+
 -- one layer of a statement, given whether the statement of a logical IF is of such a form: no shared storage, no initial values, no type CHARACTER, no
--- reference of a procedure, no label in a variable, and no input or output but by lists
+-- reference of a procedure, no GO TO by a variable without its labels, and no input or output but by lists
 unfoldable pub layer_form : body.Body-F Bool → Bool
 layer_form (body.Declare spec names) = is_number spec.basic
 layer_form (body.Common groups) = false
 layer_form (body.Equivalence groups) = false
 layer_form (body.Init groups) = false
 layer_form (body.Entry x dummies) = false
-layer_form (body.AssignLabel label x) = false
-layer_form (body.GotoList labels e) = false
-layer_form (body.GotoName x labels) = false
+layer_form (body.GotoName x labels) = are_written labels
 layer_form (body.IfOne e b) = b
 layer_form (body.Call x es) = false
 layer_form (body.Return e) = is_none e
@@ -160,5 +163,5 @@ files_not_translated options [] = []
 files_not_translated options (f ∷ fs) = not_translated options f ++ files_not_translated options fs
 
 unfoldable pub translated_forms_opened : Unit {0}
-unfolding stop_fits fits file_if file_by unit_file units_file is_number is_star is_plain_word layer_single is_output is_listed layer_form is_translated_form form_row row_unless unit_not_translated others_not_translated units_not_translated files_not_translated
+unfolding stop_fits fits file_if file_by unit_file units_file is_number is_star is_plain_word layer_single is_output is_listed are_written layer_form is_translated_form form_row row_unless unit_not_translated others_not_translated units_not_translated files_not_translated
 translated_forms_opened = tt

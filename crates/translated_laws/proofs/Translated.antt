@@ -3,29 +3,29 @@ use Rattle.std.specs.List.{list_all}
 use Rattle.std.specs.Prelude.{◌≡◌, ℕ, zero, suc, ◌+◌, ◌^◌, ◌<◌, nat_lt, nat_le, Bool, true, false, ◌&&◌, List, [], ◌∷◌, ◌++◌, length, Option, Some, None, option_map, slice_get}
 use Rattle.std.proofs.Common.{refl, ap, ◌∙◌, subst}
 use Rattle.std.proofs.lemmas.Bool.{leb-true, ltb-true}
-use Rattle.f_tree.specs.declared.names.Options.{Options}
-use Rattle.f_tree.specs.declared.refusals.Refusal.{Refusal}
-use Rattle.f_tree.specs.declared.units.Unit.{Unit as WrittenUnit}
-use Rattle.f_tree.specs.Values.{Bytes}
-use Rattle.f_tree.specs.Facts.{ProgramUnit}
-use Rattle.f_tree.specs.Setting.{IsIn, first_in, later_in}
-use Rattle.f_tree.specs.Lines.{unit_read}
-use Rattle.declaration_rows.specs.NameRows.{given_names}
-use Rattle.l_core.specs.Steps.{Step, Halt, Text}
-use Rattle.lowering.specs.Units.{lowered_unit}
-use Rattle.c_tree.specs.declared.statement.CStmt.{CStmt}
-use Rattle.c_tree.specs.declared.file.CFile.{CFile}
-use Rattle.c_text.specs.Printed.{printed}
-use Rattle.faithful.specs.Faithful.{Faithful}
-use Rattle.faithful.specs.UnitsAtStart.{AreBytes}
-use Rattle.main_file.specs.MainFile.{main_file}
-use Rattle.main_programs.specs.MainRuns.{plain_facts}
-use Rattle.main_translation.specs.Contents.{temporaries_in, inventory_of}
-use Rattle.main_translation.specs.Outlined.{labels_in}
-use Rattle.main_translation_laws.specs.PlainMains.{IsPlainText}
+use Rattle.translated_forms.specs.f_tree.declared.names.Options.{Options}
+use Rattle.translated_forms.specs.f_tree.declared.refusals.Refusal.{Refusal}
+use Rattle.translated_forms.specs.f_tree.declared.units.Unit.{Unit as WrittenUnit}
+use Rattle.translated_forms.specs.f_tree.Values.{Bytes}
+use Rattle.translated_forms.specs.f_tree.Facts.{ProgramUnit}
+use Rattle.translated_forms.specs.f_tree.Setting.{IsIn, first_in, later_in}
+use Rattle.translated_forms.specs.f_tree.Lines.{unit_read}
+use Rattle.translated_forms.specs.declaration_rows.NameRows.{given_names}
+use Rattle.translated_forms.specs.l_core.Steps.{Step, Halt, Text}
+use Rattle.translated_forms.specs.lowering.Units.{lowered_unit}
+use Rattle.translated_forms.specs.c_tree.declared.statement.CStmt.{CStmt}
+use Rattle.translated_forms.specs.c_tree.declared.file.CFile.{CFile}
+use Rattle.named_main_laws.specs.c_text.Printed.{printed}
+use Rattle.translated_forms.specs.faithful.Faithful.{Faithful}
+use Rattle.translated_forms.specs.faithful.UnitsAtStart.{AreBytes}
+use Rattle.translated_forms.specs.main_file.MainFile.{main_file}
+use Rattle.plain_mains.specs.main_programs.MainRuns.{plain_facts}
+use Rattle.translated_forms.specs.main_translation.Contents.{temporaries_in, inventory_of}
+use Rattle.translated_forms.specs.main_translation.Outlined.{labels_in}
+use Rattle.plain_mains.specs.main_translation_laws.PlainMains.{IsPlainText}
 use Rattle.plain_mains.specs.PlainUnits.{is_plain_main, PlainMainsAreTold}
 use Rattle.plain_files.specs.PlainFiles.{is_spellable, EachPlainFileIsFaithful}
-use Rattle.named_mains.specs.NamedMains.{named_body_of}
+use Rattle.translated_forms.specs.named_mains.NamedMains.{named_body_of}
 use Rattle.named_main_laws.specs.NamedBodies.{EachNamedBodyIsABody, EachMainFileIsOfBytes}
 use Rattle.translated_forms.specs.LoweredForms.{statements_lower}
 use Rattle.translated_forms.specs.TranslatedForms.{stop_fits, fits, file_if, file_by, unit_file, units_file, file_of, form_row, row_unless, unit_not_translated, others_not_translated, units_not_translated}

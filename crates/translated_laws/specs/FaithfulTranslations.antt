@@ -1,12 +1,12 @@
 -- That the translation of each FORTRAN file of which all forms are translated is faithful to it. ANSI X3.9-1978, sections 2.4 and 14.
 use Rattle.std.specs.Prelude.{◌≡◌, ℕ, List, [], ◌∷◌, Option, Some, option_map}
-use Rattle.f_tree.specs.declared.names.Options.{Options}
-use Rattle.f_tree.specs.declared.refusals.Refusal.{Refusal}
-use Rattle.f_tree.specs.declared.units.File.{File}
-use Rattle.c_tree.specs.declared.file.CFile.{CFile}
-use Rattle.c_text.specs.Printed.{printed}
-use Rattle.declaration_rows.specs.SetRows.{Faults}
-use Rattle.faithful.specs.Faithful.{Faithful}
+use Rattle.translated_forms.specs.f_tree.declared.names.Options.{Options}
+use Rattle.translated_forms.specs.f_tree.declared.refusals.Refusal.{Refusal}
+use Rattle.translated_forms.specs.f_tree.declared.units.File.{File}
+use Rattle.translated_forms.specs.c_tree.declared.file.CFile.{CFile}
+use Rattle.named_main_laws.specs.c_text.Printed.{printed}
+use Rattle.translated_forms.specs.declaration_rows.SetRows.{Faults}
+use Rattle.translated_forms.specs.faithful.Faithful.{Faithful}
 use Rattle.translated_forms.specs.TranslatedForms.{file_of, not_translated}
 
 -- the text of the C file of a FORTRAN file

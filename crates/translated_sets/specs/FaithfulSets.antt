@@ -1,10 +1,10 @@
 -- That the translations of the files of a set that is accepted are faithful to it. ANSI X3.9-1978, sections 2.4, 3.5 and 14.
 use Rattle.std.specs.Prelude.{◌≡◌, ℕ, ◌<◌, List, length, Some}
-use Rattle.f_tree.specs.declared.names.Options.{Options}
-use Rattle.f_tree.specs.declared.units.FileSet.{FileSet}
-use Rattle.source_acceptance.specs.SourceFiles.{Source}
+use Rattle.source_verdict.specs.f_tree.declared.names.Options.{Options}
+use Rattle.source_verdict.specs.f_tree.declared.units.FileSet.{FileSet}
+use Rattle.source_verdict.specs.source_acceptance.SourceFiles.{Source}
 use Rattle.source_verdict.specs.SourceRows.{IsAccepted}
-use Rattle.faithful.specs.Faithful.{Faithful}
+use Rattle.source_verdict.specs.faithful.Faithful.{Faithful}
 unfoldable pub use Rattle.translated_file_laws.specs.FaithfulFiles.{translations_of}
 
 -- LAW

@@ -24,12 +24,12 @@ use Rattle.name_facts.specs.declared.table.NameFacts.{NameFacts}
 use Rattle.name_facts.specs.GivenFacts.{fact_in}
 use Rattle.expression_lowering.specs.TableNames as told
 use Rattle.expression_lowering.specs.TableNames.{AreFactsOf, name_lowers, applied_lowers, all_lower, is_lowered_value, table_names_opened}
-use Rattle.statement_lowering.specs.LoweredTransfers as listed
-use Rattle.statement_lowering.specs.LoweredTransfers.{lowered_transfers_opened}
-use Rattle.statement_lowering.specs.LoweredStatements as stated
-use Rattle.statement_lowering.specs.LoweredStatements.{is_function_class, variable_is_text, element_is_text, lowered_statements_opened}
-use Rattle.statement_places.specs.StatementPlaces as placed
-use Rattle.statement_places.specs.StatementPlaces.{statement_places_opened}
+use Rattle.unit_lowering.specs.statement_lowering.LoweredTransfers as listed
+use Rattle.unit_lowering.specs.statement_lowering.LoweredTransfers.{lowered_transfers_opened}
+use Rattle.unit_lowering.specs.statement_lowering.LoweredStatements as stated
+use Rattle.unit_lowering.specs.statement_lowering.LoweredStatements.{is_function_class, variable_is_text, element_is_text, lowered_statements_opened}
+use Rattle.unit_lowering.specs.statement_places.StatementPlaces as placed
+use Rattle.unit_lowering.specs.statement_places.StatementPlaces.{statement_places_opened}
 use Rattle.translated_forms.specs.LoweredForms as named
 use Rattle.translated_forms.specs.LoweredForms.{lowered_forms_opened}
 

@@ -7,7 +7,7 @@ use Rattle.std.proofs.Math.Bool.{and-true}
 use Rattle.std.proofs.lemmas.List.{length-map}
 use Rattle.std.proofs.lemmas.List.Folds.{list_all-map}
 use Rattle.f_tree.specs.Values.{Bytes}
-use Rattle.l_core.specs.Steps.{Step, Keep, Compute, CallFor, Jump}
+use Rattle.lowered_tree.specs.l_core.Steps.{Step, Keep, Compute, CallFor, Jump}
 use Rattle.lowered_tree.specs.declared.pures.Function.{Function}
 use Rattle.lowered_tree.specs.declared.pures.Pure.{Pure as LoweredPure}
 use Rattle.lowered_tree.specs.declared.steps.Callee.{Callee}
@@ -18,7 +18,7 @@ use Rattle.lowered_text.specs.declared.text.LoweredText.{LoweredText}
 use Rattle.lowered_text.specs.declared.text.Marked.{Marked}
 use Rattle.lowered_text.specs.Texts.{marked_of}
 use Rattle.unit_translation.specs.UnitContents.{temporaries_kept}
-use Rattle.main_translation.specs.Outlined.{labels_in}
+use Rattle.unit_forms.specs.main_translation.Outlined.{labels_in}
 use Rattle.translated_forms.specs.TranslatedForms.{stop_fits}
 use Rattle.translated_files.specs.TranslatedFiles.{text_fits}
 use Rattle.translator.specs.FittingSteps.{keep_fits, jump_fits, step_fits, FitsIf}

@@ -21,7 +21,7 @@ use Rattle.f_tree.specs.declared.statements.ListItem.TheVariants as listed
 use Rattle.f_tree.specs.declared.statements.LoopControl.{LoopControl}
 use Rattle.f_tree.specs.declared.statements.TypeSpec.{TypeSpec}
 use Rattle.f_tree.specs.Folds.{fold_expr, fold_item, folds_opened}
-use Rattle.translated_forms.specs.TranslatedForms.{is_number, layer_single, is_listed, layer_form}
+use Rattle.translated_forms.specs.TranslatedForms.{is_number, layer_single, is_listed, are_written, layer_form}
 use Rattle.translated_files.specs.TranslatedFiles.{layer_value, layer_unit_form, is_translated_form}
 
 pub single-Item : (e : Expr) → fold_item layer_single (listed.Item e) ≡ true
@@ -73,15 +73,7 @@ pub form-Entry : (x : Bytes) (dummies : List DummyArgument) → is_translated_fo
 unfolding folds_opened is_translated_form layer_unit_form layer_form
 form-Entry x dummies = refl
 
-pub form-AssignLabel : (label : ℕ) (x : Bytes) → is_translated_form (body.AssignLabel label x) ≡ false
-unfolding folds_opened is_translated_form layer_unit_form layer_form
-form-AssignLabel label x = refl
-
-pub form-GotoList : (labels : List ℕ) (e : Expr) → is_translated_form (body.GotoList labels e) ≡ false
-unfolding folds_opened is_translated_form layer_unit_form layer_form
-form-GotoList labels e = refl
-
-pub form-GotoName : (x : Bytes) (labels : List ℕ) → is_translated_form (body.GotoName x labels) ≡ false
+pub form-GotoName : (x : Bytes) (labels : List ℕ) → is_translated_form (body.GotoName x labels) ≡ are_written labels
 unfolding folds_opened is_translated_form layer_unit_form layer_form
 form-GotoName x labels = refl
 
@@ -105,7 +97,7 @@ pub form-Include : (name : Bytes) → is_translated_form (body.Include name) ≡
 unfolding folds_opened is_translated_form layer_unit_form layer_form
 form-Include name = refl
 
-pub ruleset body_forms = (form-Declare, form-Common, form-Equivalence, form-Init, form-Entry, form-AssignLabel, form-GotoList, form-GotoName, form-IfOne, form-Call, form-Transfer, form-Auxiliary, form-Include)
+pub ruleset body_forms = (form-Declare, form-Common, form-Equivalence, form-Init, form-Entry, form-GotoName, form-IfOne, form-Call, form-Transfer, form-Auxiliary, form-Include)
 
 -- each other form is translated
 pub form-other : (b : Body)
@@ -114,8 +106,6 @@ pub form-other : (b : Body)
     → ((groups : List EquivalenceGroup) → b ≡ body.Equivalence groups → ⊥)
     → ((groups : List DataGroup) → b ≡ body.Init groups → ⊥)
     → ((x : Bytes) (dummies : List DummyArgument) → b ≡ body.Entry x dummies → ⊥)
-    → ((label : ℕ) (x : Bytes) → b ≡ body.AssignLabel label x → ⊥)
-    → ((labels : List ℕ) (e : Expr) → b ≡ body.GotoList labels e → ⊥)
     → ((x : Bytes) (labels : List ℕ) → b ≡ body.GotoName x labels → ⊥)
     → ((x : Bytes) (es : List Expr) → b ≡ body.Call x es → ⊥)
     → ((which : AuxiliaryKind) (controls : List Control) → b ≡ body.Auxiliary which controls → ⊥)
@@ -124,17 +114,15 @@ pub form-other : (b : Body)
     → ((way : Direction) (controls : List Control) (items : List ListItem) → b ≡ body.Transfer way controls items → ⊥)
     → true ≡ is_translated_form b
 unfolding is_translated_form layer_unit_form layer_form folds_opened
-form-other (whole.Declare spec items) h0 h1 h2 h3 h4 h5 h6 h7 h8 h9 h10 h11 h12 = absurd (h0 spec items refl)
-form-other (whole.Common groups) h0 h1 h2 h3 h4 h5 h6 h7 h8 h9 h10 h11 h12 = absurd (h1 groups refl)
-form-other (whole.Equivalence groups) h0 h1 h2 h3 h4 h5 h6 h7 h8 h9 h10 h11 h12 = absurd (h2 groups refl)
-form-other (whole.Init groups) h0 h1 h2 h3 h4 h5 h6 h7 h8 h9 h10 h11 h12 = absurd (h3 groups refl)
-form-other (whole.Entry x dummies) h0 h1 h2 h3 h4 h5 h6 h7 h8 h9 h10 h11 h12 = absurd (h4 x dummies refl)
-form-other (whole.AssignLabel label x) h0 h1 h2 h3 h4 h5 h6 h7 h8 h9 h10 h11 h12 = absurd (h5 label x refl)
-form-other (whole.GotoList labels e) h0 h1 h2 h3 h4 h5 h6 h7 h8 h9 h10 h11 h12 = absurd (h6 labels e refl)
-form-other (whole.GotoName x labels) h0 h1 h2 h3 h4 h5 h6 h7 h8 h9 h10 h11 h12 = absurd (h7 x labels refl)
-form-other (whole.Call x es) h0 h1 h2 h3 h4 h5 h6 h7 h8 h9 h10 h11 h12 = absurd (h8 x es refl)
-form-other (whole.Auxiliary which controls) h0 h1 h2 h3 h4 h5 h6 h7 h8 h9 h10 h11 h12 = absurd (h9 which controls refl)
-form-other (whole.Include name) h0 h1 h2 h3 h4 h5 h6 h7 h8 h9 h10 h11 h12 = absurd (h10 name refl)
-form-other (IfOne' e s (more_of-Body b end_of-Body)) h0 h1 h2 h3 h4 h5 h6 h7 h8 h9 h10 h11 h12 = absurd (h11 e b refl)
-form-other (whole.Transfer way controls items) h0 h1 h2 h3 h4 h5 h6 h7 h8 h9 h10 h11 h12 = absurd (h12 way controls items refl)
-form-other _ h0 h1 h2 h3 h4 h5 h6 h7 h8 h9 h10 h11 h12 = refl
+form-other (whole.Declare spec items) h0 h1 h2 h3 h4 h5 h6 h7 h8 h9 h10 = absurd (h0 spec items refl)
+form-other (whole.Common groups) h0 h1 h2 h3 h4 h5 h6 h7 h8 h9 h10 = absurd (h1 groups refl)
+form-other (whole.Equivalence groups) h0 h1 h2 h3 h4 h5 h6 h7 h8 h9 h10 = absurd (h2 groups refl)
+form-other (whole.Init groups) h0 h1 h2 h3 h4 h5 h6 h7 h8 h9 h10 = absurd (h3 groups refl)
+form-other (whole.Entry x dummies) h0 h1 h2 h3 h4 h5 h6 h7 h8 h9 h10 = absurd (h4 x dummies refl)
+form-other (whole.GotoName x labels) h0 h1 h2 h3 h4 h5 h6 h7 h8 h9 h10 = absurd (h5 x labels refl)
+form-other (whole.Call x es) h0 h1 h2 h3 h4 h5 h6 h7 h8 h9 h10 = absurd (h6 x es refl)
+form-other (whole.Auxiliary which controls) h0 h1 h2 h3 h4 h5 h6 h7 h8 h9 h10 = absurd (h7 which controls refl)
+form-other (whole.Include name) h0 h1 h2 h3 h4 h5 h6 h7 h8 h9 h10 = absurd (h8 name refl)
+form-other (IfOne' e s (more_of-Body b end_of-Body)) h0 h1 h2 h3 h4 h5 h6 h7 h8 h9 h10 = absurd (h9 e b refl)
+form-other (whole.Transfer way controls items) h0 h1 h2 h3 h4 h5 h6 h7 h8 h9 h10 = absurd (h10 way controls items refl)
+form-other _ h0 h1 h2 h3 h4 h5 h6 h7 h8 h9 h10 = refl

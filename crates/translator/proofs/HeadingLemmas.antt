@@ -24,7 +24,7 @@ use Rattle.name_facts.specs.declared.table.NameFacts.{NameFacts}
 use Rattle.name_facts.specs.GivenFacts.{AreNameFacts, fact_in}
 use Rattle.name_table.specs.Named.{names_in}
 use Rattle.unit_translation.specs.UnitContents.{parameter_for}
-use Rattle.unit_file.specs.UnitFile.{Parameter}
+use Rattle.unit_translation.specs.unit_file.UnitFile.{Parameter}
 use Rattle.unit_writer.specs.declared.heading.Dummy.{Dummy}
 use Rattle.unit_writer.specs.ToldUnits.{dummy_told}
 use Rattle.translator.specs.UnitFiles.{use_in, parameter_in, dummy_in}

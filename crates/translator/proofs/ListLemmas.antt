@@ -14,12 +14,12 @@ use Rattle.refusal_order.specs.Earliest.{earliest}
 use Rattle.refusal_order.proofs.FirstOfBoth.{earliest_along, earliest_none}
 use Rattle.c_tree.specs.declared.statement.CStmt.{CStmt}
 use Rattle.c_tree.specs.declared.file.CFunction.{CFunction}
-use Rattle.main_translation.specs.Contents.{with_new}
+use Rattle.unit_forms.specs.main_translation.Contents.{with_new}
 use Rattle.unit_contents.specs.ContentsOf.{TellsNames, AreContentsOf, AreMoreConstants}
-use Rattle.unit_file.specs.UnitFile.{WrittenUnit, unit_function}
+use Rattle.unit_translation.specs.unit_file.UnitFile.{WrittenUnit, unit_function}
 use Rattle.unit_translation.specs.UnitContents.{LoweredUnit, values_from, constants_passed, inventory_of}
 use Rattle.unit_translation.specs.UnitBodies.{written_before}
-use Rattle.named_units.specs.NamedUnits.{named_body_of, named_from}
+use Rattle.unit_writer.specs.named_units.NamedUnits.{named_body_of, named_from}
 use Rattle.unit_writer.specs.declared.heading.Procedure.{Procedure}
 use Rattle.unit_writer.specs.ToldUnits.{TellsProcedures, IsWrittenUnit}
 use Rattle.translated_files.specs.TranslatedFiles.{form_row, row_unless, rows_of_bodies}

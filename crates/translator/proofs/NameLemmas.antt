@@ -21,7 +21,7 @@ use Rattle.name_facts.specs.declared.table.NameFacts.{NameFacts}
 use Rattle.name_facts.specs.GivenFacts.{AreNameFacts, fact_in}
 use Rattle.name_table.specs.declared.name_set.NameSet.{NameSet}
 use Rattle.name_table.specs.Named.{IsNameSet, names_in}
-use Rattle.name_uses.specs.UsesSeen.{Adds}
+use Rattle.name_places.specs.name_uses.UsesSeen.{Adds}
 use Rattle.plain_names.proofs.Described.{all_asked}
 use Rattle.translated_files.specs.TranslatedFiles.{is_procedure, procedure_names, is_defined, procedures_are_defined}
 use Rattle.translator.specs.UnitFiles.{own_procedure, dummy_is_spelled}

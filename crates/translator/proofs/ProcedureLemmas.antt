@@ -14,7 +14,7 @@ use Rattle.c_tree.specs.declared.types.ArgumentType.{ArgumentType}
 use Rattle.c_tree.specs.declared.types.ArgumentType.TheVariants as argument
 use Rattle.procedure_emission.specs.EmittedUnits.{number_result}
 use Rattle.name_facts.specs.GivenFacts.{fact_in}
-use Rattle.unit_file.specs.UnitFile.{Parameter, Callee}
+use Rattle.unit_translation.specs.unit_file.UnitFile.{Parameter, Callee}
 use Rattle.unit_translation.specs.UnitContents.{LoweredUnit, program_units, parameters_in, type_given, basic_given, result_by, result_given, unit_callee, procedure_callee}
 use Rattle.unit_writer.specs.declared.heading.Dummy.{Dummy}
 use Rattle.unit_writer.specs.declared.heading.UnitRole.{UnitRole}

@@ -16,12 +16,12 @@ use Rattle.refusal_order.specs.Earliest.{earliest}
 use Rattle.refusal_order.proofs.FirstOfBoth.{first_of_both, earliest_along, earliest_none}
 use Rattle.c_tree.specs.declared.file.CFile.{CFile}
 use Rattle.c_tree.specs.declared.file.CFunction.{CFunction}
-use Rattle.main_file.specs.MainFile.{constant_for}
-use Rattle.unit_file.specs.UnitFile.{WrittenUnit, unit_function}
-use Rattle.unit_sites.specs.UnitSites.{UnitsOfFile, file_for, files_of as c_files}
+use Rattle.unit_forms.specs.main_file.MainFile.{constant_for}
+use Rattle.unit_translation.specs.unit_file.UnitFile.{WrittenUnit, unit_function}
+use Rattle.unit_translation.specs.unit_sites.UnitSites.{UnitsOfFile, file_for, files_of as c_files}
 use Rattle.unit_translation.specs.UnitContents.{LoweredUnit, constants_passed}
 use Rattle.unit_translation.specs.UnitBodies.{all_lowered}
-use Rattle.named_units.specs.NamedUnits.{named_from, named_file_of, named_files_from}
+use Rattle.unit_writer.specs.named_units.NamedUnits.{named_from, named_file_of, named_files_from}
 use Rattle.unit_writer.specs.declared.heading.Procedure.{Procedure}
 use Rattle.unit_writer.specs.ToldUnits.{TellsProcedures}
 use Rattle.translated_files.specs.TranslatedFiles.{rows_of_bodies, rows_of_files}

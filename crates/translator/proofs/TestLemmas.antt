@@ -8,9 +8,9 @@ use Rattle.f_tree.specs.Values.{Bytes}
 use Rattle.f_tree.specs.Facts.{EntryPoint}
 use Rattle.f_tree.specs.Reading.{name_or_none}
 use Rattle.f_tree.specs.Lines.{entries_from, unit_kind, unit_read, program_of, with_ties}
-use Rattle.lowering_laws.specs.Layout.{are_direct, has_end}
-use Rattle.plain_forms.specs.PlainUnits.{has_none, has_own_storage, loops_fit, has_plain_lines}
-use Rattle.plain_forms.specs.SpellableNames.{is_spellable}
+use Rattle.unit_forms.specs.lowering_laws.Layout.{are_direct, has_end}
+use Rattle.unit_forms.specs.plain_forms.PlainUnits.{has_none, has_own_storage, loops_fit, has_plain_lines}
+use Rattle.unit_forms.specs.plain_forms.SpellableNames.{is_spellable}
 use Rattle.unit_forms.specs.PlainProcedures.{may_run, heading_fits, has_no_entries, has_plain_heading, each_name_is_plain, is_plain_unit}
 use Rattle.unit_forms.specs.SpellableUnits.{is_called_well, is_spellable_entry, is_spellable_unit}
 use Rattle.translated_files.specs.TranslatedFiles.{procedures_are_defined}

@@ -9,12 +9,12 @@ use Rattle.f_tree.specs.Facts.{Facts}
 use Rattle.f_tree.specs.Lines.{unit_read, with_ties, program_of}
 use Rattle.f_tree.specs.Meaning.{facts_at}
 use Rattle.declaration_rows.specs.NameRows.{given_names}
-use Rattle.l_core.specs.Steps.{Step, Text}
-use Rattle.lowering.specs.Units.{lines_code, text_with, lowered_unit}
+use Rattle.lowered_tree.specs.l_core.Steps.{Step, Text}
+use Rattle.expression_lowering.specs.lowering.Units.{lines_code, text_with, lowered_unit}
 use Rattle.lowered_text.specs.declared.text.LoweredText.{LoweredText}
 use Rattle.name_facts.specs.declared.table.NameFacts.{NameFacts}
 use Rattle.name_facts.specs.GivenFacts.{AreNameFacts}
-use Rattle.statement_places.specs.StatementPlaces as placed
+use Rattle.unit_lowering.specs.statement_places.StatementPlaces as placed
 use Rattle.translated_forms.specs.LoweredForms.{statements_lower}
 use Rattle.unit_forms.specs.OwnSetting.{own_setting}
 use Rattle.unit_forms.specs.PlainProcedures.{is_plain_unit}

@@ -18,11 +18,11 @@ use Rattle.declaration_rows.specs.NameRows.{given_names, all_names}
 use Rattle.name_facts.specs.declared.table.NameFacts.{NameFacts}
 use Rattle.name_facts.specs.GivenFacts.{AreNameFacts, IsNameFact, fact_in}
 use Rattle.expression_lowering.specs.TableNames.{AreFactsOf}
-use Rattle.open_loops.specs.ReadLines.{IsReadAs}
+use Rattle.unit_lowering.specs.open_loops.ReadLines.{IsReadAs}
 use Rattle.decl_table.proofs.FactLemmas.{attribute-among}
 use Rattle.faithful.specs.Signatures.{named_formals}
-use Rattle.l_core.specs.Steps.{Text}
-use Rattle.plain_forms.specs.PlainUnits.{has_none, has_own_storage, has_plain_lines}
+use Rattle.lowered_tree.specs.l_core.Steps.{Text}
+use Rattle.unit_forms.specs.plain_forms.PlainUnits.{has_none, has_own_storage, has_plain_lines}
 use Rattle.unit_forms.specs.PlainProcedures.{may_run, heading_fits, has_no_entries, has_plain_heading, each_name_is_plain, is_plain_unit}
 use Rattle.unit_translation.specs.UnitContents.{formals_in, parameters_in}
 use Rattle.unit_writer.specs.declared.heading.Heading.{Heading}

@@ -14,10 +14,10 @@ use Rattle.declaration_rows.specs.Verdicts.{first_of}
 use Rattle.refusal_order.specs.Earliest.{earliest}
 use Rattle.refusal_order.proofs.FirstOfBoth.{first_of_both, earliest_none}
 use Rattle.c_tree.specs.declared.file.CFile.{CFile}
-use Rattle.unit_sites.specs.UnitSites.{files_of as c_files}
+use Rattle.unit_translation.specs.unit_sites.UnitSites.{files_of as c_files}
 use Rattle.unit_translation.specs.UnitContents.{LoweredUnit}
 use Rattle.unit_translation.specs.UnitBodies.{all_lowered}
-use Rattle.named_units.specs.NamedUnits.{named_files}
+use Rattle.unit_writer.specs.named_units.NamedUnits.{named_files}
 use Rattle.translated_files.specs.TranslatedFiles.{procedure_names, lowered_files, has_units, each_has_units, made_files, files_of, rows_of_lowering, rows_behind, row_of_none, files_without_units, units_not_translated, files_not_translated}
 use Rattle.translator.specs.declared.unit.PlainUnit.{PlainUnit}
 use Rattle.translator.specs.LoweredFiles.{EachIsKnown, WereLowered, AreUnitsOf, IsAnswer, AreFilesBy, AreWrittenFiles, AreTranslatedUnits}

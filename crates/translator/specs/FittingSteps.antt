@@ -1,6 +1,6 @@
 -- Which steps fit into memory, each by itself. ANSI X3.9-1978, sections 3.4, 10.3, 11.12 and 15.5.
 use Rattle.std.specs.Prelude.{◌≡◌, suc, ◌^◌, nat_lt, Bool, true, ◌&&◌}
-use Rattle.l_core.specs.Steps.{Step, Keep, Compute, CallFor, Jump, Text}
+use Rattle.lowered_tree.specs.l_core.Steps.{Step, Keep, Compute, CallFor, Jump, Text}
 use Rattle.lowered_text.specs.declared.text.LoweredText.{LoweredText}
 use Rattle.lowered_text.specs.Texts.{IsText}
 use Rattle.translated_forms.specs.TranslatedForms.{stop_fits}

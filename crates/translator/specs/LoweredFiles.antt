@@ -21,7 +21,7 @@ use Rattle.c_tree.specs.declared.file.CFile.{CFile}
 use Rattle.c_tree.specs.declared.file.CFunction.{CFunction}
 use Rattle.procedure_emission.specs.EmittedUnits.{number_result}
 use Rattle.name_facts.specs.GivenFacts.{fact_in}
-use Rattle.unit_file.specs.UnitFile.{Callee, unit_function}
+use Rattle.unit_translation.specs.unit_file.UnitFile.{Callee, unit_function}
 use Rattle.unit_translation.specs.UnitContents.{LoweredUnit, constants_passed, inventory_of}
 use Rattle.unit_translation.specs.UnitBodies.{all_lowered}
 use Rattle.unit_writer.specs.declared.heading.UnitRole.{UnitRole}
@@ -29,8 +29,8 @@ use Rattle.unit_writer.specs.declared.heading.UnitRole.TheVariants as role
 use Rattle.unit_writer.specs.declared.heading.Dummy.{Dummy}
 use Rattle.unit_writer.specs.declared.heading.Procedure.{Procedure}
 use Rattle.unit_writer.specs.ToldUnits.{TellsProcedures}
-use Rattle.unit_sites.specs.UnitSites.{file_for, files_of as c_files}
-use Rattle.named_units.specs.NamedUnits.{named_body_of, named_from, named_file_of, named_files_from, named_files}
+use Rattle.unit_translation.specs.unit_sites.UnitSites.{file_for, files_of as c_files}
+use Rattle.unit_writer.specs.named_units.NamedUnits.{named_body_of, named_from, named_file_of, named_files_from, named_files}
 use Rattle.translated_files.specs.TranslatedFiles.{procedure_names, lowered_from, lowered_files, form_row, rows_of_lowering, rows_of_bodies, rows_of_files, units_not_translated}
 use Rattle.translator.specs.declared.unit.PlainUnit.{PlainUnit}
 use Rattle.translator.specs.UnitFiles.{IsToldAs, IsUnitIf}

@@ -13,15 +13,15 @@ use Rattle.f_tree.specs.Reading.{name_or_none}
 use Rattle.f_tree.specs.Attributes.{arrays_of, named_dummies}
 use Rattle.f_tree.specs.Lines.{unit_kind, unit_read}
 use Rattle.declaration_rows.specs.NameRows.{all_names, given_names}
-use Rattle.l_core.specs.Steps.{Text}
+use Rattle.lowered_tree.specs.l_core.Steps.{Text}
 use Rattle.c_tree.specs.declared.types.ParameterType.{ParameterType}
 use Rattle.c_tree.specs.Tokens.{begins_with, is_letter}
 use Rattle.faithful.specs.Signatures.{dummy_of}
 use Rattle.lowered_text.specs.declared.text.LoweredText.{LoweredText}
 use Rattle.lowered_text.specs.Texts.{IsText}
 use Rattle.name_facts.specs.declared.table.NameFacts.{NameFacts}
-use Rattle.statement_places.specs.StatementPlaces.{statements_lower}
-use Rattle.unit_file.specs.UnitFile.{Parameter}
+use Rattle.unit_lowering.specs.statement_places.StatementPlaces.{statements_lower}
+use Rattle.unit_translation.specs.unit_file.UnitFile.{Parameter}
 use Rattle.unit_forms.specs.PlainProcedures.{may_run, is_plain_unit}
 use Rattle.unit_forms.specs.SpellableUnits.{is_spellable_unit}
 use Rattle.unit_lowering.specs.LoweredUnits.{IsLoweredUnit}

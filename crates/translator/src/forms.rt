@@ -112,6 +112,14 @@ fn are_values(arguments: &[Expr]) -> bool
     arguments.iter().all(|argument| is_value(argument))
 }
 
+/// Whether labels are written.
+#[tactic(auto, unfolding(translated_forms::specs::TranslatedForms::are_written))]
+fn are_written(labels: &[u32]) -> bool
+    ensures { result ≡ spec.are_written labels.now }
+{
+    !labels.is_empty()
+}
+
 /// Whether a statement is of a form that is translated, as is the statement of a logical IF.
 #[cycle(forms)]
 #[tactic(auto, using(crate::proofs::FormLemmas::body_forms))]
@@ -121,7 +129,7 @@ pub(crate) fn is_translated_form(body: &Body) -> bool
     match body {
         Body::Declare(written, _) => is_number(written.basic),
         Body::Common(_) | Body::Equivalence(_) | Body::Init(_) | Body::Entry(..) => false,
-        Body::AssignLabel(..) | Body::GotoList(..) | Body::GotoName(..) => false,
+        Body::GotoName(_, labels) => are_written(labels.as_slice()),
         Body::Auxiliary(..) | Body::Include(_) => false,
         Body::Call(_, arguments) => are_values(arguments.as_slice()),
         Body::IfOne(_, body) => is_translated_form(body.get()),

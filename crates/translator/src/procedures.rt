@@ -8,7 +8,7 @@ ghost use Rattle.declaration_rows.specs.GlobalRows.{all_units};
 ghost use Rattle.declaration_rows.specs.NameRows.{all_names};
 ghost use Rattle.name_facts.specs.GivenFacts.{AreNameFacts, fact_in};
 ghost use Rattle.name_table.specs.Named.{IsNameSet, names_in};
-ghost use Rattle.name_uses.specs.UsesSeen.{Adds};
+ghost use Rattle.name_places.specs.name_uses.UsesSeen.{Adds};
 ghost use Rattle.translated_files.specs.TranslatedFiles as spec;
 ghost use Rattle.translator.specs.UnitFiles.{own_procedure};
 

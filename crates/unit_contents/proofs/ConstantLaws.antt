@@ -11,9 +11,9 @@ use Rattle.std.proofs.lemmas.List.{at_drop_more, at_drop_all, append-nil, length
 use Rattle.f_tree.specs.declared.names.Basic.{Basic}
 use Rattle.f_tree.specs.Values.{Datum, IsInt, IsLog, in_range}
 use Rattle.f_tree.specs.Facts.{Facts}
-use Rattle.l_core.specs.Pures as core
-use Rattle.l_core.specs.Steps as act
-use Rattle.l_core.specs.Steps.{Text, Takes, Acts}
+use Rattle.lowered_tree.specs.l_core.Pures as core
+use Rattle.lowered_tree.specs.l_core.Steps as act
+use Rattle.lowered_tree.specs.l_core.Steps.{Text, Takes, Acts}
 use Rattle.lowered_tree.specs.declared.pures.Literal.{Literal}
 use Rattle.lowered_tree.specs.declared.pures.Function.{Function}
 use Rattle.lowered_tree.specs.declared.pures.Pure.{Pure}

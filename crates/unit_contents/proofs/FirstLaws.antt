@@ -6,7 +6,7 @@ use Rattle.std.proofs.Common.{refl, ap, sym, ◌∙◌, subst, drop, get_or, ⊎
 use Rattle.std.proofs.lemmas.Bool.{cases_lt, lt-ltb, le-ltb}
 use Rattle.std.proofs.lemmas.Bool.Decides.{nat_tests}
 use Rattle.std.proofs.lemmas.List.{at_drop_more, at_drop_all, append-nil}
-use Rattle.l_core.specs.Steps as core
+use Rattle.lowered_tree.specs.l_core.Steps as core
 use Rattle.lowered_tree.specs.declared.steps.Step.{Step}
 use Rattle.lowered_tree.specs.declared.steps.Step.TheVariants as step
 use Rattle.lowered_tree.specs.Shapes.{step_of, steps_of}

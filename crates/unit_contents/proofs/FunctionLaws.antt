@@ -3,7 +3,7 @@ use Rattle.std.specs.Prelude.{◌≡◌, ℕ, ◌+◌, ◌<◌, ◌≤◌, Bool,
 use Rattle.std.specs.List.{list_any}
 use Rattle.std.proofs.Common.{refl, ap, sym, ◌∙◌, drop, append_assoc}
 use Rattle.std.proofs.lemmas.List.{at_drop_more, at_drop_all, append-nil, map-append}
-use Rattle.l_core.specs.Steps as core
+use Rattle.lowered_tree.specs.l_core.Steps as core
 use Rattle.c_emit.specs.LibraryFunctions as emit
 use Rattle.library_functions.specs.declared.table.LibraryFunction.{LibraryFunction}
 use Rattle.library_functions.specs.Described.{described}

@@ -2,8 +2,8 @@
 use Rattle.std.specs.Prelude.{◌≡◌, ℕ, Option}
 use Rattle.std.proofs.Common.{refl, sym}
 use Rattle.f_tree.specs.Facts.{Facts}
-use Rattle.l_core.specs.Pures as core
-use Rattle.l_core.specs.Steps.{Text}
+use Rattle.lowered_tree.specs.l_core.Pures as core
+use Rattle.lowered_tree.specs.l_core.Steps.{Text}
 use Rattle.lowered_tree.specs.declared.pures.Pure.{Pure}
 use Rattle.lowered_tree.specs.declared.pures.Pure as tree
 use Rattle.lowered_tree.specs.Shapes.{pure_of, shapes_opened}

@@ -5,7 +5,7 @@ use Rattle.std.proofs.Common.{refl, ap, sym, ◌∙◌, subst, get_or, ⊎_elim,
 use Rattle.std.proofs.lemmas.Bool.{cases_lt}
 use Rattle.std.proofs.lemmas.List.{length_push}
 use Rattle.f_tree.specs.Facts.{Facts}
-use Rattle.l_core.specs.Steps.{Text}
+use Rattle.lowered_tree.specs.l_core.Steps.{Text}
 use Rattle.lowered_tree.specs.declared.steps.Step.{Step}
 use Rattle.lowered_tree.specs.Shapes.{step_of}
 use Rattle.lowered_text.specs.declared.text.LoweredText.{LoweredText}

@@ -6,8 +6,8 @@ use Rattle.std.proofs.Common.{refl, ap, sym, ◌∙◌, subst, drop, get_or, ⊎
 use Rattle.std.proofs.lemmas.Bool.{cases_lt, lt-ltb, le-ltb}
 use Rattle.std.proofs.lemmas.List.{length-map, get_or_past}
 use Rattle.std.proofs.lemmas.Option.{slice_get_past, unwrap_or-slice_get}
-use Rattle.l_core.specs.Pures as core
-use Rattle.l_core.specs.Steps.{Unless}
+use Rattle.lowered_tree.specs.l_core.Pures as core
+use Rattle.lowered_tree.specs.l_core.Steps.{Unless}
 use Rattle.lowered_tree.specs.declared.pures.Pure.{Pure}
 use Rattle.lowered_tree.specs.declared.steps.Step.{Step}
 use Rattle.lowered_tree.specs.declared.steps.Step.TheVariants as step

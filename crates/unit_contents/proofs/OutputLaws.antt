@@ -5,8 +5,8 @@ use Rattle.std.proofs.Common.{refl, ap, sym, ◌∙◌, subst, drop, get_or, ari
 use Rattle.std.proofs.lemmas.Option.{slice_get-map, slice_get-get_or, same_Some}
 use Rattle.f_tree.specs.declared.names.Basic.{Basic}
 use Rattle.f_tree.specs.Facts.{Facts}
-use Rattle.l_core.specs.Steps as core
-use Rattle.l_core.specs.Steps.{Text, Starts, Takes, Finishes, Auxiliary, Keep, Acts}
+use Rattle.lowered_tree.specs.l_core.Steps as core
+use Rattle.lowered_tree.specs.l_core.Steps.{Text, Starts, Takes, Finishes, Auxiliary, Keep, Acts}
 use Rattle.lowered_tree.specs.declared.steps.Step.{Step}
 use Rattle.lowered_tree.specs.Shapes.{step_of, steps_of}
 use Rattle.lowered_text.specs.declared.text.LoweredText.{LoweredText}

@@ -7,7 +7,7 @@ use Rattle.std.proofs.lemmas.List.{at_drop_more, at_drop_all}
 use Rattle.f_tree.specs.declared.names.Class.{Class}
 use Rattle.f_tree.specs.Values.{Bytes}
 use Rattle.f_tree.specs.Facts.{Facts}
-use Rattle.l_core.specs.Pures as core
+use Rattle.lowered_tree.specs.l_core.Pures as core
 use Rattle.lowered_tree.specs.declared.pures.Pure.{Pure}
 use Rattle.lowered_tree.specs.declared.pures.Pure as tree
 use Rattle.lowered_tree.specs.declared.steps.Callee.{Callee}

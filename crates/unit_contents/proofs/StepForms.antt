@@ -2,7 +2,7 @@
 use Rattle.std.specs.Prelude.{◌≡◌, ◌<◌, ◌≤◌, List, [], ◌∷◌, None, length, slice_index_or}
 use Rattle.std.proofs.Common.{refl, ap, ◌∙◌, arith}
 use Rattle.f_tree.specs.Values.{IsInt}
-use Rattle.l_core.specs.Pures as core
+use Rattle.lowered_tree.specs.l_core.Pures as core
 use Rattle.lowered_tree.specs.declared.pures.Literal.{Literal}
 use Rattle.lowered_tree.specs.declared.pures.Pure.{Pure}
 use Rattle.lowered_tree.specs.declared.pures.Pure as tree

@@ -2,12 +2,12 @@
 use Rattle.std.specs.Prelude.{◌≡◌, ℕ, suc, ◌+◌, ◌<◌, ◌≤◌, max, true, false, ℤ, List, [], ◌∷◌, ◌++◌, map, length, Option, Some, None, slice_index_or, if◌then◌else◌}
 use Rattle.std.proofs.Common.{ap, sym, ◌∙◌, drop, arith, append_assoc}
 use Rattle.std.proofs.lemmas.List.{at_drop_more, at_drop_all, append-nil, map-append}
-use Rattle.l_core.specs.Steps as core
-use Rattle.l_core.specs.Steps.{Keep, Compute, CallFor, Halt, Acts, Starts}
+use Rattle.lowered_tree.specs.l_core.Steps as core
+use Rattle.lowered_tree.specs.l_core.Steps.{Keep, Compute, CallFor, Halt, Acts, Starts}
 use Rattle.lowered_tree.specs.declared.steps.Step.{Step}
 use Rattle.lowered_tree.specs.Shapes.{step_of, steps_of}
-use Rattle.main_file.specs.MainFile as file
-use Rattle.main_file.specs.MainItems.{stops_from}
+use Rattle.main_translation.specs.main_file.MainFile as file
+use Rattle.main_translation.specs.main_file.MainItems.{stops_from}
 use Rattle.main_translation.specs.Contents.{listing_by, listings_from, stops_run}
 use Rattle.unit_translation.specs.UnitContents.{temporaries_kept}
 use Rattle.unit_contents.specs.declared.contents.Listing.{Listing}

@@ -6,12 +6,12 @@ use Rattle.std.proofs.lemmas.Bool.{ltb-true}
 use Rattle.std.proofs.lemmas.List.{length-map}
 use mathlib.Core.Path.{fun_ext}
 use Rattle.f_tree.specs.Facts.{Facts}
-use Rattle.l_core.specs.Steps.{Text}
+use Rattle.lowered_tree.specs.l_core.Steps.{Text}
 use Rattle.lowered_tree.specs.declared.steps.Step.{Step}
 use Rattle.lowered_tree.specs.Shapes.{step_of, steps_of}
 use Rattle.lowered_text.specs.declared.text.LoweredText.{LoweredText}
 use Rattle.lowered_text.specs.Texts.{IsText}
-use Rattle.main_file.specs.MainItems.{stops_from}
+use Rattle.main_translation.specs.main_file.MainItems.{stops_from}
 use Rattle.unit_translation.specs.UnitFlow.{are_in_place}
 use Rattle.unit_translation.specs.UnitContents.{temporaries_kept, with_name, procedures_by, procedures_in}
 use Rattle.main_translation.specs.Contents.{listings_from}

@@ -5,13 +5,13 @@ use Rattle.std.specs.Option.{option_flatten}
 use Rattle.std.specs.Prelude.{◌≡◌, ℕ, nat_lt, ℤ, true, ◌&&◌, List, map, filter, fold, length, is_none, slice_get}
 use Rattle.f_tree.specs.Values.{Bytes}
 use Rattle.f_tree.specs.Facts.{Facts}
-use Rattle.l_core.specs.Steps.{Step, Text}
+use Rattle.lowered_tree.specs.l_core.Steps.{Step, Text}
 use Rattle.c_emit.specs.LibraryFunctions.{LibraryFunction, library_functions}
 use Rattle.library_functions.specs.Described.{described}
 use Rattle.lowered_text.specs.declared.text.LoweredText.{LoweredText}
 use Rattle.lowered_text.specs.Texts.{IsText, kinds_of}
-use Rattle.main_file.specs.MainFile as file
-use Rattle.main_file.specs.MainItems.{stops_from}
+use Rattle.main_translation.specs.main_file.MainFile as file
+use Rattle.main_translation.specs.main_file.MainItems.{stops_from}
 use Rattle.main_translation.specs.Contents.{with_new, listings_from, begins_output, takes_item, ends_output, stops_run, computes}
 use Rattle.main_translation.specs.Outlined.{label_at, passes_arms, loop_at}
 use Rattle.unit_translation.specs.UnitFlow.{kind_before, are_in_place}

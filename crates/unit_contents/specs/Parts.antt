@@ -4,8 +4,8 @@ use Rattle.std.specs.Prelude.{ℤ, pos, Bool, true, false, List, [], ◌∷◌, 
 use Rattle.f_tree.specs.declared.names.Basic.{Basic}
 use Rattle.f_tree.specs.Values.{Bytes, Datum, IsInt, IsLog, in_range}
 use Rattle.f_tree.specs.Facts.{Facts}
-use Rattle.l_core.specs.Pures.{Pure, Constant, Temporary, Name, Pures, NoPure, AndPure}
-use Rattle.l_core.specs.Steps.{Acting, Starts, Takes, Step, Keep, Compute, CallFor, CallSub, Back, BackBy, Acts}
+use Rattle.lowered_tree.specs.l_core.Pures.{Pure, Constant, Temporary, Name, Pures, NoPure, AndPure}
+use Rattle.lowered_tree.specs.l_core.Steps.{Acting, Starts, Takes, Step, Keep, Compute, CallFor, CallSub, Back, BackBy, Acts}
 use Rattle.c_emit.specs.Calls.{unit_of, kind_number}
 use Rattle.lowered_text.specs.declared.kept.Kept.{Kept}
 use Rattle.lowered_text.specs.Texts.{kinds_of}

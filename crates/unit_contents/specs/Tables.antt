@@ -4,7 +4,7 @@ use Rattle.std.specs.Option.{option_flatten}
 use Rattle.std.specs.Prelude.{◌≡◌, ℕ, suc, ◌<◌, nat_eq, Bool, false, ◌&&◌, List, map, length, position, Option, Some, None, is_none, slice_get, slice_index_or, if◌then◌else◌}
 use Rattle.std.specs.HashMap.{get_by}
 use Rattle.f_tree.specs.Facts.{Facts}
-use Rattle.l_core.specs.Steps.{Text}
+use Rattle.lowered_tree.specs.l_core.Steps.{Text}
 use Rattle.lowered_tree.specs.declared.steps.Step.{Step}
 use Rattle.lowered_tree.specs.Shapes.{steps_of}
 use Rattle.lowered_text.specs.declared.text.LoweredText.{LoweredText}

@@ -4,7 +4,7 @@
 ghost use Rattle.std.specs.Prelude.{◌≡◌, ℕ, false, Some, None, nat_eq, IfOk, slice_get, if◌then◌else◌};
 ghost use Rattle.std.specs.Option.{option_flatten};
 ghost use Rattle.f_tree.specs.Facts.{Facts};
-ghost use Rattle.l_core.specs.Pures as core;
+ghost use Rattle.lowered_tree.specs.l_core.Pures as core;
 ghost use Rattle.lowered_tree.specs.Shapes.{datum_of, prefix_of, operator_of, function_of, wanted_of, pure_of, step_of};
 ghost use Rattle.lowered_text.specs.Texts.{kinds_of};
 ghost use Rattle.c_emit.specs.Types as types;

@@ -3,7 +3,7 @@
 ghost use Rattle.std.specs.Prelude.{◌≡◌, suc, map, [], ◌∷◌, ◌++◌, OnOk, IfOk};
 ghost use Rattle.std.specs.List.{list_any};
 ghost use Rattle.lowered_tree.specs.Shapes.{step_of, steps_of};
-ghost use Rattle.main_file.specs.MainItems.{stops_from};
+ghost use Rattle.main_translation.specs.main_file.MainItems.{stops_from};
 ghost use Rattle.main_translation.specs.Contents as spec;
 ghost use Rattle.library_functions.specs.Described.{described};
 ghost use Rattle.unit_translation.specs.UnitContents.{temporaries_kept};

@@ -3,20 +3,20 @@
 use Rattle.std.specs.Prelude.{◌≡◌, ℕ, List, ◌++◌, Some}
 use Rattle.std.proofs.Common.{refl, sym, ◌∙◌, subst}
 use Rattle.std.proofs.lemmas.List.{map-append}
-use Rattle.run_state.specs.Units.{Units}
-use Rattle.f_tree.specs.declared.names.Options.{Options}
-use Rattle.f_tree.specs.declared.units.File.{File}
-use Rattle.f_tree.specs.Values.{Gives}
-use Rattle.f_tree.specs.Store.{Store}
-use Rattle.f_tree.specs.Facts.{ProgramUnit}
-use Rattle.f_tree.specs.Setting.{Setting, IsSetting}
-use Rattle.f_tree.specs.Images.{image_store}
-use Rattle.f_tree.specs.Meaning.{units_in, Closed}
-use Rattle.faithful.specs.Faithful.{SameRuns, SamePrograms}
-use Rattle.unit_forms.specs.OwnSetting.{own_setting}
-use Rattle.unit_sites.specs.UnitSites.{UnitsOfFile, files_of}
-use Rattle.unit_translation.specs.UnitContents.{LoweredUnit, program_units}
-use Rattle.unit_translation.specs.UnitBodies.{all_lowered, written_files}
+use Rattle.main_faithfulness.specs.run_state.Units.{Units}
+use Rattle.main_faithfulness.specs.f_tree.declared.names.Options.{Options}
+use Rattle.main_faithfulness.specs.f_tree.declared.units.File.{File}
+use Rattle.main_faithfulness.specs.f_tree.Values.{Gives}
+use Rattle.main_faithfulness.specs.f_tree.Store.{Store}
+use Rattle.main_faithfulness.specs.f_tree.Facts.{ProgramUnit}
+use Rattle.main_faithfulness.specs.f_tree.Setting.{Setting, IsSetting}
+use Rattle.main_faithfulness.specs.f_tree.Images.{image_store}
+use Rattle.main_faithfulness.specs.f_tree.Meaning.{units_in, Closed}
+use Rattle.main_faithfulness.specs.faithful.Faithful.{SameRuns, SamePrograms}
+use Rattle.unit_translation_laws.specs.unit_forms.OwnSetting.{own_setting}
+use Rattle.unit_translation_laws.specs.unit_sites.UnitSites.{UnitsOfFile, files_of}
+use Rattle.unit_translation_laws.specs.unit_translation.UnitContents.{LoweredUnit, program_units}
+use Rattle.unit_translation_laws.specs.unit_translation.UnitBodies.{all_lowered, written_files}
 use Rattle.unit_translation_laws.specs.PlainUnits.{ArePlainUnits, PlainUnitsRunAlike}
 use Rattle.unit_faithfulness.specs.UnitsFaithful.{AreOfFiles, no_files, one_file, AreMeant, EachUnitsSetIsFaithful}
 use Rattle.unit_faithfulness.proofs.Settings.{own_is_setting, only_own, own_image}

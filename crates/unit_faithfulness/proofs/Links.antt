@@ -5,34 +5,34 @@ use Rattle.std.specs.Prelude.{◌≡◌, ℕ, suc, Bool, true, false, not, ◌&&
 use Rattle.std.proofs.Common.{refl, sym, ap, ◌∙◌, subst, arith}
 use Rattle.std.proofs.lemmas.List.{map-append}
 use Rattle.std.proofs.lemmas.Slice.Eq.{bytes_eq-Decides}
-use Rattle.f_tree.specs.Values.{Bytes}
-use Rattle.f_tree.specs.Facts.{MainProgram, SubroutineUnit, FunctionUnit, BlockDataUnit, UnitKind, Formal, EntryPoint}
-use Rattle.f_tree.specs.Setting.{IsIn, first_in, later_in}
-use Rattle.f_tree.specs.World.{Procedure}
-use Rattle.f_tree.specs.CNames.{DummyUse, main_name}
-use Rattle.f_tree.specs.Meaning.{is_main, mains}
-use Rattle.c_tree.specs.declared.types.NumberType.{NumberType}
-use Rattle.c_tree.specs.declared.declaration.CLocal.{CLocal}
-use Rattle.c_tree.specs.declared.file.CFunction.{CFunction}
-use Rattle.c_tree.specs.Builtins.{builtin_names}
-use Rattle.c_tree.specs.Declarations.{declared_externs, functions_in_lists}
-use Rattle.c_tree.specs.FlatForm.{whole_body}
-use Rattle.c_tree.specs.Linking as linking
-use Rattle.c_tree.specs.Linking.{Routines, any_of, routines, function_names, all_functions, named, has_parameters, lacks_main, repeats, defined_again, mentioned, misses, all_imaged, first_broken_rule, broken_rule}
-use Rattle.faithful.specs.Faithful.{is_linked}
-use Rattle.faithful.specs.StorageImage.{function_name}
-use Rattle.faithful.specs.Signatures.{named_formals}
-use Rattle.linking_laws.specs.Linked as names
-use Rattle.linking_laws.proofs.Places.{some_same, same_bytes, other_bytes, map_at, distinct_later}
-use Rattle.main_file.specs.MainFile.{Called, call_for, variable_for, lists_from}
-use Rattle.main_translation.specs.Contents.{calls_of}
-use Rattle.main_translation_laws.proofs.Lists.{at_in, in_at}
+use Rattle.main_faithfulness.specs.f_tree.Values.{Bytes}
+use Rattle.main_faithfulness.specs.f_tree.Facts.{MainProgram, SubroutineUnit, FunctionUnit, BlockDataUnit, UnitKind, Formal, EntryPoint}
+use Rattle.main_faithfulness.specs.f_tree.Setting.{IsIn, first_in, later_in}
+use Rattle.main_faithfulness.specs.f_tree.World.{Procedure}
+use Rattle.main_faithfulness.specs.f_tree.CNames.{DummyUse, main_name}
+use Rattle.main_faithfulness.specs.f_tree.Meaning.{is_main, mains}
+use Rattle.main_faithfulness.specs.c_tree.declared.types.NumberType.{NumberType}
+use Rattle.main_faithfulness.specs.c_tree.declared.declaration.CLocal.{CLocal}
+use Rattle.main_faithfulness.specs.c_tree.declared.file.CFunction.{CFunction}
+use Rattle.main_faithfulness.specs.c_tree.Builtins.{builtin_names}
+use Rattle.main_faithfulness.specs.c_tree.Declarations.{declared_externs, functions_in_lists}
+use Rattle.main_faithfulness.specs.c_tree.FlatForm.{whole_body}
+use Rattle.main_faithfulness.specs.c_tree.Linking as linking
+use Rattle.main_faithfulness.specs.c_tree.Linking.{Routines, any_of, routines, function_names, all_functions, named, has_parameters, lacks_main, repeats, defined_again, mentioned, misses, all_imaged, first_broken_rule, broken_rule}
+use Rattle.main_faithfulness.specs.faithful.Faithful.{is_linked}
+use Rattle.main_faithfulness.specs.faithful.StorageImage.{function_name}
+use Rattle.main_faithfulness.specs.faithful.Signatures.{named_formals}
+use Rattle.main_faithfulness.specs.linking_laws.Linked as names
+use Rattle.main_faithfulness.proofs.linking_laws.Places.{some_same, same_bytes, other_bytes, map_at, distinct_later}
+use Rattle.main_faithfulness.specs.main_file.MainFile.{Called, call_for, variable_for, lists_from}
+use Rattle.main_faithfulness.specs.main_translation.Contents.{calls_of}
+use Rattle.main_faithfulness.proofs.main_translation_laws.Lists.{at_in, in_at}
 use Rattle.main_faithfulness.proofs.LinkRules.{is_missing, names_called, none_of_both, none_by_each, found_among, calls_there, past_temporaries, past_calls, extern_temporaries, extern_calls, none_mentioned, fourth_only}
-use Rattle.unit_file.specs.UnitFile.{Parameter, Callee, Inventory, WrittenUnit, parameter_for, result_local, extern_for, unit_locals, unit_function}
-use Rattle.unit_file.specs.UnitNames.{called_names, own_names}
-use Rattle.unit_sites.specs.UnitSites.{UnitsOfFile, inventories, all_units, files_of}
-use Rattle.unit_translation.specs.UnitContents.{LoweredUnit, program_units, parameter_for as parameter_type, formals_in, parameters_in, library_callee, unit_callee, procedure_callee, procedures_in, unit_numbers, inventory_of, inventories_of}
-use Rattle.unit_translation.specs.UnitBodies.{all_lowered, written_files}
+use Rattle.unit_translation_laws.specs.unit_file.UnitFile.{Parameter, Callee, Inventory, WrittenUnit, parameter_for, result_local, extern_for, unit_locals, unit_function}
+use Rattle.unit_translation_laws.specs.unit_file.UnitNames.{called_names, own_names}
+use Rattle.unit_translation_laws.specs.unit_sites.UnitSites.{UnitsOfFile, inventories, all_units, files_of}
+use Rattle.unit_translation_laws.specs.unit_translation.UnitContents.{LoweredUnit, program_units, parameter_for as parameter_type, formals_in, parameters_in, library_callee, unit_callee, procedure_callee, procedures_in, unit_numbers, inventory_of, inventories_of}
+use Rattle.unit_translation_laws.specs.unit_translation.UnitBodies.{all_lowered, written_files}
 use Rattle.unit_translation_laws.specs.PlainUnits.{IsPlainUnit, ArePlainUnits}
 use Rattle.unit_translation_laws.proofs.Functions.{own_apart}
 use Rattle.unit_faithfulness.proofs.Written.{inventories_are, written_for}

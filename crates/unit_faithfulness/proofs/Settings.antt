@@ -3,16 +3,16 @@
 use Rattle.std.specs.List.{flat_map}
 use Rattle.std.specs.Prelude.{◌≡◌, ℕ, suc, ◌+◌, List, [], ◌∷◌, ◌++◌, length}
 use Rattle.std.proofs.Common.{refl, ap, ◌∙◌, subst}
-use Rattle.f_tree.specs.Values.{Checked, Gives}
-use Rattle.f_tree.specs.Store.{Store}
-use Rattle.f_tree.specs.Facts.{Home, Image, ProgramUnit, Facts}
-use Rattle.f_tree.specs.Setting.{Setting, IsSetting, IsNamed, HasUnit, unit_home}
-use Rattle.f_tree.specs.Images.{imaged, images_from, undefined_store, image_store}
-use Rattle.f_tree.specs.Runs.{all_homes_apart, all_sizes, setting_apart}
-use Rattle.fortran_laws.proofs.OneSetting.{one_setting}
-use Rattle.fortran_laws.proofs.SettingsApart.{IsApart, apart_setting}
-use Rattle.plain_forms.specs.OwnStorage.{sizes_of}
-use Rattle.unit_forms.specs.OwnSetting.{own_homes, own_setting}
+use Rattle.main_faithfulness.specs.f_tree.Values.{Checked, Gives}
+use Rattle.main_faithfulness.specs.f_tree.Store.{Store}
+use Rattle.main_faithfulness.specs.f_tree.Facts.{Home, Image, ProgramUnit, Facts}
+use Rattle.main_faithfulness.specs.f_tree.Setting.{Setting, IsSetting, IsNamed, HasUnit, unit_home}
+use Rattle.main_faithfulness.specs.f_tree.Images.{imaged, images_from, undefined_store, image_store}
+use Rattle.main_faithfulness.specs.f_tree.Runs.{all_homes_apart, all_sizes, setting_apart}
+use Rattle.main_faithfulness.proofs.fortran_laws.OneSetting.{one_setting}
+use Rattle.main_faithfulness.proofs.fortran_laws.SettingsApart.{IsApart, apart_setting}
+use Rattle.main_faithfulness.specs.plain_forms.OwnStorage.{sizes_of}
+use Rattle.unit_translation_laws.specs.unit_forms.OwnSetting.{own_homes, own_setting}
 use Rattle.main_faithfulness.proofs.Settings.{homes_are, no_tie}
 use Rattle.unit_translation_laws.specs.PlainUnits.{HasPlainStorage}
 

@@ -4,31 +4,31 @@ use Rattle.std.specs.List.{flat_map}
 use Rattle.std.specs.Prelude.{◌≡◌, ℕ, suc, ◌+◌, true, List, [], ◌∷◌, ◌++◌, map, length, Some, slice_get}
 use Rattle.std.proofs.Common.{refl, sym, ap, ◌∙◌, subst}
 use Rattle.std.proofs.lemmas.List.{append-nil, map-append}
-use Rattle.f_tree.specs.declared.names.Options.{Options}
-use Rattle.f_tree.specs.declared.names.Basic.{Basic}
-use Rattle.f_tree.specs.declared.names.Basic.TheVariants.{Integer, Logical, Character, Untyped}
-use Rattle.f_tree.specs.declared.units.Unit.{Unit as GivenUnit}
-use Rattle.f_tree.specs.declared.units.File.{File}
-use Rattle.f_tree.specs.Values.{Bytes}
-use Rattle.f_tree.specs.Facts.{MainProgram, SubroutineUnit, FunctionUnit, BlockDataUnit, UnitKind, EntryPoint, Block, ProgramUnit}
-use Rattle.f_tree.specs.Setting.{IsIn, first_in, later_in, HasUnit}
-use Rattle.f_tree.specs.Uses.{Use, uses_of_statements}
-use Rattle.f_tree.specs.Attributes.{Described, arrays_of, all_described}
-use Rattle.f_tree.specs.Lines.{unit_read}
-use Rattle.f_tree.specs.CNames as c
-use Rattle.f_tree.specs.CNames.{Dummy, DummyUse, Gives, external_name, main_name, variable_name, parameter_of, length_parameter_of, parameters_of_all, length_parameters_of_all, result_parameters_of, parameters_of}
-use Rattle.c_tree.specs.declared.types.ResultType.{ResultType}
-use Rattle.c_emit.specs.Numbers.{is_numeric}
-use Rattle.faithful.specs.StorageImage.{block_name, name_of_entries, function_name}
-use Rattle.faithful.specs.Signatures.{Signature, Parameter, result_type, parameter_type, signature, dummy_of, named_formals, gives_type, gives_of, entry_signature, procedure_signatures, signatures_by, unit_signatures, file_signatures, signature_of, blocks_added, file_blocks, HasSignatures, EachHasSignatures}
-use Rattle.faithful.specs.Signatures as signed
-use Rattle.procedure_emission.specs.EmittedUnits.{number_result, is_number_pointer, is_function_pointer}
-use Rattle.unit_file.specs.UnitFile.{Inventory, WrittenUnit, parameter_for, unit_function}
-use Rattle.linking_laws.proofs.Places.{get_front, get_back}
-use Rattle.unit_sites.specs.UnitSites.{UnitsOfFile, file_for, files_of, inventories}
-use Rattle.unit_translation.specs.UnitContents as contents
-use Rattle.unit_translation.specs.UnitContents.{LoweredUnit, program_units, formals_in, parameters_in, type_given, basic_given, result_by, result_given, inventory_of}
-use Rattle.unit_translation.specs.UnitBodies.{all_lowered, written_files}
+use Rattle.main_faithfulness.specs.f_tree.declared.names.Options.{Options}
+use Rattle.main_faithfulness.specs.f_tree.declared.names.Basic.{Basic}
+use Rattle.main_faithfulness.specs.f_tree.declared.names.Basic.TheVariants.{Integer, Logical, Character, Untyped}
+use Rattle.main_faithfulness.specs.f_tree.declared.units.Unit.{Unit as GivenUnit}
+use Rattle.main_faithfulness.specs.f_tree.declared.units.File.{File}
+use Rattle.main_faithfulness.specs.f_tree.Values.{Bytes}
+use Rattle.main_faithfulness.specs.f_tree.Facts.{MainProgram, SubroutineUnit, FunctionUnit, BlockDataUnit, UnitKind, EntryPoint, Block, ProgramUnit}
+use Rattle.main_faithfulness.specs.f_tree.Setting.{IsIn, first_in, later_in, HasUnit}
+use Rattle.main_faithfulness.specs.f_tree.Uses.{Use, uses_of_statements}
+use Rattle.main_faithfulness.specs.f_tree.Attributes.{Described, arrays_of, all_described}
+use Rattle.main_faithfulness.specs.f_tree.Lines.{unit_read}
+use Rattle.main_faithfulness.specs.f_tree.CNames as c
+use Rattle.main_faithfulness.specs.f_tree.CNames.{Dummy, DummyUse, Gives, external_name, main_name, variable_name, parameter_of, length_parameter_of, parameters_of_all, length_parameters_of_all, result_parameters_of, parameters_of}
+use Rattle.main_faithfulness.specs.c_tree.declared.types.ResultType.{ResultType}
+use Rattle.main_faithfulness.specs.c_emit.Numbers.{is_numeric}
+use Rattle.main_faithfulness.specs.faithful.StorageImage.{block_name, name_of_entries, function_name}
+use Rattle.main_faithfulness.specs.faithful.Signatures.{Signature, Parameter, result_type, parameter_type, signature, dummy_of, named_formals, gives_type, gives_of, entry_signature, procedure_signatures, signatures_by, unit_signatures, file_signatures, signature_of, blocks_added, file_blocks, HasSignatures, EachHasSignatures}
+use Rattle.main_faithfulness.specs.faithful.Signatures as signed
+use Rattle.unit_translation_laws.specs.procedure_emission.EmittedUnits.{number_result, is_number_pointer, is_function_pointer}
+use Rattle.unit_translation_laws.specs.unit_file.UnitFile.{Inventory, WrittenUnit, parameter_for, unit_function}
+use Rattle.main_faithfulness.proofs.linking_laws.Places.{get_front, get_back}
+use Rattle.unit_translation_laws.specs.unit_sites.UnitSites.{UnitsOfFile, file_for, files_of, inventories}
+use Rattle.unit_translation_laws.specs.unit_translation.UnitContents as contents
+use Rattle.unit_translation_laws.specs.unit_translation.UnitContents.{LoweredUnit, program_units, formals_in, parameters_in, type_given, basic_given, result_by, result_given, inventory_of}
+use Rattle.unit_translation_laws.specs.unit_translation.UnitBodies.{all_lowered, written_files}
 use Rattle.unit_translation_laws.specs.PlainUnits.{HasPlainStorage, IsPlainDummy, is_number, is_procedure, IsPlainUnit, ArePlainUnits}
 use Rattle.unit_faithfulness.specs.UnitsFaithful.{AreOfFile, AreOfFiles, no_files, one_file}
 use Rattle.unit_faithfulness.proofs.Settings.{HavePlainStorage}

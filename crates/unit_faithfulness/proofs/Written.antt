@@ -4,13 +4,13 @@ use Rattle.std.specs.Prelude.{◌≡◌, ℕ, ◌+◌, ℤ, List, [], ◌∷◌,
 use Rattle.std.proofs.Common.{refl, sym, ap, ◌∙◌, subst}
 use Rattle.std.proofs.lemmas.List.{map-append}
 use Rattle.std.proofs.lemmas.Option.{slice_get-map}
-use Rattle.f_tree.specs.Facts.{ProgramUnit}
-use Rattle.c_emit_laws.proofs.Choices.{IsMapped, mapped_by}
-use Rattle.linking_laws.proofs.Places.{map_at}
-use Rattle.unit_file.specs.UnitFile.{Inventory, WrittenUnit, object_count}
-use Rattle.unit_sites.specs.UnitSites.{UnitsOfFile, inventories, all_units, behind}
-use Rattle.unit_translation.specs.UnitContents.{LoweredUnit, program_units, constants_passed, inventory_of, inventories_of}
-use Rattle.unit_translation.specs.UnitBodies.{all_lowered, body_of, written_from, files_from, written_files}
+use Rattle.main_faithfulness.specs.f_tree.Facts.{ProgramUnit}
+use Rattle.main_faithfulness.proofs.c_emit_laws.Choices.{IsMapped, mapped_by}
+use Rattle.main_faithfulness.proofs.linking_laws.Places.{map_at}
+use Rattle.unit_translation_laws.specs.unit_file.UnitFile.{Inventory, WrittenUnit, object_count}
+use Rattle.unit_translation_laws.specs.unit_sites.UnitSites.{UnitsOfFile, inventories, all_units, behind}
+use Rattle.unit_translation_laws.specs.unit_translation.UnitContents.{LoweredUnit, program_units, constants_passed, inventory_of, inventories_of}
+use Rattle.unit_translation_laws.specs.unit_translation.UnitBodies.{all_lowered, body_of, written_from, files_from, written_files}
 use Rattle.unit_translation_laws.specs.PlainUnits.{HasPlainStorage, ArePlainUnits}
 use Rattle.unit_translation_laws.proofs.Renderings.{split, split_files}
 use Rattle.unit_faithfulness.proofs.Settings.{HavePlainStorage}

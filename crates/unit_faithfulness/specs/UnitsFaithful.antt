@@ -1,21 +1,21 @@
 -- That the texts of the C files which are made for files of units of numbers that call each other are faithful to those files.
 -- ANSI X3.9-1978, sections 2.4, 3.5, 5, 14 and 15; C89, 3.1.2.2 and 3.7.
 use Rattle.std.specs.Prelude.{◌≡◌, ℕ, List, [], ◌∷◌, map, Some, slice_get}
-use Rattle.run_state.specs.Units.{Units}
-use Rattle.f_tree.specs.declared.names.Options.{Options}
-use Rattle.f_tree.specs.declared.units.Unit.{Unit as GivenUnit}
-use Rattle.f_tree.specs.declared.units.File.{File}
-use Rattle.f_tree.specs.Values.{Bytes, NoMeaning}
-use Rattle.f_tree.specs.Uses.{uses_of_statements}
-use Rattle.f_tree.specs.Attributes.{arrays_of}
-use Rattle.f_tree.specs.Lines.{unit_read}
-use Rattle.f_tree.specs.Meaning.{ftn, act_of}
-use Rattle.faithful.specs.Faithful.{SpellAll, Faithful}
-use Rattle.faithful.specs.Signatures.{dummy_of}
-use Rattle.unit_forms.specs.OwnSetting.{own_setting}
-use Rattle.unit_sites.specs.UnitSites.{UnitsOfFile, files_of}
-use Rattle.unit_translation.specs.UnitContents.{LoweredUnit, program_units}
-use Rattle.unit_translation.specs.UnitBodies.{all_lowered, written_files}
+use Rattle.main_faithfulness.specs.run_state.Units.{Units}
+use Rattle.main_faithfulness.specs.f_tree.declared.names.Options.{Options}
+use Rattle.main_faithfulness.specs.f_tree.declared.units.Unit.{Unit as GivenUnit}
+use Rattle.main_faithfulness.specs.f_tree.declared.units.File.{File}
+use Rattle.main_faithfulness.specs.f_tree.Values.{Bytes, NoMeaning}
+use Rattle.main_faithfulness.specs.f_tree.Uses.{uses_of_statements}
+use Rattle.main_faithfulness.specs.f_tree.Attributes.{arrays_of}
+use Rattle.main_faithfulness.specs.f_tree.Lines.{unit_read}
+use Rattle.main_faithfulness.specs.f_tree.Meaning.{ftn, act_of}
+use Rattle.main_faithfulness.specs.faithful.Faithful.{SpellAll, Faithful}
+use Rattle.main_faithfulness.specs.faithful.Signatures.{dummy_of}
+use Rattle.unit_translation_laws.specs.unit_forms.OwnSetting.{own_setting}
+use Rattle.unit_translation_laws.specs.unit_sites.UnitSites.{UnitsOfFile, files_of}
+use Rattle.unit_translation_laws.specs.unit_translation.UnitContents.{LoweredUnit, program_units}
+use Rattle.unit_translation_laws.specs.unit_translation.UnitBodies.{all_lowered, written_files}
 use Rattle.unit_translation_laws.specs.PlainUnits.{ArePlainUnits}
 
 -- the units are those of the file, and their dummies stand for what the statements say

@@ -3,24 +3,24 @@
 -- each function goes by. ANSI X3.9-1978, sections 2.4, 8.3, 14, 15.5, 15.6 and 15.9; C89, 3.5, 3.5.4.3 and 3.7.1; CSTR 149.
 use Rattle.std.specs.Prelude.{ℕ, zero, suc, ◌+◌, nat_eq, nat_lt, ℤ, List, [], ◌∷◌, ◌++◌, map, length, position, Option, Some, None, is_some, unwrap_or, slice_get, bytes_eq}
 use Rattle.std.specs.Ordering.{int_eq}
-use Rattle.f_tree.specs.declared.names.Basic.{Basic}
-use Rattle.f_tree.specs.declared.names.Class.{Class}
-use Rattle.f_tree.specs.declared.names.Class.TheVariants as class
-use Rattle.f_tree.specs.Values.{Bytes}
-use Rattle.f_tree.specs.Facts.{Facts}
-use Rattle.f_tree.specs.CNames.{variable_name, made_name, FunctionResult}
-use Rattle.c_tree.specs.declared.types.NumberType.{NumberType}
-use Rattle.c_tree.specs.declared.types.ResultType.{ResultType}
-use Rattle.c_tree.specs.declared.types.ParameterType.{ParameterType}
-use Rattle.c_tree.specs.declared.types.ArgumentType.{ArgumentType}
-use Rattle.c_tree.specs.declared.statement.CStmt.{CStmt}
-use Rattle.c_tree.specs.declared.declaration.CParam.{CParam}
-use Rattle.c_tree.specs.declared.declaration.CLocal.{CLocal}
-use Rattle.c_tree.specs.declared.declaration.CLocal.TheVariants as local
-use Rattle.c_tree.specs.declared.file.CFile.{CFile}
-use Rattle.c_tree.specs.declared.file.CFunction.{CFunction}
-use Rattle.c_image.specs.Addresses.{Address, Alone, Through}
-use Rattle.c_emit.specs.Numbers.{Writing}
+use Rattle.main_file.specs.f_tree.declared.names.Basic.{Basic}
+use Rattle.main_file.specs.f_tree.declared.names.Class.{Class}
+use Rattle.main_file.specs.f_tree.declared.names.Class.TheVariants as class
+use Rattle.main_file.specs.f_tree.Values.{Bytes}
+use Rattle.main_file.specs.f_tree.Facts.{Facts}
+use Rattle.main_file.specs.f_tree.CNames.{variable_name, made_name, FunctionResult}
+use Rattle.main_file.specs.c_tree.declared.types.NumberType.{NumberType}
+use Rattle.main_file.specs.c_tree.declared.types.ResultType.{ResultType}
+use Rattle.main_file.specs.c_tree.declared.types.ParameterType.{ParameterType}
+use Rattle.main_file.specs.c_tree.declared.types.ArgumentType.{ArgumentType}
+use Rattle.main_file.specs.c_tree.declared.statement.CStmt.{CStmt}
+use Rattle.main_file.specs.c_tree.declared.declaration.CParam.{CParam}
+use Rattle.main_file.specs.c_tree.declared.declaration.CLocal.{CLocal}
+use Rattle.main_file.specs.c_tree.declared.declaration.CLocal.TheVariants as local
+use Rattle.main_file.specs.c_tree.declared.file.CFile.{CFile}
+use Rattle.main_file.specs.c_tree.declared.file.CFunction.{CFunction}
+use Rattle.main_file.specs.c_image.Addresses.{Address, Alone, Through}
+use Rattle.main_file.specs.c_emit.Numbers.{Writing}
 pub use Rattle.main_file.specs.MainFile.{Variable, Listing, Bases, constant_for, variable_for, lists_from, temporaries_from, place_or_none, lower_of, size_of}
 use Rattle.main_file.specs.MainFile.{list_names, temporary_names}
 

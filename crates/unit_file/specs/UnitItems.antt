@@ -1,14 +1,14 @@
 -- The flat items of the lowered text of a unit that calls others, one for each of its steps, and the procedures that its steps call or pass.
 -- ANSI X3.9-1978, sections 8.7, 15.5 and 15.6; C89, 3.3.2.2 and 3.6.
 use Rattle.std.specs.Prelude.{ℕ, suc, List, [], ◌∷◌, ◌++◌, Option, Some}
-use Rattle.f_tree.specs.declared.names.Class.{Class}
-use Rattle.f_tree.specs.declared.names.Class.TheVariants as class
-use Rattle.f_tree.specs.Values.{Bytes}
-use Rattle.f_tree.specs.Facts.{Facts}
-use Rattle.l_core.specs.Pures.{Name, Pures, NoPure, AndPure}
-use Rattle.l_core.specs.Steps.{Step}
-use Rattle.c_tree.specs.Flat.{Flat}
-use Rattle.c_emit.specs.Numbers.{Writing}
+use Rattle.main_file.specs.f_tree.declared.names.Class.{Class}
+use Rattle.main_file.specs.f_tree.declared.names.Class.TheVariants as class
+use Rattle.main_file.specs.f_tree.Values.{Bytes}
+use Rattle.main_file.specs.f_tree.Facts.{Facts}
+use Rattle.main_file.specs.l_core.Pures.{Name, Pures, NoPure, AndPure}
+use Rattle.main_file.specs.l_core.Steps.{Step}
+use Rattle.main_file.specs.c_tree.Flat.{Flat}
+use Rattle.main_file.specs.c_emit.Numbers.{Writing}
 use Rattle.main_file.specs.MainItems.{item_before}
 use Rattle.procedure_emission.specs.ProcedureItems.{Numbers, procedure_item}
 

@@ -1,8 +1,8 @@
 -- The names in C of what a function of the file goes by: its objects, its strings, and the functions that it calls. C89, 3.1.2.1; CSTR 149.
 use Rattle.std.specs.Prelude.{ℕ, ◌-◌, nat_le, nat_lt, ℤ, ◌&&◌, List, [], ◌++◌, map, length, replicate, Option, Some, None, unwrap_or, slice_get, if◌then◌else◌}
-use Rattle.f_tree.specs.CNames.{made_name, ConstantOf}
-use Rattle.c_tree.specs.Builtins.{builtin_names}
-use Rattle.c_structure.specs.Expressions.{Names}
+use Rattle.main_file.specs.f_tree.CNames.{made_name, ConstantOf}
+use Rattle.main_file.specs.c_tree.Builtins.{builtin_names}
+use Rattle.main_file.specs.c_structure.Expressions.{Names}
 use Rattle.unit_file.specs.UnitFile.{Callee, Inventory, Bases, first_string, first_parameter, lasting_names, framed_names}
 
 abbrev pub constant_names : List ℤ → List (List ℕ)

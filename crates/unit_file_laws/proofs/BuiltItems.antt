@@ -3,45 +3,45 @@ use Rattle.std.specs.Prelude.{◌≡◌, ℕ, suc, ◌+◌, ◌-◌, ◌≤◌, 
 use Rattle.std.proofs.Common.{refl, sym, ap, ◌∙◌, subst, arith}
 use Rattle.std.proofs.lemmas.Bool.{and_from, lt-ltb, le-leb}
 use Rattle.std.proofs.lemmas.List.{append_assoc, length-append}
-use Rattle.f_tree.specs.declared.names.Basic.{Basic}
-use Rattle.f_tree.specs.declared.names.Class.{Class}
-use Rattle.f_tree.specs.declared.names.Class.TheVariants as class
-use Rattle.f_tree.specs.Terms as fortran
-use Rattle.f_tree.specs.Values.{Bytes}
-use Rattle.f_tree.specs.World.{Procedure}
-use Rattle.l_core.specs.Pures.{Pure, Constant, Temporary, Name, ElementOf, Pures, NoPure, AndPure}
-use Rattle.l_core.specs.Steps.{Starts, Takes, Finishes, Step, Compute, CallFor, CallSub, Halt, Acts, Text}
-use Rattle.c_tree.specs.declared.file.CFunction.{CFunction}
-use Rattle.c_tree.specs.Access.{ToNumber, ToChar, ToPointer, ToFunction}
-use Rattle.c_tree.specs.Terms as c
-use Rattle.c_tree.specs.Terms.{Term}
-use Rattle.c_tree.specs.Flat as flat
-use Rattle.c_tree.specs.Flat.{Flat}
-use Rattle.c_tree.specs.Drafts.{Scope}
-use Rattle.c_tree.specs.FlatForm.{whole_body}
-use Rattle.c_tree.specs.Linking.{Routines, file_scope, strings_of, linked_function}
-use Rattle.c_image.specs.Addresses.{Address, Alone, Through, number_term}
-use Rattle.c_structure.specs.Expressions.{Names, strings_in, strings_in_all}
-use Rattle.c_structure.specs.Expressions as written
-use Rattle.c_structure.specs.Statements.{Outline, strings_of_item, strings_of_items}
-use Rattle.c_structure_laws.specs.Fitting.{KnowsCallee, KnowsItems, KnowsArray, AreNumbered as AreInOrder, AreBytesOf}
-use Rattle.c_structure_laws.proofs.DrawnExpressions.{mapped_by}
-use Rattle.c_emit.specs.Numbers.{Writing, one_more, has_number, has_bounds, is_scalar, is_array, place_term}
-use Rattle.c_emit.specs.LibraryFunctions.{library_function}
-use Rattle.c_emit.specs.Calls.{held_term, address_of}
-use Rattle.linking_laws.specs.Linked as linked
-use Rattle.linking_laws.specs.Linked.{IsBuilt, scope_of}
-use Rattle.linking_laws.proofs.Places.{some_same, taken, within}
-use Rattle.linking_laws.proofs.BuiltCode.{whole_is, built_fit, code_is_theirs, strings_are_theirs}
-use Rattle.emitted_names.specs.KnownNames.{IsPlain, array_of, StartIsPlain, CallsFunction}
-use Rattle.emitted_names.proofs.TermNames.{target_plain}
-use Rattle.emitted_names.proofs.ItemNames.{address_plain, held_is}
-use Rattle.procedure_emission.specs.ProcedureItems.{Numbers, pointer_term, procedure_argument, routine_term, name_argument, argument_term, argument_terms, callee_for, function_called, procedure_item}
-use Rattle.main_file.specs.MainItems.{stops_from}
-use Rattle.main_file_laws.proofs.BuiltItems.{AreBelow, none_below, below_next, below_both, place_behind, before_by}
-use Rattle.unit_file.specs.UnitFile.{Inventory, Bases, WrittenUnit, unit_function, first_string, first_parameter, parameter_object, result_object, place_or_none, place_of_variable, place_of_string, address_in}
-use Rattle.unit_file.specs.UnitNames.{string_at}
-use Rattle.unit_sites.specs.UnitSites.{inventories, Site}
+use Rattle.unit_places.specs.f_tree.declared.names.Basic.{Basic}
+use Rattle.unit_places.specs.f_tree.declared.names.Class.{Class}
+use Rattle.unit_places.specs.f_tree.declared.names.Class.TheVariants as class
+use Rattle.unit_places.specs.f_tree.Terms as fortran
+use Rattle.unit_places.specs.f_tree.Values.{Bytes}
+use Rattle.unit_places.specs.f_tree.World.{Procedure}
+use Rattle.unit_places.specs.l_core.Pures.{Pure, Constant, Temporary, Name, ElementOf, Pures, NoPure, AndPure}
+use Rattle.unit_places.specs.l_core.Steps.{Starts, Takes, Finishes, Step, Compute, CallFor, CallSub, Halt, Acts, Text}
+use Rattle.unit_places.specs.c_tree.declared.file.CFunction.{CFunction}
+use Rattle.unit_places.specs.c_tree.Access.{ToNumber, ToChar, ToPointer, ToFunction}
+use Rattle.unit_places.specs.c_tree.Terms as c
+use Rattle.unit_places.specs.c_tree.Terms.{Term}
+use Rattle.unit_places.specs.c_tree.Flat as flat
+use Rattle.unit_places.specs.c_tree.Flat.{Flat}
+use Rattle.unit_places.specs.c_tree.Drafts.{Scope}
+use Rattle.unit_places.specs.c_tree.FlatForm.{whole_body}
+use Rattle.unit_places.specs.c_tree.Linking.{Routines, file_scope, strings_of, linked_function}
+use Rattle.unit_places.specs.c_image.Addresses.{Address, Alone, Through, number_term}
+use Rattle.unit_places.specs.c_structure.Expressions.{Names, strings_in, strings_in_all}
+use Rattle.unit_places.specs.c_structure.Expressions as written
+use Rattle.unit_places.specs.c_structure.Statements.{Outline, strings_of_item, strings_of_items}
+use Rattle.unit_places.specs.c_structure_laws.Fitting.{KnowsCallee, KnowsItems, KnowsArray, AreNumbered as AreInOrder, AreBytesOf}
+use Rattle.unit_places.proofs.c_structure_laws.DrawnExpressions.{mapped_by}
+use Rattle.unit_places.specs.c_emit.Numbers.{Writing, one_more, has_number, has_bounds, is_scalar, is_array, place_term}
+use Rattle.unit_places.specs.c_emit.LibraryFunctions.{library_function}
+use Rattle.unit_places.specs.c_emit.Calls.{held_term, address_of}
+use Rattle.unit_places.specs.linking_laws.Linked as linked
+use Rattle.unit_places.specs.linking_laws.Linked.{IsBuilt, scope_of}
+use Rattle.unit_places.proofs.linking_laws.Places.{some_same, taken, within}
+use Rattle.unit_places.proofs.linking_laws.BuiltCode.{whole_is, built_fit, code_is_theirs, strings_are_theirs}
+use Rattle.unit_places.specs.emitted_names.KnownNames.{IsPlain, array_of, StartIsPlain, CallsFunction}
+use Rattle.unit_places.proofs.emitted_names.TermNames.{target_plain}
+use Rattle.unit_places.proofs.emitted_names.ItemNames.{address_plain, held_is}
+use Rattle.unit_places.specs.procedure_emission.ProcedureItems.{Numbers, pointer_term, procedure_argument, routine_term, name_argument, argument_term, argument_terms, callee_for, function_called, procedure_item}
+use Rattle.unit_places.specs.main_file.MainItems.{stops_from}
+use Rattle.unit_places.proofs.main_file_laws.BuiltItems.{AreBelow, none_below, below_next, below_both, place_behind, before_by}
+use Rattle.unit_places.specs.unit_file.UnitFile.{Inventory, Bases, WrittenUnit, unit_function, first_string, first_parameter, parameter_object, result_object, place_or_none, place_of_variable, place_of_string, address_in}
+use Rattle.unit_places.specs.unit_file.UnitNames.{string_at}
+use Rattle.unit_places.specs.unit_sites.UnitSites.{inventories, Site}
 use Rattle.unit_places.specs.UnitPlaces.{file_with}
 use Rattle.unit_places.proofs.Declared.{unit_strings, unit_statics_count}
 use Rattle.unit_file_laws.specs.KnownUnits.{NamesDiffer, NamesAreListed, unit_writing, unit_names, scope_in, UnitIsKnown}

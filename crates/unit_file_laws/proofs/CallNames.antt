@@ -1,25 +1,25 @@
 -- The names in items for calls and returns.
 use Rattle.std.specs.Prelude.{◌≡◌, ℕ, List, [], ◌∷◌, ◌++◌, Option, Some, None, option_map}
 use Rattle.std.proofs.Common.{refl, sym, ◌∙◌, subst}
-use Rattle.f_tree.specs.declared.names.Basic.{Basic}
-use Rattle.f_tree.specs.Facts as facts
-use Rattle.f_tree.specs.Facts.{UnitKind, EntryPoint}
-use Rattle.l_core.specs.Pures.{Pure, Name}
-use Rattle.l_core.specs.Steps as step
-use Rattle.l_core.specs.Steps.{Step}
-use Rattle.c_tree.specs.Access.{ToNumber}
-use Rattle.c_tree.specs.Terms as c
-use Rattle.c_tree.specs.Terms.{Term}
-use Rattle.c_tree.specs.Flat.{Flat, Callee, Invoke, Return, Ignored, Kept}
-use Rattle.c_tree.specs.Drafts.{Scope}
-use Rattle.c_structure.specs.Expressions.{Names}
-use Rattle.c_structure.specs.Statements.{strings_of_item}
-use Rattle.c_structure_laws.specs.Fitting.{KnowsCallee}
-use Rattle.c_emit.specs.Numbers.{Writing, if_number, value_term}
-use Rattle.emitted_names.specs.KnownNames.{IsPlain, IsKnownBy, strings_of_step, ItemIsKnown}
-use Rattle.emitted_names.proofs.TermNames.{some_same, held_plain, value_plain, target_plain}
-use Rattle.emitted_names.proofs.ItemNames.{IsPlainItem, return_plain, emitted_names_are_known}
-use Rattle.procedure_emission.specs.ProcedureItems.{Numbers, argument_terms, function_called, call_item, basic_wanted, kept_item, call_for_item, result_term, back_item, back_by_item, procedure_item}
+use Rattle.unit_places.specs.f_tree.declared.names.Basic.{Basic}
+use Rattle.unit_places.specs.f_tree.Facts as facts
+use Rattle.unit_places.specs.f_tree.Facts.{UnitKind, EntryPoint}
+use Rattle.unit_places.specs.l_core.Pures.{Pure, Name}
+use Rattle.unit_places.specs.l_core.Steps as step
+use Rattle.unit_places.specs.l_core.Steps.{Step}
+use Rattle.unit_places.specs.c_tree.Access.{ToNumber}
+use Rattle.unit_places.specs.c_tree.Terms as c
+use Rattle.unit_places.specs.c_tree.Terms.{Term}
+use Rattle.unit_places.specs.c_tree.Flat.{Flat, Callee, Invoke, Return, Ignored, Kept}
+use Rattle.unit_places.specs.c_tree.Drafts.{Scope}
+use Rattle.unit_places.specs.c_structure.Expressions.{Names}
+use Rattle.unit_places.specs.c_structure.Statements.{strings_of_item}
+use Rattle.unit_places.specs.c_structure_laws.Fitting.{KnowsCallee}
+use Rattle.unit_places.specs.c_emit.Numbers.{Writing, if_number, value_term}
+use Rattle.unit_places.specs.emitted_names.KnownNames.{IsPlain, IsKnownBy, strings_of_step, ItemIsKnown}
+use Rattle.unit_places.proofs.emitted_names.TermNames.{some_same, held_plain, value_plain, target_plain}
+use Rattle.unit_places.proofs.emitted_names.ItemNames.{IsPlainItem, return_plain, emitted_names_are_known}
+use Rattle.unit_places.specs.procedure_emission.ProcedureItems.{Numbers, argument_terms, function_called, call_item, basic_wanted, kept_item, call_for_item, result_term, back_item, back_by_item, procedure_item}
 use Rattle.unit_file_laws.specs.ProcedureNames.{ArePlain, KnowsUnitStep, ProcedureNamesAreKnown}
 
 module _ (scope : Scope) (names : Names) where

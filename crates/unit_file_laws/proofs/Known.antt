@@ -5,45 +5,45 @@ use Rattle.std.proofs.Common.{refl, sym, ap, ◌∙◌, subst, arith}
 use Rattle.std.proofs.lemmas.Bool.{and_left, ltb-true, le-leb, lt-leb}
 use Rattle.std.proofs.lemmas.List.{length-append, length-map, length-replicate}
 use Rattle.std.proofs.lemmas.Slice.Eq.{bytes_eq-Decides}
-use Rattle.f_tree.specs.declared.names.Basic.{Basic}
-use Rattle.f_tree.specs.declared.names.Class.{Class}
-use Rattle.f_tree.specs.declared.names.Class.TheVariants as class
-use Rattle.f_tree.specs.Values.{Bytes}
-use Rattle.f_tree.specs.Facts.{Bounds, Facts}
-use Rattle.f_tree.specs.Valuing.{size_of_dimension}
-use Rattle.f_tree.specs.CNames.{variable_name, made_name, ControlList, ConstantOf, FunctionResult}
-use Rattle.c_tree.specs.declared.types.NumberType.{NumberType}
-use Rattle.c_tree.specs.declared.types.ListType.TheVariants as list_type
-use Rattle.c_tree.specs.declared.expression.UnaryOp.TheVariants as prefix
-use Rattle.c_tree.specs.declared.file.CFunction.{CFunction}
-use Rattle.c_tree.specs.Access.{Access, ToNumber, ToPointer, ToFunction, ToList}
-use Rattle.c_tree.specs.Objects.{bytes_of_number}
-use Rattle.c_tree.specs.Terms.{Variable, Array, Routine}
-use Rattle.c_tree.specs.Declarations.{Declared, made, filled, variable, unset, parameter_access, declared_parameter, declared_statics, declared_externs}
-use Rattle.c_tree.specs.Builtins.{builtin_names}
-use Rattle.c_tree.specs.Drafts.{Scope}
-use Rattle.c_tree.specs.FlatForm.{whole_body}
-use Rattle.c_tree.specs.Linking.{Routines, routine, declared_constants, file_scope}
-use Rattle.c_image.specs.Addresses.{Through, number_term}
-use Rattle.c_image.specs.Elements.{quantity_term}
-use Rattle.c_structure.specs.Expressions.{Names, strings_in}
-use Rattle.c_structure.specs.Expressions as written
-use Rattle.c_emit.specs.Numbers.{is_numeric, is_variable, has_number, has_bounds, is_scalar, is_array}
-use Rattle.c_structure_laws.specs.Fitting.{KnowsArray}
-use Rattle.linking_laws.specs.Linked as linked
-use Rattle.linking_laws.specs.Linked.{AreDistinct, IsNone, scope_of}
-use Rattle.linking_laws.proofs.Places.{get_front, get_back, map_at, within, taken, skipped}
-use Rattle.linking_laws.proofs.Scopes.{scopes_are_known, file_scopes_are_known}
-use Rattle.emitted_names.specs.KnownNames.{IsPlain, array_of, StartIsPlain, Calls}
-use Rattle.emitted_names.proofs.TermNames.{number_plain, prefixed_plain}
-use Rattle.procedure_emission.specs.EmittedUnits.{is_number_pointer, is_function_pointer}
-use Rattle.main_file.specs.MainFile.{list_names}
-use Rattle.main_file_laws.proofs.Listed.{stands_by, declared_variable, declared_listing, declared_temporary}
-use Rattle.main_file_laws.proofs.Known.{position_finds}
-use Rattle.unit_file.specs.UnitFile as file
-use Rattle.unit_file.specs.UnitFile.{Listing, Parameter, Inventory, Bases, WrittenUnit, constant_for, parameter_for, unit_locals, unit_function, units_file, result_count, frame_count, first_list, first_string, first_parameter, result_object, first_temporary, place_or_none, place_of_constant, place_of_variable, place_of_parameter, place_of_list, lasting_names, framed_names, parameter_object, address_in, lower_of, size_of, writing_of}
-use Rattle.unit_file.specs.UnitNames.{constant_names, called_names, object_names, object_name, string_at, own_names, routine_name}
-use Rattle.unit_sites.specs.UnitSites.{inventories, Site}
+use Rattle.unit_places.specs.f_tree.declared.names.Basic.{Basic}
+use Rattle.unit_places.specs.f_tree.declared.names.Class.{Class}
+use Rattle.unit_places.specs.f_tree.declared.names.Class.TheVariants as class
+use Rattle.unit_places.specs.f_tree.Values.{Bytes}
+use Rattle.unit_places.specs.f_tree.Facts.{Bounds, Facts}
+use Rattle.unit_places.specs.f_tree.Valuing.{size_of_dimension}
+use Rattle.unit_places.specs.f_tree.CNames.{variable_name, made_name, ControlList, ConstantOf, FunctionResult}
+use Rattle.unit_places.specs.c_tree.declared.types.NumberType.{NumberType}
+use Rattle.unit_places.specs.c_tree.declared.types.ListType.TheVariants as list_type
+use Rattle.unit_places.specs.c_tree.declared.expression.UnaryOp.TheVariants as prefix
+use Rattle.unit_places.specs.c_tree.declared.file.CFunction.{CFunction}
+use Rattle.unit_places.specs.c_tree.Access.{Access, ToNumber, ToPointer, ToFunction, ToList}
+use Rattle.unit_places.specs.c_tree.Objects.{bytes_of_number}
+use Rattle.unit_places.specs.c_tree.Terms.{Variable, Array, Routine}
+use Rattle.unit_places.specs.c_tree.Declarations.{Declared, made, filled, variable, unset, parameter_access, declared_parameter, declared_statics, declared_externs}
+use Rattle.unit_places.specs.c_tree.Builtins.{builtin_names}
+use Rattle.unit_places.specs.c_tree.Drafts.{Scope}
+use Rattle.unit_places.specs.c_tree.FlatForm.{whole_body}
+use Rattle.unit_places.specs.c_tree.Linking.{Routines, routine, declared_constants, file_scope}
+use Rattle.unit_places.specs.c_image.Addresses.{Through, number_term}
+use Rattle.unit_places.specs.c_image.Elements.{quantity_term}
+use Rattle.unit_places.specs.c_structure.Expressions.{Names, strings_in}
+use Rattle.unit_places.specs.c_structure.Expressions as written
+use Rattle.unit_places.specs.c_emit.Numbers.{is_numeric, is_variable, has_number, has_bounds, is_scalar, is_array}
+use Rattle.unit_places.specs.c_structure_laws.Fitting.{KnowsArray}
+use Rattle.unit_places.specs.linking_laws.Linked as linked
+use Rattle.unit_places.specs.linking_laws.Linked.{AreDistinct, IsNone, scope_of}
+use Rattle.unit_places.proofs.linking_laws.Places.{get_front, get_back, map_at, within, taken, skipped}
+use Rattle.unit_places.proofs.linking_laws.Scopes.{scopes_are_known, file_scopes_are_known}
+use Rattle.unit_places.specs.emitted_names.KnownNames.{IsPlain, array_of, StartIsPlain, Calls}
+use Rattle.unit_places.proofs.emitted_names.TermNames.{number_plain, prefixed_plain}
+use Rattle.unit_places.specs.procedure_emission.EmittedUnits.{is_number_pointer, is_function_pointer}
+use Rattle.unit_places.specs.main_file.MainFile.{list_names}
+use Rattle.unit_places.proofs.main_file_laws.Listed.{stands_by, declared_variable, declared_listing, declared_temporary}
+use Rattle.unit_places.proofs.main_file_laws.Known.{position_finds}
+use Rattle.unit_places.specs.unit_file.UnitFile as file
+use Rattle.unit_places.specs.unit_file.UnitFile.{Listing, Parameter, Inventory, Bases, WrittenUnit, constant_for, parameter_for, unit_locals, unit_function, units_file, result_count, frame_count, first_list, first_string, first_parameter, result_object, first_temporary, place_or_none, place_of_constant, place_of_variable, place_of_parameter, place_of_list, lasting_names, framed_names, parameter_object, address_in, lower_of, size_of, writing_of}
+use Rattle.unit_places.specs.unit_file.UnitNames.{constant_names, called_names, object_names, object_name, string_at, own_names, routine_name}
+use Rattle.unit_places.specs.unit_sites.UnitSites.{inventories, Site}
 use Rattle.unit_places.specs.UnitPlaces.{file_with}
 use Rattle.unit_places.proofs.Declared.{unit_strings, unit_statics_count, unit_lasting_names, unit_variable, unit_listing, framed_by, framed_are, framed_parameter, framed_result, framed_temporary}
 use Rattle.unit_file_laws.specs.KnownUnits.{NamesDiffer, IsVariable, IsParameter, NamesAreListed, unit_writing, unit_names, scope_in, UnitIsKnown, UnitFilesAreKnown}

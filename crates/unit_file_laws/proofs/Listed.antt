@@ -2,18 +2,18 @@
 use Rattle.std.specs.Prelude.{◌≡◌, ℕ, zero, suc, true, List, [], ◌∷◌, ◌++◌, map, Option, Some, None}
 use Rattle.std.proofs.Common.{refl, sym, ap, ◌∙◌}
 use Rattle.std.proofs.lemmas.List.{append-nil}
-use Rattle.f_tree.specs.CNames.{variable_name}
-use Rattle.c_tree.specs.declared.types.NumberType.{NumberType}
-use Rattle.c_tree.specs.declared.types.ParameterType.{ParameterType}
-use Rattle.c_tree.specs.declared.types.ParameterType.TheVariants as parameter
-use Rattle.c_tree.specs.declared.declaration.CLocal.{CLocal}
-use Rattle.c_tree.specs.Access.{ToNumber, ToPointer, ToFunction}
-use Rattle.c_tree.specs.Declarations.{Declared, parameter_access, declared_parameter, declared_parameters, declared_automatics, declared_externs}
-use Rattle.main_file_laws.proofs.Listed.{temporaries, automatics_listed, temporary_names_are, externs_listed}
-use Rattle.linking_laws.specs.Linked.{names_of}
-use Rattle.procedure_emission.specs.EmittedUnits.{is_number_pointer, is_function_pointer}
-use Rattle.unit_file.specs.UnitFile.{Parameter, Callee, Inventory, variable_for, lists_from, temporaries_from, parameter_for, result_local, extern_for, unit_locals, result_names, framed_names}
-use Rattle.unit_file.specs.UnitNames.{called_names}
+use Rattle.unit_places.specs.f_tree.CNames.{variable_name}
+use Rattle.unit_places.specs.c_tree.declared.types.NumberType.{NumberType}
+use Rattle.unit_places.specs.c_tree.declared.types.ParameterType.{ParameterType}
+use Rattle.unit_places.specs.c_tree.declared.types.ParameterType.TheVariants as parameter
+use Rattle.unit_places.specs.c_tree.declared.declaration.CLocal.{CLocal}
+use Rattle.unit_places.specs.c_tree.Access.{ToNumber, ToPointer, ToFunction}
+use Rattle.unit_places.specs.c_tree.Declarations.{Declared, parameter_access, declared_parameter, declared_parameters, declared_automatics, declared_externs}
+use Rattle.unit_places.proofs.main_file_laws.Listed.{temporaries, automatics_listed, temporary_names_are, externs_listed}
+use Rattle.unit_places.specs.linking_laws.Linked.{names_of}
+use Rattle.unit_places.specs.procedure_emission.EmittedUnits.{is_number_pointer, is_function_pointer}
+use Rattle.unit_places.specs.unit_file.UnitFile.{Parameter, Callee, Inventory, variable_for, lists_from, temporaries_from, parameter_for, result_local, extern_for, unit_locals, result_names, framed_names}
+use Rattle.unit_places.specs.unit_file.UnitNames.{called_names}
 use Rattle.unit_places.proofs.Declared.{as_main, declared_result, framed_by, framed_are}
 
 -- ## The frame

@@ -1,25 +1,25 @@
 -- That the function of a unit has the items that are emitted for its lowered text, where its statements are built for them. C89, 3.6.
 use Rattle.std.specs.Prelude.{◌≡◌, ℕ, suc, ◌+◌, ◌≤◌, List, [], ◌∷◌, map, length, position, Option, Some, None, slice_get, bytes_eq, codes}
-use Rattle.f_tree.specs.declared.names.Basic.{Basic}
-use Rattle.f_tree.specs.Values.{Bytes}
-use Rattle.f_tree.specs.Facts.{Facts}
-use Rattle.f_tree.specs.World.{Called, Procedure}
-use Rattle.l_core.specs.Steps.{Starts, Takes, Finishes, Step, Compute, CallFor, CallSub, Acts, Halt, Text}
-use Rattle.c_tree.specs.declared.file.CFunction.{CFunction}
-use Rattle.c_tree.specs.Flat.{Flat}
-use Rattle.c_tree.specs.Builtins.{builtin_names}
-use Rattle.c_tree.specs.FlatForm.{whole_body}
-use Rattle.c_tree.specs.Linking.{Routines, file_scope, linked_function}
-use Rattle.c_structure.specs.Statements.{Outline}
-use Rattle.c_structure_laws.specs.Fitting.{KnowsItems}
-use Rattle.c_emit.specs.LibraryFunctions.{LibraryFunction, library_function}
-use Rattle.linking_laws.specs.Linked.{IsBuilt}
-use Rattle.main_file.specs.MainItems.{stops_from}
-use Rattle.procedure_emission.specs.ProcedureItems.{Numbers}
-use Rattle.unit_file.specs.UnitFile.{Inventory, WrittenUnit, unit_function, place_of_list}
-use Rattle.unit_file.specs.UnitNames.{called_names, routine_name}
-unfoldable pub use Rattle.unit_file.specs.UnitItems.{unit_items, procedure_called, procedure_passed, procedures_passed, procedures_named, unit_items_opened}
-use Rattle.unit_sites.specs.UnitSites.{inventories, Site}
+use Rattle.unit_places.specs.f_tree.declared.names.Basic.{Basic}
+use Rattle.unit_places.specs.f_tree.Values.{Bytes}
+use Rattle.unit_places.specs.f_tree.Facts.{Facts}
+use Rattle.unit_places.specs.f_tree.World.{Called, Procedure}
+use Rattle.unit_places.specs.l_core.Steps.{Starts, Takes, Finishes, Step, Compute, CallFor, CallSub, Acts, Halt, Text}
+use Rattle.unit_places.specs.c_tree.declared.file.CFunction.{CFunction}
+use Rattle.unit_places.specs.c_tree.Flat.{Flat}
+use Rattle.unit_places.specs.c_tree.Builtins.{builtin_names}
+use Rattle.unit_places.specs.c_tree.FlatForm.{whole_body}
+use Rattle.unit_places.specs.c_tree.Linking.{Routines, file_scope, linked_function}
+use Rattle.unit_places.specs.c_structure.Statements.{Outline}
+use Rattle.unit_places.specs.c_structure_laws.Fitting.{KnowsItems}
+use Rattle.unit_places.specs.c_emit.LibraryFunctions.{LibraryFunction, library_function}
+use Rattle.unit_places.specs.linking_laws.Linked.{IsBuilt}
+use Rattle.unit_places.specs.main_file.MainItems.{stops_from}
+use Rattle.unit_places.specs.procedure_emission.ProcedureItems.{Numbers}
+use Rattle.unit_places.specs.unit_file.UnitFile.{Inventory, WrittenUnit, unit_function, place_of_list}
+use Rattle.unit_places.specs.unit_file.UnitNames.{called_names, routine_name}
+unfoldable pub use Rattle.unit_places.specs.unit_file.UnitItems.{unit_items, procedure_called, procedure_passed, procedures_passed, procedures_named, unit_items_opened}
+use Rattle.unit_places.specs.unit_sites.UnitSites.{inventories, Site}
 use Rattle.unit_places.specs.UnitPlaces.{file_with}
 use Rattle.unit_file_laws.specs.KnownUnits.{NamesDiffer, NamesAreListed, unit_writing, unit_names, scope_in}
 

@@ -1,29 +1,29 @@
 -- That what a function of files of several units goes by is known in it: its names stand for its objects, and for the functions that it calls.
 -- C89, 3.1.2.1 and 3.5.4.3.
 use Rattle.std.specs.Prelude.{◌≡◌, ℕ, ◌+◌, ◌≤◌, ℤ, Bool, true, false, List, length, position, Option, Some, is_some, slice_get, bytes_eq}
-use Rattle.f_tree.specs.declared.names.Basic.{Basic}
-use Rattle.f_tree.specs.declared.names.Class.TheVariants as class
-use Rattle.f_tree.specs.Values.{Bytes}
-use Rattle.f_tree.specs.Facts.{Facts}
-use Rattle.c_tree.specs.declared.types.NumberType.{NumberType}
-use Rattle.c_tree.specs.declared.types.ParameterType.{ParameterType}
-use Rattle.c_tree.specs.declared.types.ListType.TheVariants as list_type
-use Rattle.c_tree.specs.declared.file.CFunction.{CFunction}
-use Rattle.c_tree.specs.Access.{ToFunction, ToList}
-use Rattle.c_tree.specs.Terms.{Variable, Routine}
-use Rattle.c_tree.specs.Builtins.{builtin_names}
-use Rattle.c_tree.specs.Drafts.{Scope}
-use Rattle.c_tree.specs.FlatForm.{whole_body}
-use Rattle.c_tree.specs.Linking.{Routines, file_scope}
-use Rattle.c_structure.specs.Expressions.{Names}
-use Rattle.c_image.specs.Addresses.{Through}
-use Rattle.c_emit.specs.Numbers.{Writing, is_numeric, has_bounds}
-use Rattle.linking_laws.specs.Linked.{AreDistinct, IsNone, scope_of}
-use Rattle.emitted_names.specs.KnownNames.{IsPlain, IsKnownBy, Calls}
-use Rattle.procedure_emission.specs.EmittedUnits.{is_number_pointer, is_function_pointer}
-use Rattle.unit_file.specs.UnitFile.{Variable as Declared, Parameter, Inventory, WrittenUnit, unit_function, place_of_variable, place_of_parameter, place_of_list, lasting_names, framed_names, writing_of}
-use Rattle.unit_file.specs.UnitNames.{constant_names, called_names, routine_name, names_of}
-use Rattle.unit_sites.specs.UnitSites.{inventories, Site}
+use Rattle.unit_places.specs.f_tree.declared.names.Basic.{Basic}
+use Rattle.unit_places.specs.f_tree.declared.names.Class.TheVariants as class
+use Rattle.unit_places.specs.f_tree.Values.{Bytes}
+use Rattle.unit_places.specs.f_tree.Facts.{Facts}
+use Rattle.unit_places.specs.c_tree.declared.types.NumberType.{NumberType}
+use Rattle.unit_places.specs.c_tree.declared.types.ParameterType.{ParameterType}
+use Rattle.unit_places.specs.c_tree.declared.types.ListType.TheVariants as list_type
+use Rattle.unit_places.specs.c_tree.declared.file.CFunction.{CFunction}
+use Rattle.unit_places.specs.c_tree.Access.{ToFunction, ToList}
+use Rattle.unit_places.specs.c_tree.Terms.{Variable, Routine}
+use Rattle.unit_places.specs.c_tree.Builtins.{builtin_names}
+use Rattle.unit_places.specs.c_tree.Drafts.{Scope}
+use Rattle.unit_places.specs.c_tree.FlatForm.{whole_body}
+use Rattle.unit_places.specs.c_tree.Linking.{Routines, file_scope}
+use Rattle.unit_places.specs.c_structure.Expressions.{Names}
+use Rattle.unit_places.specs.c_image.Addresses.{Through}
+use Rattle.unit_places.specs.c_emit.Numbers.{Writing, is_numeric, has_bounds}
+use Rattle.unit_places.specs.linking_laws.Linked.{AreDistinct, IsNone, scope_of}
+use Rattle.unit_places.specs.emitted_names.KnownNames.{IsPlain, IsKnownBy, Calls}
+use Rattle.unit_places.specs.procedure_emission.EmittedUnits.{is_number_pointer, is_function_pointer}
+use Rattle.unit_places.specs.unit_file.UnitFile.{Variable as Declared, Parameter, Inventory, WrittenUnit, unit_function, place_of_variable, place_of_parameter, place_of_list, lasting_names, framed_names, writing_of}
+use Rattle.unit_places.specs.unit_file.UnitNames.{constant_names, called_names, routine_name, names_of}
+use Rattle.unit_places.specs.unit_sites.UnitSites.{inventories, Site}
 use Rattle.unit_places.specs.UnitPlaces.{file_with}
 
 -- all names are told apart

@@ -1,17 +1,17 @@
 -- That each name in an item for a call or for a return is known where what the function goes by is, and the functions that it calls or passes.
 -- C89, 3.1.2.1 and 3.3.2.2.
 use Rattle.std.specs.Prelude.{◌≡◌, ℕ, List, [], Option, Some}
-use Rattle.f_tree.specs.Values.{Bytes}
-use Rattle.l_core.specs.Pures.{Pures}
-use Rattle.l_core.specs.Steps.{Step, CallFor, CallSub}
-use Rattle.c_tree.specs.Terms.{Term}
-use Rattle.c_tree.specs.Flat.{Flat, Callee}
-use Rattle.c_tree.specs.Drafts.{Scope}
-use Rattle.c_structure.specs.Expressions.{Names, strings_in_all}
-use Rattle.c_structure_laws.specs.Fitting.{KnowsAll, KnowsCallee}
-use Rattle.c_emit.specs.Numbers.{Writing}
-use Rattle.emitted_names.specs.KnownNames.{IsKnownBy, KnowsStep, ItemIsKnown}
-use Rattle.procedure_emission.specs.ProcedureItems.{Numbers, argument_terms, function_called, procedure_item}
+use Rattle.unit_places.specs.f_tree.Values.{Bytes}
+use Rattle.unit_places.specs.l_core.Pures.{Pures}
+use Rattle.unit_places.specs.l_core.Steps.{Step, CallFor, CallSub}
+use Rattle.unit_places.specs.c_tree.Terms.{Term}
+use Rattle.unit_places.specs.c_tree.Flat.{Flat, Callee}
+use Rattle.unit_places.specs.c_tree.Drafts.{Scope}
+use Rattle.unit_places.specs.c_structure.Expressions.{Names, strings_in_all}
+use Rattle.unit_places.specs.c_structure_laws.Fitting.{KnowsAll, KnowsCallee}
+use Rattle.unit_places.specs.c_emit.Numbers.{Writing}
+use Rattle.unit_places.specs.emitted_names.KnownNames.{IsKnownBy, KnowsStep, ItemIsKnown}
+use Rattle.unit_places.specs.procedure_emission.ProcedureItems.{Numbers, argument_terms, function_called, procedure_item}
 
 -- arguments whose names are known, and that have no strings
 pub record ArePlain (scope : Scope) (names : Names) (ts : List Term) : Type 0 where

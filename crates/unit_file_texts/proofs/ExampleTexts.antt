@@ -1,11 +1,11 @@
 -- The C files of the example of units that call each other are well formed, and their printed texts spell them.
 use Rattle.std.specs.Prelude.{◌≡◌, ℕ, [], Some, slice_get}
 use Rattle.std.proofs.Common.{refl, arith}
-use Rattle.c_tree.specs.CText.{CText, WellFormed}
-use Rattle.c_text.specs.Printed.{printed}
-use Rattle.c_text.specs.Opened.{printed_opened}
-use Rattle.unit_sites.specs.UnitSites.{file_for, inventories}
-use Rattle.unit_file.specs.UnitNames.{constant_names, called_names, own_names}
+use Rattle.c_spelling.specs.c_tree.CText.{CText, WellFormed}
+use Rattle.c_spelling.specs.c_text.Printed.{printed}
+use Rattle.c_spelling.specs.c_text.Opened.{printed_opened}
+use Rattle.unit_programs.specs.unit_sites.UnitSites.{file_for, inventories}
+use Rattle.unit_programs.specs.unit_file.UnitNames.{constant_names, called_names, own_names}
 use Rattle.unit_programs.specs.TranslatedUnits.{Rendering, written_of}
 use Rattle.unit_programs.specs.Example.{its_constants, main_inventory, function_inventory, subroutine_inventory, its_files, its_renderings, example_opened}
 use Rattle.unit_programs.proofs.Told.{distinct_by, apart_by, each_at}

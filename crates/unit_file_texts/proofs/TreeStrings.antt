@@ -4,12 +4,12 @@ use Rattle.std.specs.Prelude.{◌≡◌, ℕ, Bool, true, false, ◌&&◌, List,
 use Rattle.std.proofs.Common.{refl, sym, ◌∙◌}
 use Rattle.std.proofs.Math.Bool.{and-true, and_assoc}
 use Rattle.std.proofs.lemmas.List.Folds.{list_all-append}
-use Rattle.c_tree.specs.declared.expression.CExpr.{CExpr, Number, Str, Name, Unary', Cast', Binary', Choose', Index', Field', SizeInt, MaxMin', Abs', end_of-CExpr, more_of-CExpr}
-use Rattle.c_tree.specs.declared.statement.CNext.{CNext}
-use Rattle.c_tree.specs.declared.statement.CNext.TheVariants as next
-use Rattle.c_tree.specs.declared.statement.CStmt as stmt
-use Rattle.c_tree.specs.FlatForm.{returned, next_item, body, bodies, body_of_all, ends, with_return, whole_body}
-use Rattle.c_tree.specs.LinkedExpressions.{linked, linked_all}
+use Rattle.c_spelling.specs.c_tree.declared.expression.CExpr.{CExpr, Number, Str, Name, Unary', Cast', Binary', Choose', Index', Field', SizeInt, MaxMin', Abs', end_of-CExpr, more_of-CExpr}
+use Rattle.c_spelling.specs.c_tree.declared.statement.CNext.{CNext}
+use Rattle.c_spelling.specs.c_tree.declared.statement.CNext.TheVariants as next
+use Rattle.c_spelling.specs.c_tree.declared.statement.CStmt as stmt
+use Rattle.c_spelling.specs.c_tree.FlatForm.{returned, next_item, body, bodies, body_of_all, ends, with_return, whole_body}
+use Rattle.c_spelling.specs.c_tree.LinkedExpressions.{linked, linked_all}
 use Rattle.c_spelling.specs.Spelled.{of_bytes, expression_of_bytes, call_of_bytes, next_of_bytes, value_of_bytes, statement_of_bytes, row_of_bytes, statements_of_bytes}
 
 abbrev pub all_of_bytes : List (List ℕ) → Bool

@@ -1,27 +1,27 @@
 -- The items for calls and returns take no fields of lists.
 use Rattle.std.specs.Prelude.{◌≡◌, ℕ, suc, Bool, true, false, List, [], ◌∷◌, Option, Some, None, option_map}
 use Rattle.std.proofs.Common.{refl, subst}
-use Rattle.f_tree.specs.declared.names.Basic.{Basic}
-use Rattle.f_tree.specs.declared.names.Class.{Class}
-use Rattle.f_tree.specs.declared.names.Class.TheVariants as class
-use Rattle.f_tree.specs.Values.{Bytes}
-use Rattle.f_tree.specs.Facts as facts
-use Rattle.f_tree.specs.Facts.{UnitKind, EntryPoint}
-use Rattle.f_tree.specs.World.{Procedure}
-use Rattle.l_core.specs.Pures.{Pure, Constant, Temporary, Name, ElementOf, Pures, NoPure, AndPure}
-use Rattle.l_core.specs.Steps as step
-use Rattle.l_core.specs.Steps.{Step}
-use Rattle.c_tree.specs.Access.{ToNumber, ToFunction}
-use Rattle.c_tree.specs.Terms as c
-use Rattle.c_tree.specs.Terms.{Term}
-use Rattle.c_tree.specs.Flat.{Flat, Invoke, Ignored, Kept, Return, Callee}
-use Rattle.c_image.specs.Addresses.{Address, Alone, Inside, InTexts, Through}
-use Rattle.c_structure_laws.proofs.DrawnExpressions.{mapped_by}
-use Rattle.c_emit.specs.Numbers.{Writing, if_number, value_term, place_term, has_number, has_bounds}
-use Rattle.c_emit.specs.Calls.{held_term, address_of}
-use Rattle.linking_laws.proofs.Places.{some_same}
-use Rattle.procedure_emission.specs.ProcedureItems.{Numbers, pointer_term, procedure_argument, routine_term, name_argument, argument_term, argument_terms, function_called, call_item, basic_wanted, kept_item, call_for_item, result_term, back_item, back_by_item, procedure_item}
-use Rattle.unit_file_laws.specs.BuiltUnits.{unit_items}
+use Rattle.main_file_texts.specs.f_tree.declared.names.Basic.{Basic}
+use Rattle.main_file_texts.specs.f_tree.declared.names.Class.{Class}
+use Rattle.main_file_texts.specs.f_tree.declared.names.Class.TheVariants as class
+use Rattle.main_file_texts.specs.f_tree.Values.{Bytes}
+use Rattle.main_file_texts.specs.f_tree.Facts as facts
+use Rattle.main_file_texts.specs.f_tree.Facts.{UnitKind, EntryPoint}
+use Rattle.main_file_texts.specs.f_tree.World.{Procedure}
+use Rattle.main_file_texts.specs.l_core.Pures.{Pure, Constant, Temporary, Name, ElementOf, Pures, NoPure, AndPure}
+use Rattle.main_file_texts.specs.l_core.Steps as step
+use Rattle.main_file_texts.specs.l_core.Steps.{Step}
+use Rattle.c_spelling.specs.c_tree.Access.{ToNumber, ToFunction}
+use Rattle.c_spelling.specs.c_tree.Terms as c
+use Rattle.c_spelling.specs.c_tree.Terms.{Term}
+use Rattle.c_spelling.specs.c_tree.Flat.{Flat, Invoke, Ignored, Kept, Return, Callee}
+use Rattle.main_file_texts.specs.c_image.Addresses.{Address, Alone, Inside, InTexts, Through}
+use Rattle.main_file_texts.proofs.c_structure_laws.DrawnExpressions.{mapped_by}
+use Rattle.main_file_texts.specs.c_emit.Numbers.{Writing, if_number, value_term, place_term, has_number, has_bounds}
+use Rattle.main_file_texts.specs.c_emit.Calls.{held_term, address_of}
+use Rattle.main_file_texts.proofs.linking_laws.Places.{some_same}
+use Rattle.unit_programs.specs.procedure_emission.ProcedureItems.{Numbers, pointer_term, procedure_argument, routine_term, name_argument, argument_term, argument_terms, function_called, call_item, basic_wanted, kept_item, call_for_item, result_term, back_item, back_by_item, procedure_item}
+use Rattle.unit_programs.specs.unit_file_laws.BuiltUnits.{unit_items}
 use Rattle.main_file_texts.specs.WellFormedMains.{HasNoField, HaveNoField, no_terms, ItemHasNoField, ItemsHaveNoField}
 use Rattle.main_file_texts.proofs.Fieldless.{more_fieldless, address_fieldless, held_fieldless, value_fieldless, target_fieldless}
 use Rattle.main_file_texts.proofs.FieldlessItems.{held_is, return_fieldless, flat_fieldless, before_fieldless}

@@ -2,23 +2,23 @@
 use Rattle.std.specs.Prelude.{◌≡◌, ℕ, ℤ, true, List, [], ◌∷◌, ◌++◌, map, codes, Option, Some, None}
 use Rattle.std.proofs.Common.{refl, sym, ap, ◌∙◌, subst}
 use Rattle.std.proofs.lemmas.List.{map-append}
-use Rattle.f_tree.specs.Setting.{IsIn}
-use Rattle.f_tree.specs.Values.{in_range}
-use Rattle.f_tree.specs.CNames.{variable_name, made_name, FunctionResult}
-use Rattle.c_tree.specs.declared.types.NumberType.{NumberType}
-use Rattle.c_tree.specs.declared.declaration.CParam.{CParam}
-use Rattle.c_tree.specs.declared.file.CConstant.{CConstant}
-use Rattle.c_tree.specs.Tokens.{Token, Word, Sign, Including}
-use Rattle.c_tree.specs.CWords.{parameter_tokens, result_word}
-use Rattle.c_tree.specs.CLabels.{labels_meet}
-use Rattle.c_tree.specs.CExpressionText.{Scope}
-use Rattle.c_tree.specs.CStatementText.{ReadsStmts}
-use Rattle.c_tree.specs.CDeclarationText.{IsLength, with_function, with_parameter, ReadsParams, no_parameter, last_parameter, one_parameter}
-use Rattle.c_tree.specs.CText.{no_names, ReadsFunction, a_function, ReadsFunctions, no_function, one_function, WellFormed}
-use Rattle.main_file.specs.MainFile.{temporary_names}
-use Rattle.unit_file.specs.UnitFile.{Variable, Listing, Parameter, Callee, Inventory, WrittenUnit, constant_for, variable_for, lists_from, temporaries_from, parameter_for, result_local, extern_for, unit_locals, unit_function, units_file, result_names}
-use Rattle.unit_file.specs.UnitNames.{called_names, own_names}
-use Rattle.unit_sites.specs.UnitSites.{inventories}
+use Rattle.main_file_texts.specs.f_tree.Setting.{IsIn}
+use Rattle.main_file_texts.specs.f_tree.Values.{in_range}
+use Rattle.main_file_texts.specs.f_tree.CNames.{variable_name, made_name, FunctionResult}
+use Rattle.c_spelling.specs.c_tree.declared.types.NumberType.{NumberType}
+use Rattle.c_spelling.specs.c_tree.declared.declaration.CParam.{CParam}
+use Rattle.c_spelling.specs.c_tree.declared.file.CConstant.{CConstant}
+use Rattle.c_spelling.specs.c_tree.Tokens.{Token, Word, Sign, Including}
+use Rattle.c_spelling.specs.c_tree.CWords.{parameter_tokens, result_word}
+use Rattle.c_spelling.specs.c_tree.CLabels.{labels_meet}
+use Rattle.c_spelling.specs.c_tree.CExpressionText.{Scope}
+use Rattle.c_spelling.specs.c_tree.CStatementText.{ReadsStmts}
+use Rattle.c_spelling.specs.c_tree.CDeclarationText.{IsLength, with_function, with_parameter, ReadsParams, no_parameter, last_parameter, one_parameter}
+use Rattle.c_spelling.specs.c_tree.CText.{no_names, ReadsFunction, a_function, ReadsFunctions, no_function, one_function, WellFormed}
+use Rattle.main_file_texts.specs.main_file.MainFile.{temporary_names}
+use Rattle.unit_programs.specs.unit_file.UnitFile.{Variable, Listing, Parameter, Callee, Inventory, WrittenUnit, constant_for, variable_for, lists_from, temporaries_from, parameter_for, result_local, extern_for, unit_locals, unit_function, units_file, result_names}
+use Rattle.unit_programs.specs.unit_file.UnitNames.{called_names, own_names}
+use Rattle.unit_programs.specs.unit_sites.UnitSites.{inventories}
 use Rattle.main_file_texts.specs.WellFormedMains.{IsSpelled}
 use Rattle.main_file_texts.proofs.Declared.{local_name, local_names, with_all, with_constants, constant_texts, parameter_names, with_params, with_functions}
 use Rattle.main_file_texts.proofs.Declarations.{temporary_spelled, extern_spelled, AreReadable, readable_both, temporaries_readable, variables_readable, lists_readable, temporaries_named, variables_named, lists_named, AllNew, locals_spelled, names_behind, AreThere, parts_spelled}

@@ -4,19 +4,19 @@ use Rattle.std.specs.Prelude.{◌≡◌, ℕ, zero, suc, ◌+◌, true, ◌&&◌
 use Rattle.std.proofs.Common.{refl, sym, ap, ◌∙◌, subst, arith}
 use Rattle.std.proofs.lemmas.Bool.{lt-ltb}
 use Rattle.std.proofs.lemmas.List.Folds.{list_all-append}
-use Rattle.f_tree.specs.Values.{Bytes}
-use Rattle.f_tree.specs.CNames.{variable_name}
-use Rattle.f_tree.specs.Setting.{first_in, later_in}
-use Rattle.l_core.specs.Steps.{Step, Halt}
-use Rattle.c_tree.specs.declared.types.NumberType.{NumberType}
-use Rattle.c_tree.specs.declared.declaration.CLocal.{CLocal}
+use Rattle.main_file_texts.specs.f_tree.Values.{Bytes}
+use Rattle.main_file_texts.specs.f_tree.CNames.{variable_name}
+use Rattle.main_file_texts.specs.f_tree.Setting.{first_in, later_in}
+use Rattle.main_file_texts.specs.l_core.Steps.{Step, Halt}
+use Rattle.c_spelling.specs.c_tree.declared.types.NumberType.{NumberType}
+use Rattle.c_spelling.specs.c_tree.declared.declaration.CLocal.{CLocal}
 use Rattle.c_spelling.specs.Spelled.{of_bytes, file_of_bytes, statements_of_bytes, local_of_bytes, function_of_bytes}
 use Rattle.c_spelling.proofs.Files.{file_spelled}
-use Rattle.faithful.specs.UnitsAtStart.{AreBytes}
-use Rattle.main_file.specs.MainFile.{variable_by}
-use Rattle.main_file.specs.MainItems.{stops_from}
-use Rattle.unit_file.specs.UnitFile.{Variable, Listing, Callee, Inventory, variable_for, lists_from, temporaries_from, result_local, extern_for, unit_locals, unit_function, units_file}
-use Rattle.unit_sites.specs.UnitSites.{file_for}
+use Rattle.main_file_texts.specs.faithful.UnitsAtStart.{AreBytes}
+use Rattle.main_file_texts.specs.main_file.MainFile.{variable_by}
+use Rattle.main_file_texts.specs.main_file.MainItems.{stops_from}
+use Rattle.unit_programs.specs.unit_file.UnitFile.{Variable, Listing, Callee, Inventory, variable_for, lists_from, temporaries_from, result_local, extern_for, unit_locals, unit_function, units_file}
+use Rattle.unit_programs.specs.unit_sites.UnitSites.{file_for}
 use Rattle.unit_programs.specs.TranslatedUnits.{Rendering, written_of}
 use Rattle.unit_programs.proofs.Objects.{its_items}
 use Rattle.unit_file_texts.specs.SpelledUnits.{UnitFilesAreOfBytes, UnitFilesAreSpelled}

@@ -4,30 +4,30 @@ use Rattle.std.specs.Prelude.{◌≡◌, ◌≢◌, ℕ, ◌+◌, ◌*◌, nat_l
 use Rattle.std.proofs.Common.{refl, sym, ap, ◌∙◌, subst, arith}
 use Rattle.std.proofs.lemmas.Bool.{leb-true}
 use Rattle.std.proofs.lemmas.List.{append_assoc}
-use Rattle.f_tree.specs.Values.{in_range}
-use Rattle.f_tree.specs.Facts.{ProgramUnit}
-use Rattle.f_tree.specs.Setting.{IsIn, first_in, later_in}
-use Rattle.c_tree.specs.Drafts as linking
-use Rattle.c_tree.specs.CWords.{is_among}
-use Rattle.c_tree.specs.CLabels.{labels_meet}
-use Rattle.c_tree.specs.CExpressionText.{Scope}
-use Rattle.c_tree.specs.CDeclarationText.{IsLength, with_function}
-use Rattle.c_tree.specs.CText.{no_names, ReadsFunction, WellFormed}
-use Rattle.c_tree.specs.Linking.{declared_constants, file_scope}
-use Rattle.c_laws.proofs.TokenSpellings.{and-first, and-second}
-use Rattle.c_structure_laws.specs.Fitting.{KnowsItems}
-use Rattle.linking_laws.specs.Linked as linked
-use Rattle.linking_laws.specs.Linked.{AreDistinct, IsNone, IsBuilt, routines_of, outside_of}
-use Rattle.linking_laws.proofs.BuiltCode.{built_fit}
-use Rattle.linking_laws.proofs.Places.{some_same, get_front, get_back, within, some_at}
-use Rattle.main_file.specs.MainFile.{temporary_names}
-use Rattle.main_programs.proofs.MainStorage.{map_back}
-use Rattle.main_translation_laws.proofs.Lists.{AreApart, none_apart, one_apart, at_in, in_either, InEither, in_one, in_other, apart_append}
-use Rattle.unit_file.specs.UnitFile.{Variable, Inventory, WrittenUnit, constant_for, unit_locals, unit_function, units_file, result_names, lasting_names, framed_names}
-use Rattle.unit_file.specs.UnitNames.{constant_names, called_names}
-use Rattle.unit_sites.specs.UnitSites.{UnitsOfFile, files_of}
-use Rattle.unit_places.specs.UnitPlaces.{file_with}
-use Rattle.unit_file_laws.specs.KnownUnits.{NamesDiffer, unit_writing}
+use Rattle.main_file_texts.specs.f_tree.Values.{in_range}
+use Rattle.main_file_texts.specs.f_tree.Facts.{ProgramUnit}
+use Rattle.main_file_texts.specs.f_tree.Setting.{IsIn, first_in, later_in}
+use Rattle.c_spelling.specs.c_tree.Drafts as linking
+use Rattle.c_spelling.specs.c_tree.CWords.{is_among}
+use Rattle.c_spelling.specs.c_tree.CLabels.{labels_meet}
+use Rattle.c_spelling.specs.c_tree.CExpressionText.{Scope}
+use Rattle.c_spelling.specs.c_tree.CDeclarationText.{IsLength, with_function}
+use Rattle.c_spelling.specs.c_tree.CText.{no_names, ReadsFunction, WellFormed}
+use Rattle.c_spelling.specs.c_tree.Linking.{declared_constants, file_scope}
+use Rattle.c_spelling.proofs.c_laws.TokenSpellings.{and-first, and-second}
+use Rattle.main_file_texts.specs.c_structure_laws.Fitting.{KnowsItems}
+use Rattle.main_file_texts.specs.linking_laws.Linked as linked
+use Rattle.main_file_texts.specs.linking_laws.Linked.{AreDistinct, IsNone, IsBuilt, routines_of, outside_of}
+use Rattle.main_file_texts.proofs.linking_laws.BuiltCode.{built_fit}
+use Rattle.main_file_texts.proofs.linking_laws.Places.{some_same, get_front, get_back, within, some_at}
+use Rattle.main_file_texts.specs.main_file.MainFile.{temporary_names}
+use Rattle.main_file_texts.proofs.main_programs.MainStorage.{map_back}
+use Rattle.main_file_texts.proofs.main_translation_laws.Lists.{AreApart, none_apart, one_apart, at_in, in_either, InEither, in_one, in_other, apart_append}
+use Rattle.unit_programs.specs.unit_file.UnitFile.{Variable, Inventory, WrittenUnit, constant_for, unit_locals, unit_function, units_file, result_names, lasting_names, framed_names}
+use Rattle.unit_programs.specs.unit_file.UnitNames.{constant_names, called_names}
+use Rattle.unit_programs.specs.unit_sites.UnitSites.{UnitsOfFile, files_of}
+use Rattle.unit_programs.specs.unit_places.UnitPlaces.{file_with}
+use Rattle.unit_programs.specs.unit_file_laws.KnownUnits.{NamesDiffer, unit_writing}
 use Rattle.unit_programs.specs.OwnStorage.{bytes_in, HasOwnStorage}
 use Rattle.unit_programs.specs.TranslatedUnits.{Rendering, written_of, numbers_of, IsTranslatedUnit, IsTranslatedSet}
 use Rattle.unit_programs.proofs.Objects.{its_items}

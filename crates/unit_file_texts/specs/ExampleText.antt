@@ -1,6 +1,6 @@
 -- The printed texts of the C files of the example: that of a main program, and that of a function and a subroutine which it calls. C89, 3.5, 3.6 and 3.7.
 use Rattle.std.specs.Prelude.{ℕ, List, [], ◌∷◌, ◌++◌, codes}
-use Rattle.unit_sites.specs.UnitSites.{UnitsOfFile}
+use Rattle.unit_programs.specs.unit_sites.UnitSites.{UnitsOfFile}
 use Rattle.unit_programs.specs.TranslatedUnits.{Rendering}
 use Rattle.unit_programs.specs.Example.{its_constants, main_written, function_written, subroutine_written, main_rendering, function_rendering, subroutine_rendering}
 

@@ -1,15 +1,15 @@
 -- That the C files of units that call each other are well formed: some tokens spell each. C89, 3.1.2, 3.5, 3.6 and 3.7.
 use Rattle.std.specs.List.{list_all}
 use Rattle.std.specs.Prelude.{◌≡◌, ◌≤◌, ℕ, nat_le, ℤ, Bool, true, List, ◌++◌, map, length, Some, unwrap_or, slice_get}
-use Rattle.f_tree.specs.Values.{in_range}
-use Rattle.f_tree.specs.CNames.{variable_name}
-use Rattle.c_tree.specs.CWords.{is_name}
-use Rattle.c_tree.specs.CText.{WellFormed}
-use Rattle.linking_laws.specs.Linked.{AreDistinct, IsNone}
-use Rattle.main_file.specs.MainFile.{temporary_names}
-use Rattle.unit_file.specs.UnitFile.{Variable, Listing, Parameter, Inventory, result_names, lasting_names}
-use Rattle.unit_file.specs.UnitNames.{constant_names, called_names, own_names}
-use Rattle.unit_sites.specs.UnitSites.{UnitsOfFile, file_for, inventories}
+use Rattle.main_file_texts.specs.f_tree.Values.{in_range}
+use Rattle.main_file_texts.specs.f_tree.CNames.{variable_name}
+use Rattle.c_spelling.specs.c_tree.CWords.{is_name}
+use Rattle.c_spelling.specs.c_tree.CText.{WellFormed}
+use Rattle.main_file_texts.specs.linking_laws.Linked.{AreDistinct, IsNone}
+use Rattle.main_file_texts.specs.main_file.MainFile.{temporary_names}
+use Rattle.unit_programs.specs.unit_file.UnitFile.{Variable, Listing, Parameter, Inventory, result_names, lasting_names}
+use Rattle.unit_programs.specs.unit_file.UnitNames.{constant_names, called_names, own_names}
+use Rattle.unit_programs.specs.unit_sites.UnitSites.{UnitsOfFile, file_for, inventories}
 use Rattle.unit_programs.specs.TranslatedUnits.{Rendering, written_of, IsTranslatedSet}
 
 -- the names that a function declares, in their order: its parameters, then the variable for its result, temporaries, functions, variables and control lists

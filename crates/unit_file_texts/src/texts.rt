@@ -1,9 +1,9 @@
 //! Texts of files of units, as the contracts of calls that do nothing.
 
 ghost use Rattle.std.specs.Prelude.{◌≡◌, []};
-ghost use Rattle.c_tree.specs.CText.{CText, WellFormed};
-ghost use Rattle.c_text.specs.Printed.{printed};
-ghost use Rattle.unit_sites.specs.UnitSites.{file_for};
+ghost use Rattle.c_spelling.specs.c_tree.CText.{CText, WellFormed};
+ghost use Rattle.c_spelling.specs.c_text.Printed.{printed};
+ghost use Rattle.unit_programs.specs.unit_sites.UnitSites.{file_for};
 ghost use Rattle.unit_programs.specs.Example.{its_constants};
 ghost use Rattle.unit_file_texts.specs.WellFormedUnits.{AreSpellable, UnitFilesAreWellFormed};
 ghost use Rattle.unit_file_texts.specs.SpelledUnits.{UnitFilesAreOfBytes, UnitFilesAreSpelled};

@@ -1,9 +1,9 @@
 -- The setting in which each stored name of several units has a sequence of its own. ANSI X3.9-1978, sections 2.11, 5 and 17.1.
 use Rattle.std.specs.List.{flat_map}
 use Rattle.std.specs.Prelude.{ℕ, ◌+◌, List, [], ◌∷◌, length, Some}
-use Rattle.f_tree.specs.Facts.{Home, ProgramUnit, Facts}
-use Rattle.f_tree.specs.Setting.{Setting}
-use Rattle.f_tree.specs.Meaning.{facts_at}
+use Rattle.plain_forms.specs.f_tree.Facts.{Home, ProgramUnit, Facts}
+use Rattle.plain_forms.specs.f_tree.Setting.{Setting}
+use Rattle.plain_forms.specs.f_tree.Meaning.{facts_at}
 use Rattle.plain_forms.specs.OwnStorage.{homes_from, sizes_of}
 
 -- the sequences of each unit stand behind those of the units before it

@@ -2,18 +2,18 @@
 -- stored have storage of their own, and the statements are those that are lowered. ANSI X3.9-1978, sections 2.4, 4.1, 5.1, 5.5, 8, 9, 11.10, 15 and 18.
 use Rattle.std.specs.List.{list_all, list_any}
 use Rattle.std.specs.Prelude.{Bool, true, false, not, ◌&&◌, ◌||◌, List, [], ◌∷◌, bytes_eq}
-use Rattle.f_tree.specs.declared.names.Class.{Class}
-use Rattle.f_tree.specs.declared.names.Class.TheVariants as class
-use Rattle.f_tree.specs.declared.names.Options.{Options}
-use Rattle.f_tree.specs.declared.units.Unit.{Unit as WrittenUnit}
-use Rattle.f_tree.specs.declared.statements.DummyArgument.{DummyArgument}
-use Rattle.f_tree.specs.CNames.{is_name}
-use Rattle.f_tree.specs.Values.{Bytes}
-use Rattle.f_tree.specs.Facts.{Attribute, UnitKind, MainProgram, SubroutineUnit, FunctionUnit, BlockDataUnit}
-use Rattle.f_tree.specs.Reading.{name_or_none}
-use Rattle.f_tree.specs.Attributes.{named_dummies, Described, attribute_in, all_described}
-use Rattle.f_tree.specs.Lines.{entries_from, unit_kind, unit_read}
-use Rattle.plain_forms.specs.PlainUnits.{has_none, has_own_storage, has_plain_lines, has_plain_bounds, is_number, is_plain_variable}
+use Rattle.plain_forms.specs.f_tree.declared.names.Class.{Class}
+use Rattle.plain_forms.specs.f_tree.declared.names.Class.TheVariants as class
+use Rattle.plain_forms.specs.f_tree.declared.names.Options.{Options}
+use Rattle.plain_forms.specs.f_tree.declared.units.Unit.{Unit as WrittenUnit}
+use Rattle.plain_forms.specs.f_tree.declared.statements.DummyArgument.{DummyArgument}
+use Rattle.plain_forms.specs.f_tree.CNames.{is_name}
+use Rattle.plain_forms.specs.f_tree.Values.{Bytes}
+use Rattle.plain_forms.specs.f_tree.Facts.{Attribute, UnitKind, MainProgram, SubroutineUnit, FunctionUnit, BlockDataUnit}
+use Rattle.plain_forms.specs.f_tree.Reading.{name_or_none}
+use Rattle.plain_forms.specs.f_tree.Attributes.{named_dummies, Described, attribute_in, all_described}
+use Rattle.plain_forms.specs.f_tree.Lines.{entries_from, unit_kind, unit_read}
+use Rattle.plain_forms.specs.PlainUnits.{has_none, has_own_storage, has_plain_lines, has_plain_bounds, has_constant_bounds, is_number, is_plain_variable}
 
 -- ## The unit
 
@@ -39,7 +39,7 @@ has_no_entries u = has_none (entries_from 0 u.statements)
 
 -- ## The names
 
--- a dummy variable, or a dummy array with constant bounds
+-- a dummy variable, or a dummy array with constant bounds, but for a last one that is assumed
 unfoldable pub is_plain_dummy : Described → Bool
 is_plain_dummy d = is_name d.name && (is_number d.attribute && has_plain_bounds d.attribute)
 
@@ -49,7 +49,7 @@ is_plain_result kind a = is_function kind && (is_number a && has_none a.dimensio
 
 -- a name of a class: variables and arrays of numbers, dummy procedures, and what takes no storage
 unfoldable pub is_plain_as : UnitKind → Class → Described → Bool
-is_plain_as kind class.Stored d = has_plain_bounds d.attribute && is_plain_variable d
+is_plain_as kind class.Stored d = has_constant_bounds d.attribute && is_plain_variable d
 is_plain_as kind class.Dummy d = is_plain_dummy d
 is_plain_as kind class.DummyProcedure d = is_name d.name && has_none d.attribute.dimensions
 is_plain_as kind class.Result d = is_plain_result kind d.attribute

@@ -2,11 +2,11 @@
 -- and digits only, and an array that is stored has an element. ANSI X3.9-1978, sections 2.2 and 5.1; C89, 3.1.2 and 3.5.
 use Rattle.std.specs.List.{list_all}
 use Rattle.std.specs.Prelude.{Bool, true, ◌&&◌}
-use Rattle.f_tree.specs.Values.{Bytes}
-use Rattle.f_tree.specs.CNames.{is_name}
-use Rattle.f_tree.specs.Facts.{UnitKind, MainProgram, SubroutineUnit, FunctionUnit, BlockDataUnit, EntryPoint, ProgramUnit}
-use Rattle.c_tree.specs.Tokens.{begins_with, is_letter}
-use Rattle.faithful.specs.Signatures.{named_formals}
+use Rattle.plain_forms.specs.f_tree.Values.{Bytes}
+use Rattle.plain_forms.specs.f_tree.CNames.{is_name}
+use Rattle.plain_forms.specs.f_tree.Facts.{UnitKind, MainProgram, SubroutineUnit, FunctionUnit, BlockDataUnit, EntryPoint, ProgramUnit}
+use Rattle.plain_forms.specs.c_tree.Tokens.{begins_with, is_letter}
+use Rattle.plain_forms.specs.faithful.Signatures.{named_formals}
 use Rattle.plain_forms.specs.SpellableNames.{is_spellable}
 
 -- the name of a main program is none of C

@@ -5,15 +5,15 @@ use Rattle.std.proofs.Common.{refl, sym, ap, ◌∙◌, arith}
 use Rattle.std.proofs.lemmas.Bool.{ltb-true, lt-ltb, le-leb, lt-leb}
 use Rattle.std.proofs.lemmas.List.{length-append, length-map, length-replicate}
 use Rattle.std.proofs.lemmas.Slice.Eq.{bytes_eq-Decides}
-use Rattle.f_tree.specs.Values.{Bytes}
-use Rattle.f_tree.specs.CNames.{variable_name, made_name, FunctionResult, NumberTemporary, ControlList, ConstantOf}
-use Rattle.c_tree.specs.declared.types.NumberType.{NumberType}
-use Rattle.c_tree.specs.Builtins.{builtin_names}
-use Rattle.main_file.specs.MainFile.{list_names, temporary_names}
-use Rattle.unit_file.specs.UnitFile as file
-use Rattle.unit_file.specs.UnitFile.{Listing, Inventory, Bases, result_count, frame_count, first_list, first_string, first_parameter, result_object, first_temporary, place_or_none, place_of_constant, place_of_variable, place_of_parameter, place_of_list, place_of_string, lasting_names, result_names, framed_names, parameter_object}
-use Rattle.unit_file.specs.UnitNames.{constant_names, object_names, object_name, string_at, own_names, routine_name}
-use Rattle.unit_sites.specs.UnitSites.{Site}
+use Rattle.item_emission.specs.f_tree.Values.{Bytes}
+use Rattle.item_emission.specs.f_tree.CNames.{variable_name, made_name, FunctionResult, NumberTemporary, ControlList, ConstantOf}
+use Rattle.item_emission.specs.c_tree.declared.types.NumberType.{NumberType}
+use Rattle.item_emission.specs.c_tree.Builtins.{builtin_names}
+use Rattle.item_emission.specs.main_file.MainFile.{list_names, temporary_names}
+use Rattle.unit_file_laws.specs.unit_file.UnitFile as file
+use Rattle.unit_file_laws.specs.unit_file.UnitFile.{Listing, Inventory, Bases, result_count, frame_count, first_list, first_string, first_parameter, result_object, first_temporary, place_or_none, place_of_constant, place_of_variable, place_of_parameter, place_of_list, place_of_string, lasting_names, result_names, framed_names, parameter_object}
+use Rattle.unit_file_laws.specs.unit_file.UnitNames.{constant_names, object_names, object_name, string_at, own_names, routine_name}
+use Rattle.unit_file_laws.specs.unit_sites.UnitSites.{Site}
 use Rattle.item_emission.proofs.ObjectNames.{get_front, get_back, map_at, chosen, other, and_false, and_true, position_finds, within, some_place, temporary_named, list_named, list_names_count, equal_is, same_number}
 
 result_names_count : (returned : Option NumberType) → length (result_names returned) ≡ result_count returned

@@ -1,40 +1,40 @@
 -- The items of a unit's steps by names are those of its flat items.
 use Rattle.std.specs.Prelude.{◌≡◌, ℕ, ◌+◌, ◌≤◌, Bool, true, false, not, ◌&&◌, List, [], ◌∷◌, length, Option, Some, None, is_some, option_map, option_and_then, if◌then◌else◌}
 use Rattle.std.proofs.Common.{refl, sym, ap, ◌∙◌}
-use Rattle.f_tree.specs.declared.names.Basic.{Basic}
-use Rattle.f_tree.specs.declared.names.Basic.TheVariants.{Integer, Logical, Character, Untyped}
-use Rattle.f_tree.specs.declared.names.Class.{Class}
-use Rattle.f_tree.specs.declared.names.Class.TheVariants as class
-use Rattle.f_tree.specs.Values.{Bytes}
-use Rattle.f_tree.specs.Terms.{Wanted, AsSubroutine, AsFunction}
-use Rattle.f_tree.specs.Facts.{Facts, UnitKind, MainProgram, SubroutineUnit, FunctionUnit, BlockDataUnit, EntryPoint}
-use Rattle.f_tree.specs.World.{Procedure}
-use Rattle.l_core.specs.Pures.{Pure, Constant, Temporary, Name, ElementOf, Pures, NoPure, AndPure}
-use Rattle.l_core.specs.Steps as step
-use Rattle.l_core.specs.Steps.{Step}
-use Rattle.c_tree.specs.declared.types.CastType.TheVariants as to
-use Rattle.c_tree.specs.declared.types.FunctionType.TheVariants as pointer
-use Rattle.c_tree.specs.declared.expression.CExpr.{CExpr}
-use Rattle.c_tree.specs.declared.expression.CExpr.TheVariants as expr
-use Rattle.c_tree.specs.declared.expression.UnaryOp.TheVariants as prefix
-use Rattle.c_tree.specs.Access.{ToNumber, ToFunction}
-use Rattle.c_tree.specs.Terms as c
-use Rattle.c_tree.specs.Terms.{Term}
-use Rattle.c_tree.specs.Flat as flat
-use Rattle.c_tree.specs.Flat.{Invoke, Return, Ignored, Kept}
-use Rattle.c_structure.specs.Expressions.{Names, with_two, number_expr, array_expr, expr_for, one_more, exprs_for}
-use Rattle.c_image.specs.Addresses.{number_term, element_term}
-use Rattle.c_emit.specs.Numbers.{Writing, is_numeric, is_variable, has_number, has_bounds, is_scalar, is_array, if_number, value_term, place_term}
-use Rattle.c_emit.specs.Calls.{address_of, held_term}
-use Rattle.c_emit.specs.Flats.{returned_by}
-use Rattle.procedure_emission.specs.ProcedureItems.{Numbers, pointer_term, routine_term, name_argument, argument_term, argument_terms, callee_for, function_called, call_item, basic_wanted, kept_item, call_for_item, result_term, back_item, back_by_item, procedure_item}
-use Rattle.unit_file.specs.UnitFile.{Inventory, Bases, place_of_parameter, parameter_object, address_in, writing_of}
-use Rattle.unit_file.specs.UnitNames.{object_name, routine_name, names_of}
-use Rattle.unit_sites.specs.UnitSites.{Site}
+use Rattle.item_emission.specs.f_tree.declared.names.Basic.{Basic}
+use Rattle.item_emission.specs.f_tree.declared.names.Basic.TheVariants.{Integer, Logical, Character, Untyped}
+use Rattle.item_emission.specs.f_tree.declared.names.Class.{Class}
+use Rattle.item_emission.specs.f_tree.declared.names.Class.TheVariants as class
+use Rattle.item_emission.specs.f_tree.Values.{Bytes}
+use Rattle.item_emission.specs.f_tree.Terms.{Wanted, AsSubroutine, AsFunction}
+use Rattle.item_emission.specs.f_tree.Facts.{Facts, UnitKind, MainProgram, SubroutineUnit, FunctionUnit, BlockDataUnit, EntryPoint}
+use Rattle.item_emission.specs.f_tree.World.{Procedure}
+use Rattle.item_emission.specs.l_core.Pures.{Pure, Constant, Temporary, Name, ElementOf, Pures, NoPure, AndPure}
+use Rattle.item_emission.specs.l_core.Steps as step
+use Rattle.item_emission.specs.l_core.Steps.{Step}
+use Rattle.item_emission.specs.c_tree.declared.types.CastType.TheVariants as to
+use Rattle.item_emission.specs.c_tree.declared.types.FunctionType.TheVariants as pointer
+use Rattle.item_emission.specs.c_tree.declared.expression.CExpr.{CExpr}
+use Rattle.item_emission.specs.c_tree.declared.expression.CExpr.TheVariants as expr
+use Rattle.item_emission.specs.c_tree.declared.expression.UnaryOp.TheVariants as prefix
+use Rattle.item_emission.specs.c_tree.Access.{ToNumber, ToFunction}
+use Rattle.item_emission.specs.c_tree.Terms as c
+use Rattle.item_emission.specs.c_tree.Terms.{Term}
+use Rattle.item_emission.specs.c_tree.Flat as flat
+use Rattle.item_emission.specs.c_tree.Flat.{Invoke, Return, Ignored, Kept}
+use Rattle.item_emission.specs.c_structure.Expressions.{Names, with_two, number_expr, array_expr, expr_for, one_more, exprs_for}
+use Rattle.item_emission.specs.c_image.Addresses.{number_term, element_term}
+use Rattle.item_emission.specs.c_emit.Numbers.{Writing, is_numeric, is_variable, has_number, has_bounds, is_scalar, is_array, if_number, value_term, place_term}
+use Rattle.item_emission.specs.c_emit.Calls.{address_of, held_term}
+use Rattle.item_emission.specs.c_emit.Flats.{returned_by}
+use Rattle.unit_file_laws.specs.procedure_emission.ProcedureItems.{Numbers, pointer_term, routine_term, name_argument, argument_term, argument_terms, callee_for, function_called, call_item, basic_wanted, kept_item, call_for_item, result_term, back_item, back_by_item, procedure_item}
+use Rattle.unit_file_laws.specs.unit_file.UnitFile.{Inventory, Bases, place_of_parameter, parameter_object, address_in, writing_of}
+use Rattle.unit_file_laws.specs.unit_file.UnitNames.{object_name, routine_name, names_of}
+use Rattle.unit_file_laws.specs.unit_sites.UnitSites.{Site}
 use Rattle.unit_file_laws.specs.KnownUnits.{NamesAreListed}
-use Rattle.named_items.specs.declared.item.Callee.{Callee}
-use Rattle.named_items.specs.declared.item.Item.TheVariants as item
-use Rattle.named_items.specs.Items.{by_name, through, call_by, set_call_by, item_for}
+use Rattle.item_emission.specs.named_items.declared.item.Callee.{Callee}
+use Rattle.item_emission.specs.named_items.declared.item.Item.TheVariants as item
+use Rattle.item_emission.specs.named_items.Items.{by_name, through, call_by, set_call_by, item_for}
 use Rattle.item_emission.specs.NamedEmission.{Knowledge, address_expr, variable_expr, result_object, scalar_expr, value_expr, held_expr, scalar_passed, procedure_expr, procedure_passed, name_passed, argument_expr, argument_exprs, call_step, wants_number, call_for_step, return_step, given_expr, alternate_step, item_step}
 use Rattle.item_emission.proofs.ValuesAgree.{IsKnownBy, expr_of, exprs_of, more-agrees}
 use Rattle.item_emission.proofs.KnownSteps.{StepsAreKnownBy, lower-agrees, size-agrees, value-known, place-known, temporary-known, held-known, step-known}

@@ -2,22 +2,22 @@
 -- what a file of several units has and what is said of a unit, as what is known. ANSI X3.9-1978, sections 15.5, 15.6, 15.8 and 15.9; C89, 3.1.2, 3.3.2.2 and
 -- 3.6.
 use Rattle.std.specs.Prelude.{◌≡◌, ℕ, ◌+◌, ◌≤◌, ℤ, Bool, true, false, not, ◌&&◌, List, [], ◌∷◌, map, length, Option, Some, None, is_some, option_map, option_and_then}
-use Rattle.f_tree.specs.declared.names.Basic.{Basic}
-use Rattle.f_tree.specs.declared.names.Class.{Class}
-use Rattle.f_tree.specs.declared.names.Class.TheVariants as class
-use Rattle.f_tree.specs.Values.{Bytes}
-use Rattle.f_tree.specs.Facts.{Facts, UnitKind, MainProgram, SubroutineUnit, FunctionUnit, BlockDataUnit, EntryPoint}
-use Rattle.f_tree.specs.World.{Procedure}
-use Rattle.f_tree.specs.CNames.{variable_name}
-use Rattle.l_core.specs.Steps.{Step, Starts, Acts, Halt}
-use Rattle.c_emit.specs.Numbers.{is_numeric, is_variable, has_bounds}
-use Rattle.procedure_emission.specs.ProcedureItems.{Numbers, procedure_item}
-use Rattle.unit_file.specs.UnitFile.{Inventory, place_of_constant, place_of_list, place_of_string, writing_of}
-use Rattle.unit_file.specs.UnitNames.{routine_name, names_of}
-use Rattle.unit_sites.specs.UnitSites.{Site}
+use Rattle.item_emission.specs.f_tree.declared.names.Basic.{Basic}
+use Rattle.item_emission.specs.f_tree.declared.names.Class.{Class}
+use Rattle.item_emission.specs.f_tree.declared.names.Class.TheVariants as class
+use Rattle.item_emission.specs.f_tree.Values.{Bytes}
+use Rattle.item_emission.specs.f_tree.Facts.{Facts, UnitKind, MainProgram, SubroutineUnit, FunctionUnit, BlockDataUnit, EntryPoint}
+use Rattle.item_emission.specs.f_tree.World.{Procedure}
+use Rattle.item_emission.specs.f_tree.CNames.{variable_name}
+use Rattle.item_emission.specs.l_core.Steps.{Step, Starts, Acts, Halt}
+use Rattle.item_emission.specs.c_emit.Numbers.{is_numeric, is_variable, has_bounds}
+use Rattle.unit_file_laws.specs.procedure_emission.ProcedureItems.{Numbers, procedure_item}
+use Rattle.unit_file_laws.specs.unit_file.UnitFile.{Inventory, place_of_constant, place_of_list, place_of_string, writing_of}
+use Rattle.unit_file_laws.specs.unit_file.UnitNames.{routine_name, names_of}
+use Rattle.unit_file_laws.specs.unit_sites.UnitSites.{Site}
 use Rattle.unit_file_laws.specs.KnownUnits.{NamesAreListed}
-use Rattle.named_items.specs.declared.item.Callee.{Callee}
-use Rattle.named_items.specs.Items.{by_name, through, item_for}
+use Rattle.item_emission.specs.named_items.declared.item.Callee.{Callee}
+use Rattle.item_emission.specs.named_items.Items.{by_name, through, item_for}
 use Rattle.item_emission.specs.declared.known.Standing.{Standing}
 use Rattle.item_emission.specs.declared.known.Standing.TheVariants.{Own, Parameter, Result}
 use Rattle.item_emission.specs.declared.known.Giving.{Giving}

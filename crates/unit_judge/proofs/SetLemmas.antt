@@ -5,8 +5,8 @@ use Rattle.f_tree.specs.declared.names.Options.{Options}
 use Rattle.f_tree.specs.declared.refusals.Refusal.{Refusal}
 use Rattle.f_tree.specs.declared.units.Unit.{Unit as WrittenUnit}
 use Rattle.f_tree.specs.declared.units.File.{File}
-use Rattle.declaration_rows.specs.SetRows.{all_unit_rows, units_rows, files_rows}
-use Rattle.declaration_rows.specs.Verdicts.{first_of}
+use Rattle.name_facts.specs.declaration_rows.SetRows.{all_unit_rows, units_rows, files_rows}
+use Rattle.name_facts.specs.declaration_rows.Verdicts.{first_of}
 use Rattle.refusal_order.specs.Earliest.{earliest}
 use Rattle.refusal_order.proofs.FirstOfBoth.{earliest_along, earliest_none, first_of_both}
 

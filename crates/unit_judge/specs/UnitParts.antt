@@ -6,16 +6,16 @@ use Rattle.f_tree.specs.declared.units.Unit.{Unit as WrittenUnit}
 use Rattle.f_tree.specs.Facts.{ProgramUnit}
 use Rattle.f_tree.specs.Attributes.{arrays_of}
 use Rattle.f_tree.specs.Lines.{unit_read}
-use Rattle.declaration_rows.specs.NameRows.{given_names, own_attributes, all_names, defined_rows, names_rows}
-use Rattle.declaration_rows.specs.UnitRows.{statements_rows, labels_rows, nest_rows, end_rows, ends_by_end, ranges_from, crossing_rows}
-use Rattle.declaration_rows.specs.UndeclaredRows.{unit_undeclared_rows}
-use Rattle.declaration_rows.specs.OrderRows.{unit_order_rows}
-use Rattle.declaration_rows.specs.BlockRows.{unit_block_rows}
-use Rattle.declaration_rows.specs.FormatRows.{unit_format_rows}
-use Rattle.declaration_rows.specs.ReferenceRows.{unit_reference_rows}
-use Rattle.declaration_rows.specs.LengthRows.{unit_length_rows}
-use Rattle.declaration_rows.specs.ExpansionRows.{unit_expansion_rows}
-use Rattle.declaration_rows.specs.GivenRows.{unit_given_rows}
+use Rattle.name_facts.specs.declaration_rows.NameRows.{given_names, own_attributes, all_names, defined_rows, names_rows}
+use Rattle.name_facts.specs.declaration_rows.UnitRows.{statements_rows, labels_rows, nest_rows, end_rows, ends_by_end, ranges_from, crossing_rows}
+use Rattle.name_facts.specs.declaration_rows.UndeclaredRows.{unit_undeclared_rows}
+use Rattle.name_facts.specs.declaration_rows.OrderRows.{unit_order_rows}
+use Rattle.name_facts.specs.declaration_rows.BlockRows.{unit_block_rows}
+use Rattle.name_facts.specs.declaration_rows.FormatRows.{unit_format_rows}
+use Rattle.name_facts.specs.declaration_rows.ReferenceRows.{unit_reference_rows}
+use Rattle.name_facts.specs.declaration_rows.LengthRows.{unit_length_rows}
+use Rattle.name_facts.specs.declaration_rows.ExpansionRows.{unit_expansion_rows}
+use Rattle.name_facts.specs.declaration_rows.GivenRows.{unit_given_rows}
 
 -- names (8 and 18) and statement functions (15.4)
 unfoldable pub declared_rows : WrittenUnit → List Refusal

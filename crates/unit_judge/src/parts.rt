@@ -1,14 +1,14 @@
 //! The first of the rows of a unit, part by part.
 
 ghost use Rattle.std.specs.Prelude.{◌≡◌, None, List, ℕ, IfOk};
-ghost use Rattle.declaration_rows.specs.NameRows.{known_in};
-ghost use Rattle.declaration_rows.specs.Verdicts.{first_of};
+ghost use Rattle.name_facts.specs.declaration_rows.NameRows.{known_in};
+ghost use Rattle.name_facts.specs.declaration_rows.Verdicts.{first_of};
 ghost use Rattle.definition_judge.specs.KnownFunctions.{AreGiven};
 ghost use Rattle.expression_judge.specs.SeenNames.{function_in, AreSeen};
 ghost use Rattle.f_tree.specs.declared.names.Options.{Options as GivenOptions};
 ghost use Rattle.f_tree.specs.Lines.{unit_read};
-ghost use Rattle.declaration_rows.specs.BlockRows.{unit_block_rows};
-ghost use Rattle.declaration_rows.specs.UnitRows.{unit_rows};
+ghost use Rattle.name_facts.specs.declaration_rows.BlockRows.{unit_block_rows};
+ghost use Rattle.name_facts.specs.declaration_rows.UnitRows.{unit_rows};
 ghost use Rattle.unit_judge.specs.UnitParts.{control_rows, declared_rows, executed_rows, expanded_rows, further_rows, placed_rows, used_rows};
 ghost use Rattle.unit_judge.specs.UnitTables.{AreTables};
 

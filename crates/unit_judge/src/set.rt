@@ -1,8 +1,8 @@
 //! The rows of a set.
 
 ghost use Rattle.std.specs.Prelude.{◌≡◌, IfOk};
-ghost use Rattle.declaration_rows.specs.SetRows.{files_rows, units_rows};
-ghost use Rattle.declaration_rows.specs.Verdicts.{first_of};
+ghost use Rattle.name_facts.specs.declaration_rows.SetRows.{files_rows, units_rows};
+ghost use Rattle.name_facts.specs.declaration_rows.Verdicts.{first_of};
 
 use crate::unit::unit_fault;
 use f_tree::{File, Options, Refusal, Unit};

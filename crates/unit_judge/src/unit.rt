@@ -1,8 +1,8 @@
 //! The rows of a unit.
 
 ghost use Rattle.std.specs.Prelude.{◌≡◌, None, List, ℕ, IfOk};
-ghost use Rattle.declaration_rows.specs.SetRows.{all_unit_rows};
-ghost use Rattle.declaration_rows.specs.Verdicts.{first_of};
+ghost use Rattle.name_facts.specs.declaration_rows.SetRows.{all_unit_rows};
+ghost use Rattle.name_facts.specs.declaration_rows.Verdicts.{first_of};
 ghost use Rattle.definition_judge.specs.KnownFunctions.{AreGiven};
 ghost use Rattle.expression_judge.specs.SeenNames.{function_in};
 ghost use Rattle.unit_judge.specs.UnitTables.{AreTables};

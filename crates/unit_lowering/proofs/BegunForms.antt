@@ -3,8 +3,8 @@ use Rattle.std.proofs.Common.{◌≡◌, ℕ, Bool, List, [], ◌∷◌, Option,
 use Rattle.f_tree.specs.Values.{Bytes}
 use Rattle.f_tree.specs.Terms.{Terms, NoMore, More}
 use Rattle.f_tree.specs.Facts.{Direction, Layout, Controls, AuxiliaryKind, Head, ToSet, ToSetLabel, ToGo, ToPick, ToGoAssigned, ToGoBySign, ToGuard, ToEnterArm, ToLoop, ToTestLoop, ToCall, ToReturn, ToStop, ToBegin, ToAuxiliary, ToEnd, On}
-use Rattle.l_core.specs.Pures.{Pures, NoPure, AndPure}
-use Rattle.l_core.specs.Steps.{Step}
+use Rattle.lowered_tree.specs.l_core.Pures.{Pures, NoPure, AndPure}
+use Rattle.lowered_tree.specs.l_core.Steps.{Step}
 use Rattle.lowering.specs.Expressions.{Lowered}
 use Rattle.lowering.specs.Statements.{behind_operands, with_operands, put_code, put_label_code, select_code, jump_by_code, sign_code, unless_code, guard_code, loop_code, call_code, back_code, begin_code, auxiliary_code, form_code, head_code}
 

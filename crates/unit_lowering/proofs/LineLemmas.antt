@@ -5,7 +5,7 @@ use Rattle.f_tree.specs.declared.statements.Body.{Body}
 use Rattle.f_tree.specs.declared.statements.Stmt.{Stmt}
 use Rattle.f_tree.specs.Facts.{Form, Passes, On}
 use Rattle.f_tree.specs.Lines.{Naming, form_of, mark_of}
-use Rattle.l_core.specs.Steps.{Step, Pass}
+use Rattle.lowered_tree.specs.l_core.Steps.{Step, Pass}
 use Rattle.lowering.specs.Statements.{form_code}
 use Rattle.lowering.specs.Units.{pass_code, both_codes}
 use Rattle.lowered_tree.specs.declared.steps.Step as tree

@@ -3,7 +3,7 @@ use Rattle.std.proofs.Common.{◌≡◌, ℕ, ◌+◌, Bool, List, [], ◌∷◌
 use Rattle.std.proofs.lemmas.List.{append-nil}
 use Rattle.f_tree.specs.declared.statements.Stmt.{Stmt}
 use Rattle.f_tree.specs.Lines.{mark_of}
-use Rattle.l_core.specs.Steps.{Marked}
+use Rattle.lowered_tree.specs.l_core.Steps.{Marked}
 use Rattle.statement_places.specs.declared.places.Turn.{Turn}
 use Rattle.statement_places.specs.declared.places.StatementPlace.{StatementPlace}
 use Rattle.unit_lowering.specs.LineForms.{form_in}

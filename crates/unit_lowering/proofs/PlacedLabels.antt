@@ -6,7 +6,7 @@ use Rattle.f_tree.specs.Facts.{Line, ProgramUnit}
 use Rattle.f_tree.specs.Lines.{Naming, loop_label_in, line_of}
 use Rattle.f_tree.specs.Places.{has_label, label_from, place_of_label}
 use Rattle.lowering.specs.Units.{start_of}
-use Rattle.open_loops.specs.ReadLines.{IsReadAs}
+use Rattle.statement_places.specs.open_loops.ReadLines.{IsReadAs}
 use Rattle.statement_places.specs.declared.places.StatementPlace.{StatementPlace}
 use Rattle.statement_places.specs.StatementPlaces.{AreStatementPlaces}
 use Rattle.unit_lowering.specs.LabelStarts.{start_at, label_start}

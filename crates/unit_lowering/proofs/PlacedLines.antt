@@ -9,7 +9,7 @@ use Rattle.f_tree.specs.Facts.{Form, Passes, On, ToLoop, Line, ProgramUnit}
 use Rattle.f_tree.specs.Lines.{Naming, form_of, loop_label_in, line_of}
 use Rattle.f_tree.specs.Nests.{loop_of}
 use Rattle.lowering.specs.Units.{is_counted}
-use Rattle.open_loops.specs.ReadLines.{IsReadAs}
+use Rattle.statement_places.specs.open_loops.ReadLines.{IsReadAs}
 use Rattle.statement_places.specs.declared.places.StatementPlace.{StatementPlace}
 use Rattle.statement_places.specs.StatementPlaces.{IsStatementPlace, AreStatementPlaces}
 use Rattle.unit_lowering.specs.LineForms.{control_in, control_of_line, control_at}

@@ -8,11 +8,11 @@ use Rattle.f_tree.specs.Attributes.{from_all}
 use Rattle.f_tree.specs.Facts.{Form, Passes, On, ToLoop, ToTestLoop, Mark, Plain, Opens, Arm, Closes, Line, ProgramUnit}
 use Rattle.f_tree.specs.Lines.{Naming, form_of, mark_of, loop_label_in, line_of}
 use Rattle.f_tree.specs.Nests.{Range, loop_of}
-use Rattle.l_core.specs.Steps.{Marked, OpensLoop, OpensLoopOnce, OpensWhile, ClosesLoop, ClosesWhile}
-use Rattle.l_core.specs.Steps as step
+use Rattle.lowered_tree.specs.l_core.Steps.{Marked, OpensLoop, OpensLoopOnce, OpensWhile, ClosesLoop, ClosesWhile}
+use Rattle.lowered_tree.specs.l_core.Steps as step
 use Rattle.lowering.specs.Units.{is_counted, turn_size, ended_at, form_size, form_size_at, start_of, own_start, own_end, marked}
 use Rattle.lowering.specs.Units as unit
-use Rattle.open_loops.specs.ReadLines.{IsReadAs}
+use Rattle.statement_places.specs.open_loops.ReadLines.{IsReadAs}
 use Rattle.statement_places.specs.declared.places.Turn.{Turn}
 use Rattle.statement_places.specs.declared.places.StatementPlace.{StatementPlace}
 use Rattle.statement_places.specs.StatementPlaces.{IsTurn, AreTurns, IsStatementPlace, AreStatementPlaces}

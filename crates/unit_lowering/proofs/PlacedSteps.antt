@@ -7,12 +7,12 @@ use Rattle.f_tree.specs.Terms.{NoMore}
 use Rattle.f_tree.specs.Facts.{Form, Passes, On, ToLoop, Mark, Plain, Opens, Arm, Closes, Line, ProgramUnit}
 use Rattle.f_tree.specs.Lines.{Naming, control_of, form_of, mark_of, loop_label_in, line_of}
 use Rattle.f_tree.specs.Nests.{Range}
-use Rattle.l_core.specs.Pures.{Pures}
-use Rattle.l_core.specs.Steps.{Step, Skip, Again}
+use Rattle.lowered_tree.specs.l_core.Pures.{Pures}
+use Rattle.lowered_tree.specs.l_core.Steps.{Step, Skip, Again}
 use Rattle.lowering.specs.Expressions.{Lowered}
 use Rattle.lowering.specs.Statements.{loop_operands, turn_code, form_code}
 use Rattle.lowering.specs.Units.{loop_at_line, loop_lowered, free_at, all_named, is_named, pass_code, is_counted, turn_size, ended_at, start_of, own_start, own_end, block_end_of, room_of, way_back, turn_of, turns_of, skip_code, line_code, both_codes, lines_code}
-use Rattle.open_loops.specs.ReadLines.{IsReadAs}
+use Rattle.statement_places.specs.open_loops.ReadLines.{IsReadAs}
 use Rattle.statement_places.specs.declared.places.Turn.{Turn}
 use Rattle.statement_places.specs.declared.places.StatementPlace.{StatementPlace}
 use Rattle.statement_places.specs.StatementPlaces.{back_from, IsTurn, AreTurns, IsStatementPlace, AreStatementPlaces}

@@ -6,7 +6,7 @@ use Rattle.f_tree.specs.declared.statements.LoopControl.{LoopControl}
 use Rattle.f_tree.specs.declared.statements.Stmt.{Stmt}
 use Rattle.f_tree.specs.Folds.{folds_opened}
 use Rattle.f_tree.specs.Lines.{Naming, control_of}
-use Rattle.l_core.specs.Steps.{Again}
+use Rattle.lowered_tree.specs.l_core.Steps.{Again}
 use Rattle.lowering.specs.Statements.{loop_operands, turn_code}
 use Rattle.lowered_tree.specs.declared.steps.Step as tree
 use Rattle.lowered_tree.specs.Shapes.{steps_of}

@@ -5,7 +5,7 @@ use Rattle.f_tree.specs.declared.statements.Stmt.{Stmt}
 use Rattle.f_tree.specs.Facts.{Facts}
 use Rattle.f_tree.specs.Lines.{Naming}
 use Rattle.f_tree.specs.Places.{place_of_label}
-use Rattle.l_core.specs.Steps.{Step, Text}
+use Rattle.lowered_tree.specs.l_core.Steps.{Step, Text}
 use Rattle.lowering.specs.Units.{start_of, text_with, lowered_unit}
 use Rattle.lowering.specs.Units as unit
 use Rattle.lowered_tree.specs.declared.steps.Step as tree
@@ -14,7 +14,7 @@ use Rattle.lowered_text.specs.declared.text.LoweredText.{LoweredText}
 use Rattle.lowered_text.specs.Texts.{marked_of}
 use Rattle.name_facts.specs.declared.table.NameFacts.{NameFacts}
 use Rattle.expression_lowering.specs.TableNames.{AreFactsOf}
-use Rattle.open_loops.specs.ReadLines.{IsReadAs}
+use Rattle.statement_places.specs.open_loops.ReadLines.{IsReadAs}
 use Rattle.statement_places.specs.declared.places.StatementPlace.{StatementPlace}
 use Rattle.statement_places.specs.StatementPlaces.{AreStatementPlaces, AreAllPlaces}
 use Rattle.unit_lowering.specs.LineSteps.{lines_steps}

@@ -3,7 +3,7 @@ use Rattle.std.specs.Prelude.{ℕ, ◌-◌, nat_eq, Bool, true, false, List, [],
 use Rattle.f_tree.specs.declared.statements.Stmt.{Stmt}
 use Rattle.f_tree.specs.Facts as fact
 use Rattle.f_tree.specs.Lines.{mark_of}
-use Rattle.l_core.specs.Steps.{Marked, Card, OpensLoop, OpensLoopOnce, ClosesLoop, OpensWhile, ClosesWhile, OpensArm, NextArm, ClosesArm}
+use Rattle.lowered_tree.specs.l_core.Steps.{Marked, Card, OpensLoop, OpensLoopOnce, ClosesLoop, OpensWhile, ClosesWhile, OpensArm, NextArm, ClosesArm}
 use Rattle.lowering.specs.Units.{marked}
 use Rattle.lowered_text.specs.declared.text.Marked as tree
 use Rattle.lowered_text.specs.Texts.{marked_of}

@@ -4,7 +4,7 @@ use Rattle.f_tree.specs.declared.statements.LoopControl.{LoopControl}
 use Rattle.f_tree.specs.declared.statements.Stmt.{Stmt}
 use Rattle.f_tree.specs.Facts.{Mark, Arm}
 use Rattle.f_tree.specs.Lines.{Naming, control_of, form_of, mark_of}
-use Rattle.l_core.specs.Steps.{Step, Skip, Again}
+use Rattle.lowered_tree.specs.l_core.Steps.{Step, Skip, Again}
 use Rattle.lowering.specs.Statements.{loop_operands, turn_code, form_code}
 use Rattle.lowering.specs.Units.{pass_code, both_codes}
 use Rattle.statement_places.specs.declared.places.Turn.{Turn}

@@ -3,13 +3,13 @@ use Rattle.std.specs.Prelude.{◌≡◌, Bool, true, List, Some}
 use Rattle.f_tree.specs.declared.statements.Stmt.{Stmt}
 use Rattle.f_tree.specs.Facts.{Facts}
 use Rattle.f_tree.specs.Lines.{Naming}
-use Rattle.l_core.specs.Steps.{Text}
+use Rattle.lowered_tree.specs.l_core.Steps.{Text}
 use Rattle.lowering.specs.Units.{lowered_unit}
 use Rattle.lowered_text.specs.declared.text.LoweredText.{LoweredText}
 use Rattle.lowered_text.specs.Texts.{IsText}
 use Rattle.name_facts.specs.declared.table.NameFacts.{NameFacts}
 use Rattle.expression_lowering.specs.TableNames.{AreFactsOf}
-use Rattle.open_loops.specs.ReadLines.{IsReadAs}
+use Rattle.statement_places.specs.open_loops.ReadLines.{IsReadAs}
 use Rattle.statement_places.specs.StatementPlaces.{statements_lower}
 
 -- the unit is lowered, and this is its text

@@ -2,18 +2,18 @@
 use Rattle.std.specs.Prelude.{◌≡◌, ℕ, zero, suc, ◌+◌, ◌<◌, List, [], ◌∷◌, ◌++◌, map, length, Option, Some, None, slice_get}
 use Rattle.std.proofs.Common.{refl, sym, ap, ◌∙◌, arith}
 use Rattle.std.proofs.lemmas.List.{length-append, length-map}
-use Rattle.f_tree.specs.CNames.{made_name, FunctionResult}
-use Rattle.c_tree.specs.declared.types.NumberType.{NumberType}
-use Rattle.c_tree.specs.declared.declaration.CLocal.{CLocal}
-use Rattle.c_tree.specs.Access.{ToNumber}
-use Rattle.c_tree.specs.Declarations.{Declared, made, unset, variable, declared_parameter, declared_parameters, declared_statics, declared_automatics}
-use Rattle.c_tree.specs.Linking.{strings_of, parameter_types}
-use Rattle.main_file.specs.MainFile as main
-use Rattle.main_file.specs.MainFile.{main_locals}
-use Rattle.linking_laws.proofs.Places.{get_front, get_back, map_at}
+use Rattle.main_file_laws.specs.f_tree.CNames.{made_name, FunctionResult}
+use Rattle.main_file_laws.specs.c_tree.declared.types.NumberType.{NumberType}
+use Rattle.main_file_laws.specs.c_tree.declared.declaration.CLocal.{CLocal}
+use Rattle.main_file_laws.specs.c_tree.Access.{ToNumber}
+use Rattle.main_file_laws.specs.c_tree.Declarations.{Declared, made, unset, variable, declared_parameter, declared_parameters, declared_statics, declared_automatics}
+use Rattle.main_file_laws.specs.c_tree.Linking.{strings_of, parameter_types}
+use Rattle.main_file_laws.specs.main_file.MainFile as main
+use Rattle.main_file_laws.specs.main_file.MainFile.{main_locals}
+use Rattle.main_file_laws.proofs.linking_laws.Places.{get_front, get_back, map_at}
 use Rattle.main_file_laws.proofs.Listed.{declared_variable, declared_listing, declared_temporary, temporaries, statics_count, no_strings, lasting_names_are, variable_at, listing_at, automatics_listed, temporary_at}
-use Rattle.linking_laws.specs.Linked.{names_of}
-use Rattle.unit_file.specs.UnitFile.{Variable, Listing, Parameter, Callee, Inventory, variable_for, lists_from, temporaries_from, parameter_for, result_local, extern_for, unit_locals, result_count, frame_count, lasting_names}
+use Rattle.main_file_laws.specs.linking_laws.Linked.{names_of}
+use Rattle.unit_sites.specs.unit_file.UnitFile.{Variable, Listing, Parameter, Callee, Inventory, variable_for, lists_from, temporaries_from, parameter_for, result_local, extern_for, unit_locals, result_count, frame_count, lasting_names}
 
 -- the same variables, lists and temporaries in a main program that calls nothing
 abbrev pub as_main : Inventory → main.Inventory

@@ -2,22 +2,22 @@
 use Rattle.std.specs.Prelude.{◌≡◌, ℕ, zero, suc, ◌+◌, ◌<◌, ◌≤◌, ℤ, List, [], ◌∷◌, ◌++◌, map, length, Option, Some, None, slice_get}
 use Rattle.std.proofs.Common.{refl, sym, ap, ◌∙◌, subst, arith}
 use Rattle.std.proofs.lemmas.List.{map-append, length-append, length-map}
-use Rattle.c_tree.specs.declared.file.CFunction.{CFunction}
-use Rattle.c_tree.specs.Drafts.{Scope}
-use Rattle.c_tree.specs.Objects.{Object}
-use Rattle.c_tree.specs.Declarations.{Declared, string_object, unset, parameter_object, declared_statics}
-use Rattle.c_tree.specs.FlatForm.{whole_body}
-use Rattle.c_tree.specs.Linking as linking
-use Rattle.c_tree.specs.Linking.{LinkedFunction, External, Routines, externals_from, externals, external_object, function_names, all_functions, declared_constants, file_scope, objects_of, linked_function, linked_functions, linked_file, linked_files}
-use Rattle.c_image.specs.Held.{number_object}
-use Rattle.output_laws.specs.ListedOutputs.{list_object}
-use Rattle.linking_laws.specs.Linked as linked
-use Rattle.linking_laws.specs.Linked.{base_of_function, base_of_file, routines_of, outside_of, own_of, file_names, base_at, function_base, linked_at, functions_before}
-use Rattle.linking_laws.proofs.Places.{some_same, get_front, get_back, map_at, some_at}
-use Rattle.linking_laws.proofs.FunctionObjects.{functions_have_objects, objects_count}
-use Rattle.linking_laws.proofs.Programs.{functions_stand, constants_stand}
+use Rattle.main_file_laws.specs.c_tree.declared.file.CFunction.{CFunction}
+use Rattle.main_file_laws.specs.c_tree.Drafts.{Scope}
+use Rattle.main_file_laws.specs.c_tree.Objects.{Object}
+use Rattle.main_file_laws.specs.c_tree.Declarations.{Declared, string_object, unset, parameter_object, declared_statics}
+use Rattle.main_file_laws.specs.c_tree.FlatForm.{whole_body}
+use Rattle.main_file_laws.specs.c_tree.Linking as linking
+use Rattle.main_file_laws.specs.c_tree.Linking.{LinkedFunction, External, Routines, externals_from, externals, external_object, function_names, all_functions, declared_constants, file_scope, objects_of, linked_function, linked_functions, linked_file, linked_files}
+use Rattle.main_file_laws.specs.c_image.Held.{number_object}
+use Rattle.unit_sites.specs.output_laws.ListedOutputs.{list_object}
+use Rattle.main_file_laws.specs.linking_laws.Linked as linked
+use Rattle.main_file_laws.specs.linking_laws.Linked.{base_of_function, base_of_file, routines_of, outside_of, own_of, file_names, base_at, function_base, linked_at, functions_before}
+use Rattle.main_file_laws.proofs.linking_laws.Places.{some_same, get_front, get_back, map_at, some_at}
+use Rattle.main_file_laws.proofs.linking_laws.FunctionObjects.{functions_have_objects, objects_count}
+use Rattle.main_file_laws.proofs.linking_laws.Programs.{functions_stand, constants_stand}
 use Rattle.main_file_laws.proofs.Listed.{object_by, declared_variable, declared_listing}
-use Rattle.unit_file.specs.UnitFile.{Variable, Listing, WrittenUnit, constant_for, unit_locals, unit_function, result_count, frame_count, object_count, first_object, first_list, first_string, first_parameter}
+use Rattle.unit_sites.specs.unit_file.UnitFile.{Variable, Listing, WrittenUnit, constant_for, unit_locals, unit_function, result_count, frame_count, object_count, first_object, first_list, first_string, first_parameter}
 use Rattle.unit_sites.specs.UnitSites.{UnitsOfFile, file_for, files_of, all_units, inventories, contents_of, all_inventories, Site, behind, sites_of}
 use Rattle.unit_places.specs.UnitPlaces.{HaveTheirStrings, variable_object, StandsAs, FunctionStands, FunctionsHavePlaces}
 use Rattle.unit_places.proofs.Declared.{unit_strings, unit_statics_count, unit_variable, unit_listing, framed_by, framed_are, framed_many, framed_parameter, framed_result, framed_temporary, types_are}

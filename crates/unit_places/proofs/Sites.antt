@@ -2,10 +2,10 @@
 use Rattle.std.specs.Prelude.{◌≡◌, ℕ, zero, suc, ◌+◌, ◌<◌, ◌≤◌, ℤ, List, [], ◌∷◌, map, length, take, Some, slice_get}
 use Rattle.std.proofs.Common.{refl, ap, ◌∙◌, subst, arith}
 use Rattle.std.proofs.lemmas.List.{length-append, length-map}
-use Rattle.c_tree.specs.Linking.{all_functions}
-use Rattle.linking_laws.specs.Linked.{functions_before}
-use Rattle.linking_laws.proofs.Places.{some_same, within, some_at, IsAt, in_first, in_second, at_one}
-use Rattle.unit_file.specs.UnitFile.{Inventory, WrittenUnit, unit_function, object_count, first_object}
+use Rattle.main_file_laws.specs.c_tree.Linking.{all_functions}
+use Rattle.main_file_laws.specs.linking_laws.Linked.{functions_before}
+use Rattle.main_file_laws.proofs.linking_laws.Places.{some_same, within, some_at, IsAt, in_first, in_second, at_one}
+use Rattle.unit_sites.specs.unit_file.UnitFile.{Inventory, WrittenUnit, unit_function, object_count, first_object}
 use Rattle.unit_sites.specs.UnitSites.{UnitsOfFile, files_of, all_units, inventories, contents_of, all_inventories, Site, sites_in, behind, sites_from, sites_of}
 
 -- ## The functions of a file

@@ -1,16 +1,16 @@
 -- That linking gives to each function of files of several units the objects that are said. C89, 3.1.2.2, 3.1.2.4, 3.5.4.3, 3.5.7 and 3.7.1.
 use Rattle.std.specs.Prelude.{◌≡◌, ℕ, ◌+◌, ◌*◌, ◌<◌, ◌≤◌, ℤ, List, [], map, length, Option, Some, None, slice_get}
-use Rattle.c_tree.specs.declared.types.NumberType.{NumberType}
-use Rattle.c_tree.specs.declared.file.CFile.{CFile}
-use Rattle.c_tree.specs.declared.file.CFunction.{CFunction}
-use Rattle.c_tree.specs.Objects.{Object}
-use Rattle.c_tree.specs.Declarations.{filled, unset, number_or_zero, numbers_or_none, parameter_object, string_object}
-use Rattle.c_tree.specs.FlatForm.{whole_body}
-use Rattle.c_tree.specs.Linking as linking
-use Rattle.c_image.specs.Held.{number_object}
-use Rattle.output_laws.specs.ListedOutputs.{list_object}
-use Rattle.linking_laws.specs.Linked.{routines_of, outside_of, own_of}
-use Rattle.unit_file.specs.UnitFile.{Variable, Listing, Parameter, WrittenUnit, constant_for, unit_function, result_count, frame_count, first_list, first_string, first_parameter}
+use Rattle.main_file_laws.specs.c_tree.declared.types.NumberType.{NumberType}
+use Rattle.main_file_laws.specs.c_tree.declared.file.CFile.{CFile}
+use Rattle.main_file_laws.specs.c_tree.declared.file.CFunction.{CFunction}
+use Rattle.main_file_laws.specs.c_tree.Objects.{Object}
+use Rattle.main_file_laws.specs.c_tree.Declarations.{filled, unset, number_or_zero, numbers_or_none, parameter_object, string_object}
+use Rattle.main_file_laws.specs.c_tree.FlatForm.{whole_body}
+use Rattle.main_file_laws.specs.c_tree.Linking as linking
+use Rattle.main_file_laws.specs.c_image.Held.{number_object}
+use Rattle.unit_sites.specs.output_laws.ListedOutputs.{list_object}
+use Rattle.main_file_laws.specs.linking_laws.Linked.{routines_of, outside_of, own_of}
+use Rattle.unit_sites.specs.unit_file.UnitFile.{Variable, Listing, Parameter, WrittenUnit, constant_for, unit_function, result_count, frame_count, first_list, first_string, first_parameter}
 use Rattle.unit_sites.specs.UnitSites.{UnitsOfFile, files_of, all_units, Site, sites_of}
 
 -- a file of constants and of some functions: those of all its units, or those that stand before one

@@ -5,38 +5,38 @@ use Rattle.std.proofs.Common.{refl, sym, ap, ◌∙◌, subst, arith}
 use Rattle.std.proofs.lemmas.Bool.{ltb-true, lt-ltb, eq-eqb}
 use Rattle.std.proofs.lemmas.Bool.Decides.{Decides-int_eq}
 use Rattle.std.proofs.lemmas.List.{length-map}
-use Rattle.f_tree.specs.declared.names.Class.{Class}
-use Rattle.f_tree.specs.declared.names.Class.TheVariants as class
-use Rattle.f_tree.specs.CNames.{variable_name}
-use Rattle.f_tree.specs.Values.{Bytes, Spot, IsInt, IsText, IsSpot, Gives}
-use Rattle.f_tree.specs.Facts.{Direction, Layout, Controls, Formal, Named, Alternate, FunctionUnit, Frame}
-use Rattle.f_tree.specs.Valuing.{whole}
-use Rattle.f_tree.specs.World.{Called}
-use Rattle.l_core.specs.Pures.{Pures}
-use Rattle.l_core.specs.Steps.{Starts, Step, Acts, Halt, Text}
-use Rattle.c_tree.specs.declared.types.ParameterType.{ParameterType}
-use Rattle.c_tree.specs.declared.types.ParameterType.TheVariants as parameter
-use Rattle.c_tree.specs.Access.{ToNumber, ToPointer, ToFunction}
-use Rattle.c_tree.specs.Objects.{bytes_of_number}
-use Rattle.c_tree.specs.Declarations as declared
-use Rattle.c_tree.specs.Declarations.{string_object, unset_values}
-use Rattle.c_image.specs.Addresses.{Through, Reaches}
-use Rattle.c_image.specs.Held.{Holds}
-use Rattle.c_image.specs.Knowing.{IsApart}
-use Rattle.c_emit.specs.Calls.{unit_of}
-use Rattle.output_laws.specs.ListedOutputs.{list_object}
-use Rattle.linking_laws.proofs.Places.{get_front, map_at, within}
-use Rattle.emitted_texts.specs.SecondLayer.{Surroundings, Emission}
-use Rattle.procedure_emission.specs.EmittedUnits.{IsItem, StepsFit, IsMadeAnew, IsOfRoom, RoomIsApart, is_number_pointer, is_function_pointer, AreParameters, no_parameters, named, named_procedure, alternate, ResultIsMade, IsEmittedUnit}
-use Rattle.main_file_laws.proofs.Known.{position_finds}
+use Rattle.emitted_procedures.specs.f_tree.declared.names.Class.{Class}
+use Rattle.emitted_procedures.specs.f_tree.declared.names.Class.TheVariants as class
+use Rattle.emitted_procedures.specs.f_tree.CNames.{variable_name}
+use Rattle.emitted_procedures.specs.f_tree.Values.{Bytes, Spot, IsInt, IsText, IsSpot, Gives}
+use Rattle.emitted_procedures.specs.f_tree.Facts.{Direction, Layout, Controls, Formal, Named, Alternate, FunctionUnit, Frame}
+use Rattle.emitted_procedures.specs.f_tree.Valuing.{whole}
+use Rattle.emitted_procedures.specs.f_tree.World.{Called}
+use Rattle.emitted_procedures.specs.l_core.Pures.{Pures}
+use Rattle.emitted_procedures.specs.l_core.Steps.{Starts, Step, Acts, Halt, Text}
+use Rattle.emitted_procedures.specs.c_tree.declared.types.ParameterType.{ParameterType}
+use Rattle.emitted_procedures.specs.c_tree.declared.types.ParameterType.TheVariants as parameter
+use Rattle.emitted_procedures.specs.c_tree.Access.{ToNumber, ToPointer, ToFunction}
+use Rattle.emitted_procedures.specs.c_tree.Objects.{bytes_of_number}
+use Rattle.emitted_procedures.specs.c_tree.Declarations as declared
+use Rattle.emitted_procedures.specs.c_tree.Declarations.{string_object, unset_values}
+use Rattle.emitted_procedures.specs.c_image.Addresses.{Through, Reaches}
+use Rattle.emitted_procedures.specs.c_image.Held.{Holds}
+use Rattle.emitted_procedures.specs.c_image.Knowing.{IsApart}
+use Rattle.emitted_procedures.specs.c_emit.Calls.{unit_of}
+use Rattle.emitted_procedures.specs.output_laws.ListedOutputs.{list_object}
+use Rattle.unit_file_laws.proofs.linking_laws.Places.{get_front, map_at, within}
+use Rattle.emitted_procedures.specs.emitted_texts.SecondLayer.{Surroundings, Emission}
+use Rattle.emitted_procedures.specs.procedure_emission.EmittedUnits.{IsItem, StepsFit, IsMadeAnew, IsOfRoom, RoomIsApart, is_number_pointer, is_function_pointer, AreParameters, no_parameters, named, named_procedure, alternate, ResultIsMade, IsEmittedUnit}
+use Rattle.unit_file_laws.proofs.main_file_laws.Known.{position_finds}
 use Rattle.main_programs.proofs.Emission.{lower_written, size_written}
 use Rattle.main_programs.proofs.MainRuns.{ones_cost}
 use Rattle.main_programs.proofs.MainStrings.{front_is, string_of}
-use Rattle.unit_file.specs.UnitFile.{Parameter, Inventory, Bases, result_count, frame_count, first_list, first_string, first_parameter, result_object, first_temporary, place_or_none, place_of_constant, place_of_list, place_of_parameter, place_of_string, framed_names, result_names, parameter_object, address_in, lower_of, size_of}
-use Rattle.main_file.specs.MainFile.{temporary_names}
-use Rattle.unit_sites.specs.UnitSites.{UnitsOfFile, all_units, sites_of}
-use Rattle.unit_places.proofs.Declared.{as_main}
-use Rattle.unit_places.proofs.Sites.{owned, AreApart, constants_first, objects_first, constants_apart}
+use Rattle.unit_file_laws.specs.unit_file.UnitFile.{Parameter, Inventory, Bases, result_count, frame_count, first_list, first_string, first_parameter, result_object, first_temporary, place_or_none, place_of_constant, place_of_list, place_of_parameter, place_of_string, framed_names, result_names, parameter_object, address_in, lower_of, size_of}
+use Rattle.unit_forms.specs.main_file.MainFile.{temporary_names}
+use Rattle.unit_file_laws.specs.unit_sites.UnitSites.{UnitsOfFile, all_units, sites_of}
+use Rattle.unit_file_laws.proofs.unit_places.Declared.{as_main}
+use Rattle.unit_file_laws.proofs.unit_places.Sites.{owned, AreApart, constants_first, objects_first, constants_apart}
 use Rattle.unit_programs.specs.TranslatedUnits.{Rendering, units_of, dummies_named, IsDummy, is_number, is_procedure, IsTranslatedUnit, IsTranslatedSet}
 use Rattle.unit_programs.specs.EmittedFile.{room_at, surroundings_of, emission_of, costs_of, UnitsAreEmitted}
 use Rattle.unit_programs.proofs.Pieces.{placed_by}

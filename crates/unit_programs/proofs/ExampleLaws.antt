@@ -2,24 +2,24 @@
 use Rattle.std.specs.Prelude.{◌≡◌, ◌≢◌, ℕ, zero, suc, nat_eq, ℤ, pos, Bool, true, false, [], ◌∷◌, Some, None, length, slice_get, bytes_eq, if◌then◌else◌}
 use Rattle.std.proofs.Common.{refl, sym, ap, ◌∙◌, subst, arith}
 use Rattle.std.proofs.lemmas.Slice.Eq.{bytes_eq-Decides}
-use Rattle.f_tree.specs.declared.names.Basic.{Basic}
-use Rattle.f_tree.specs.declared.names.Basic.TheVariants as basic
-use Rattle.f_tree.specs.declared.names.Class.{Class}
-use Rattle.f_tree.specs.declared.names.Class.TheVariants as class
-use Rattle.f_tree.specs.Values.{Bytes, IsInt, in_range}
-use Rattle.f_tree.specs.Terms.{Add}
-use Rattle.f_tree.specs.Facts.{Attribute, Named, MainProgram, FunctionUnit, BlockDataUnit, EntryPoint}
-use Rattle.l_core.specs.Pures.{Pure, Constant, Load, Name, Operated}
-use Rattle.l_core.specs.Steps.{Put, Back, Text}
-use Rattle.lowering_laws.specs.Layout.{without_loops}
-use Rattle.c_tree.specs.declared.types.NumberType.TheVariants as number_type
-use Rattle.c_tree.specs.Opened.{trees_opened}
-use Rattle.c_tree.specs.Builtins.{builtin_names}
-use Rattle.c_tree.specs.FlatForm.{whole_body}
-use Rattle.c_emit.specs.Numbers.{Writing, is_numeric, has_bounds}
-use Rattle.linking_laws.proofs.Places.{some_same}
-use Rattle.procedure_emission.specs.EmittedUnits.{is_number_pointer}
-use Rattle.unit_file.specs.UnitNames.{own_names, routine_name}
+use Rattle.emitted_procedures.specs.f_tree.declared.names.Basic.{Basic}
+use Rattle.emitted_procedures.specs.f_tree.declared.names.Basic.TheVariants as basic
+use Rattle.emitted_procedures.specs.f_tree.declared.names.Class.{Class}
+use Rattle.emitted_procedures.specs.f_tree.declared.names.Class.TheVariants as class
+use Rattle.emitted_procedures.specs.f_tree.Values.{Bytes, IsInt, in_range}
+use Rattle.emitted_procedures.specs.f_tree.Terms.{Add}
+use Rattle.emitted_procedures.specs.f_tree.Facts.{Attribute, Named, MainProgram, FunctionUnit, BlockDataUnit, EntryPoint}
+use Rattle.emitted_procedures.specs.l_core.Pures.{Pure, Constant, Load, Name, Operated}
+use Rattle.emitted_procedures.specs.l_core.Steps.{Put, Back, Text}
+use Rattle.unit_forms.specs.lowering_laws.Layout.{without_loops}
+use Rattle.emitted_procedures.specs.c_tree.declared.types.NumberType.TheVariants as number_type
+use Rattle.emitted_procedures.specs.c_tree.Opened.{trees_opened}
+use Rattle.emitted_procedures.specs.c_tree.Builtins.{builtin_names}
+use Rattle.emitted_procedures.specs.c_tree.FlatForm.{whole_body}
+use Rattle.emitted_procedures.specs.c_emit.Numbers.{Writing, is_numeric, has_bounds}
+use Rattle.unit_file_laws.proofs.linking_laws.Places.{some_same}
+use Rattle.emitted_procedures.specs.procedure_emission.EmittedUnits.{is_number_pointer}
+use Rattle.unit_file_laws.specs.unit_file.UnitNames.{own_names, routine_name}
 use Rattle.unit_file_laws.specs.KnownUnits.{IsVariable, IsParameter, NamesAreListed, unit_writing}
 use Rattle.unit_file_laws.specs.BuiltUnits.{IsCalled, AreListed, IsUnitBuilt}
 use Rattle.unit_programs.specs.OwnStorage.{HasOwnStorage}

@@ -1,21 +1,21 @@
 -- What is asked of the steps of the example's units, of their storage and of their bounds, each part alone.
 use Rattle.std.specs.Prelude.{◌≡◌, ℕ, zero, suc, ◌<◌, ◌≤◌, ℤ, true, List, [], ◌∷◌, Option, Some, None, length, slice_get}
 use Rattle.std.proofs.Common.{refl, sym, ap, ◌∙◌}
-use Rattle.f_tree.specs.declared.names.Basic.{Basic}
-use Rattle.f_tree.specs.Values.{Bytes, Gives}
-use Rattle.f_tree.specs.Facts.{Bounds, Member, EntryPoint, ProgramUnit, Facts}
-use Rattle.f_tree.specs.Setting.{IsIn, first_in, later_in}
-use Rattle.f_tree.specs.Association.{dimensions_by}
-use Rattle.f_tree.specs.Valuing.{elements_of, extent_of}
-use Rattle.l_core.specs.Steps.{Starts, Step, Keep, Halt, Acts, Text}
-use Rattle.faithful.specs.UnitsAtStart.{AreBytes}
-use Rattle.c_emit.specs.Numbers.{Writing, is_numeric}
-use Rattle.c_emit.specs.Types.{type_of}
-use Rattle.c_emit.specs.Calls.{unit_of}
-use Rattle.emitted_texts.specs.Emitted.{stage_behind, is_of_output}
-use Rattle.procedure_emission.specs.Reading.{kind_after}
-use Rattle.procedure_emission.specs.EmittedUnits.{leads_on, is_return}
-use Rattle.unit_file.specs.UnitFile.{Variable, Listing, Inventory, place_of_list, place_of_variable}
+use Rattle.emitted_procedures.specs.f_tree.declared.names.Basic.{Basic}
+use Rattle.emitted_procedures.specs.f_tree.Values.{Bytes, Gives}
+use Rattle.emitted_procedures.specs.f_tree.Facts.{Bounds, Member, EntryPoint, ProgramUnit, Facts}
+use Rattle.emitted_procedures.specs.f_tree.Setting.{IsIn, first_in, later_in}
+use Rattle.emitted_procedures.specs.f_tree.Association.{dimensions_by}
+use Rattle.emitted_procedures.specs.f_tree.Valuing.{elements_of, extent_of}
+use Rattle.emitted_procedures.specs.l_core.Steps.{Starts, Step, Keep, Halt, Acts, Text}
+use Rattle.emitted_procedures.specs.faithful.UnitsAtStart.{AreBytes}
+use Rattle.emitted_procedures.specs.c_emit.Numbers.{Writing, is_numeric}
+use Rattle.emitted_procedures.specs.c_emit.Types.{type_of}
+use Rattle.emitted_procedures.specs.c_emit.Calls.{unit_of}
+use Rattle.emitted_procedures.specs.emitted_texts.Emitted.{stage_behind, is_of_output}
+use Rattle.emitted_procedures.specs.procedure_emission.Reading.{kind_after}
+use Rattle.emitted_procedures.specs.procedure_emission.EmittedUnits.{leads_on, is_return}
+use Rattle.unit_file_laws.specs.unit_file.UnitFile.{Variable, Listing, Inventory, place_of_list, place_of_variable}
 use Rattle.unit_programs.specs.OwnStorage.{bytes_in, HasOwnStorage}
 use Rattle.unit_programs.specs.TranslatedUnits.{AreFixed, Flows, Passes}
 use Rattle.unit_programs.proofs.Told.{EachAt, each_at}

@@ -2,39 +2,39 @@
 use Rattle.std.specs.Prelude.{◌≡◌, ℕ, suc, ◌+◌, Bool, true, false, ◌&&◌, ◌||◌, List, [], ◌∷◌, map, length, position, Some, option_map, slice_get, bytes_eq}
 use Rattle.std.proofs.Common.{refl, sym, ap, ◌∙◌, subst, arith}
 use Rattle.std.proofs.lemmas.Slice.Eq.{bytes_eq-Decides}
-use Rattle.f_tree.specs.declared.names.Basic.{Basic}
-use Rattle.f_tree.specs.declared.names.Basic.TheVariants as basic
-use Rattle.f_tree.specs.declared.names.Class.{Class}
-use Rattle.f_tree.specs.declared.names.Class.TheVariants as class
-use Rattle.f_tree.specs.CNames as c_names
-use Rattle.f_tree.specs.CNames.{external_name, made_name, FunctionResult}
-use Rattle.f_tree.specs.Values.{Bytes, Spot, Datum, IsInt, IsLog, IsText, IsSpot, IsProc, IsLabel, Nothing, NoMeaning, Checked, Gives, Fails}
-use Rattle.f_tree.specs.Facts.{Attribute, Formal, Named, Alternate, MainProgram, SubroutineUnit, FunctionUnit, BlockDataUnit, UnitKind, EntryPoint, ProgramUnit, Facts, Frame}
-use Rattle.f_tree.specs.Setting.{IsIn, first_in, later_in}
-use Rattle.f_tree.specs.Valuing.{stored_at, if_bound, if_there, named_as, whole}
-use Rattle.f_tree.specs.World.{Procedure}
-use Rattle.f_tree.specs.Meaning.{has_entry, answers_to}
-use Rattle.l_core.specs.Pures.{Temporaries}
-use Rattle.l_core.specs.Steps.{Text}
-use Rattle.c_tree.specs.declared.outcome.CValue.TheVariants.{Pointer, Function}
-use Rattle.c_tree.specs.Objects.{Object}
-use Rattle.c_tree.specs.Declarations.{Declared, declared_parameter}
-use Rattle.faithful.specs.StorageImage.{name_of_entries, function_name, number_named}
-use Rattle.faithful.specs.FrameImage as frames
-use Rattle.faithful.specs.FrameImage.{Each, frame_object_at, frame_object, value_in, HasLength, StandsFor, FormalStands, ResultStandsAs, ResultStands}
-use Rattle.c_image.specs.World.{World}
-use Rattle.c_image.specs.Addresses.{Through, Reaches, access_to, pointer_object}
-use Rattle.c_emit.specs.Numbers.{is_numeric, is_variable, has_number}
-use Rattle.c_emit_laws.specs.EmittedNumbers.{IsKnown}
-use Rattle.linking_laws.specs.Linked.{AreDistinct}
-use Rattle.emitted_texts.specs.SecondLayer.{Surroundings, Emission}
-use Rattle.procedure_emission.specs.CallLayer.{CallWorld, IsFrameOf, function_object, AreProceduresHeld}
+use Rattle.emitted_procedures.specs.f_tree.declared.names.Basic.{Basic}
+use Rattle.emitted_procedures.specs.f_tree.declared.names.Basic.TheVariants as basic
+use Rattle.emitted_procedures.specs.f_tree.declared.names.Class.{Class}
+use Rattle.emitted_procedures.specs.f_tree.declared.names.Class.TheVariants as class
+use Rattle.emitted_procedures.specs.f_tree.CNames as c_names
+use Rattle.emitted_procedures.specs.f_tree.CNames.{external_name, made_name, FunctionResult}
+use Rattle.emitted_procedures.specs.f_tree.Values.{Bytes, Spot, Datum, IsInt, IsLog, IsText, IsSpot, IsProc, IsLabel, Nothing, NoMeaning, Checked, Gives, Fails}
+use Rattle.emitted_procedures.specs.f_tree.Facts.{Attribute, Formal, Named, Alternate, MainProgram, SubroutineUnit, FunctionUnit, BlockDataUnit, UnitKind, EntryPoint, ProgramUnit, Facts, Frame}
+use Rattle.emitted_procedures.specs.f_tree.Setting.{IsIn, first_in, later_in}
+use Rattle.emitted_procedures.specs.f_tree.Valuing.{stored_at, if_bound, if_there, named_as, whole}
+use Rattle.emitted_procedures.specs.f_tree.World.{Procedure}
+use Rattle.emitted_procedures.specs.f_tree.Meaning.{has_entry, answers_to}
+use Rattle.emitted_procedures.specs.l_core.Pures.{Temporaries}
+use Rattle.emitted_procedures.specs.l_core.Steps.{Text}
+use Rattle.emitted_procedures.specs.c_tree.declared.outcome.CValue.TheVariants.{Pointer, Function}
+use Rattle.emitted_procedures.specs.c_tree.Objects.{Object}
+use Rattle.emitted_procedures.specs.c_tree.Declarations.{Declared, declared_parameter}
+use Rattle.emitted_procedures.specs.faithful.StorageImage.{name_of_entries, function_name, number_named}
+use Rattle.emitted_procedures.specs.faithful.FrameImage as frames
+use Rattle.emitted_procedures.specs.faithful.FrameImage.{Each, frame_object_at, frame_object, value_in, HasLength, StandsFor, FormalStands, ResultStandsAs, ResultStands}
+use Rattle.emitted_procedures.specs.c_image.World.{World}
+use Rattle.emitted_procedures.specs.c_image.Addresses.{Through, Reaches, access_to, pointer_object}
+use Rattle.emitted_procedures.specs.c_emit.Numbers.{is_numeric, is_variable, has_number}
+use Rattle.emitted_procedures.specs.c_emit_laws.EmittedNumbers.{IsKnown}
+use Rattle.unit_file_laws.specs.linking_laws.Linked.{AreDistinct}
+use Rattle.emitted_procedures.specs.emitted_texts.SecondLayer.{Surroundings, Emission}
+use Rattle.emitted_procedures.specs.procedure_emission.CallLayer.{CallWorld, IsFrameOf, function_object, AreProceduresHeld}
 use Rattle.call_bridge.specs.CallBridge.{FramesStand}
 use Rattle.main_programs.proofs.MainStorage.{position_named}
-use Rattle.unit_file.specs.UnitFile.{Parameter, Inventory, Bases, parameter_for, first_parameter, result_object, address_in}
-use Rattle.unit_sites.specs.UnitSites.{UnitsOfFile, files_of}
-use Rattle.unit_places.specs.UnitPlaces.{linked_unit, FunctionStands}
-use Rattle.unit_places.proofs.Declared.{framed_by, framed_are, framed_parameter, framed_result}
+use Rattle.unit_file_laws.specs.unit_file.UnitFile.{Parameter, Inventory, Bases, parameter_for, first_parameter, result_object, address_in}
+use Rattle.unit_file_laws.specs.unit_sites.UnitSites.{UnitsOfFile, files_of}
+use Rattle.unit_file_laws.specs.unit_places.UnitPlaces.{linked_unit, FunctionStands}
+use Rattle.unit_file_laws.proofs.unit_places.Declared.{framed_by, framed_are, framed_parameter, framed_result}
 use Rattle.unit_file_laws.proofs.Listed.{framed_names_are}
 use Rattle.unit_programs.specs.TranslatedUnits.{Rendering, units_of, dummies_named, IsDummy, is_number, is_procedure, IsTranslatedUnit, IsTranslatedSet}
 use Rattle.unit_programs.specs.EmittedFile.{surroundings_of, emission_of}

@@ -4,17 +4,17 @@ use Rattle.std.specs.Option.{option_flatten}
 use Rattle.std.specs.Prelude.{◌≡◌, ℕ, zero, suc, ◌+◌, ◌<◌, ℤ, List, [], ◌∷◌, ◌++◌, map, length, replicate, Option, Some, None, slice_get}
 use Rattle.std.proofs.Common.{refl, ap, ◌∙◌, subst, arith}
 use Rattle.std.proofs.lemmas.List.{length-append, length-map, length-replicate}
-use Rattle.c_tree.specs.Objects.{Object}
-use Rattle.c_tree.specs.Declarations.{string_object}
-use Rattle.c_tree.specs.Linking as linking
-use Rattle.c_image.specs.Held.{number_object}
-use Rattle.output_laws.specs.ListedOutputs.{list_object}
-use Rattle.linking_laws.proofs.Places.{some_same, get_front, get_back, map_at, IsAt, in_first, in_second, at_one}
+use Rattle.emitted_procedures.specs.c_tree.Objects.{Object}
+use Rattle.emitted_procedures.specs.c_tree.Declarations.{string_object}
+use Rattle.emitted_procedures.specs.c_tree.Linking as linking
+use Rattle.emitted_procedures.specs.c_image.Held.{number_object}
+use Rattle.emitted_procedures.specs.output_laws.ListedOutputs.{list_object}
+use Rattle.unit_file_laws.proofs.linking_laws.Places.{some_same, get_front, get_back, map_at, IsAt, in_first, in_second, at_one}
 use Rattle.main_programs.proofs.MainStorage.{map_back}
-use Rattle.unit_file.specs.UnitFile.{Listing, Inventory, WrittenUnit, object_count, frame_count, first_object, first_list, first_string, first_parameter}
-use Rattle.unit_sites.specs.UnitSites.{UnitsOfFile, files_of, all_units, inventories, contents_of, all_inventories, Site, sites_in, behind, sites_of}
-use Rattle.unit_places.specs.UnitPlaces.{StandsAs, FunctionStands, HasPlaces}
-use Rattle.unit_places.proofs.Sites.{sites_in_many, inventory_at, file_end, site_in, sites_behind, file_start, IsPlaced, placed}
+use Rattle.unit_file_laws.specs.unit_file.UnitFile.{Listing, Inventory, WrittenUnit, object_count, frame_count, first_object, first_list, first_string, first_parameter}
+use Rattle.unit_file_laws.specs.unit_sites.UnitSites.{UnitsOfFile, files_of, all_units, inventories, contents_of, all_inventories, Site, sites_in, behind, sites_of}
+use Rattle.unit_file_laws.specs.unit_places.UnitPlaces.{StandsAs, FunctionStands, HasPlaces}
+use Rattle.unit_file_laws.proofs.unit_places.Sites.{sites_in_many, inventory_at, file_end, site_in, sites_behind, file_start, IsPlaced, placed}
 use Rattle.unit_programs.specs.OwnStorage.{held_of, held_numbers, held_in}
 use Rattle.unit_programs.proofs.Pieces.{before, flat_there, IsPart, flat_back}
 

@@ -9,3 +9,5 @@ pub mod Runs
 pub mod Told
 pub mod ExampleParts
 pub mod ExampleLaws
+pub use Rattle.unit_file_laws.proofs as unit_file_laws
+pub use Rattle.unit_file_laws.proofs.unit_places

@@ -3,37 +3,37 @@ use Rattle.std.specs.Prelude.{◌≡◌, ℕ, zero, suc, ◌+◌, ◌<◌, ◌�
 use Rattle.std.proofs.Common.{refl, sym, ap, ◌∙◌, subst, arith}
 use Rattle.std.proofs.lemmas.List.{length-map, map-append}
 use Rattle.std.proofs.lemmas.Slice.Eq.{bytes_eq-Decides}
-use Rattle.f_tree.specs.Facts.{MainProgram, SubroutineUnit, FunctionUnit, BlockDataUnit, UnitKind, ProgramUnit}
-use Rattle.f_tree.specs.CNames as c_names
-use Rattle.f_tree.specs.World.{Called, TheMain}
-use Rattle.f_tree.specs.Meaning.{is_main, answers_to, found_from}
-use Rattle.l_core.specs.Steps.{Step}
-use Rattle.c_tree.specs.declared.types.NumberType.{NumberType}
-use Rattle.c_tree.specs.declared.file.CFunction.{CFunction}
-use Rattle.c_tree.specs.declared.file.CFile.{CFile}
-use Rattle.c_tree.specs.Builtins.{builtin_names}
-use Rattle.c_tree.specs.Drafts.{Scope}
-use Rattle.c_tree.specs.Declarations.{parameter_object, unset}
-use Rattle.c_tree.specs.Flat.{Flat}
-use Rattle.c_tree.specs.FlatForm.{whole_body}
-use Rattle.c_tree.specs.Linking as linking
-use Rattle.c_tree.specs.Linking.{Routines, externals, function_names, all_functions, file_scope, linked_function, linked_functions, linked_file, linked_files}
-use Rattle.c_tree.specs.Meaning.{no_function, text_of, main_number, wrapped_by, steps_of, counted_steps, greatest_steps, step_factor}
-use Rattle.faithful.specs.StorageImage.{name_of_entries, function_name, number_named, function_number}
-use Rattle.c_emit.specs.Numbers.{Writing}
-use Rattle.linking_laws.specs.Linked.{AreDistinct, routines_of, outside_of, own_of}
-use Rattle.linking_laws.proofs.Places.{some_same, get_front, map_at}
-use Rattle.linking_laws.proofs.Scopes.{own_are_numbered, builtins_are_numbered}
-use Rattle.procedure_emission.specs.ProcedureItems.{Numbers, procedure_item}
-use Rattle.main_file_laws.proofs.Known.{position_finds}
-use Rattle.main_file_laws.proofs.BuiltItems.{before_by}
+use Rattle.emitted_procedures.specs.f_tree.Facts.{MainProgram, SubroutineUnit, FunctionUnit, BlockDataUnit, UnitKind, ProgramUnit}
+use Rattle.emitted_procedures.specs.f_tree.CNames as c_names
+use Rattle.emitted_procedures.specs.f_tree.World.{Called, TheMain}
+use Rattle.emitted_procedures.specs.f_tree.Meaning.{is_main, answers_to, found_from}
+use Rattle.emitted_procedures.specs.l_core.Steps.{Step}
+use Rattle.emitted_procedures.specs.c_tree.declared.types.NumberType.{NumberType}
+use Rattle.emitted_procedures.specs.c_tree.declared.file.CFunction.{CFunction}
+use Rattle.emitted_procedures.specs.c_tree.declared.file.CFile.{CFile}
+use Rattle.emitted_procedures.specs.c_tree.Builtins.{builtin_names}
+use Rattle.emitted_procedures.specs.c_tree.Drafts.{Scope}
+use Rattle.emitted_procedures.specs.c_tree.Declarations.{parameter_object, unset}
+use Rattle.emitted_procedures.specs.c_tree.Flat.{Flat}
+use Rattle.emitted_procedures.specs.c_tree.FlatForm.{whole_body}
+use Rattle.emitted_procedures.specs.c_tree.Linking as linking
+use Rattle.emitted_procedures.specs.c_tree.Linking.{Routines, externals, function_names, all_functions, file_scope, linked_function, linked_functions, linked_file, linked_files}
+use Rattle.emitted_procedures.specs.c_tree.Meaning.{no_function, text_of, main_number, wrapped_by, steps_of, counted_steps, greatest_steps, step_factor}
+use Rattle.emitted_procedures.specs.faithful.StorageImage.{name_of_entries, function_name, number_named, function_number}
+use Rattle.emitted_procedures.specs.c_emit.Numbers.{Writing}
+use Rattle.unit_file_laws.specs.linking_laws.Linked.{AreDistinct, routines_of, outside_of, own_of}
+use Rattle.unit_file_laws.proofs.linking_laws.Places.{some_same, get_front, map_at}
+use Rattle.unit_file_laws.proofs.linking_laws.Scopes.{own_are_numbered, builtins_are_numbered}
+use Rattle.emitted_procedures.specs.procedure_emission.ProcedureItems.{Numbers, procedure_item}
+use Rattle.unit_file_laws.proofs.main_file_laws.Known.{position_finds}
+use Rattle.unit_file_laws.proofs.main_file_laws.BuiltItems.{before_by}
 use Rattle.main_programs.proofs.MainStorage.{map_back}
-use Rattle.unit_file.specs.UnitFile.{Parameter, Inventory, WrittenUnit, unit_function, result_count, frame_count, first_parameter}
-use Rattle.unit_file.specs.UnitNames.{own_names, routine_name}
-use Rattle.unit_sites.specs.UnitSites.{UnitsOfFile, files_of, all_units, inventories, sites_of}
-use Rattle.unit_places.specs.UnitPlaces.{linked_unit, HaveTheirStrings, FunctionStands, HasPlaces}
-use Rattle.unit_places.proofs.Sites.{owned, constants_before}
-use Rattle.unit_places.proofs.Placing.{functions_have_places}
+use Rattle.unit_file_laws.specs.unit_file.UnitFile.{Parameter, Inventory, WrittenUnit, unit_function, result_count, frame_count, first_parameter}
+use Rattle.unit_file_laws.specs.unit_file.UnitNames.{own_names, routine_name}
+use Rattle.unit_file_laws.specs.unit_sites.UnitSites.{UnitsOfFile, files_of, all_units, inventories, sites_of}
+use Rattle.unit_file_laws.specs.unit_places.UnitPlaces.{linked_unit, HaveTheirStrings, FunctionStands, HasPlaces}
+use Rattle.unit_file_laws.proofs.unit_places.Sites.{owned, constants_before}
+use Rattle.unit_file_laws.proofs.unit_places.Placing.{functions_have_places}
 use Rattle.unit_file_laws.specs.KnownUnits.{unit_writing}
 use Rattle.unit_file_laws.specs.BuiltUnits.{unit_items, AreNumbered, HasItsItems}
 use Rattle.unit_file_laws.proofs.BuiltItems.{units_have_their_items}

@@ -2,7 +2,7 @@
 use Rattle.std.specs.List.{flat_map}
 use Rattle.std.specs.Prelude.{◌≡◌, ℕ, zero, suc, ◌+◌, List, [], ◌∷◌, length, position, Some, option_map, slice_get, bytes_eq}
 use Rattle.std.proofs.Common.{refl, sym, ap, ◌∙◌, arith}
-use Rattle.linking_laws.proofs.Places.{some_same, get_front, get_back, IsAt, in_first, in_second, at_one, same_bytes, other_bytes, taken, skipped, position_step}
+use Rattle.unit_file_laws.proofs.linking_laws.Places.{some_same, get_front, get_back, IsAt, in_first, in_second, at_one, same_bytes, other_bytes, taken, skipped, position_step}
 
 -- how many parts stand before those of a piece
 abbrev pub before : {A B : Type 0} → (A → List B) → List A → ℕ → ℕ

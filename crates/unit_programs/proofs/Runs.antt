@@ -2,37 +2,37 @@
 use Rattle.std.specs.Prelude.{◌≡◌, ℕ, ◌≤◌, nat_lt, true, false, not, List, [], ◌∷◌, length, Option, Some, None, is_none, unwrap_or, slice_get}
 use Rattle.std.proofs.Common.{refl, sym, ap, ◌∙◌, subst, arith}
 use Rattle.std.proofs.lemmas.Bool.{lt-ltb}
-use Rattle.simulation.specs.LocalSimulation.{Local}
-use Rattle.f_tree.specs.Facts.{ProgramUnit}
-use Rattle.f_tree.specs.Attributes.{no_program, no_facts}
-use Rattle.f_tree.specs.Meaning.{facts_at}
-use Rattle.l_core.specs.Steps.{Step, Text}
-use Rattle.l_core.specs.Costs.{cost, rest}
-use Rattle.lowering_laws.specs.Layer.{lower_couple}
-use Rattle.lowering_laws.proofs.LayoutLemmas.{laid_out}
-use Rattle.lowering_laws.proofs.LocalLemmas.{simulates}
-use Rattle.c_tree.specs.declared.types.ResultType.TheVariants as result
-use Rattle.c_tree.specs.declared.statement.CStmt.{CStmt}
-use Rattle.c_tree.specs.declared.file.CFunction.{CFunction}
-use Rattle.c_tree.specs.Flat.{Flat}
-use Rattle.c_tree.specs.FlatForm.{ends}
-use Rattle.c_tree.specs.Linking as linking
-use Rattle.c_tree.specs.Meaning.{wrapped_by, step_factor}
-use Rattle.faithful.specs.SameState.{is_inner}
-use Rattle.c_image.specs.World.{IsIdle}
-use Rattle.c_structure.specs.Statements.{Outline, statements_for}
-use Rattle.c_emit.specs.Numbers.{Writing}
-use Rattle.linking_laws.proofs.Places.{some_same, within, some_at}
-use Rattle.procedure_emission.specs.ProcedureItems.{Numbers}
-use Rattle.procedure_emission.specs.CallLayer.{call_couple}
+use Rattle.emitted_procedures.specs.simulation.LocalSimulation.{Local}
+use Rattle.emitted_procedures.specs.f_tree.Facts.{ProgramUnit}
+use Rattle.emitted_procedures.specs.f_tree.Attributes.{no_program, no_facts}
+use Rattle.emitted_procedures.specs.f_tree.Meaning.{facts_at}
+use Rattle.emitted_procedures.specs.l_core.Steps.{Step, Text}
+use Rattle.emitted_procedures.specs.l_core.Costs.{cost, rest}
+use Rattle.unit_forms.specs.lowering_laws.Layer.{lower_couple}
+use Rattle.unit_forms.proofs.lowering_laws.LayoutLemmas.{laid_out}
+use Rattle.unit_forms.proofs.lowering_laws.LocalLemmas.{simulates}
+use Rattle.emitted_procedures.specs.c_tree.declared.types.ResultType.TheVariants as result
+use Rattle.emitted_procedures.specs.c_tree.declared.statement.CStmt.{CStmt}
+use Rattle.emitted_procedures.specs.c_tree.declared.file.CFunction.{CFunction}
+use Rattle.emitted_procedures.specs.c_tree.Flat.{Flat}
+use Rattle.emitted_procedures.specs.c_tree.FlatForm.{ends}
+use Rattle.emitted_procedures.specs.c_tree.Linking as linking
+use Rattle.emitted_procedures.specs.c_tree.Meaning.{wrapped_by, step_factor}
+use Rattle.emitted_procedures.specs.faithful.SameState.{is_inner}
+use Rattle.emitted_procedures.specs.c_image.World.{IsIdle}
+use Rattle.unit_forms.specs.c_structure.Statements.{Outline, statements_for}
+use Rattle.emitted_procedures.specs.c_emit.Numbers.{Writing}
+use Rattle.unit_file_laws.proofs.linking_laws.Places.{some_same, within, some_at}
+use Rattle.emitted_procedures.specs.procedure_emission.ProcedureItems.{Numbers}
+use Rattle.emitted_procedures.specs.procedure_emission.CallLayer.{call_couple}
 use Rattle.emitted_procedures.proofs.Simulated.{units_are_simulated}
 use Rattle.call_bridge.specs.CallBridge.{Translation, MayRun, is_wrapper, UnitIsTranslated, IsTranslated}
 use Rattle.call_bridge.proofs.Together.{calls_run_alike}
 use Rattle.main_programs.proofs.MainRuns.{ones_cost, ones_rest}
 use Rattle.main_programs.proofs.MainStorage.{map_back}
-use Rattle.unit_file.specs.UnitFile.{WrittenUnit, unit_function}
-use Rattle.unit_sites.specs.UnitSites.{UnitsOfFile, files_of, all_units, Site}
-use Rattle.unit_places.specs.UnitPlaces.{linked_unit}
+use Rattle.unit_file_laws.specs.unit_file.UnitFile.{WrittenUnit, unit_function}
+use Rattle.unit_file_laws.specs.unit_sites.UnitSites.{UnitsOfFile, files_of, all_units, Site}
+use Rattle.unit_file_laws.specs.unit_places.UnitPlaces.{linked_unit}
 use Rattle.unit_file_laws.specs.BuiltUnits.{unit_items}
 use Rattle.unit_programs.specs.OwnStorage.{own_setting}
 use Rattle.unit_programs.specs.TranslatedUnits.{Rendering, units_of, numbers_of, facts_of, IsTranslatedUnit, IsTranslatedSet}

@@ -2,12 +2,12 @@
 use Rattle.std.specs.Prelude.{◌≡◌, ℕ, zero, suc, ◌+◌, ◌<◌, nat_lt, Bool, true, false, List, [], ◌∷◌, length, Some, slice_get}
 use Rattle.std.proofs.Common.{refl, sym, ap, ◌∙◌, arith}
 use Rattle.std.proofs.lemmas.Bool.{ltb-true, ltb-false}
-use Rattle.f_tree.specs.Facts.{Member, ProgramUnit}
-use Rattle.linking_laws.proofs.Places.{some_same, get_front, get_back, IsAt, in_first, in_second, at_one}
-use Rattle.plain_forms.specs.OwnStorage.{homes_from}
-use Rattle.unit_file.specs.UnitFile.{Variable, WrittenUnit, object_count}
-use Rattle.unit_sites.specs.UnitSites.{UnitsOfFile, all_units, Site, sites_of}
-use Rattle.unit_places.proofs.Sites.{rising}
+use Rattle.emitted_procedures.specs.f_tree.Facts.{Member, ProgramUnit}
+use Rattle.unit_file_laws.proofs.linking_laws.Places.{some_same, get_front, get_back, IsAt, in_first, in_second, at_one}
+use Rattle.unit_forms.specs.plain_forms.OwnStorage.{homes_from}
+use Rattle.unit_file_laws.specs.unit_file.UnitFile.{Variable, WrittenUnit, object_count}
+use Rattle.unit_file_laws.specs.unit_sites.UnitSites.{UnitsOfFile, all_units, Site, sites_of}
+use Rattle.unit_file_laws.proofs.unit_places.Sites.{rising}
 use Rattle.unit_programs.specs.OwnStorage.{own_homes, numbered, variable_objects}
 use Rattle.unit_programs.proofs.Pieces.{before}
 

@@ -4,34 +4,34 @@ use Rattle.std.specs.Option.{option_flatten}
 use Rattle.std.specs.Prelude.{◌≡◌, ℕ, suc, ◌+◌, ◌-◌, ◌<◌, ◌≤◌, nat_eq, true, false, ◌&&◌, ◌||◌, List, [], ◌∷◌, ◌++◌, map, length, position, Option, Some, None, is_none, option_map, option_and_then, unwrap_or, slice_get, bytes_eq, find, filter_map, if◌then◌else◌}
 use Rattle.std.proofs.Common.{refl, sym, ap, ◌∙◌, subst, arith}
 use Rattle.std.proofs.lemmas.List.{length-map, length-replicate}
-use Rattle.run_state.specs.Units.{Units}
-use Rattle.f_tree.specs.declared.names.Class.TheVariants as class
-use Rattle.f_tree.specs.CNames.{variable_name}
-use Rattle.f_tree.specs.Values.{Bytes, Spot, IsSpot, Checked, Gives}
-use Rattle.f_tree.specs.Store.{Store, Sequence, Cell, Undefined, undefined_units}
-use Rattle.f_tree.specs.Facts.{Home, Member, Block, Tie, ProgramUnit, Frame}
-use Rattle.f_tree.specs.Setting.{Setting, HasUnit, IsIn, home_among, homes_at, unit_home}
-use Rattle.f_tree.specs.Valuing.{elements_of, extent_of, whole}
-use Rattle.f_tree.specs.Images.{imaged, images_from, undefined_store, image_store}
-use Rattle.f_tree.specs.Meaning.{facts_at, world_with, start_world}
-use Rattle.c_tree.specs.Objects.{Object}
-use Rattle.c_tree.specs.Declarations.{Declared, declared_statics}
-use Rattle.c_tree.specs.FlatForm.{whole_body}
-use Rattle.c_tree.specs.Linking as linking
-use Rattle.faithful.specs.StorageImage.{byte_for, cell_of, is_sequence, block_from, block_of, is_tied, class_of, each_once, classes, first_lasting, static_object, static_object_at, local_object, object_of, object_for, StandsInItsObject, NamesStand}
-use Rattle.c_image.specs.World.{World, IsIdle}
-use Rattle.c_image.specs.Standing.{Stands, IsHoused, IsInRange, HasRoom}
-use Rattle.c_image.specs.Addresses.{Reaches, IsSound, Alone}
-use Rattle.c_emit.specs.Numbers.{is_numeric}
-use Rattle.linking_laws.specs.Linked.{AreDistinct}
-use Rattle.linking_laws.proofs.Places.{some_same, map_at, within, some_at}
-use Rattle.main_file_laws.proofs.Listed.{declared_variable}
+use Rattle.emitted_procedures.specs.run_state.Units.{Units}
+use Rattle.emitted_procedures.specs.f_tree.declared.names.Class.TheVariants as class
+use Rattle.emitted_procedures.specs.f_tree.CNames.{variable_name}
+use Rattle.emitted_procedures.specs.f_tree.Values.{Bytes, Spot, IsSpot, Checked, Gives}
+use Rattle.emitted_procedures.specs.f_tree.Store.{Store, Sequence, Cell, Undefined, undefined_units}
+use Rattle.emitted_procedures.specs.f_tree.Facts.{Home, Member, Block, Tie, ProgramUnit, Frame}
+use Rattle.emitted_procedures.specs.f_tree.Setting.{Setting, HasUnit, IsIn, home_among, homes_at, unit_home}
+use Rattle.emitted_procedures.specs.f_tree.Valuing.{elements_of, extent_of, whole}
+use Rattle.emitted_procedures.specs.f_tree.Images.{imaged, images_from, undefined_store, image_store}
+use Rattle.emitted_procedures.specs.f_tree.Meaning.{facts_at, world_with, start_world}
+use Rattle.emitted_procedures.specs.c_tree.Objects.{Object}
+use Rattle.emitted_procedures.specs.c_tree.Declarations.{Declared, declared_statics}
+use Rattle.emitted_procedures.specs.c_tree.FlatForm.{whole_body}
+use Rattle.emitted_procedures.specs.c_tree.Linking as linking
+use Rattle.emitted_procedures.specs.faithful.StorageImage.{byte_for, cell_of, is_sequence, block_from, block_of, is_tied, class_of, each_once, classes, first_lasting, static_object, static_object_at, local_object, object_of, object_for, StandsInItsObject, NamesStand}
+use Rattle.emitted_procedures.specs.c_image.World.{World, IsIdle}
+use Rattle.emitted_procedures.specs.c_image.Standing.{Stands, IsHoused, IsInRange, HasRoom}
+use Rattle.emitted_procedures.specs.c_image.Addresses.{Reaches, IsSound, Alone}
+use Rattle.emitted_procedures.specs.c_emit.Numbers.{is_numeric}
+use Rattle.unit_file_laws.specs.linking_laws.Linked.{AreDistinct}
+use Rattle.unit_file_laws.proofs.linking_laws.Places.{some_same, map_at, within, some_at}
+use Rattle.unit_file_laws.proofs.main_file_laws.Listed.{declared_variable}
 use Rattle.main_programs.proofs.MainStorage.{home_found, home_there, named_stored, stored_by, shaped, map_back, all_undefined, room_of, position_named}
-use Rattle.plain_forms.specs.OwnStorage.{homes_from, sizes_of}
-use Rattle.unit_file.specs.UnitFile.{Variable, Inventory, WrittenUnit, unit_function, unit_locals, object_count, frame_count, first_parameter, place_or_none, place_of_variable}
-use Rattle.unit_sites.specs.UnitSites.{UnitsOfFile, files_of, all_units, Site, sites_of}
-use Rattle.unit_places.specs.UnitPlaces.{linked_unit, variable_object}
-use Rattle.unit_places.proofs.Declared.{unit_strings, unit_statics_count, unit_lasting_names, unit_variable}
+use Rattle.unit_forms.specs.plain_forms.OwnStorage.{homes_from, sizes_of}
+use Rattle.unit_file_laws.specs.unit_file.UnitFile.{Variable, Inventory, WrittenUnit, unit_function, unit_locals, object_count, frame_count, first_parameter, place_or_none, place_of_variable}
+use Rattle.unit_file_laws.specs.unit_sites.UnitSites.{UnitsOfFile, files_of, all_units, Site, sites_of}
+use Rattle.unit_file_laws.specs.unit_places.UnitPlaces.{linked_unit, variable_object}
+use Rattle.unit_file_laws.proofs.unit_places.Declared.{unit_strings, unit_statics_count, unit_lasting_names, unit_variable}
 use Rattle.unit_programs.specs.OwnStorage.{own_setting, bytes_in, held_in, first_world}
 use Rattle.unit_programs.specs.TranslatedUnits.{Rendering, units_of, facts_of, IsTranslatedSet}
 use Rattle.unit_programs.proofs.Pieces.{before, flat_there, flat_back, as_long}

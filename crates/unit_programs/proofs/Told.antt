@@ -2,11 +2,11 @@
 use Rattle.std.specs.List.{list_all}
 use Rattle.std.specs.Prelude.{◌≡◌, ℕ, zero, suc, ◌+◌, ℤ, Bool, true, false, not, ◌&&◌, ◌||◌, List, [], ◌∷◌, Some, slice_get, bytes_eq}
 use Rattle.std.proofs.Common.{refl, sym, ap, ◌∙◌, subst, arith}
-use Rattle.c_tree.specs.Linking.{any_of, repeats}
-use Rattle.linking_laws.specs.Linked.{AreDistinct, IsNone}
-use Rattle.linking_laws.proofs.Places.{some_same, same_bytes}
-use Rattle.unit_file.specs.UnitFile.{Inventory, lasting_names, framed_names}
-use Rattle.unit_file.specs.UnitNames.{constant_names, called_names}
+use Rattle.emitted_procedures.specs.c_tree.Linking.{any_of, repeats}
+use Rattle.unit_file_laws.specs.linking_laws.Linked.{AreDistinct, IsNone}
+use Rattle.unit_file_laws.proofs.linking_laws.Places.{some_same, same_bytes}
+use Rattle.unit_file_laws.specs.unit_file.UnitFile.{Inventory, lasting_names, framed_names}
+use Rattle.unit_file_laws.specs.unit_file.UnitNames.{constant_names, called_names}
 use Rattle.unit_file_laws.specs.KnownUnits.{NamesDiffer}
 
 neither : (s t : Bool) → (s || t) ≡ false → (s ≡ false) × (t ≡ false)

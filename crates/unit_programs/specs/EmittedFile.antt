@@ -1,12 +1,12 @@
 -- That each function of the files of several units is one of which all is so that is asked. ANSI X3.9-1978, sections 14 and 15; C89, 3.1.2.4.
 use Rattle.std.specs.Prelude.{◌≡◌, ℕ, List, length, replicate, Option, Some, None, slice_get}
-use Rattle.l_core.specs.Steps.{Text}
-use Rattle.c_tree.specs.Linking as linking
-use Rattle.c_tree.specs.Meaning.{text_of}
-use Rattle.emitted_texts.specs.SecondLayer.{Room, Surroundings, Emission}
-use Rattle.procedure_emission.specs.EmittedUnits.{IsEmittedUnit}
-use Rattle.unit_file.specs.UnitFile.{first_parameter, frame_count}
-use Rattle.unit_sites.specs.UnitSites.{UnitsOfFile, files_of}
+use Rattle.emitted_procedures.specs.l_core.Steps.{Text}
+use Rattle.emitted_procedures.specs.c_tree.Linking as linking
+use Rattle.emitted_procedures.specs.c_tree.Meaning.{text_of}
+use Rattle.emitted_procedures.specs.emitted_texts.SecondLayer.{Room, Surroundings, Emission}
+use Rattle.emitted_procedures.specs.procedure_emission.EmittedUnits.{IsEmittedUnit}
+use Rattle.unit_file_laws.specs.unit_file.UnitFile.{first_parameter, frame_count}
+use Rattle.unit_file_laws.specs.unit_sites.UnitSites.{UnitsOfFile, files_of}
 use Rattle.unit_file_laws.specs.KnownUnits.{unit_writing}
 use Rattle.unit_programs.specs.OwnStorage.{own_setting, first_world}
 use Rattle.unit_programs.specs.TranslatedUnits.{Rendering, units_of, numbers_of, IsTranslatedSet}

@@ -5,56 +5,56 @@
 --     SUBROUTINE S(N); N = N + 1; END
 use Rattle.std.specs.Fmt.{digits}
 use Rattle.std.specs.Prelude.{ℕ, zero, suc, pos, false, ℤ, List, [], ◌∷◌, Option, Some, None, option_map, bytes_eq, codes, if◌then◌else◌}
-use Rattle.f_tree.specs.declared.names.Basic.{Basic}
-use Rattle.f_tree.specs.declared.names.Basic.TheVariants.{Integer, Untyped}
-use Rattle.f_tree.specs.declared.names.Class.TheVariants as class
-use Rattle.f_tree.specs.Values.{Bytes, IsInt, in_range}
-use Rattle.f_tree.specs.Terms.{Add, AsFunction, Val, Fetch, At, Between, Refer, NoMore, More, terms_opened}
-use Rattle.f_tree.specs.Facts.{Output, Listed, UnitWord, Controls, Item, Done, Before, Attribute, Named, MainProgram, FunctionUnit, SubroutineUnit, UnitKind, EntryPoint, Member, ToSet, ToCall, ToBegin, ToEnd, Form, On, Plain, NoLoop, Line, ProgramUnit, Facts}
-use Rattle.f_tree.specs.Places.{place_of_label, places_opened}
-use Rattle.f_tree.specs.Meaning.{facts_at, found_from, answers_to, is_main, has_entry}
-use Rattle.f_tree.specs.Nests.{nests_opened}
-use Rattle.f_tree.specs.Valuing.{valuing_opened}
-use Rattle.f_tree.specs.CNames.{main_name, external_name, has_underscore, c_keywords, built_in_names, field_names, single_letters, is_reserved, takes_underscores, variable_name, constant_name, made_name}
-use Rattle.l_core.specs.Pures.{Constant, Temporary, Load, Name, Operated, NoPure, AndPure}
-use Rattle.l_core.specs.Steps.{Starts, Takes, Finishes, Step, Put, CallFor, CallSub, Back, Acts, Text}
-use Rattle.lowering.specs.Expressions.{expressions_opened}
-use Rattle.lowering.specs.Statements.{statements_opened}
-use Rattle.lowering.specs.Units.{start_of, lines_marks, units_opened}
-use Rattle.lowering_laws.specs.Layout.{layout_opened}
-use Rattle.c_tree.specs.declared.types.NumberType.TheVariants as number_type
-use Rattle.c_tree.specs.declared.types.ResultType.TheVariants as result
-use Rattle.c_tree.specs.declared.types.ParameterType.TheVariants as parameter
-use Rattle.c_tree.specs.declared.types.ArgumentType.TheVariants as argument
-use Rattle.c_tree.specs.declared.types.CastType.TheVariants as to
-use Rattle.c_tree.specs.declared.types.ListType.TheVariants as list_type
-use Rattle.c_tree.specs.declared.expression.UnaryOp.TheVariants as prefix
-use Rattle.c_tree.specs.declared.expression.BinaryOp.TheVariants as op
-use Rattle.c_tree.specs.declared.expression.CExpr.{CExpr}
-use Rattle.c_tree.specs.declared.expression.CExpr.TheVariants as expr
-use Rattle.c_tree.specs.declared.expression.CCall.{CCall}
-use Rattle.c_tree.specs.declared.statement.CStmt.{CStmt}
-use Rattle.c_tree.specs.declared.statement.CStmt.TheVariants as stmt
-use Rattle.c_tree.specs.Access.{ToNumber, ToPointer, ToList}
-use Rattle.c_tree.specs.Terms as c
-use Rattle.c_tree.specs.Terms.{Term}
-use Rattle.c_tree.specs.Flat.{Flat, Assign, Invoke, Ignored, Kept, Direct, Return}
-use Rattle.faithful.specs.StorageImage.{function_name}
-use Rattle.c_structure.specs.Expressions as written
-use Rattle.c_structure.specs.Statements as built
-use Rattle.c_structure.specs.Statements.{Outline}
-use Rattle.c_emit.specs.Numbers.{numbers_opened}
-use Rattle.c_emit.specs.Types.{types_opened}
-use Rattle.c_emit.specs.Calls.{address_of, calls_opened}
-use Rattle.c_emit.specs.Flats.{flats_opened}
-use Rattle.emitted_texts.specs.Emitted.{leads, stage_behind, is_of_output}
-use Rattle.procedure_emission.specs.ProcedureItems.{procedure_items_opened}
-use Rattle.procedure_emission.specs.Reading.{reading_opened}
-use Rattle.procedure_emission.specs.EmittedUnits.{leads_on, is_return, is_number_pointer, number_result}
-use Rattle.main_file.specs.MainItems.{item_before, stops_from}
-use Rattle.unit_file.specs.UnitFile.{Inventory, WrittenUnit, unit_file_opened}
-use Rattle.unit_file.specs.UnitNames.{names_of, unit_names_opened}
-use Rattle.unit_sites.specs.UnitSites.{UnitsOfFile, Site}
+use Rattle.emitted_procedures.specs.f_tree.declared.names.Basic.{Basic}
+use Rattle.emitted_procedures.specs.f_tree.declared.names.Basic.TheVariants.{Integer, Untyped}
+use Rattle.emitted_procedures.specs.f_tree.declared.names.Class.TheVariants as class
+use Rattle.emitted_procedures.specs.f_tree.Values.{Bytes, IsInt, in_range}
+use Rattle.emitted_procedures.specs.f_tree.Terms.{Add, AsFunction, Val, Fetch, At, Between, Refer, NoMore, More, terms_opened}
+use Rattle.emitted_procedures.specs.f_tree.Facts.{Output, Listed, UnitWord, Controls, Item, Done, Before, Attribute, Named, MainProgram, FunctionUnit, SubroutineUnit, UnitKind, EntryPoint, Member, ToSet, ToCall, ToBegin, ToEnd, Form, On, Plain, NoLoop, Line, ProgramUnit, Facts}
+use Rattle.emitted_procedures.specs.f_tree.Places.{place_of_label, places_opened}
+use Rattle.emitted_procedures.specs.f_tree.Meaning.{facts_at, found_from, answers_to, is_main, has_entry}
+use Rattle.emitted_procedures.specs.f_tree.Nests.{nests_opened}
+use Rattle.emitted_procedures.specs.f_tree.Valuing.{valuing_opened}
+use Rattle.emitted_procedures.specs.f_tree.CNames.{main_name, external_name, has_underscore, c_keywords, built_in_names, field_names, single_letters, is_reserved, takes_underscores, variable_name, constant_name, made_name}
+use Rattle.emitted_procedures.specs.l_core.Pures.{Constant, Temporary, Load, Name, Operated, NoPure, AndPure}
+use Rattle.emitted_procedures.specs.l_core.Steps.{Starts, Takes, Finishes, Step, Put, CallFor, CallSub, Back, Acts, Text}
+use Rattle.unit_forms.specs.lowering.Expressions.{expressions_opened}
+use Rattle.unit_forms.specs.lowering.Statements.{statements_opened}
+use Rattle.unit_forms.specs.lowering.Units.{start_of, lines_marks, units_opened}
+use Rattle.unit_forms.specs.lowering_laws.Layout.{layout_opened}
+use Rattle.emitted_procedures.specs.c_tree.declared.types.NumberType.TheVariants as number_type
+use Rattle.emitted_procedures.specs.c_tree.declared.types.ResultType.TheVariants as result
+use Rattle.emitted_procedures.specs.c_tree.declared.types.ParameterType.TheVariants as parameter
+use Rattle.emitted_procedures.specs.c_tree.declared.types.ArgumentType.TheVariants as argument
+use Rattle.emitted_procedures.specs.c_tree.declared.types.CastType.TheVariants as to
+use Rattle.emitted_procedures.specs.c_tree.declared.types.ListType.TheVariants as list_type
+use Rattle.emitted_procedures.specs.c_tree.declared.expression.UnaryOp.TheVariants as prefix
+use Rattle.emitted_procedures.specs.c_tree.declared.expression.BinaryOp.TheVariants as op
+use Rattle.emitted_procedures.specs.c_tree.declared.expression.CExpr.{CExpr}
+use Rattle.emitted_procedures.specs.c_tree.declared.expression.CExpr.TheVariants as expr
+use Rattle.emitted_procedures.specs.c_tree.declared.expression.CCall.{CCall}
+use Rattle.emitted_procedures.specs.c_tree.declared.statement.CStmt.{CStmt}
+use Rattle.emitted_procedures.specs.c_tree.declared.statement.CStmt.TheVariants as stmt
+use Rattle.emitted_procedures.specs.c_tree.Access.{ToNumber, ToPointer, ToList}
+use Rattle.emitted_procedures.specs.c_tree.Terms as c
+use Rattle.emitted_procedures.specs.c_tree.Terms.{Term}
+use Rattle.emitted_procedures.specs.c_tree.Flat.{Flat, Assign, Invoke, Ignored, Kept, Direct, Return}
+use Rattle.emitted_procedures.specs.faithful.StorageImage.{function_name}
+use Rattle.unit_forms.specs.c_structure.Expressions as written
+use Rattle.unit_forms.specs.c_structure.Statements as built
+use Rattle.unit_forms.specs.c_structure.Statements.{Outline}
+use Rattle.emitted_procedures.specs.c_emit.Numbers.{numbers_opened}
+use Rattle.emitted_procedures.specs.c_emit.Types.{types_opened}
+use Rattle.emitted_procedures.specs.c_emit.Calls.{address_of, calls_opened}
+use Rattle.emitted_procedures.specs.c_emit.Flats.{flats_opened}
+use Rattle.emitted_procedures.specs.emitted_texts.Emitted.{leads, stage_behind, is_of_output}
+use Rattle.emitted_procedures.specs.procedure_emission.ProcedureItems.{procedure_items_opened}
+use Rattle.emitted_procedures.specs.procedure_emission.Reading.{reading_opened}
+use Rattle.emitted_procedures.specs.procedure_emission.EmittedUnits.{leads_on, is_return, is_number_pointer, number_result}
+use Rattle.unit_forms.specs.main_file.MainItems.{item_before, stops_from}
+use Rattle.unit_file_laws.specs.unit_file.UnitFile.{Inventory, WrittenUnit, unit_file_opened}
+use Rattle.unit_file_laws.specs.unit_file.UnitNames.{names_of, unit_names_opened}
+use Rattle.unit_file_laws.specs.unit_sites.UnitSites.{UnitsOfFile, Site}
 use Rattle.unit_file_laws.specs.BuiltUnits.{built_units_opened}
 use Rattle.unit_programs.specs.OwnStorage.{own_setting}
 use Rattle.unit_programs.specs.TranslatedUnits.{Rendering}

@@ -3,18 +3,18 @@
 use Rattle.std.specs.List.{flat_map}
 use Rattle.std.specs.Option.{option_flatten}
 use Rattle.std.specs.Prelude.{◌≡◌, ℕ, zero, suc, ◌*◌, ◌<◌, ◌≤◌, true, false, ℤ, List, [], ◌∷◌, ◌++◌, map, length, replicate, Option, Some, None, unwrap_or, slice_get}
-use Rattle.f_tree.specs.Facts.{Member, ProgramUnit}
-use Rattle.f_tree.specs.Setting.{Setting}
-use Rattle.f_tree.specs.Valuing.{elements_of, extent_of}
-use Rattle.c_tree.specs.Objects.{Object}
-use Rattle.c_tree.specs.Declarations.{string_object}
-use Rattle.c_image.specs.World.{World}
-use Rattle.c_image.specs.Held.{number_object}
-use Rattle.c_emit.specs.Numbers.{is_numeric}
-use Rattle.output_laws.specs.ListedOutputs.{list_object}
+use Rattle.emitted_procedures.specs.f_tree.Facts.{Member, ProgramUnit}
+use Rattle.emitted_procedures.specs.f_tree.Setting.{Setting}
+use Rattle.emitted_procedures.specs.f_tree.Valuing.{elements_of, extent_of}
+use Rattle.emitted_procedures.specs.c_tree.Objects.{Object}
+use Rattle.emitted_procedures.specs.c_tree.Declarations.{string_object}
+use Rattle.emitted_procedures.specs.c_image.World.{World}
+use Rattle.emitted_procedures.specs.c_image.Held.{number_object}
+use Rattle.emitted_procedures.specs.c_emit.Numbers.{is_numeric}
+use Rattle.emitted_procedures.specs.output_laws.ListedOutputs.{list_object}
 pub use Rattle.unit_forms.specs.OwnSetting.{own_homes, own_setting}
-use Rattle.unit_file.specs.UnitFile.{Variable, Listing, Inventory, WrittenUnit, frame_count, place_of_variable}
-use Rattle.unit_sites.specs.UnitSites.{UnitsOfFile, all_units, inventories, Site, sites_of}
+use Rattle.unit_file_laws.specs.unit_file.UnitFile.{Variable, Listing, Inventory, WrittenUnit, frame_count, place_of_variable}
+use Rattle.unit_file_laws.specs.unit_sites.UnitSites.{UnitsOfFile, all_units, inventories, Site, sites_of}
 
 -- ## The storage of a unit
 

@@ -1,38 +1,38 @@
 -- Units with their lowered texts, and what their C files have: what each must satisfy, and the files. ANSI X3.9-1978, sections 2.4, 5, 12.8, 14, 15 and 17.1;
 -- C89, 3.1.2.1 and 3.5.4.3.
 use Rattle.std.specs.Prelude.{◌≡◌, ◌≢◌, ℕ, suc, ◌<◌, ◌≤◌, ℤ, true, List, [], ◌∷◌, map, length, Option, Some, None, slice_get}
-use Rattle.f_tree.specs.declared.names.Basic.{Basic}
-use Rattle.f_tree.specs.declared.names.Class.TheVariants as class
-use Rattle.f_tree.specs.Values.{Bytes, Gives, in_range}
-use Rattle.f_tree.specs.Store.{Store}
-use Rattle.f_tree.specs.Facts.{Direction, Layout, Controls, Bounds, Formal, Named, Alternate, FunctionUnit, BlockDataUnit, EntryPoint, ProgramUnit, Facts, Frame}
-use Rattle.f_tree.specs.Setting.{IsIn}
-use Rattle.f_tree.specs.Association.{dimensions_by}
-use Rattle.f_tree.specs.Meaning.{facts_at, found_from}
-use Rattle.l_core.specs.Pures.{Pure, Pures}
-use Rattle.l_core.specs.Steps.{Starts, Step, Keep, Halt, Acts, Text}
-use Rattle.lowering.specs.Units.{lowered_unit}
-use Rattle.lowering_laws.specs.Layout.{are_direct, has_end, LoopsFit}
-use Rattle.c_tree.specs.declared.types.NumberType.{NumberType}
-use Rattle.c_tree.specs.declared.types.ResultType.TheVariants as result
-use Rattle.c_tree.specs.Builtins.{builtin_names}
-use Rattle.c_tree.specs.Flat.{Flat}
-use Rattle.c_tree.specs.Meaning.{wrapped_by}
-use Rattle.faithful.specs.StorageImage.{function_name}
-use Rattle.faithful.specs.UnitsAtStart.{AreBytes}
-use Rattle.c_structure.specs.Statements.{Outline}
-use Rattle.c_emit.specs.Numbers.{Writing, is_numeric}
-use Rattle.c_emit.specs.Types.{type_of}
-use Rattle.c_emit.specs.Calls.{unit_of}
-use Rattle.c_emit_laws.specs.EmittedNumbers.{BoundFits}
-use Rattle.linking_laws.specs.Linked.{AreDistinct, IsNone}
-use Rattle.emitted_texts.specs.Emitted.{stage_behind, is_of_output}
-use Rattle.procedure_emission.specs.ProcedureItems.{Numbers}
-use Rattle.procedure_emission.specs.Reading.{kind_after}
-use Rattle.procedure_emission.specs.EmittedUnits.{leads_on, is_return, is_number_pointer, is_function_pointer, number_result}
-use Rattle.unit_file.specs.UnitFile.{Listing, Parameter, Inventory, WrittenUnit, place_of_list}
-use Rattle.unit_file.specs.UnitNames.{own_names}
-use Rattle.unit_sites.specs.UnitSites.{UnitsOfFile, all_units, inventories, Site, sites_of}
+use Rattle.emitted_procedures.specs.f_tree.declared.names.Basic.{Basic}
+use Rattle.emitted_procedures.specs.f_tree.declared.names.Class.TheVariants as class
+use Rattle.emitted_procedures.specs.f_tree.Values.{Bytes, Gives, in_range}
+use Rattle.emitted_procedures.specs.f_tree.Store.{Store}
+use Rattle.emitted_procedures.specs.f_tree.Facts.{Direction, Layout, Controls, Bounds, Formal, Named, Alternate, FunctionUnit, BlockDataUnit, EntryPoint, ProgramUnit, Facts, Frame}
+use Rattle.emitted_procedures.specs.f_tree.Setting.{IsIn}
+use Rattle.emitted_procedures.specs.f_tree.Association.{dimensions_by}
+use Rattle.emitted_procedures.specs.f_tree.Meaning.{facts_at, found_from}
+use Rattle.emitted_procedures.specs.l_core.Pures.{Pure, Pures}
+use Rattle.emitted_procedures.specs.l_core.Steps.{Starts, Step, Keep, Halt, Acts, Text}
+use Rattle.unit_forms.specs.lowering.Units.{lowered_unit}
+use Rattle.unit_forms.specs.lowering_laws.Layout.{are_direct, has_end, LoopsFit}
+use Rattle.emitted_procedures.specs.c_tree.declared.types.NumberType.{NumberType}
+use Rattle.emitted_procedures.specs.c_tree.declared.types.ResultType.TheVariants as result
+use Rattle.emitted_procedures.specs.c_tree.Builtins.{builtin_names}
+use Rattle.emitted_procedures.specs.c_tree.Flat.{Flat}
+use Rattle.emitted_procedures.specs.c_tree.Meaning.{wrapped_by}
+use Rattle.emitted_procedures.specs.faithful.StorageImage.{function_name}
+use Rattle.emitted_procedures.specs.faithful.UnitsAtStart.{AreBytes}
+use Rattle.unit_forms.specs.c_structure.Statements.{Outline}
+use Rattle.emitted_procedures.specs.c_emit.Numbers.{Writing, is_numeric}
+use Rattle.emitted_procedures.specs.c_emit.Types.{type_of}
+use Rattle.emitted_procedures.specs.c_emit.Calls.{unit_of}
+use Rattle.emitted_procedures.specs.c_emit_laws.EmittedNumbers.{BoundFits}
+use Rattle.unit_file_laws.specs.linking_laws.Linked.{AreDistinct, IsNone}
+use Rattle.emitted_procedures.specs.emitted_texts.Emitted.{stage_behind, is_of_output}
+use Rattle.emitted_procedures.specs.procedure_emission.ProcedureItems.{Numbers}
+use Rattle.emitted_procedures.specs.procedure_emission.Reading.{kind_after}
+use Rattle.emitted_procedures.specs.procedure_emission.EmittedUnits.{leads_on, is_return, is_number_pointer, is_function_pointer, number_result}
+use Rattle.unit_file_laws.specs.unit_file.UnitFile.{Listing, Parameter, Inventory, WrittenUnit, place_of_list}
+use Rattle.unit_file_laws.specs.unit_file.UnitNames.{own_names}
+use Rattle.unit_file_laws.specs.unit_sites.UnitSites.{UnitsOfFile, all_units, inventories, Site, sites_of}
 use Rattle.unit_file_laws.specs.KnownUnits.{unit_writing}
 use Rattle.unit_file_laws.specs.BuiltUnits.{IsUnitBuilt}
 use Rattle.unit_programs.specs.OwnStorage.{own_setting, HasOwnStorage}

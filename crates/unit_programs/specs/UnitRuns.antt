@@ -1,10 +1,10 @@
 -- That units that call each other run as their C files do. ANSI X3.9-1978, sections 2.4, 14 and 15; C89, 3.1.2.2.
 use Rattle.std.specs.Prelude.{◌≡◌, ℕ, List, Some}
-use Rattle.run_state.specs.Units.{Units}
-use Rattle.f_tree.specs.Values.{NoMeaning}
-use Rattle.f_tree.specs.Meaning.{ftn, act_of}
-use Rattle.faithful.specs.Faithful.{SameRuns}
-use Rattle.unit_sites.specs.UnitSites.{UnitsOfFile, files_of}
+use Rattle.emitted_procedures.specs.run_state.Units.{Units}
+use Rattle.emitted_procedures.specs.f_tree.Values.{NoMeaning}
+use Rattle.emitted_procedures.specs.f_tree.Meaning.{ftn, act_of}
+use Rattle.emitted_procedures.specs.faithful.Faithful.{SameRuns}
+use Rattle.unit_file_laws.specs.unit_sites.UnitSites.{UnitsOfFile, files_of}
 use Rattle.unit_programs.specs.OwnStorage.{own_setting}
 use Rattle.unit_programs.specs.TranslatedUnits.{Rendering, units_of, IsTranslatedSet}
 

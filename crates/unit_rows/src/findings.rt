@@ -3,7 +3,7 @@
 ghost use Rattle.std.specs.Prelude.{IfOk};
 ghost use Rattle.expression_judge.specs.SeenNames.{AreSeen};
 ghost use Rattle.declared_types.specs.TypeTables.{AreTypes};
-ghost use Rattle.declaration_rows.specs.NameRows.{known_in};
+ghost use Rattle.name_facts.specs.declaration_rows.NameRows.{known_in};
 
 use block_judge::{block_fault, entry_sharing};
 use decl_table::name_facts;

@@ -58,7 +58,10 @@ pub struct BoundsText<'a>(&'a [Bound]);
 impl<'a> Display for BoundsText<'a> {
     fn fmt<W: Write>(&self, f: &mut Formatter<W>) -> fmt::Result {
         for bound in self.0 {
-            write!(f, " {}:{}", bound.lower, bound.upper)?;
+            match bound.upper {
+                Some(upper) => write!(f, " {}:{upper}", bound.lower)?,
+                None => write!(f, " {}:*", bound.lower)?,
+            }
         }
         Ok(())
     }

@@ -2,7 +2,7 @@
 -- and from which numbers on the objects of its file and its own objects stand among those of the program. ANSI X3.9-1978, sections 2.4 and 3.5;
 -- C89, 3.1.2.2 and 3.7.
 use Rattle.std.specs.Prelude.{ℕ, ◌+◌, ℤ, List, [], ◌∷◌, ◌++◌, map, length}
-use Rattle.c_tree.specs.declared.file.CFile.{CFile}
+use Rattle.unit_file.specs.c_tree.declared.file.CFile.{CFile}
 use Rattle.unit_file.specs.UnitFile.{Inventory, Bases, WrittenUnit, units_file, object_count}
 
 -- ## The files

@@ -1,13 +1,13 @@
 -- The C functions of units that call each other, and their files: items for the steps of each, and statements with labels, arms and loops where its lowered
 -- text has them. ANSI X3.9-1978, sections 2.4, 11 and 15; C89, 3.6 and 3.7.1; CSTR 149.
 use Rattle.std.specs.Prelude.{ℕ, ◌+◌, ◌&&◌, ℤ, List, [], ◌∷◌, ◌++◌, map, length, Option, Some, None, is_none, option_and_then, slice_get, if◌then◌else◌}
-use Rattle.c_tree.specs.declared.statement.CStmt.{CStmt}
-use Rattle.c_tree.specs.Flat.{Flat}
-use Rattle.c_structure.specs.Statements.{Outline, statements_for}
+use Rattle.main_translation.specs.c_tree.declared.statement.CStmt.{CStmt}
+use Rattle.main_translation.specs.c_tree.Flat.{Flat}
+use Rattle.main_translation.specs.c_structure.Statements.{Outline, statements_for}
 use Rattle.main_translation.specs.Outlined.{label_at, passes_arms, loop_at, if_returned}
-use Rattle.unit_file.specs.UnitFile.{Inventory, WrittenUnit, object_count, writing_of}
-use Rattle.unit_file.specs.UnitNames.{names_of}
-use Rattle.unit_file.specs.UnitItems.{unit_items}
+use Rattle.unit_sites.specs.unit_file.UnitFile.{Inventory, WrittenUnit, object_count, writing_of}
+use Rattle.unit_sites.specs.unit_file.UnitNames.{names_of}
+use Rattle.unit_sites.specs.unit_file.UnitItems.{unit_items}
 use Rattle.unit_sites.specs.UnitSites.{UnitsOfFile, Site, behind}
 use Rattle.unit_translation.specs.UnitFlow.{kind_before, are_in_place}
 use Rattle.unit_translation.specs.UnitContents.{LoweredUnit, unit_numbers, constants_passed, inventory_of, inventories_of}

@@ -2,30 +2,30 @@
 -- temporaries, and what it calls; and the constants of the file. ANSI X3.9-1978, sections 4.1, 5.1, 8.7, 12.8, 15.5 and 15.6; C89, 3.5 and 3.5.4.3; CSTR 149.
 use Rattle.std.specs.List.{list_any, flat_map}
 use Rattle.std.specs.Prelude.{ℕ, suc, max, ℤ, pos, List, [], ◌∷◌, ◌++◌, map, fold, Option, Some, None, option_and_then, slice_get, bytes_eq, if◌then◌else◌}
-use Rattle.f_tree.specs.declared.names.Basic.{Basic}
-use Rattle.f_tree.specs.Values.{Bytes}
-use Rattle.f_tree.specs.Facts.{Formal, UnitKind, FunctionUnit, EntryPoint, ProgramUnit, Facts}
-use Rattle.f_tree.specs.World.{Procedure}
-use Rattle.f_tree.specs.Meaning.{found_from}
-use Rattle.f_tree.specs.CNames.{DummyUse, IntegerDummy, LogicalDummy, TextDummy, AlternateReturn, CalledDummy, IntegerFunctionDummy, LogicalFunctionDummy, PassedDummy}
-use Rattle.l_core.specs.Pures.{NoPure, AndPure}
-use Rattle.l_core.specs.Steps.{Takes, Step, Keep, Compute, CallFor, CallSub, Acts, Text}
-use Rattle.c_tree.specs.declared.types.NumberType.{NumberType}
-use Rattle.c_tree.specs.declared.types.ResultType.{ResultType}
-use Rattle.c_tree.specs.declared.types.ResultType.TheVariants as result
-use Rattle.c_tree.specs.declared.types.ParameterType.{ParameterType}
-use Rattle.c_tree.specs.declared.types.ParameterType.TheVariants as parameter
-use Rattle.c_tree.specs.declared.types.FunctionType.TheVariants as pointer
-use Rattle.c_tree.specs.declared.types.ArgumentType.TheVariants as argument
-use Rattle.c_emit.specs.Calls.{kind_number}
-use Rattle.faithful.specs.StorageImage.{function_name}
-use Rattle.faithful.specs.Signatures.{named_formals}
-use Rattle.main_file.specs.MainFile.{Called}
-use Rattle.main_file.specs.MainItems.{stops_from}
-use Rattle.procedure_emission.specs.ProcedureItems.{Numbers}
-use Rattle.procedure_emission.specs.EmittedUnits.{number_result}
-use Rattle.unit_file.specs.UnitFile.{Parameter, Callee, Inventory}
-use Rattle.unit_file.specs.UnitItems.{procedures_named}
+use Rattle.main_translation.specs.f_tree.declared.names.Basic.{Basic}
+use Rattle.main_translation.specs.f_tree.Values.{Bytes}
+use Rattle.main_translation.specs.f_tree.Facts.{Formal, UnitKind, FunctionUnit, EntryPoint, ProgramUnit, Facts}
+use Rattle.main_translation.specs.f_tree.World.{Procedure}
+use Rattle.main_translation.specs.f_tree.Meaning.{found_from}
+use Rattle.main_translation.specs.f_tree.CNames.{DummyUse, IntegerDummy, LogicalDummy, TextDummy, AlternateReturn, CalledDummy, IntegerFunctionDummy, LogicalFunctionDummy, PassedDummy}
+use Rattle.main_translation.specs.l_core.Pures.{NoPure, AndPure}
+use Rattle.main_translation.specs.l_core.Steps.{Takes, Step, Keep, Compute, CallFor, CallSub, Acts, Text}
+use Rattle.main_translation.specs.c_tree.declared.types.NumberType.{NumberType}
+use Rattle.main_translation.specs.c_tree.declared.types.ResultType.{ResultType}
+use Rattle.main_translation.specs.c_tree.declared.types.ResultType.TheVariants as result
+use Rattle.main_translation.specs.c_tree.declared.types.ParameterType.{ParameterType}
+use Rattle.main_translation.specs.c_tree.declared.types.ParameterType.TheVariants as parameter
+use Rattle.main_translation.specs.c_tree.declared.types.FunctionType.TheVariants as pointer
+use Rattle.main_translation.specs.c_tree.declared.types.ArgumentType.TheVariants as argument
+use Rattle.main_translation.specs.c_emit.Calls.{kind_number}
+use Rattle.main_translation.specs.faithful.StorageImage.{function_name}
+use Rattle.main_translation.specs.faithful.Signatures.{named_formals}
+use Rattle.main_translation.specs.main_file.MainFile.{Called}
+use Rattle.main_translation.specs.main_file.MainItems.{stops_from}
+use Rattle.unit_sites.specs.procedure_emission.ProcedureItems.{Numbers}
+use Rattle.unit_sites.specs.procedure_emission.EmittedUnits.{number_result}
+use Rattle.unit_sites.specs.unit_file.UnitFile.{Parameter, Callee, Inventory}
+use Rattle.unit_sites.specs.unit_file.UnitItems.{procedures_named}
 use Rattle.main_translation.specs.Contents.{with_new, own_values, own_value, kind_value, number_type_of, variable_of, listings_from, calls_of, text_at}
 use Rattle.unit_translation.specs.UnitFlow.{item_kind}
 

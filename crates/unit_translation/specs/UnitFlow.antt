@@ -2,11 +2,11 @@
 -- whether an output goes on where one must, and none where the unit returns, and whether the type of what is kept is known. ANSI X3.9-1978, sections 4.1,
 -- 6.4, 11, 12.9, 15.5 and 15.8.
 use Rattle.std.specs.Prelude.{ℕ, zero, suc, nat_eq, ℤ, Bool, true, false, ◌&&◌, List, [], ◌∷◌, Option, Some, None, is_some, is_none, slice_get, if◌then◌else◌}
-use Rattle.f_tree.specs.declared.names.Basic.{Basic}
-use Rattle.f_tree.specs.Facts.{Facts}
-use Rattle.l_core.specs.Pures.{Pure, Temporary}
-use Rattle.l_core.specs.Steps.{Step, Keep, CallFor, Back, BackBy, Text}
-use Rattle.procedure_emission.specs.ProcedureItems.{basic_wanted}
+use Rattle.main_translation.specs.f_tree.declared.names.Basic.{Basic}
+use Rattle.main_translation.specs.f_tree.Facts.{Facts}
+use Rattle.main_translation.specs.l_core.Pures.{Pure, Temporary}
+use Rattle.main_translation.specs.l_core.Steps.{Step, Keep, CallFor, Back, BackBy, Text}
+use Rattle.unit_sites.specs.procedure_emission.ProcedureItems.{basic_wanted}
 use Rattle.main_translation.specs.Flow.{is_target, kept_type, kept_at, stage_at, is_on}
 
 -- ## Temporaries

@@ -3,34 +3,34 @@ use Rattle.std.specs.List.{list_any, flat_map}
 use Rattle.std.specs.Prelude.{◌≡◌, ℕ, zero, suc, ◌+◌, Bool, true, false, ◌||◌, List, [], ◌∷◌, ◌++◌, map, fold, Option, Some, None, option_and_then, unwrap_or, slice_get, bytes_eq, codes, if◌then◌else◌}
 use Rattle.std.proofs.Common.{refl, sym, ap, ◌∙◌, subst, arith}
 use Rattle.std.proofs.lemmas.Slice.Eq.{bytes_eq-Decides}
-use Rattle.f_tree.specs.declared.names.Class.{Class}
-use Rattle.f_tree.specs.declared.names.Class.TheVariants as class
-use Rattle.f_tree.specs.Values.{Bytes}
-use Rattle.f_tree.specs.Terms.{Function}
-use Rattle.f_tree.specs.World.{Procedure}
-use Rattle.f_tree.specs.Facts.{UnitKind, MainProgram, SubroutineUnit, FunctionUnit, BlockDataUnit, EntryPoint, ProgramUnit, Facts}
-use Rattle.f_tree.specs.Setting.{IsIn, first_in, later_in}
-use Rattle.f_tree.specs.CNames.{external_name, main_name}
-use Rattle.f_tree.specs.Meaning.{has_entry, answers_to}
-use Rattle.l_core.specs.Pures.{Name, Pures, NoPure, AndPure}
-use Rattle.l_core.specs.Steps.{Starts, Takes, Finishes, Step, Compute, CallFor, CallSub, Halt, Acts, Text}
-use Rattle.c_tree.specs.Builtins.{builtin_names}
-use Rattle.c_tree.specs.Flat.{Flat}
-use Rattle.c_emit.specs.Numbers.{Writing}
-use Rattle.c_emit.specs.LibraryFunctions.{LibraryFunction, library_function}
-use Rattle.faithful.specs.StorageImage.{function_name, name_of_entries}
-use Rattle.linking_laws.proofs.Places.{some_same, get_front, map_at}
-use Rattle.procedure_emission.specs.ProcedureItems.{procedure_item}
-use Rattle.main_file.specs.MainFile.{Called}
-use Rattle.main_translation.specs.Contents.{begins_output, takes_item, ends_output, stops_run, calls_of}
+use Rattle.unit_translation.specs.f_tree.declared.names.Class.{Class}
+use Rattle.unit_translation.specs.f_tree.declared.names.Class.TheVariants as class
+use Rattle.unit_translation.specs.f_tree.Values.{Bytes}
+use Rattle.unit_translation.specs.f_tree.Terms.{Function}
+use Rattle.unit_translation.specs.f_tree.World.{Procedure}
+use Rattle.unit_translation.specs.f_tree.Facts.{UnitKind, MainProgram, SubroutineUnit, FunctionUnit, BlockDataUnit, EntryPoint, ProgramUnit, Facts}
+use Rattle.unit_translation.specs.f_tree.Setting.{IsIn, first_in, later_in}
+use Rattle.unit_translation.specs.f_tree.CNames.{external_name, main_name}
+use Rattle.unit_translation.specs.f_tree.Meaning.{has_entry, answers_to}
+use Rattle.unit_translation.specs.l_core.Pures.{Name, Pures, NoPure, AndPure}
+use Rattle.unit_translation.specs.l_core.Steps.{Starts, Takes, Finishes, Step, Compute, CallFor, CallSub, Halt, Acts, Text}
+use Rattle.unit_translation.specs.c_tree.Builtins.{builtin_names}
+use Rattle.unit_translation.specs.c_tree.Flat.{Flat}
+use Rattle.unit_translation.specs.c_emit.Numbers.{Writing}
+use Rattle.unit_translation.specs.c_emit.LibraryFunctions.{LibraryFunction, library_function}
+use Rattle.unit_translation.specs.faithful.StorageImage.{function_name, name_of_entries}
+use Rattle.main_translation_laws.proofs.linking_laws.Places.{some_same, get_front, map_at}
+use Rattle.unit_translation.specs.procedure_emission.ProcedureItems.{procedure_item}
+use Rattle.unit_translation.specs.main_file.MainFile.{Called}
+use Rattle.unit_translation.specs.main_translation.Contents.{begins_output, takes_item, ends_output, stops_run, calls_of}
 use Rattle.main_translation_laws.proofs.Lists.{InEither, in_one, in_other, in_either, in_map, in_mapped, in_at, at_in}
 use Rattle.main_translation_laws.proofs.Contents.{IsAmong, calls_named, listed_at, starts_called, item_called, ends_called, stop_called, function_is_called}
 use Rattle.main_translation_laws.proofs.Built.{started}
 use Rattle.main_translation_laws.proofs.FlowLaws.{in_front, in_back}
-use Rattle.unit_file.specs.UnitFile.{Variable, Parameter, Callee, Inventory}
-use Rattle.unit_file.specs.UnitNames.{own_names, routine_name}
-use Rattle.unit_file.specs.UnitItems.{unit_items, procedure_called, procedure_passed, procedures_passed, procedures_named}
-use Rattle.unit_file_laws.specs.BuiltUnits.{IsCalled, FunctionIsCalled, AreDeclared, IsListed, AreListed}
+use Rattle.unit_translation.specs.unit_file.UnitFile.{Variable, Parameter, Callee, Inventory}
+use Rattle.unit_translation.specs.unit_file.UnitNames.{own_names, routine_name}
+use Rattle.unit_translation.specs.unit_file.UnitItems.{unit_items, procedure_called, procedure_passed, procedures_passed, procedures_named}
+use Rattle.unit_programs.specs.unit_file_laws.BuiltUnits.{IsCalled, FunctionIsCalled, AreDeclared, IsListed, AreListed}
 use Rattle.unit_translation.specs.UnitContents.{LoweredUnit, program_units, unit_numbers, library_callee, procedures_by, with_name, procedures_in, unit_callee, procedure_callee, inventory_of, inventories_of}
 use Rattle.unit_programs.proofs.Objects.{found_back, emitted_at}
 use Rattle.unit_translation_laws.proofs.Names.{IsOfCallee, of_library, of_procedure}

@@ -1,12 +1,12 @@
 -- The constants of a file are told apart, and have 32 bits.
 use Rattle.std.specs.List.{flat_map}
 use Rattle.std.specs.Prelude.{◌≡◌, ℕ, suc, ℤ, pos, true, List, [], ◌∷◌, option_and_then}
-use Rattle.f_tree.specs.Values.{in_range}
-use Rattle.f_tree.specs.Setting.{IsIn}
-use Rattle.l_core.specs.Pures.{NoPure, AndPure}
-use Rattle.l_core.specs.Steps.{Takes, Step, Compute, CallFor, CallSub, Acts, Text}
-use Rattle.c_emit.specs.Calls.{kind_number}
-use Rattle.main_translation.specs.Contents.{own_value, kind_value}
+use Rattle.unit_translation.specs.f_tree.Values.{in_range}
+use Rattle.unit_translation.specs.f_tree.Setting.{IsIn}
+use Rattle.unit_translation.specs.l_core.Pures.{NoPure, AndPure}
+use Rattle.unit_translation.specs.l_core.Steps.{Takes, Step, Compute, CallFor, CallSub, Acts, Text}
+use Rattle.unit_translation.specs.c_emit.Calls.{kind_number}
+use Rattle.unit_translation.specs.main_translation.Contents.{own_value, kind_value}
 use Rattle.main_translation_laws.proofs.Lists.{AreApart}
 use Rattle.main_translation_laws.proofs.Contents.{none_ascending, fold_ascends, ascending_apart, AllFit, fold_fit, fit_both, fit_none, fit_one, one, kind_fits, own_fits, owns_fit}
 use Rattle.unit_translation.specs.UnitFlow.{item_kind}

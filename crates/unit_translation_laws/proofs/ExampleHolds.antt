@@ -2,30 +2,30 @@
 use Rattle.std.specs.Prelude.{◌≡◌, ℕ, zero, suc, ◌+◌, ◌<◌, ◌≤◌, ◌^◌, Bool, true, false, List, [], ◌∷◌, map, length, Some, None, slice_get, bytes_eq, if◌then◌else◌}
 use Rattle.std.proofs.Common.{refl, sym, ap, ◌∙◌, subst, arith}
 use Rattle.std.proofs.lemmas.Slice.Eq.{bytes_eq-Decides}
-use Rattle.f_tree.specs.declared.names.Class.{Class}
-use Rattle.f_tree.specs.declared.names.Class.TheVariants as class
-use Rattle.f_tree.specs.Values.{Bytes}
-use Rattle.f_tree.specs.CNames.{is_name, is_name_byte}
-use Rattle.f_tree.specs.Facts.{Attribute, Member, Named, ProgramUnit}
-use Rattle.f_tree.specs.Setting.{IsIn, first_in, later_in, IsMember, here, AreDistinct, no_names, another_name}
-use Rattle.f_tree.specs.Valuing.{elements_of, extent_of}
-use Rattle.l_core.specs.Steps.{Step, Halt, Text}
-use Rattle.lowering_laws.specs.Layout.{without_loops}
-use Rattle.c_tree.specs.Opened.{trees_opened}
-use Rattle.c_emit.specs.Numbers.{is_numeric}
-use Rattle.faithful.specs.StorageImage.{function_name}
-use Rattle.faithful.specs.Signatures.{named_formals}
-use Rattle.linking_laws.specs.Linked as names
-use Rattle.main_translation.specs.Flow.{flow_opened}
-use Rattle.main_translation.specs.Contents.{contents_opened, count_by, text_at}
-use Rattle.main_translation.specs.Outlined.{labels_in, outlined_opened}
-use Rattle.unit_file.specs.UnitFile.{WrittenUnit}
-use Rattle.unit_sites.specs.UnitSites.{UnitsOfFile}
+use Rattle.unit_translation.specs.f_tree.declared.names.Class.{Class}
+use Rattle.unit_translation.specs.f_tree.declared.names.Class.TheVariants as class
+use Rattle.unit_translation.specs.f_tree.Values.{Bytes}
+use Rattle.unit_translation.specs.f_tree.CNames.{is_name, is_name_byte}
+use Rattle.unit_translation.specs.f_tree.Facts.{Attribute, Member, Named, ProgramUnit}
+use Rattle.unit_translation.specs.f_tree.Setting.{IsIn, first_in, later_in, IsMember, here, AreDistinct, no_names, another_name}
+use Rattle.unit_translation.specs.f_tree.Valuing.{elements_of, extent_of}
+use Rattle.unit_translation.specs.l_core.Steps.{Step, Halt, Text}
+use Rattle.main_translation_laws.specs.lowering_laws.Layout.{without_loops}
+use Rattle.unit_translation.specs.c_tree.Opened.{trees_opened}
+use Rattle.unit_translation.specs.c_emit.Numbers.{is_numeric}
+use Rattle.unit_translation.specs.faithful.StorageImage.{function_name}
+use Rattle.unit_translation.specs.faithful.Signatures.{named_formals}
+use Rattle.main_translation_laws.specs.linking_laws.Linked as names
+use Rattle.unit_translation.specs.main_translation.Flow.{flow_opened}
+use Rattle.unit_translation.specs.main_translation.Contents.{contents_opened, count_by, text_at}
+use Rattle.unit_translation.specs.main_translation.Outlined.{labels_in, outlined_opened}
+use Rattle.unit_translation.specs.unit_file.UnitFile.{WrittenUnit}
+use Rattle.unit_translation.specs.unit_sites.UnitSites.{UnitsOfFile}
 use Rattle.unit_translation.specs.UnitFlow.{unit_flow_opened}
 use Rattle.unit_translation.specs.UnitContents.{program_units, temporaries_kept, constants_passed, unit_contents_opened}
 use Rattle.unit_translation.specs.UnitBodies.{written_files, unit_bodies_opened}
-use Rattle.linking_laws.proofs.Places.{some_same}
-use Rattle.unit_forms.specs.OwnSetting.{own_facts}
+use Rattle.main_translation_laws.proofs.linking_laws.Places.{some_same}
+use Rattle.unit_programs.specs.unit_forms.OwnSetting.{own_facts}
 use Rattle.unit_programs.specs.OwnStorage.{bytes_in}
 use Rattle.unit_programs.proofs.ExampleParts.{fixed_by}
 use Rattle.unit_programs.proofs.Told.{distinct_by, each_at}

@@ -1,24 +1,24 @@
 -- What is said of types and outputs fits the steps of a text that calls others, wherever they lead.
 use Rattle.std.specs.Prelude.{◌≡◌, ℕ, zero, suc, ◌+◌, nat_eq, ℤ, Bool, true, false, List, [], ◌∷◌, Option, Some, None, is_some, is_none, slice_get, if◌then◌else◌}
 use Rattle.std.proofs.Common.{refl, sym, ap, ◌∙◌, subst, arith}
-use Rattle.f_tree.specs.declared.names.Basic.{Basic}
-use Rattle.f_tree.specs.Terms.{Callee}
-use Rattle.f_tree.specs.Facts.{EntryPoint, Facts}
-use Rattle.f_tree.specs.Setting.{IsIn, first_in, later_in}
-use Rattle.l_core.specs.Pures.{Pure, Temporary, Pures}
-use Rattle.l_core.specs.Steps.{Takes, Finishes, Step, Keep, Compute, Unless, Skip, Again, AgainIf, Jump, CallFor, Back, BackBy, Halt, Acts, Text}
-use Rattle.c_emit.specs.LibraryFunctions.{library_type}
-use Rattle.c_emit.specs.Types.{type_of}
-use Rattle.c_laws.proofs.TokenSpellings.{and-first, and-second}
-use Rattle.emitted_texts.specs.Emitted.{leads, is_of_output}
-use Rattle.linking_laws.proofs.Places.{some_same}
-use Rattle.procedure_emission.specs.ProcedureItems.{basic_wanted}
-use Rattle.procedure_emission.specs.Reading.{kind_after}
-use Rattle.procedure_emission.specs.EmittedUnits.{leads_on, is_return}
-use Rattle.main_translation.specs.Flow as flow
-use Rattle.main_translation.specs.Flow.{is_target, kept_type, stage_after, stage_at, is_on}
+use Rattle.unit_translation.specs.f_tree.declared.names.Basic.{Basic}
+use Rattle.unit_translation.specs.f_tree.Terms.{Callee}
+use Rattle.unit_translation.specs.f_tree.Facts.{EntryPoint, Facts}
+use Rattle.unit_translation.specs.f_tree.Setting.{IsIn, first_in, later_in}
+use Rattle.unit_translation.specs.l_core.Pures.{Pure, Temporary, Pures}
+use Rattle.unit_translation.specs.l_core.Steps.{Takes, Finishes, Step, Keep, Compute, Unless, Skip, Again, AgainIf, Jump, Select, JumpBy, CallFor, Back, BackBy, Halt, Acts, Text}
+use Rattle.unit_translation.specs.c_emit.LibraryFunctions.{library_type}
+use Rattle.unit_translation.specs.c_emit.Types.{type_of}
+use Rattle.unit_translation.proofs.c_laws.TokenSpellings.{and-first, and-second}
+use Rattle.unit_translation.specs.emitted_texts.Emitted.{leads, is_of_output}
+use Rattle.main_translation_laws.proofs.linking_laws.Places.{some_same}
+use Rattle.unit_translation.specs.procedure_emission.ProcedureItems.{basic_wanted}
+use Rattle.unit_translation.specs.procedure_emission.Reading.{kind_after}
+use Rattle.unit_translation.specs.procedure_emission.EmittedUnits.{leads_on, is_return}
+use Rattle.unit_translation.specs.main_translation.Flow as flow
+use Rattle.unit_translation.specs.main_translation.Flow.{is_target, kept_type, stage_after, stage_at, is_on}
 use Rattle.main_translation_laws.proofs.FlowLaws.{only_behind, kept_types, IsKept, by_keep, by_compute, kept_by, kept_nowhere, same_stage, at_stage, goes_on}
-use Rattle.unit_file.specs.UnitFile.{Inventory, Bases, writing_of}
+use Rattle.unit_translation.specs.unit_file.UnitFile.{Inventory, Bases, writing_of}
 use Rattle.unit_translation.specs.UnitFlow.{kept_behind, kind_before, item_kind, is_in_place, are_in_place}
 use Rattle.unit_programs.specs.TranslatedUnits.{Flows}
 
@@ -30,6 +30,8 @@ is_branch (AgainIf p m) = true
 is_branch (Skip m) = true
 is_branch (Again m) = true
 is_branch (Jump label) = true
+is_branch (Select p count) = true
+is_branch (JumpBy p labels) = true
 is_branch st = false
 
 leads_too : (u : Text) (n : ℕ) (st : Step) (m : ℕ) → IsIn m (leads_on u n st) → IsIn m (leads u n st)
@@ -49,6 +51,8 @@ unbranched u n (AgainIf p k) m h o = absurd (cc)
 unbranched u n (Skip k) m h o = absurd (cc)
 unbranched u n (Again k) m h o = absurd (cc)
 unbranched u n (Jump label) m h o = absurd (cc)
+unbranched u n (Select p count) m h o = absurd (cc)
+unbranched u n (JumpBy p labels) m h o = absurd (cc)
 unbranched u n Back m h o = elim o [ ]
 unbranched u n (Halt text) m h o = elim o [ ]
 unbranched u n st m h o = only_next n m o

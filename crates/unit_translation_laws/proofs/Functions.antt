@@ -4,23 +4,23 @@ use Rattle.std.specs.Prelude.{◌≡◌, ℕ, zero, suc, ◌+◌, true, not, Lis
 use Rattle.std.proofs.Common.{refl, sym, ap, ◌∙◌, subst, arith}
 use Rattle.std.proofs.lemmas.List.{length-map, reverse-append}
 use Rattle.std.proofs.lemmas.Slice.Eq.{bytes_eq-Decides}
-use Rattle.f_tree.specs.CNames.{main_name}
-use Rattle.f_tree.specs.Facts.{UnitKind, MainProgram, SubroutineUnit, FunctionUnit, BlockDataUnit, EntryPoint, ProgramUnit}
-use Rattle.f_tree.specs.World.{Called}
-use Rattle.c_tree.specs.Builtins.{builtin_names}
-use Rattle.c_tree.specs.Linking.{routines}
-use Rattle.faithful.specs.StorageImage.{function_name, name_of_entries}
-use Rattle.linking_laws.specs.Linked.{AreDistinct, IsNone}
-use Rattle.linking_laws.proofs.Places.{some_same, get_front, map_at}
-use Rattle.linking_laws.proofs.Scopes.{own_are_numbered, builtins_are_numbered}
-use Rattle.main_file_laws.proofs.Known.{position_finds}
+use Rattle.unit_translation.specs.f_tree.CNames.{main_name}
+use Rattle.unit_translation.specs.f_tree.Facts.{UnitKind, MainProgram, SubroutineUnit, FunctionUnit, BlockDataUnit, EntryPoint, ProgramUnit}
+use Rattle.unit_translation.specs.f_tree.World.{Called}
+use Rattle.unit_translation.specs.c_tree.Builtins.{builtin_names}
+use Rattle.unit_translation.specs.c_tree.Linking.{routines}
+use Rattle.unit_translation.specs.faithful.StorageImage.{function_name, name_of_entries}
+use Rattle.main_translation_laws.specs.linking_laws.Linked.{AreDistinct, IsNone}
+use Rattle.main_translation_laws.proofs.linking_laws.Places.{some_same, get_front, map_at}
+use Rattle.main_translation_laws.proofs.linking_laws.Scopes.{own_are_numbered, builtins_are_numbered}
+use Rattle.main_translation_laws.proofs.main_file_laws.Known.{position_finds}
 use Rattle.main_translation_laws.proofs.Lists.{in_at}
 use Rattle.main_translation_laws.proofs.Names.{begins, not_begun}
 use Rattle.main_translation_laws.proofs.Contents.{each_of}
-use Rattle.unit_file.specs.UnitFile.{Inventory, WrittenUnit}
-use Rattle.unit_file.specs.UnitNames.{own_names, routine_name}
-use Rattle.unit_sites.specs.UnitSites.{inventories}
-use Rattle.unit_file_laws.specs.BuiltUnits.{AreNumbered}
+use Rattle.unit_translation.specs.unit_file.UnitFile.{Inventory, WrittenUnit}
+use Rattle.unit_translation.specs.unit_file.UnitNames.{own_names, routine_name}
+use Rattle.unit_translation.specs.unit_sites.UnitSites.{inventories}
+use Rattle.unit_programs.specs.unit_file_laws.BuiltUnits.{AreNumbered}
 use Rattle.unit_translation.specs.UnitContents.{LoweredUnit, program_units, unit_numbers, inventory_of, inventories_of}
 use Rattle.unit_programs.proofs.Objects.{found_back}
 use Rattle.unit_translation_laws.proofs.Names.{HasLast, external_last}

@@ -9,3 +9,5 @@ pub mod OutputParts
 pub mod OutputFlow
 pub mod Translated
 pub mod ExampleHolds
+pub use Rattle.unit_programs.proofs.unit_places
+pub use Rattle.unit_programs.proofs as unit_programs

@@ -3,26 +3,26 @@ use Rattle.std.specs.Prelude.{◌≡◌, ◌≢◌, ℕ, suc, Bool, true, false,
 use Rattle.std.proofs.Common.{refl, sym, ap, ◌∙◌, subst}
 use Rattle.std.proofs.lemmas.List.{length-map}
 use Rattle.std.proofs.lemmas.Slice.Eq.{bytes_eq-Decides}
-use Rattle.f_tree.specs.declared.names.Class.TheVariants as class
-use Rattle.f_tree.specs.Values.{Bytes}
-use Rattle.f_tree.specs.CNames.{is_name}
-use Rattle.f_tree.specs.Facts.{Bounds, Formal, Named, Alternate, UnitKind, MainProgram, SubroutineUnit, FunctionUnit, BlockDataUnit}
-use Rattle.f_tree.specs.Setting.{IsIn, first_in, later_in}
-use Rattle.f_tree.specs.Valuing.{elements_of}
-use Rattle.f_tree.specs.Meaning.{facts_at}
-use Rattle.c_tree.specs.declared.types.ResultType.TheVariants as result_type
-use Rattle.c_tree.specs.declared.types.ParameterType.{ParameterType}
-use Rattle.c_emit.specs.Numbers.{has_bounds, is_numeric}
-use Rattle.faithful.specs.Signatures.{named_formals}
-use Rattle.linking_laws.specs.Linked as names
-use Rattle.linking_laws.proofs.Places.{same_bytes, taken, skipped, position_step, map_at, distinct_later}
-use Rattle.unit_forms.specs.OwnSetting.{own_facts}
-use Rattle.procedure_emission.specs.EmittedUnits.{is_number_pointer, is_function_pointer}
-use Rattle.main_translation.specs.Contents.{count_by, number_type_of, variable_of}
+use Rattle.unit_translation.specs.f_tree.declared.names.Class.TheVariants as class
+use Rattle.unit_translation.specs.f_tree.Values.{Bytes}
+use Rattle.unit_translation.specs.f_tree.CNames.{is_name}
+use Rattle.unit_translation.specs.f_tree.Facts.{Bounds, Formal, Named, Alternate, UnitKind, MainProgram, SubroutineUnit, FunctionUnit, BlockDataUnit}
+use Rattle.unit_translation.specs.f_tree.Setting.{IsIn, first_in, later_in}
+use Rattle.unit_translation.specs.f_tree.Valuing.{elements_of}
+use Rattle.unit_translation.specs.f_tree.Meaning.{facts_at}
+use Rattle.unit_translation.specs.c_tree.declared.types.ResultType.TheVariants as result_type
+use Rattle.unit_translation.specs.c_tree.declared.types.ParameterType.{ParameterType}
+use Rattle.unit_translation.specs.c_emit.Numbers.{has_bounds, is_numeric}
+use Rattle.unit_translation.specs.faithful.Signatures.{named_formals}
+use Rattle.main_translation_laws.specs.linking_laws.Linked as names
+use Rattle.main_translation_laws.proofs.linking_laws.Places.{same_bytes, taken, skipped, position_step, map_at, distinct_later}
+use Rattle.unit_programs.specs.unit_forms.OwnSetting.{own_facts}
+use Rattle.unit_translation.specs.procedure_emission.EmittedUnits.{is_number_pointer, is_function_pointer}
+use Rattle.unit_translation.specs.main_translation.Contents.{count_by, number_type_of, variable_of}
 use Rattle.main_translation_laws.proofs.Lists.{AreApart, none_apart, one_apart, in_map, in_at, at_in}
 use Rattle.main_translation_laws.proofs.Storage.{name_is, count_is, placed_at, own_place}
-use Rattle.unit_file.specs.UnitFile.{Parameter, Inventory}
-use Rattle.unit_file_laws.specs.KnownUnits.{IsVariable, IsParameter, NamesAreListed}
+use Rattle.unit_translation.specs.unit_file.UnitFile.{Parameter, Inventory}
+use Rattle.unit_programs.specs.unit_file_laws.KnownUnits.{IsVariable, IsParameter, NamesAreListed}
 use Rattle.unit_translation.specs.UnitContents.{LoweredUnit, program_units, parameter_for, formals_in, parameters_in, type_given, basic_given, result_by, returned_by, result_given, inventory_of}
 use Rattle.unit_programs.specs.OwnStorage.{bytes_in, HasOwnStorage}
 use Rattle.unit_programs.specs.TranslatedUnits.{dummies_named, IsDummy, is_number, is_procedure, IsResult}

@@ -3,17 +3,17 @@ use Rattle.std.specs.Prelude.{◌≡◌, ◌≢◌, ℕ, suc, ◌+◌, ◌<◌, 
 use Rattle.std.proofs.Common.{refl, sym, ap, ◌∙◌, subst, arith}
 use Rattle.std.proofs.lemmas.List.{append_assoc, reverse-append}
 use Rattle.std.proofs.lemmas.Fmt.{decimal_by_steps}
-use Rattle.f_tree.specs.Values.{Bytes}
-use Rattle.f_tree.specs.CNames.{is_name, has_underscore, external_name, variable_name, constant_name, made_name, FunctionResult, ConstantOf}
-use Rattle.f_tree.specs.Setting.{IsIn, first_in, later_in}
-use Rattle.fortran_laws.proofs.CNameLaws.{variable_name-injective, variable_name-not_made, variable_name-external}
-use Rattle.c_tree.specs.declared.types.NumberType.{NumberType}
-use Rattle.main_file.specs.MainFile.{list_names, temporary_names}
+use Rattle.unit_translation.specs.f_tree.Values.{Bytes}
+use Rattle.unit_translation.specs.f_tree.CNames.{is_name, has_underscore, external_name, variable_name, constant_name, made_name, FunctionResult, ConstantOf}
+use Rattle.unit_translation.specs.f_tree.Setting.{IsIn, first_in, later_in}
+use Rattle.main_translation_laws.proofs.fortran_laws.CNameLaws.{variable_name-injective, variable_name-not_made, variable_name-external}
+use Rattle.unit_translation.specs.c_tree.declared.types.NumberType.{NumberType}
+use Rattle.unit_translation.specs.main_file.MainFile.{list_names, temporary_names}
 use Rattle.main_translation_laws.proofs.Lists.{AreApart, none_apart, one_apart, InEither, in_one, in_other, in_either, in_map, in_at, apart_append, apart_map, distinct_by, none_by}
 use Rattle.main_translation_laws.proofs.Names.{IsConstantName, of_constant, IsTemporaryName, of_temporary, IsListName, of_list, IsVariableName, of_variable, IsCalledName, same_first, constant_front, temporary_front, list_front, constant_temporary, constant_list, constant_variable, constant_called, temporary_list, temporary_variable, variable_list, called_temporary, called_list, called_variable, constants_told, temporaries_apart, lists_apart, list_among, temporary_among, variable_names_apart}
-use Rattle.unit_file.specs.UnitFile.{Variable, Parameter, Callee, Inventory, result_names, lasting_names, framed_names}
-use Rattle.unit_file.specs.UnitNames.{constant_names, called_names}
-use Rattle.unit_file_laws.specs.KnownUnits.{NamesDiffer}
+use Rattle.unit_translation.specs.unit_file.UnitFile.{Variable, Parameter, Callee, Inventory, result_names, lasting_names, framed_names}
+use Rattle.unit_translation.specs.unit_file.UnitNames.{constant_names, called_names}
+use Rattle.unit_programs.specs.unit_file_laws.KnownUnits.{NamesDiffer}
 
 -- ## The last byte of a name
 

@@ -1,12 +1,12 @@
 -- No output of a lowered text goes on over a branch, or into a step that is reached by one, where each goes on as it must.
 use Rattle.std.specs.Prelude.{◌≡◌, ℕ, zero, suc, ◌+◌, ◌≤◌, ℤ, Bool, true, false, List, [], ◌∷◌, ◌++◌, length, Option, Some, None, is_some, slice_get}
 use Rattle.std.proofs.Common.{refl, sym, ap, ◌∙◌, subst, arith}
-use Rattle.f_tree.specs.Facts.{Direction, Layout, Controls}
-use Rattle.f_tree.specs.Setting.{first_in}
-use Rattle.l_core.specs.Pures.{Pures}
-use Rattle.l_core.specs.Steps.{Starts, Finishes, Step, Unless, Skip, Again, AgainIf, Jump, Acts, Text}
-use Rattle.linking_laws.proofs.Places.{some_same, get_front, get_back, IsAt, in_first, in_second, at_one}
-use Rattle.main_translation.specs.Flow.{is_target, targets_of, stage_after, stage_at, is_on}
+use Rattle.unit_translation.specs.f_tree.Facts.{Direction, Layout, Controls}
+use Rattle.unit_translation.specs.f_tree.Setting.{first_in}
+use Rattle.unit_translation.specs.l_core.Pures.{Pures}
+use Rattle.unit_translation.specs.l_core.Steps.{Starts, Finishes, Step, Unless, Skip, Again, AgainIf, Jump, Select, JumpBy, Acts, Text}
+use Rattle.main_translation_laws.proofs.linking_laws.Places.{some_same, get_front, get_back, IsAt, in_first, in_second, at_one}
+use Rattle.unit_translation.specs.main_translation.Flow.{is_target, targets_of, stage_after, stage_at, is_on}
 use Rattle.main_translation_laws.proofs.FlowLaws.{reached}
 use Rattle.unit_translation.specs.UnitFlow.{is_in_place, are_in_place}
 use Rattle.unit_translation_laws.proofs.FlowFits.{is_branch, placed_at, IsAlone, is_over, is_alone, none_at_target, next_stage}
@@ -71,6 +71,8 @@ first_alone u a (Skip m) k stands within some = absurd within
 first_alone u a (Again m) k stands within some = absurd within
 first_alone u a (AgainIf p m) k stands within some = absurd within
 first_alone u a (Jump label) k stands within some = absurd within
+first_alone u a (Select p count) k stands within some = absurd within
+first_alone u a (JumpBy p labels) k stands within some = absurd within
 first_alone u a st k stands within some = is_alone refl (not_target u (suc a) (some 1 (suc a) (omega arith) (omega arith)))
 
 inner_alone : (u : Text) (xs : List Step) (a : ℕ) → StandAt u a xs → AreInner xs → is_some (stage_at u (a + length xs)) ≡ true → (i k : ℕ) (st : Step) → k ≡ a + i → slice_get xs i ≡ Some st → IsAlone u k st

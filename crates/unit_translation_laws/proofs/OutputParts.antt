@@ -1,18 +1,18 @@
 -- In a lowered text each output stands in one piece: no step leads into it or out of it, and behind a test in it control stays there.
-use Rattle.std.specs.Prelude.{◌≡◌, ℕ, suc, ◌+◌, ◌≤◌, Bool, true, false, ◌&&◌, ◌||◌, List, [], ◌∷◌, ◌++◌, length, Option, Some, None, slice_get, if◌then◌else◌}
+use Rattle.std.specs.Prelude.{◌≡◌, ℕ, suc, ◌+◌, ◌≤◌, Bool, true, false, ◌&&◌, ◌||◌, List, [], ◌∷◌, ◌++◌, length, map, Option, Some, None, slice_get, if◌then◌else◌}
 use Rattle.std.proofs.Common.{refl, sym, ap, ◌∙◌, subst, arith}
 use Rattle.std.proofs.lemmas.List.{append_assoc, length-append}
-use Rattle.f_tree.specs.Terms.{Operator, Term, Val, Fetch, At, All, Element, Alone, Part, Joined, Before, Between, Intrinsically, Refer, Bind, Bound, Terms, NoMore, More, Function, refers, any_refers}
-use Rattle.f_tree.specs.Values.{Bytes}
-use Rattle.f_tree.specs.Facts.{Direction, Layout, Controls, AuxiliaryKind, Item, Repeated, Turn, Work, Done, Before as Before', Head, ToSet, ToSetLabel, ToGo, ToPick, ToGoAssigned, ToGoBySign, ToGuard, ToEnterArm, ToLoop, ToTestLoop, ToCall, ToReturn, ToStop, ToBegin, ToAuxiliary, ToEnd, Form, Passes, On, Mark, Arm, Line, ProgramUnit, Facts}
-use Rattle.f_tree.specs.Nests.{Range}
-use Rattle.l_core.specs.Pures.{Pure, Pures, NoPure, AndPure}
-use Rattle.l_core.specs.Steps.{Starts, Takes, Finishes, Step, Keep, Put, Unless, Skip, Again, AgainIf, Jump, Acts, Text}
-use Rattle.lowering.specs.Expressions.{Purpose, ForUse, ForCall, ForReading, ForLater, Lowered, and_then, no_operand, ahead, Shape, AsFetch, AsElement, AsAlone, AsPart, AsJoined, AsBefore, AsBetween, AsFunction, AsReference, is_library, for_fetch, kept_steps, function_steps, closing, shaped, guarded, lowered_between, in_order, lower, lower_all, plain, may_decide, takes_steps, for_place, for_function}
-use Rattle.lowering.specs.Statements.{behind_operands, with_operands, put_code, put_label_code, select_code, jump_by_code, sign_code, unless_code, guard_code, loop_operands, test_by, loop_test, loop_code, back_by, turn_code, passes_label, branch_code, call_code, back_code, item_purpose, item_code, work_code, begin_code, auxiliary_code, form_code, head_code}
-use Rattle.lowering.specs.Units.{loop_lowered, free_at, all_named, is_named, pass_code, is_counted, turn_size, ended_at, own_end, room_of, way_back, turn_of, turns_of, skip_code, line_code, both_codes, lines_code, text_with, lowered_unit}
-use Rattle.c_structure_laws.proofs.DrawnExpressions.{mapped_by}
-use Rattle.linking_laws.proofs.Places.{some_same}
+use Rattle.unit_translation.specs.f_tree.Terms.{Operator, Term, Val, Fetch, At, All, Element, Alone, Part, Joined, Before, Between, Intrinsically, Refer, Bind, Bound, Terms, NoMore, More, Function, refers, any_refers}
+use Rattle.unit_translation.specs.f_tree.Values.{Bytes}
+use Rattle.unit_translation.specs.f_tree.Facts.{Direction, Layout, Controls, AuxiliaryKind, Item, Repeated, Turn, Work, Done, Before as Before', Head, ToSet, ToSetLabel, ToGo, ToPick, ToGoAssigned, ToGoBySign, ToGuard, ToEnterArm, ToLoop, ToTestLoop, ToCall, ToReturn, ToStop, ToBegin, ToAuxiliary, ToEnd, Form, Passes, On, Mark, Arm, Line, ProgramUnit, Facts}
+use Rattle.unit_translation.specs.f_tree.Nests.{Range}
+use Rattle.unit_translation.specs.l_core.Pures.{Pure, Pures, NoPure, AndPure}
+use Rattle.unit_translation.specs.l_core.Steps.{Starts, Takes, Finishes, Step, Keep, Put, Unless, Skip, Again, AgainIf, Jump, Select, JumpBy, Acts, Text}
+use Rattle.main_translation_laws.specs.lowering.Expressions.{Purpose, ForUse, ForCall, ForReading, ForLater, Lowered, and_then, no_operand, ahead, Shape, AsFetch, AsElement, AsAlone, AsPart, AsJoined, AsBefore, AsBetween, AsFunction, AsReference, is_library, for_fetch, kept_steps, function_steps, closing, shaped, guarded, lowered_between, in_order, lower, lower_all, plain, may_decide, takes_steps, for_place, for_function}
+use Rattle.main_translation_laws.specs.lowering.Statements.{behind_operands, with_operands, put_code, put_label_code, select_code, each_once, jump_by_code, sign_code, unless_code, guard_code, loop_operands, test_by, loop_test, loop_code, back_by, turn_code, passes_label, branch_code, call_code, back_code, item_purpose, item_code, work_code, begin_code, auxiliary_code, form_code, head_code}
+use Rattle.main_translation_laws.specs.lowering.Units.{loop_lowered, free_at, all_named, is_named, pass_code, is_counted, turn_size, ended_at, own_end, room_of, way_back, turn_of, turns_of, skip_code, line_code, both_codes, lines_code, text_with, lowered_unit}
+use Rattle.main_translation_laws.proofs.c_structure_laws.DrawnExpressions.{mapped_by}
+use Rattle.main_translation_laws.proofs.linking_laws.Places.{some_same}
 
 -- ## Steps within an output
 
@@ -23,6 +23,8 @@ IsInner k (Skip m) = ⊥
 IsInner k (Again m) = ⊥
 IsInner k (AgainIf p m) = ⊥
 IsInner k (Jump label) = ⊥
+IsInner k (Select p count) = ⊥
+IsInner k (JumpBy p labels) = ⊥
 IsInner k (Acts (Starts way layout controls) ps m) = ⊥
 IsInner k (Acts Finishes ps m) = ⊥
 IsInner k st = Unit {0}
@@ -37,6 +39,8 @@ inner_more k n (Skip m) less is = is
 inner_more k n (Again m) less is = is
 inner_more k n (AgainIf p m) less is = is
 inner_more k n (Jump label) less is = is
+inner_more k n (Select p count) less is = is
+inner_more k n (JumpBy p labels) less is = is
 inner_more k n (Acts (Starts way layout controls) ps m) less is = is
 inner_more k n (Acts Finishes ps m) less is = is
 inner_more k n st less is = tt
@@ -187,14 +191,19 @@ unfolding put_label_code
 put_label_whole label (AndPure place NoPure) more h = open_code _ more (tt, tt) h
 put_label_whole label ps more h = absurd (cc)
 
+-- jumps to labels
+jumps_open : (labels : List ℕ) → AreOpen (map Jump labels)
+jumps_open [] = tt
+jumps_open (label ∷ labels) = (tt, jumps_open labels)
+
 select_whole : (labels : List ℕ) (ps : Pures) (more : List Step) → select_code labels ps ≡ Some more → AreWhole more
 unfolding select_code
-select_whole labels (AndPure p NoPure) more h = open_code _ more (tt, tt) h
+select_whole labels (AndPure p NoPure) more h = open_code _ more (tt, jumps_open labels) h
 select_whole labels ps more h = absurd (cc)
 
 jump_by_whole : (labels : List ℕ) (ps : Pures) (more : List Step) → jump_by_code labels ps ≡ Some more → AreWhole more
 unfolding jump_by_code
-jump_by_whole labels (AndPure p NoPure) more h = open_code _ more (tt, tt) h
+jump_by_whole labels (AndPure p NoPure) more h = open_code _ more (tt, jumps_open (each_once labels)) h
 jump_by_whole labels ps more h = absurd (cc)
 
 sign_whole : (below at above : ℕ) (ps : Pures) (more : List Step) → sign_code below at above ps ≡ Some more → AreWhole more

@@ -2,20 +2,20 @@
 use Rattle.std.specs.Prelude.{◌≡◌, ℕ, zero, suc, ◌+◌, ◌≤◌, ℤ, Bool, true, false, List, [], ◌∷◌, ◌++◌, map, length, Option, Some, None, option_and_then, slice_get, if◌then◌else◌}
 use Rattle.std.proofs.Common.{refl, sym, ap, ◌∙◌, subst, arith}
 use Rattle.std.proofs.lemmas.List.{length-map, map-append}
-use Rattle.l_core.specs.Steps.{Step}
-use Rattle.c_tree.specs.declared.statement.CStmt.{CStmt}
-use Rattle.c_tree.specs.Flat.{Flat}
-use Rattle.c_structure.specs.Statements.{statements_for}
-use Rattle.c_emit.specs.Numbers.{Writing}
-use Rattle.linking_laws.proofs.Places.{some_same}
-use Rattle.procedure_emission.specs.ProcedureItems.{Numbers, procedure_item}
-use Rattle.main_file_laws.proofs.BuiltItems.{before_by}
-use Rattle.main_translation.specs.Flow.{stage_at}
-use Rattle.main_translation.specs.Outlined.{returns_last, if_returned}
+use Rattle.unit_translation.specs.l_core.Steps.{Step}
+use Rattle.unit_translation.specs.c_tree.declared.statement.CStmt.{CStmt}
+use Rattle.unit_translation.specs.c_tree.Flat.{Flat}
+use Rattle.unit_translation.specs.c_structure.Statements.{statements_for}
+use Rattle.unit_translation.specs.c_emit.Numbers.{Writing}
+use Rattle.main_translation_laws.proofs.linking_laws.Places.{some_same}
+use Rattle.unit_translation.specs.procedure_emission.ProcedureItems.{Numbers, procedure_item}
+use Rattle.main_translation_laws.proofs.main_file_laws.BuiltItems.{before_by}
+use Rattle.unit_translation.specs.main_translation.Flow.{stage_at}
+use Rattle.unit_translation.specs.main_translation.Outlined.{returns_last, if_returned}
 use Rattle.main_translation_laws.proofs.Built.{returned_by}
-use Rattle.unit_file.specs.UnitFile.{Inventory, WrittenUnit, object_count}
-use Rattle.unit_file.specs.UnitItems.{unit_items}
-use Rattle.unit_sites.specs.UnitSites.{UnitsOfFile, all_units, inventories, contents_of, all_inventories, Site, sites_in, behind, sites_from, sites_of}
+use Rattle.unit_translation.specs.unit_file.UnitFile.{Inventory, WrittenUnit, object_count}
+use Rattle.unit_translation.specs.unit_file.UnitItems.{unit_items}
+use Rattle.unit_translation.specs.unit_sites.UnitSites.{UnitsOfFile, all_units, inventories, contents_of, all_inventories, Site, sites_in, behind, sites_from, sites_of}
 use Rattle.unit_translation.specs.UnitFlow.{kind_before, are_in_place}
 use Rattle.unit_translation.specs.UnitContents.{LoweredUnit, program_units, constants_passed, inventory_of}
 use Rattle.unit_translation.specs.UnitBodies.{all_lowered, unit_outline, items_of, body_of, written_before, written_from, file_before, files_from, written_files}

@@ -2,37 +2,37 @@
 use Rattle.std.specs.Prelude.{◌≡◌, ℕ, suc, ◌<◌, ℤ, true, List, [], ◌∷◌, length, Some, None, slice_get}
 use Rattle.std.proofs.Common.{refl, sym, ap, ◌∙◌, subst, arith}
 use Rattle.std.proofs.lemmas.List.{length-map}
-use Rattle.f_tree.specs.declared.names.Class.TheVariants as class
-use Rattle.f_tree.specs.Values.{Bytes, in_range}
-use Rattle.f_tree.specs.CNames.{is_name}
-use Rattle.f_tree.specs.Facts.{EntryPoint, ProgramUnit, Facts}
-use Rattle.f_tree.specs.Setting.{IsIn}
-use Rattle.f_tree.specs.Meaning.{facts_at, found_from, ftn, act_of}
-use Rattle.l_core.specs.Steps.{Halt, Text}
-use Rattle.lowering.specs.Units.{lowered_unit}
-use Rattle.c_tree.specs.declared.statement.CStmt.{CStmt}
-use Rattle.c_tree.specs.FlatForm.{Body, position_of, whole_body, body_of_all}
-use Rattle.c_tree.specs.Linking.{routines}
-use Rattle.c_structure.specs.Statements.{strings_of_items}
-use Rattle.c_structure_laws.specs.Fitting.{KnowsItems, marks_from, Fits}
-use Rattle.c_structure_laws.proofs.DrawnExpressions.{bytes_count}
-use Rattle.faithful.specs.Faithful.{SameRuns}
-use Rattle.linking_laws.specs.Linked.{IsBuilt}
-use Rattle.linking_laws.proofs.BuiltCode.{built_fit, whole_is}
-use Rattle.unit_forms.specs.OwnSetting.{own_setting, own_facts}
-use Rattle.main_file.specs.MainItems.{stops_from}
-use Rattle.main_translation.specs.Contents.{variable_of, text_at}
+use Rattle.unit_translation.specs.f_tree.declared.names.Class.TheVariants as class
+use Rattle.unit_translation.specs.f_tree.Values.{Bytes, in_range}
+use Rattle.unit_translation.specs.f_tree.CNames.{is_name}
+use Rattle.unit_translation.specs.f_tree.Facts.{EntryPoint, ProgramUnit, Facts}
+use Rattle.unit_translation.specs.f_tree.Setting.{IsIn}
+use Rattle.unit_translation.specs.f_tree.Meaning.{facts_at, found_from, ftn, act_of}
+use Rattle.unit_translation.specs.l_core.Steps.{Halt, Text}
+use Rattle.main_translation_laws.specs.lowering.Units.{lowered_unit}
+use Rattle.unit_translation.specs.c_tree.declared.statement.CStmt.{CStmt}
+use Rattle.unit_translation.specs.c_tree.FlatForm.{Body, position_of, whole_body, body_of_all}
+use Rattle.unit_translation.specs.c_tree.Linking.{routines}
+use Rattle.unit_translation.specs.c_structure.Statements.{strings_of_items}
+use Rattle.main_translation_laws.specs.c_structure_laws.Fitting.{KnowsItems, marks_from, Fits}
+use Rattle.main_translation_laws.proofs.c_structure_laws.DrawnExpressions.{bytes_count}
+use Rattle.unit_translation.specs.faithful.Faithful.{SameRuns}
+use Rattle.main_translation_laws.specs.linking_laws.Linked.{IsBuilt}
+use Rattle.main_translation_laws.proofs.linking_laws.BuiltCode.{built_fit, whole_is}
+use Rattle.unit_programs.specs.unit_forms.OwnSetting.{own_setting, own_facts}
+use Rattle.unit_translation.specs.main_file.MainItems.{stops_from}
+use Rattle.unit_translation.specs.main_translation.Contents.{variable_of, text_at}
 use Rattle.main_translation_laws.proofs.Lists.{AreApart, in_map, in_at}
 use Rattle.main_translation_laws.proofs.Storage.{variables_apart, name_is}
 use Rattle.main_translation_laws.proofs.Contents.{listings_count, listed_at, small_magnitude}
 use Rattle.main_translation_laws.proofs.Built.{built_by, no_wrapper}
 use Rattle.main_translation_laws.proofs.Translated.{text_is, first_start, other_body, body_count}
-use Rattle.unit_file.specs.UnitFile.{Variable, Inventory, WrittenUnit, unit_function, writing_of}
-use Rattle.unit_file.specs.UnitNames.{own_names, names_of}
-use Rattle.unit_sites.specs.UnitSites.{UnitsOfFile, files_of, inventories, Site}
-use Rattle.unit_file_laws.specs.KnownUnits.{NamesAreListed, scope_in}
-use Rattle.unit_file_laws.specs.BuiltUnits.{AreListed, IsUnitBuilt}
-use Rattle.unit_file_laws.proofs.BuiltItems.{AreEmitted, AreNumberedItems, every}
+use Rattle.unit_translation.specs.unit_file.UnitFile.{Variable, Inventory, WrittenUnit, unit_function, writing_of}
+use Rattle.unit_translation.specs.unit_file.UnitNames.{own_names, names_of}
+use Rattle.unit_translation.specs.unit_sites.UnitSites.{UnitsOfFile, files_of, inventories, Site}
+use Rattle.unit_programs.specs.unit_file_laws.KnownUnits.{NamesAreListed, scope_in}
+use Rattle.unit_programs.specs.unit_file_laws.BuiltUnits.{AreListed, IsUnitBuilt}
+use Rattle.unit_programs.proofs.unit_file_laws.BuiltItems.{AreEmitted, AreNumberedItems, every}
 use Rattle.unit_translation.specs.UnitFlow.{kind_before}
 use Rattle.unit_translation.specs.UnitContents.{LoweredUnit, program_units, unit_numbers, inventory_of, inventories_of}
 use Rattle.unit_translation.specs.UnitBodies.{all_lowered, unit_outline}

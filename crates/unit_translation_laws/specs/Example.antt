@@ -1,13 +1,13 @@
 -- A main program, a function and a subroutine that call each other, with their lowered texts and their functions in C. ANSI X3.9-1978, sections 14 and 15.
 use Rattle.std.specs.Prelude.{List, [], ◌∷◌, codes}
-use Rattle.f_tree.specs.Values.{Bytes}
-use Rattle.f_tree.specs.CNames.{DummyUse, IntegerDummy}
-use Rattle.c_tree.specs.declared.types.ResultType.TheVariants as result
-use Rattle.c_tree.specs.declared.types.ParameterType.TheVariants as parameter
-use Rattle.c_tree.specs.declared.types.ArgumentType.TheVariants as argument
-use Rattle.c_tree.specs.declared.types.ListType.TheVariants as list_type
-use Rattle.unit_file.specs.UnitFile.{Callee, WrittenUnit}
-use Rattle.unit_sites.specs.UnitSites.{UnitsOfFile}
+use Rattle.unit_translation.specs.f_tree.Values.{Bytes}
+use Rattle.unit_translation.specs.f_tree.CNames.{DummyUse, IntegerDummy}
+use Rattle.unit_translation.specs.c_tree.declared.types.ResultType.TheVariants as result
+use Rattle.unit_translation.specs.c_tree.declared.types.ParameterType.TheVariants as parameter
+use Rattle.unit_translation.specs.c_tree.declared.types.ArgumentType.TheVariants as argument
+use Rattle.unit_translation.specs.c_tree.declared.types.ListType.TheVariants as list_type
+use Rattle.unit_translation.specs.unit_file.UnitFile.{Callee, WrittenUnit}
+use Rattle.unit_translation.specs.unit_sites.UnitSites.{UnitsOfFile}
 use Rattle.unit_programs.specs.Example.{its_constants, main_unit, function_unit, subroutine_unit, text_with, main_steps, function_steps, subroutine_steps, main_inventory, main_body, function_written, subroutine_written}
 use Rattle.unit_translation.specs.UnitContents.{LoweredUnit}
 

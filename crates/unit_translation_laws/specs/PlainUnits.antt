@@ -1,30 +1,30 @@
 -- That units of numbers that call each other run as the C files that are made for them, where each is lowered, and statements are made for its text. What is
 -- asked of a unit is said of its statements and its names. ANSI X3.9-1978, sections 2.4, 5, 8, 14, 15 and 17.1; C89, 3.6 and 3.7.
 use Rattle.std.specs.Prelude.{◌≡◌, ◌≢◌, ℕ, suc, ◌+◌, ◌<◌, ◌≤◌, ◌^◌, ℤ, true, List, [], ◌∷◌, map, length, Some, slice_get}
-use Rattle.run_state.specs.Units.{Units}
-use Rattle.f_tree.specs.declared.names.Class.TheVariants as class
-use Rattle.f_tree.specs.Values.{Bytes, NoMeaning}
-use Rattle.f_tree.specs.CNames.{is_name}
-use Rattle.f_tree.specs.Facts.{Bounds, Member, Formal, MainProgram, FunctionUnit, BlockDataUnit, ProgramUnit}
-use Rattle.f_tree.specs.Setting.{IsIn, IsMember, AreDistinct}
-use Rattle.f_tree.specs.Valuing.{elements_of, extent_of}
-use Rattle.f_tree.specs.Meaning.{ftn, act_of}
-use Rattle.l_core.specs.Steps.{Halt}
-use Rattle.l_core.specs.Steps.{Text}
-use Rattle.lowering.specs.Units.{lowered_unit}
-use Rattle.lowering_laws.specs.Layout.{are_direct, has_end, LoopsFit}
-use Rattle.c_emit.specs.Numbers.{is_numeric}
-use Rattle.c_emit_laws.specs.EmittedNumbers.{BoundFits}
-use Rattle.faithful.specs.Faithful.{SameRuns}
-use Rattle.faithful.specs.StorageImage.{function_name}
-use Rattle.faithful.specs.Signatures.{named_formals}
-use Rattle.faithful.specs.UnitsAtStart.{AreBytes}
-use Rattle.linking_laws.specs.Linked as names
-use Rattle.unit_forms.specs.OwnSetting.{own_setting, own_facts}
-use Rattle.main_translation.specs.Contents.{count_by}
-use Rattle.main_translation.specs.Outlined.{labels_in}
-use Rattle.procedure_emission.specs.EmittedUnits.{is_number_pointer, is_function_pointer}
-use Rattle.unit_sites.specs.UnitSites.{UnitsOfFile, files_of}
+use Rattle.unit_translation.specs.run_state.Units.{Units}
+use Rattle.unit_translation.specs.f_tree.declared.names.Class.TheVariants as class
+use Rattle.unit_translation.specs.f_tree.Values.{Bytes, NoMeaning}
+use Rattle.unit_translation.specs.f_tree.CNames.{is_name}
+use Rattle.unit_translation.specs.f_tree.Facts.{Bounds, Member, Formal, MainProgram, FunctionUnit, BlockDataUnit, ProgramUnit}
+use Rattle.unit_translation.specs.f_tree.Setting.{IsIn, IsMember, AreDistinct}
+use Rattle.unit_translation.specs.f_tree.Valuing.{elements_of, extent_of}
+use Rattle.unit_translation.specs.f_tree.Meaning.{ftn, act_of}
+use Rattle.unit_translation.specs.l_core.Steps.{Halt}
+use Rattle.unit_translation.specs.l_core.Steps.{Text}
+use Rattle.main_translation_laws.specs.lowering.Units.{lowered_unit}
+use Rattle.main_translation_laws.specs.lowering_laws.Layout.{are_direct, has_end, LoopsFit}
+use Rattle.unit_translation.specs.c_emit.Numbers.{is_numeric}
+use Rattle.unit_translation.specs.c_emit_laws.EmittedNumbers.{BoundFits}
+use Rattle.unit_translation.specs.faithful.Faithful.{SameRuns}
+use Rattle.unit_translation.specs.faithful.StorageImage.{function_name}
+use Rattle.unit_translation.specs.faithful.Signatures.{named_formals}
+use Rattle.unit_translation.specs.faithful.UnitsAtStart.{AreBytes}
+use Rattle.main_translation_laws.specs.linking_laws.Linked as names
+use Rattle.unit_programs.specs.unit_forms.OwnSetting.{own_setting, own_facts}
+use Rattle.unit_translation.specs.main_translation.Contents.{count_by}
+use Rattle.unit_translation.specs.main_translation.Outlined.{labels_in}
+use Rattle.unit_translation.specs.procedure_emission.EmittedUnits.{is_number_pointer, is_function_pointer}
+use Rattle.unit_translation.specs.unit_sites.UnitSites.{UnitsOfFile, files_of}
 use Rattle.unit_programs.specs.OwnStorage.{bytes_in}
 use Rattle.unit_programs.specs.TranslatedUnits.{AreFixed}
 use Rattle.unit_translation.specs.UnitContents.{LoweredUnit, program_units, parameter_for, temporaries_kept}

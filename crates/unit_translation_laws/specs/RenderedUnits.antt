@@ -1,7 +1,7 @@
 -- What becomes of plain units where functions are made for them: each is translated, and its function stands in the file of its unit. ANSI X3.9-1978, sections 2.4
 -- and 15.
 use Rattle.std.specs.Prelude.{◌≡◌, ℕ, List, Some, slice_get}
-use Rattle.unit_sites.specs.UnitSites.{UnitsOfFile}
+use Rattle.unit_translation.specs.unit_sites.UnitSites.{UnitsOfFile}
 use Rattle.unit_translation.specs.UnitContents.{LoweredUnit, inventory_of}
 use Rattle.unit_translation.specs.UnitBodies.{all_lowered, unit_outline, written_files}
 use Rattle.unit_programs.specs.TranslatedUnits.{Rendering, IsTranslatedSet}

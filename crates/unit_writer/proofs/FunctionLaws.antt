@@ -8,15 +8,15 @@ use Rattle.std.proofs.lemmas.List.{map-append}
 use Rattle.f_tree.specs.CNames.{variable_name, external_name, main_name}
 use Rattle.f_tree.specs.Values.{Bytes}
 use Rattle.f_tree.specs.Facts.{Member, UnitKind, EntryPoint, ProgramUnit}
-use Rattle.l_core.specs.Steps.{Step}
+use Rattle.lowered_tree.specs.l_core.Steps.{Step}
 use Rattle.lowered_tree.specs.Shapes.{steps_of}
 use Rattle.c_tree.specs.declared.declaration.CLocal.{CLocal}
 use Rattle.c_tree.specs.declared.statement.CStmt.{CStmt}
 use Rattle.c_tree.specs.declared.file.CFunction.{CFunction}
-use Rattle.faithful.specs.StorageImage.{function_name, name_of_entries}
-use Rattle.main_file.specs.MainFile.{Called, call_for, lists_from, temporaries_from, variable_by, variable_for}
+use Rattle.c_emit.specs.faithful.StorageImage.{function_name, name_of_entries}
+use Rattle.main_translation.specs.main_file.MainFile.{Called, call_for, lists_from, temporaries_from, variable_by, variable_for}
 use Rattle.main_translation.specs.Contents.{calls_of, count_by, function_called, functions_of, if_called, number_type_of, start_output, output_item, end_output, stop_run, variable_of}
-use Rattle.unit_file.specs.UnitFile.{Callee, extern_for, parameter_for, result_local, unit_function, unit_locals}
+use Rattle.unit_translation.specs.unit_file.UnitFile.{Callee, extern_for, parameter_for, result_local, unit_function, unit_locals}
 use Rattle.unit_translation.specs.UnitFlow.{kind_before}
 use Rattle.unit_translation.specs.UnitContents.{LoweredUnit, basic_given, inventory_of, library_callee, procedure_callee, procedures_in, result_by, result_given, returned_by, type_given}
 use Rattle.lowered_text.specs.declared.text.LoweredText.{LoweredText}

@@ -1,21 +1,21 @@
 -- Whether a procedure may be passed makes a difference only where the name has a function.
-use Rattle.std.specs.Prelude.{◌≡◌, ℕ, suc, ◌+◌, ◌-◌, ℤ, Bool, true, false, if◌then◌else◌, List, [], ◌∷◌, Option, Some, None, option_map, option_and_then}
+use Rattle.std.specs.Prelude.{◌≡◌, ℕ, suc, ◌+◌, ◌-◌, ℤ, pos, Bool, true, false, if◌then◌else◌, List, [], ◌∷◌, Option, Some, None, option_map, option_and_then}
 use Rattle.std.proofs.Common.{refl, ap, ◌∙◌}
 use Rattle.f_tree.specs.Values.{Bytes, IsInt, IsLog}
 use Rattle.f_tree.specs.Facts.{Output, Listed, Controls}
-use Rattle.l_core.specs.Pures.{Pure, Constant, Temporary, Load, Name, AllOf, ElementOf, FirstOf, Substring, Concatenated, Prefixed, Operated, Applied, Chosen, Pures, NoPure, AndPure}
-use Rattle.l_core.specs.Steps as step
-use Rattle.l_core.specs.Steps.{Step}
+use Rattle.lowered_tree.specs.l_core.Pures.{Pure, Constant, Temporary, Load, Name, AllOf, ElementOf, FirstOf, Substring, Concatenated, Prefixed, Operated, Applied, Chosen, Pures, NoPure, AndPure}
+use Rattle.lowered_tree.specs.l_core.Steps as step
+use Rattle.lowered_tree.specs.l_core.Steps.{Step}
 use Rattle.c_tree.specs.declared.expression.CExpr.{CExpr}
 use Rattle.c_tree.specs.declared.expression.CExpr.TheVariants as expr
-use Rattle.c_structure.specs.Expressions.{with_two, with_three, one_more}
-use Rattle.c_image.specs.Operations.{prefix_for, operator_for}
+use Rattle.named_items.specs.c_structure.Expressions.{with_two, with_three, one_more}
+use Rattle.c_emit.specs.c_image.Operations.{prefix_for, operator_for}
 use Rattle.c_emit.specs.LibraryFunctions.{library_function}
 use Rattle.c_emit.specs.Calls.{kind_number}
 use Rattle.named_items.specs.Items.{assign_by}
 use Rattle.item_emission.specs.declared.known.Giving.{Giving}
 use Rattle.item_emission.specs.declared.known.Giving.TheVariants as giving
-use Rattle.item_emission.specs.NamedEmission.{Knowledge, Kinds, address_expr, alternate_step, acting_step, applied_expr, argument_expr, argument_exprs, branch_step, call_for_step, call_step, computed_step, constant_held, datum_held, element_expr, expr_if, given_expr, held_expr, held_exprs, item_step, name_passed, output_by, output_step, place_expr, procedure_passed, return_step, scalar_passed, start_step, temporary_expr, type_at, type_in, value_expr, value_exprs, variable_expr, wants_number}
+use Rattle.item_emission.specs.NamedEmission.{Knowledge, Kinds, address_expr, alternate_step, acting_step, applied_expr, argument_expr, argument_exprs, branch_step, call_for_step, call_step, cases_from, computed_step, constant_expr, constant_held, datum_held, element_expr, expr_if, given_expr, held_expr, held_exprs, item_step, name_passed, output_by, output_step, place_expr, procedure_passed, return_step, scalar_passed, select_step, start_step, switch_step, temporary_expr, type_at, type_in, value_expr, value_exprs, variable_expr, wants_number}
 use Rattle.named_mains.specs.NamedMains.{item_ahead, items_from}
 
 -- what is known, but for which names may be passed
@@ -152,6 +152,9 @@ module _ (known : Knowledge) (passes : Bytes → Bool) (same : (x : Bytes) → p
   step_same kind n (step.Compute k f ps) = λ i. computed_step (temporary_same k i) (library_function f) (held_all_same ps i)
   step_same kind n (step.Unless p m) = ap (λ o. branch_step o (suc n) (suc n + m)) (value_same p)
   step_same kind n (step.AgainIf p m) = ap (λ o. branch_step o (n - m) (suc n)) (value_same p)
+  step_same kind n (step.Select p count) = ap (λ o. select_step o (cases_from 1 (suc n) count) (suc n + count)) (value_same p)
+  step_same kind n (step.PutLabel target l) = ap (λ o. assign_by o (constant_expr (pos l))) (place_same target)
+  step_same kind n (step.JumpBy p labels) = ap (switch_step n labels) (place_same p)
   step_same kind n (step.CallFor k callee ps) = λ i. call_for_step (wants_number callee.want) (temporary_same k i) (known.routine callee.name) (arguments_same ps i)
   step_same kind n (step.CallSub k x ps) = ap (call_step (known.routine x)) (arguments_same ps)
   step_same kind n step.Back = ap return_step (given_same known.gives)

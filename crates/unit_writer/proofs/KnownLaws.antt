@@ -9,8 +9,8 @@ use Rattle.std.proofs.lemmas.Bool.Decides.{nat_tests}
 use Rattle.f_tree.specs.Values.{Bytes}
 use Rattle.f_tree.specs.Facts.{Attribute, Bounds, EntryPoint, ProgramUnit}
 use Rattle.c_emit.specs.Numbers.{is_variable, is_numeric, has_bounds}
-use Rattle.main_file.specs.MainFile as file
-use Rattle.unit_file.specs.UnitFile.{place_of_constant, place_of_list}
+use Rattle.main_translation.specs.main_file.MainFile as file
+use Rattle.unit_translation.specs.unit_file.UnitFile.{place_of_constant, place_of_list}
 use Rattle.unit_translation.specs.UnitContents.{LoweredUnit, inventory_of}
 use Rattle.lowered_text.specs.declared.text.LoweredText.{LoweredText}
 use Rattle.lowered_text.specs.Texts.{IsText}

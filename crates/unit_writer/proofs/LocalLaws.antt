@@ -14,13 +14,13 @@ use Rattle.library_functions.specs.declared.table.LibraryFunction.{LibraryFuncti
 use Rattle.library_functions.specs.Described.{described}
 use Rattle.unit_contents.specs.declared.contents.Listing.{Listing}
 use Rattle.unit_contents.specs.ContentsOf.{listing_of}
-use Rattle.main_file.specs.MainFile.{Called, call_for, list_for, lists_from, temporaries_from}
+use Rattle.main_translation.specs.main_file.MainFile.{Called, call_for, list_for, lists_from, temporaries_from}
 use Rattle.name_facts.specs.declared.table.NameFacts.{NameFacts}
 use Rattle.name_facts.specs.GivenFacts.{fact_in}
 use Rattle.main_translation.specs.Contents.{if_called, start_output, output_item, end_output, stop_run, number_arguments, function_called}
 use Rattle.unit_contents.specs.declared.contents.Calls.{Calls}
 use Rattle.unit_writer.specs.Functions.{calls_by, local_if, local_of}
-use Rattle.unit_file.specs.UnitFile.{extern_for}
+use Rattle.unit_translation.specs.unit_file.UnitFile.{extern_for}
 use Rattle.f_tree.specs.Values.{Bytes}
 use Rattle.unit_writer.specs.declared.heading.Procedure.{Procedure}
 use Rattle.unit_writer.specs.ToldUnits.{callees_told, is_stored_class, stored_names}

@@ -8,9 +8,9 @@ use Rattle.f_tree.specs.CNames.{variable_name, external_name}
 use Rattle.f_tree.specs.Facts.{ProgramUnit}
 use Rattle.f_tree.specs.World.{Called, Procedure}
 use Rattle.f_tree.specs.Meaning.{answers_to, found_from}
-use Rattle.faithful.specs.StorageImage.{function_name}
-use Rattle.unit_file.specs.UnitFile.{Callee}
-use Rattle.unit_file.specs.UnitNames.{routine_name}
+use Rattle.c_emit.specs.faithful.StorageImage.{function_name}
+use Rattle.unit_translation.specs.unit_file.UnitFile.{Callee}
+use Rattle.unit_translation.specs.unit_file.UnitNames.{routine_name}
 use Rattle.unit_translation.specs.UnitContents.{LoweredUnit, inventory_of, inventories_of, procedure_callee, program_units, unit_callee, unit_numbers}
 use Rattle.named_items.specs.declared.item.Callee as named
 use Rattle.named_items.specs.Items.{by_name, through}

@@ -6,7 +6,7 @@ use Rattle.std.specs.Prelude.{ℕ, Bool, true, false, List, [], ◌∷◌, ◌++
 use Rattle.f_tree.specs.declared.names.Basic.{Basic}
 use Rattle.f_tree.specs.CNames.{variable_name, external_name}
 use Rattle.f_tree.specs.Values.{Bytes}
-use Rattle.l_core.specs.Steps.{Step}
+use Rattle.lowered_tree.specs.l_core.Steps.{Step}
 use Rattle.c_tree.specs.declared.declaration.CLocal.{CLocal}
 use Rattle.c_tree.specs.declared.declaration.CParam.{CParam}
 use Rattle.c_tree.specs.declared.file.CFunction.{CFunction}
@@ -14,9 +14,9 @@ use Rattle.c_tree.specs.declared.statement.CStmt.{CStmt}
 use Rattle.c_tree.specs.Linking.{main_name}
 use Rattle.lowered_text.specs.declared.kept.Kept.{Kept}
 use Rattle.lowered_text.specs.Texts.{kinds_of}
-use Rattle.main_file.specs.MainFile.{Called, temporaries_from, call_for, variable_by, lists_from}
+use Rattle.main_translation.specs.main_file.MainFile.{Called, temporaries_from, call_for, variable_by, lists_from}
 use Rattle.main_translation.specs.Contents.{number_type_of, count_by, if_called, start_output, output_item, end_output, stop_run, function_called}
-use Rattle.unit_file.specs.UnitFile.{parameter_for, result_local, extern_for}
+use Rattle.unit_translation.specs.unit_file.UnitFile.{parameter_for, result_local, extern_for}
 use Rattle.unit_translation.specs.UnitContents.{result_by, returned_by}
 use Rattle.library_functions.specs.Described.{described}
 use Rattle.name_facts.specs.declared.table.NameFacts.{NameFacts}

@@ -14,7 +14,7 @@ use Rattle.lowered_text.specs.declared.text.LoweredText.{LoweredText}
 use Rattle.lowered_text.specs.Texts.{IsText}
 use Rattle.name_facts.specs.declared.table.NameFacts.{NameFacts}
 use Rattle.name_facts.specs.GivenFacts.{IsNameFact, fact_in}
-use Rattle.unit_file.specs.UnitFile.{Parameter, Callee, unit_function}
+use Rattle.unit_translation.specs.unit_file.UnitFile.{Parameter, Callee, unit_function}
 use Rattle.unit_translation.specs.UnitContents.{LoweredUnit, inventory_of, parameters_in, procedure_callee}
 use Rattle.named_units.specs.NamedUnits.{named_body_of}
 use Rattle.unit_contents.specs.declared.contents.Contents.{Contents}

@@ -1,8 +1,8 @@
 //! The bounds of an array's dimensions. Section 5.1.
 
-ghost use Rattle.std.specs.Prelude.{◌≡◌, map, IfOk, Some};
-ghost use Rattle.f_tree.specs.Valuing.{elements_of, size_of_dimension};
-ghost use Rattle.name_facts.specs.GivenFacts.{bounds_of, fact_in};
+ghost use Rattle.std.specs.Prelude.{◌≡◌, IfOk};
+ghost use Rattle.name_facts.specs.Dimensions.{elements_in};
+ghost use Rattle.name_facts.specs.GivenFacts.{fact_in};
 
 use name_facts::{Bound, NameFacts};
 use std::alloc::AllocError;
@@ -18,25 +18,17 @@ pub(crate) fn bounds_in<'a>(table: &'a NameFacts, name: &[u8]) -> &'a [Bound]
     }
 }
 
-/// How many elements a dimension has.
-#[tactic(auto, unfolding(f_tree::specs::Valuing::size_of_dimension, name_facts::specs::GivenFacts::bounds_of))]
-pub(crate) fn size(bound: &Bound) -> u64
-    ensures { result ≡ size_of_dimension (bounds_of bound.now) }
-{
-    (i64::from(bound.upper) - i64::from(bound.lower) + 1).unsigned_abs()
-}
-
-/// How many elements an array has.
+/// How many elements an array has; none where an upper bound is `*`.
 ///
 /// # Errors
 ///
 /// More than a number has room for.
 pub(crate) fn elements(bounds: &[Bound]) -> Result<u64, AllocError>
-    ensures { IfOk result (λ count. elements_of (map bounds_of bounds.now) ≡ Some count) }
+    ensures { IfOk result (λ count. count ≡ elements_in bounds.now) }
 {
     let mut count = 1u64;
     for bound in bounds {
-        let Some(more) = count.checked_mul(size(bound)) else {
+        let Some(more) = count.checked_mul(bound.size()) else {
             return Err(AllocError);
         };
         count = more;

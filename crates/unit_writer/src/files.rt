@@ -1,7 +1,7 @@
 //! The C file of functions: its constants, and the functions. Section 2.4; C89, 3.7.
 
 ghost use Rattle.std.specs.Prelude.{◌≡◌, [], IfOk, map};
-ghost use Rattle.main_file.specs.MainFile as file;
+ghost use Rattle.main_translation.specs.main_file.MainFile as file;
 
 use c_names::constant_name;
 use c_tree::file::{CConstant, CFile, CFunction};

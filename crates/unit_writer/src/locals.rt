@@ -7,10 +7,11 @@ ghost use Rattle.c_tree.specs.declared.declaration.CField.TheVariants as field;
 ghost use Rattle.c_tree.specs.declared.types.ResultType.TheVariants as result_type;
 ghost use Rattle.library_functions.specs.Described.{described};
 ghost use Rattle.unit_contents.specs.ContentsOf.{listing_of};
-ghost use Rattle.main_file.specs.MainFile as file;
+ghost use Rattle.main_translation.specs.main_file.MainFile as file;
 ghost use Rattle.main_translation.specs.Contents as contents;
-ghost use Rattle.unit_file.specs.UnitFile.{result_local};
+ghost use Rattle.unit_translation.specs.unit_file.UnitFile.{result_local};
 ghost use Rattle.unit_translation.specs.UnitContents.{returned_by};
+ghost use Rattle.f_tree.specs.Valuing.{elements_of};
 ghost use Rattle.name_facts.specs.GivenFacts.{bounds_of, fact_in};
 ghost use Rattle.unit_writer.specs.Functions as spec;
 ghost use Rattle.unit_writer.specs.ToldUnits.{is_stored_class, stored_names};
@@ -24,7 +25,7 @@ use c_tree::types::{ArgumentType, ListType, NumberType, ParameterType, ResultTyp
 use f_tree::{Basic, Class};
 use indexmap::IndexMap;
 use library_functions::LibraryFunction;
-use name_facts::{Bound, NameFacts};
+use name_facts::{Bound, NameFacts, all_closed};
 use plain_data::Items;
 use std::alloc::{AllocError, Global};
 use unit_contents::{Calls, Contents, Listing};
@@ -179,6 +180,16 @@ fn length_of(count: u64) -> Result<u32, AllocError>
     Ok(count as u32)
 }
 
+/// How many elements an array has, where no upper bound is `*`.
+fn known_count(bounds: &[Bound]) -> Result<Option<u32>, AllocError>
+    ensures { IfOk result (λ found. found ≡ elements_of (map bounds_of bounds.now)) }
+{
+    if !all_closed(bounds) {
+        return Ok(None);
+    }
+    Ok(Some(length_of(elements(bounds)?)?))
+}
+
 /// How many elements an array has; none for what is no array.
 #[tactic(auto, unfolding(main_translation::specs::Contents::count_by))]
 fn count(bounds: &[Bound]) -> Result<Option<u32>, AllocError>
@@ -186,7 +197,7 @@ fn count(bounds: &[Bound]) -> Result<Option<u32>, AllocError>
 {
     match bounds {
         [] => Ok(None),
-        [_, ..] => Ok(Some(length_of(elements(bounds)?)?)),
+        [_, ..] => known_count(bounds),
     }
 }
 

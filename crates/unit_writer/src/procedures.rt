@@ -5,7 +5,7 @@ ghost use Rattle.std.specs.HashMap.{get_by};
 ghost use Rattle.std.specs.List.{flat_map, list_any};
 ghost use Rattle.std.specs.Prelude.{◌≡◌, ◌++◌, ℕ, IfOk, List, OnOk, map, is_some, bytes_eq};
 ghost use Rattle.c_tree.specs.declared.types.ArgumentType.TheVariants as argument;
-ghost use Rattle.unit_file.specs.UnitFile.{extern_for};
+ghost use Rattle.unit_translation.specs.unit_file.UnitFile.{extern_for};
 ghost use Rattle.name_facts.specs.GivenFacts.{fact_in};
 ghost use Rattle.unit_writer.specs.ToldUnits.{callees_told};
 ghost use Rattle.unit_writer.specs.Told as told;

@@ -7,7 +7,7 @@ ghost use Rattle.unit_item_laws.specs.AgreeingUnits.{standing_in};
 ghost use Rattle.name_facts.specs.GivenFacts.{fact_in};
 ghost use Rattle.unit_writer.specs.Told as told;
 
-use crate::bounds::{bounds_in, size};
+use crate::bounds::bounds_in;
 use crate::heading::{Heading, Procedure, UnitRole};
 use crate::procedures::routines;
 use f_tree::Class;
@@ -39,7 +39,7 @@ fn dimension(bound: &Bound) -> Dimension
 {
     Dimension {
         lower: bound.lower,
-        size: size(bound),
+        size: bound.size(),
     }
 }
 

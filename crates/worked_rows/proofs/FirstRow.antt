@@ -1,13 +1,13 @@
 -- The two runs of the first worked row, side by side.
 use Rattle.std.proofs.Common.{ℕ, [], ◌∷◌, refl, arith, lit≤, pos}
-use Rattle.f_tree.specs.Meaning.{everything}
-use Rattle.f_tree.specs.Runs.{runs_opened}
+use Rattle.faithful_rows.specs.f_tree.Meaning.{everything}
+use Rattle.faithful_rows.specs.f_tree.Runs.{runs_opened}
 use Rattle.fortran_rows.specs.WorkedSources.{sources_opened}
-use Rattle.c_tree.specs.Opened.{meaning_opened}
-use Rattle.faithful.specs.Opened.{faithful_opened}
-use Rattle.faithful.specs.SameState.{running, ended}
-use Rattle.faithful.specs.SameTransfer as transfer
-use Rattle.faithful.specs.FrameImage as frame
+use Rattle.c_text.specs.c_tree.Opened.{meaning_opened}
+use Rattle.faithful_rows.specs.faithful.Opened.{faithful_opened}
+use Rattle.faithful_rows.specs.faithful.SameState.{running, ended}
+use Rattle.faithful_rows.specs.faithful.SameTransfer as transfer
+use Rattle.faithful_rows.specs.faithful.FrameImage as frame
 use Rattle.faithful_rows.proofs.Checks.{world_by}
 use Rattle.faithful_rows.proofs.PairProofs.{homes_from}
 use Rattle.worked_rows.specs.FirstRow.{AreAlike}

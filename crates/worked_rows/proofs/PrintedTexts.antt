@@ -1,10 +1,10 @@
 -- The first worked text is printed of its tree, and spells it.
 use Rattle.std.specs.Prelude.{◌≡◌}
 use Rattle.std.proofs.Common.{refl, sym, subst}
-use Rattle.c_tree.specs.Opened.{trees_opened}
-use Rattle.c_tree.specs.CText.{CText}
+use Rattle.c_text.specs.c_tree.Opened.{trees_opened}
+use Rattle.c_text.specs.c_tree.CText.{CText}
 use Rattle.c_text_rows.specs.TextRows.{first_text, first_tree}
-use Rattle.c_laws.proofs.TextReading.{spelled_by}
+use Rattle.c_text_rows.proofs.c_laws.TextReading.{spelled_by}
 use Rattle.c_text.specs.Printed.{printed}
 use Rattle.c_text.specs.Opened.{printed_opened}
 

@@ -1,15 +1,15 @@
 -- The first worked row: `I=2`, `PRINT *,I+3`, `END` and its C file, as the two runs that are compared.
 use Rattle.std.specs.Prelude.{ℕ, ◌*◌, ◌≤◌, List, [], ◌∷◌}
-use Rattle.f_tree.specs.Facts.{ProgramUnit}
-use Rattle.f_tree.specs.Setting.{Setting}
-use Rattle.f_tree.specs.Meaning.{units_of, ftn}
-use Rattle.f_tree.specs.Runs.{no_options, setting_apart}
+use Rattle.faithful_rows.specs.f_tree.Facts.{ProgramUnit}
+use Rattle.faithful_rows.specs.f_tree.Setting.{Setting}
+use Rattle.faithful_rows.specs.f_tree.Meaning.{units_of, ftn}
+use Rattle.faithful_rows.specs.f_tree.Runs.{no_options, setting_apart}
 use Rattle.fortran_rows.specs.WorkedSources.{sum_printed}
-use Rattle.c_tree.specs.declared.file.CFile.{CFile}
-use Rattle.c_tree.specs.Meaning.{meaning, step_factor}
-use Rattle.c_rows.specs.RowTexts.{output_unit}
+use Rattle.c_text.specs.c_tree.declared.file.CFile.{CFile}
+use Rattle.c_text.specs.c_tree.Meaning.{meaning, step_factor}
+use Rattle.c_text_rows.specs.c_rows.RowTexts.{output_unit}
 use Rattle.c_text_rows.specs.TextRows.{first_tree}
-use Rattle.faithful.specs.SameState.{Same}
+use Rattle.faithful_rows.specs.faithful.SameState.{Same}
 
 abbrev pub units : List ProgramUnit
 units = units_of no_options sum_printed

@@ -1,7 +1,7 @@
 //! The first worked text, printed from its tree. A function here does nothing, and its contract is
 //! the row.
 ghost use Rattle.std.specs.Prelude.{◌≡◌};
-ghost use Rattle.c_tree.specs.CText.{CText};
+ghost use Rattle.c_text.specs.c_tree.CText.{CText};
 ghost use Rattle.c_text_rows.specs.TextRows.{first_text, first_tree};
 ghost use Rattle.c_text.specs.Printed.{printed};
 

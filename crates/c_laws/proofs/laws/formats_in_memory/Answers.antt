@@ -1,6 +1,6 @@
 use Rattle.std.specs.Prelude.{length, map, ◌≡◌, ◌⊎◌, None, Some, Ok}
 use Rattle.std.proofs.Common.{sym, subst, ◌∙◌}
-use Rattle.edit_meaning.specs.FormatTexts.{starting, found, format_of, format_end}
+use Rattle.c_tree.specs.edit_meaning.FormatTexts.{starting, found, format_of, format_end}
 use Rattle.c_tree.specs.declared.outcome.CFault.TheVariants as fault
 use Rattle.c_tree.specs.Faults.{failing}
 use Rattle.c_tree.specs.FormatsGiven.{format_from}

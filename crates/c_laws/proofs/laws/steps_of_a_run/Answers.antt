@@ -1,5 +1,5 @@
 use Rattle.std.proofs.Common.{refl}
-use Rattle.simulation.specs.Machine.{next}
+use Rattle.c_tree.specs.simulation.Machine.{next}
 use Rattle.c_laws.proofs.StepLaws.{step_at, run_of-suc, next-Runs}
 use Rattle.c_laws.proofs.laws.steps_of_a_run.Goals as goal
 

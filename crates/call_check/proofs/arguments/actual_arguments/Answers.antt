@@ -1,5 +1,5 @@
 use Rattle.std.proofs.Common.{◌++◌, ◌∷◌, [], List, map, refl, sym, ap, ◌∙◌, arith}
-use Rattle.found_rows.proofs.Walks.{each_more, each_end}
+use Rattle.statement_parts.proofs.found_rows.Walks.{each_more, each_end}
 use Rattle.f_tree.specs.declared.expressions.Expr.{Expr}
 use Rattle.call_shapes.specs.declared.shapes.Argument.{Argument}
 use Rattle.call_check.specs.CallsSeen.{seen_argument}

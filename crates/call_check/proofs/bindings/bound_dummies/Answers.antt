@@ -1,7 +1,7 @@
 use Rattle.std.proofs.Common.{Some, bytes_eq, get_or, refl, ap, ◌∙◌, arith, if◌then◌else◌}
 use Rattle.std.specs.HashMap.{get_by}
 use Rattle.f_tree.specs.declared.names.Basic.{Basic}
-use Rattle.declaration_rows.specs.NameRows.{own_attributes}
+use Rattle.call_shapes.specs.declaration_rows.NameRows.{own_attributes}
 use Rattle.name_table.specs.Named.{texts}
 use Rattle.reference_judge.proofs.BindingLaws.{no_name, bound_more, bound_end, bound_start}
 use Rattle.call_check.proofs.bindings.bound_dummies.Goals as goal

@@ -1,6 +1,6 @@
 use Rattle.std.proofs.Common.{◌≡◌, List, ℕ, Some, bytes_eq, drop, if◌then◌else◌}
 use Rattle.std.specs.HashMap.{get_by}
-use Rattle.declaration_rows.specs.NameRows.{own_attributes}
+use Rattle.call_shapes.specs.declaration_rows.NameRows.{own_attributes}
 use Rattle.f_tree.specs.Uses.{is_among}
 use Rattle.name_table.specs.Named.{texts}
 use Rattle.reference_judge.specs.KnownBindings.{bound_basic}

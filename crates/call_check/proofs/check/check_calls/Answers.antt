@@ -1,6 +1,6 @@
 use Rattle.std.proofs.Common.{List, ap, ◌∙◌}
 use Rattle.std.proofs.lemmas.Result.{IfOk-weaker}
-use Rattle.declaration_rows.specs.GlobalRows.{all_units}
+use Rattle.call_shapes.specs.declaration_rows.GlobalRows.{all_units}
 use Rattle.call_shapes.specs.declared.shapes.NamedShape.{NamedShape}
 use Rattle.call_shapes.specs.Disagreements.{units_findings, in_order, disagreeing}
 use Rattle.call_check.proofs.check.check_calls.Goals as goal

@@ -1,5 +1,5 @@
 use Rattle.std.proofs.Common.{arith}
-use Rattle.found_rows.proofs.Walks.{each_more, each_end, put_two, put_three}
+use Rattle.statement_parts.proofs.found_rows.Walks.{each_more, each_end, put_two, put_three}
 use Rattle.call_shapes.specs.CallsMade.{calls_within, calls_among}
 use Rattle.call_check.specs.CallsSeen.{seen_function, calls_in_option}
 use Rattle.call_check.proofs.CallForms.{list_step, list_end, whole_apply, whole_part, whole_binary}

@@ -1,6 +1,6 @@
 use Rattle.std.specs.Borrow.{Bor}
 use Rattle.std.proofs.Common.{List, arith}
-use Rattle.found_rows.proofs.Walks.{each_more, each_end}
+use Rattle.statement_parts.proofs.found_rows.Walks.{each_more, each_end}
 use Rattle.f_tree.specs.declared.expressions.Expr.{Expr}
 use Rattle.statement_parts.specs.TreesSeen.{trees}
 use Rattle.call_shapes.specs.CallsMade.{calls_within, calls_among}

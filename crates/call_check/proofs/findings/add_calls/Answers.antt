@@ -1,5 +1,5 @@
 use Rattle.std.proofs.Common.{arith}
-use Rattle.found_rows.proofs.Walks.{each_more, each_end}
+use Rattle.statement_parts.proofs.found_rows.Walks.{each_more, each_end}
 use Rattle.call_shapes.specs.declared.shapes.NamedShape.{NamedShape}
 use Rattle.call_shapes.specs.Disagreements.{reason_of, found_at, call_findings}
 use Rattle.call_check.proofs.FindingLaws.{calls_step, calls_end}

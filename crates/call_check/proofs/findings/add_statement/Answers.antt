@@ -1,7 +1,7 @@
 use Rattle.std.proofs.Common.{[], ◌∙◌}
 use Rattle.std.specs.Prelude.{if◌then◌else◌}
 use Rattle.std.specs.List.{list_any}
-use Rattle.found_rows.proofs.Walks.{put_as}
+use Rattle.statement_parts.proofs.found_rows.Walks.{put_as}
 use Rattle.call_shapes.specs.Disagreements.{is_at, call_findings}
 use Rattle.call_check.proofs.FindingLaws.{whole_statement}
 use Rattle.reference_judge.proofs.BindingLaws.{held}

@@ -1,6 +1,6 @@
 use Rattle.std.proofs.Common.{◌++◌, ◌∷◌, [], ◌+◌, List, take, refl, sym, ap, ◌∙◌, arith}
 use Rattle.std.proofs.lemmas.List.{take_more}
-use Rattle.found_rows.proofs.Walks.{walk_more, walk_end}
+use Rattle.statement_parts.proofs.found_rows.Walks.{walk_more, walk_end}
 use Rattle.f_tree.specs.declared.statements.Stmt.{Stmt}
 use Rattle.call_shapes.specs.Disagreements.{statement_findings, unit_findings}
 use Rattle.call_check.proofs.FindingLaws.{statements_step, statements_end}

@@ -1,5 +1,5 @@
 use Rattle.std.proofs.Common.{[], ap}
-use Rattle.found_rows.proofs.Walks.{put_as}
+use Rattle.statement_parts.proofs.found_rows.Walks.{put_as}
 use Rattle.call_shapes.specs.Disagreements.{unit_findings}
 use Rattle.call_check.proofs.findings.add_unit.Goals as goal
 

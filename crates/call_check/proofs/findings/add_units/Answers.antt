@@ -1,5 +1,5 @@
 use Rattle.std.proofs.Common.{[], arith}
-use Rattle.found_rows.proofs.Walks.{each_more, each_end}
+use Rattle.statement_parts.proofs.found_rows.Walks.{each_more, each_end}
 use Rattle.f_tree.specs.declared.units.Unit.{Unit as WrittenUnit}
 use Rattle.call_shapes.specs.Disagreements.{unit_findings, units_findings}
 use Rattle.call_check.proofs.FindingLaws.{units_step, units_end}

@@ -1,6 +1,6 @@
 use Rattle.std.proofs.Common.{sym, ◌∙◌}
 use Rattle.std.specs.List.{list_any}
-use Rattle.found_rows.proofs.Walks.{put_as}
+use Rattle.statement_parts.proofs.found_rows.Walks.{put_as}
 use Rattle.call_shapes.specs.Disagreements.{is_at, call_findings}
 use Rattle.call_check.proofs.FindingLaws.{is_none, without_calls, once_more, the_first}
 use Rattle.call_check.proofs.findings.add_unless_again.Goals as goal

@@ -1,8 +1,8 @@
 use Rattle.std.proofs.Common.{List, ◌++◌, sym, ap, ◌∙◌, arith}
-use Rattle.found_rows.proofs.Walks.{each_more, each_end}
+use Rattle.statement_parts.proofs.found_rows.Walks.{each_more, each_end}
 use Rattle.f_tree.specs.declared.units.File.{File}
 use Rattle.f_tree.specs.declared.units.Unit.{Unit as WrittenUnit}
-use Rattle.declaration_rows.specs.GlobalRows.{all_units}
+use Rattle.call_shapes.specs.declaration_rows.GlobalRows.{all_units}
 use Rattle.call_shapes.specs.declared.findings.Finding.{Finding}
 use Rattle.call_shapes.specs.Disagreements.{units_findings}
 use Rattle.call_check.proofs.FindingLaws.{files_step, files_end}

@@ -1,5 +1,5 @@
 use Rattle.std.proofs.Common.{List, map, ap, ◌∙◌}
-use Rattle.found_rows.proofs.Walks.{put_as}
+use Rattle.statement_parts.proofs.found_rows.Walks.{put_as}
 use Rattle.expression_judge.specs.declared.names.Fact.{Fact}
 use Rattle.call_shapes.specs.declared.shapes.Argument.{Argument}
 use Rattle.call_shapes.specs.ProcedureShapes.{shaped}

@@ -1,5 +1,5 @@
 use Rattle.std.proofs.Common.{ap, ◌∙◌}
-use Rattle.found_rows.proofs.Walks.{put_two}
+use Rattle.statement_parts.proofs.found_rows.Walks.{put_two}
 use Rattle.f_tree.specs.declared.statements.DummyArgument.{DummyArgument}
 use Rattle.f_tree.specs.declared.statements.Stmt.{Stmt}
 use Rattle.std.specs.Prelude.{List, ◌++◌}

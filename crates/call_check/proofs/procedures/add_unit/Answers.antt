@@ -1,4 +1,4 @@
-use Rattle.found_rows.proofs.Walks.{put_as}
+use Rattle.statement_parts.proofs.found_rows.Walks.{put_as}
 use Rattle.call_check.specs.ProceduresSeen.{seen_procedures}
 use Rattle.call_check.proofs.ProcedureLaws.{procedures_seen}
 use Rattle.call_check.proofs.procedures.add_unit.Goals as goal

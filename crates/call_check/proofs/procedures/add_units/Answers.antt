@@ -1,5 +1,5 @@
 use Rattle.std.proofs.Common.{arith}
-use Rattle.found_rows.proofs.Walks.{each_more, each_end}
+use Rattle.statement_parts.proofs.found_rows.Walks.{each_more, each_end}
 use Rattle.call_shapes.specs.ProcedureShapes.{unit_procedures, procedures_of}
 use Rattle.call_check.proofs.ProcedureLaws.{units_step, units_end}
 use Rattle.call_check.proofs.procedures.add_units.Goals as goal

@@ -1,5 +1,5 @@
 use Rattle.std.proofs.Common.{◌≡◌, ◌++◌, drop}
-use Rattle.declaration_rows.specs.GlobalRows.{all_units}
+use Rattle.call_shapes.specs.declaration_rows.GlobalRows.{all_units}
 use Rattle.call_shapes.specs.ProcedureShapes.{procedures_of}
 use Rattle.call_check.proofs.procedures.procedures_of.Given as goal
 

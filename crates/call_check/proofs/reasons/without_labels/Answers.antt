@@ -1,5 +1,5 @@
 use Rattle.std.proofs.Common.{◌∷◌, [], refl, arith}
-use Rattle.found_rows.proofs.Walks.{each_more, each_end}
+use Rattle.statement_parts.proofs.found_rows.Walks.{each_more, each_end}
 use Rattle.call_shapes.specs.declared.shapes.Argument.{Argument}
 use Rattle.call_shapes.specs.Disagreements.{without_labels}
 use Rattle.call_check.proofs.ReasonLemmas.{labels_step, labels_none}

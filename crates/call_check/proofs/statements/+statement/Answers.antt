@@ -1,5 +1,5 @@
-use Rattle.found_rows.proofs.Walks.{put_two, put_as}
-use Rattle.declaration_rows.specs.ReferenceRows.{parts_of}
+use Rattle.statement_parts.proofs.found_rows.Walks.{put_two, put_as}
+use Rattle.call_shapes.specs.declaration_rows.ReferenceRows.{parts_of}
 use Rattle.call_shapes.specs.CallsMade.{calls_within, calls_among}
 use Rattle.call_check.specs.CallsSeen.{seen_function, seen_subroutine, seen_calls}
 use Rattle.call_check.proofs.CallForms.{whole_call, whole_if, calls_other}

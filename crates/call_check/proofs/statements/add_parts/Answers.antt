@@ -1,8 +1,8 @@
 use Rattle.std.proofs.Common.{List, ◌++◌, ap, ◌∙◌}
 use Rattle.std.specs.Borrow.{Bor}
-use Rattle.found_rows.proofs.Walks.{put_as}
+use Rattle.statement_parts.proofs.found_rows.Walks.{put_as}
 use Rattle.f_tree.specs.declared.expressions.Expr.{Expr}
-use Rattle.declaration_rows.specs.ReferenceRows.{parts_of}
+use Rattle.call_shapes.specs.declaration_rows.ReferenceRows.{parts_of}
 use Rattle.statement_parts.specs.TreesSeen.{trees}
 use Rattle.call_shapes.specs.CallsMade.{calls_among}
 use Rattle.call_check.specs.CallsSeen.{seen_function}

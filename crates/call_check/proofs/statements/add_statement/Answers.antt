@@ -1,9 +1,9 @@
 use Rattle.std.proofs.Common.{Some, None, sym, ap, ◌∙◌}
-use Rattle.found_rows.proofs.Walks.{put_as, then_ok}
+use Rattle.statement_parts.proofs.found_rows.Walks.{put_as, then_ok}
 use Rattle.f_tree.specs.Uses.{heading_of}
 use Rattle.name_table.specs.Named.{names_in}
-use Rattle.declaration_rows.specs.Judgement.{Known}
-use Rattle.declaration_rows.specs.NameRows.{known_in}
+use Rattle.call_shapes.specs.declaration_rows.Judgement.{Known}
+use Rattle.call_shapes.specs.declaration_rows.NameRows.{known_in}
 use Rattle.reference_judge.specs.KnownBindings.{known_with}
 use Rattle.reference_judge.proofs.BindingLaws.{held, known_none, known_some}
 use Rattle.call_shapes.specs.CallsMade.{calls_known}

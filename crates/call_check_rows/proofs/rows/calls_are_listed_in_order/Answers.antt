@@ -1,12 +1,12 @@
 use Rattle.std.proofs.Common.{refl}
-use Rattle.f_tree.specs.Meaning.{everything}
-use Rattle.f_tree.specs.Runs.{runs_opened}
-use Rattle.f_tree.specs.Checks.{checks_opened}
-use Rattle.declaration_rows.specs.Judgement.{judgement_opened}
-use Rattle.declaration_rows.specs.StatementRows.{statement_rows_opened}
-use Rattle.declaration_rows.specs.NameRows.{name_rows_opened}
-use Rattle.declaration_rows.specs.ReferenceRows.{reference_rows_opened}
-use Rattle.declaration_rows.specs.GlobalRows.{global_rows_opened}
+use Rattle.call_shapes.specs.f_tree.Meaning.{everything}
+use Rattle.call_shapes.specs.f_tree.Runs.{runs_opened}
+use Rattle.call_shapes.specs.f_tree.Checks.{checks_opened}
+use Rattle.call_shapes.specs.declaration_rows.Judgement.{judgement_opened}
+use Rattle.call_shapes.specs.declaration_rows.StatementRows.{statement_rows_opened}
+use Rattle.call_shapes.specs.declaration_rows.NameRows.{name_rows_opened}
+use Rattle.call_shapes.specs.declaration_rows.ReferenceRows.{reference_rows_opened}
+use Rattle.call_shapes.specs.declaration_rows.GlobalRows.{global_rows_opened}
 use Rattle.call_shapes.specs.Disagreements.{disagreements_opened}
 use Rattle.call_check_rows.specs.CallSources.{call_sources_opened}
 use Rattle.call_check_rows.proofs.rows.calls_are_listed_in_order.Goals as goal

@@ -7,9 +7,8 @@ use Rattle.decl_table.proofs.bounds.add_between.Goals as goal
 pub returns-in-Some-upper : goal.returns-in-Some-upper
 returns-in-Some-upper c =
     let low : SFits w32 c.in-Some.lower = search rules in
-    let high : SFits w32 c.in-Some-upper.upper = search rules in
-    between-put c.push.result c.args.bounds.now _ c.args.lower c.args.upper (to_z w32 (of_z w32 c.in-Some.lower)) (to_z w32 (of_z w32 c.in-Some-upper.upper))
-    (c.in-Some.is ∙ ap Some (sym (to_z-of_z w32 c.in-Some.lower low))) (c.in-Some-upper.is ∙ ap Some (sym (to_z-of_z w32 c.in-Some-upper.upper high))) c.push.ensures.ok
+    between-put c.push.result c.args.bounds.now _ c.args.lower c.args.upper (to_z w32 (of_z w32 c.in-Some.lower)) c.in-Some-upper.upper
+    (c.in-Some.is ∙ ap Some (sym (to_z-of_z w32 c.in-Some.lower low))) c.in-Some-upper.is c.push.ensures.ok
 
 pub returns-in-None-upper : goal.returns-in-None-upper
 returns-in-None-upper c = between-not-upper c.args.bounds.now c.args.lower c.args.upper c.in-None-upper.is

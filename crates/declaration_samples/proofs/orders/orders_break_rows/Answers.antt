@@ -1,7 +1,7 @@
 use Rattle.std.proofs.Common.{refl}
-use Rattle.f_tree.specs.Meaning.{everything}
-use Rattle.f_tree.specs.Runs.{runs_opened}
-use Rattle.f_tree.specs.Checks.{checks_opened}
+use Rattle.declaration_rows.specs.f_tree.Meaning.{everything}
+use Rattle.declaration_rows.specs.f_tree.Runs.{runs_opened}
+use Rattle.declaration_rows.specs.f_tree.Checks.{checks_opened}
 use Rattle.fortran_rows.specs.WorkedSources.{sources_opened}
 use Rattle.declaration_rows.specs.Judgement.{judgement_opened}
 use Rattle.declaration_rows.specs.StatementRows.{statement_rows_opened}

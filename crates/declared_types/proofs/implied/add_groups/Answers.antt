@@ -1,5 +1,5 @@
 use Rattle.std.proofs.Common.{List, ◌∷◌, [], refl, ap, ◌∙◌, arith}
-use Rattle.found_rows.proofs.Walks.{each_more, each_end}
+use Rattle.name_uses.proofs.found_rows.Walks.{each_more, each_end}
 use Rattle.f_tree.specs.declared.statements.ImplicitGroup.{ImplicitGroup}
 use Rattle.declared_types.specs.TypeTables.{groups_in}
 use Rattle.declared_types.proofs.ImpliedLemmas.{groups_more}

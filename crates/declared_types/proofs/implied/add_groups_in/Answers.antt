@@ -1,6 +1,6 @@
 use Rattle.std.proofs.Common.{◌++◌, sym, ap, ◌∙◌}
 use Rattle.std.proofs.lemmas.List.{append-nil}
-use Rattle.found_rows.proofs.Walks.{put_as}
+use Rattle.name_uses.proofs.found_rows.Walks.{put_as}
 use Rattle.f_tree.specs.Attributes.{implicit_in}
 use Rattle.declared_types.specs.TypeTables.{groups_in}
 use Rattle.declared_types.proofs.TypeForms.{implicit-Implicit, implicit_other}

@@ -1,5 +1,5 @@
 use Rattle.std.proofs.Common.{List, ◌++◌, sym, ap, arith}
-use Rattle.found_rows.proofs.Walks.{each_more, each_end}
+use Rattle.name_uses.proofs.found_rows.Walks.{each_more, each_end}
 use Rattle.f_tree.specs.declared.statements.Stmt.{Stmt}
 use Rattle.f_tree.specs.declared.statements.ImplicitGroup.{ImplicitGroup}
 use Rattle.std.specs.Borrow.{Bor}

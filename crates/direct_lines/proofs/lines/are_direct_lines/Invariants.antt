@@ -1,5 +1,5 @@
 use Rattle.std.proofs.Common.{◌≡◌, drop}
-use Rattle.declaration_rows.specs.NameRows.{given_names}
+use Rattle.name_facts.specs.declaration_rows.NameRows.{given_names}
 use Rattle.direct_lines.specs.DirectStatements.{are_direct_lines}
 use Rattle.direct_lines.proofs.lines.are_direct_lines.Given as goal
 

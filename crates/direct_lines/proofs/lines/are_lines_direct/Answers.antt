@@ -1,5 +1,5 @@
 use Rattle.std.proofs.Common.{◌&&◌, sym, ap, ◌∙◌}
-use Rattle.declaration_rows.specs.NameRows.{given_names}
+use Rattle.name_facts.specs.declaration_rows.NameRows.{given_names}
 use Rattle.direct_lines.specs.DirectStatements.{are_direct_lines, end_last}
 use Rattle.direct_lines.proofs.StatementForms.{unit-lines}
 use Rattle.direct_lines.proofs.lines.are_lines_direct.Goals as goal

@@ -1,5 +1,5 @@
 use Rattle.std.proofs.Common.{sym, ◌∙◌}
-use Rattle.declaration_rows.specs.NameRows.{given_names}
+use Rattle.name_facts.specs.declaration_rows.NameRows.{given_names}
 use Rattle.direct_lines.proofs.StatementForms.{line-other}
 use Rattle.direct_lines.proofs.statements.is_direct_line.Goals as goal
 

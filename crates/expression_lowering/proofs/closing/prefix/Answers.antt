@@ -1,4 +1,4 @@
-use Rattle.l_core.specs.Pures as core
+use Rattle.lowered_tree.specs.l_core.Pures as core
 use Rattle.lowered_tree.specs.declared.pures.Pure as tree
 use Rattle.lowered_tree.specs.Shapes.{prefix_of, pure_of}
 use Rattle.lowered_tree.proofs.ShapeForms.{pure-Prefixed}

@@ -13,7 +13,7 @@ use Rattle.f_tree.specs.declared.expressions.Expr as tree
 use Rattle.f_tree.specs.Values.{Bytes, IsInt, IsLog, IsText, IsLabel}
 use Rattle.f_tree.specs.Terms.{Negate, Complement}
 use Rattle.f_tree.specs.Reading.{function_named}
-use Rattle.l_core.specs.Pures as core
+use Rattle.lowered_tree.specs.l_core.Pures as core
 use Rattle.lowering.specs.Expressions as low
 use Rattle.lowered_tree.specs.Shapes.{prefix_of, function_of}
 use Rattle.name_facts.specs.declared.table.NameFacts.{NameFacts}

@@ -2,7 +2,7 @@ use Rattle.std.proofs.Common.{◌≡◌, ℕ, ◌⊎◌, Option, inl, inr, ap, s
 use Rattle.f_tree.specs.declared.names.Class.{Class}
 use Rattle.f_tree.specs.declared.names.Class.TheVariants as class
 use Rattle.f_tree.specs.Values.{Bytes, Datum}
-use Rattle.l_core.specs.Pures as core
+use Rattle.lowered_tree.specs.l_core.Pures as core
 use Rattle.lowering.specs.Expressions as low
 use Rattle.name_facts.specs.GivenFacts.{fact_in, datum_of}
 use Rattle.expression_lowering.specs.declared.purpose.Aspect.{Aspect}

@@ -1,5 +1,5 @@
 use Rattle.std.proofs.Common.{refl, ap, sym, Ok}
-use Rattle.l_core.specs.Pures as core
+use Rattle.lowered_tree.specs.l_core.Pures as core
 use Rattle.lowering.specs.Expressions as low
 use Rattle.lowered_tree.specs.Shapes.{pure_of}
 use Rattle.expression_lowering.specs.declared.purpose.Aspect.TheVariants.{Value, Actual}

@@ -1,10 +1,10 @@
 -- The text of the main program is object 0; strings stand behind it, and objects 2 and 3 are the parameters of the subroutine.
 use Rattle.std.specs.Prelude.{[], ◌∷◌, codes}
 use Rattle.std.proofs.Common.{refl}
-use Rattle.f_tree.specs.Meaning.{everything}
-use Rattle.f_tree.specs.Runs.{runs_opened}
-use Rattle.f_tree.specs.Facts.{Named}
-use Rattle.c_tree.specs.Opened.{meaning_opened}
+use Rattle.faithful.specs.f_tree.Meaning.{everything}
+use Rattle.faithful.specs.f_tree.Runs.{runs_opened}
+use Rattle.faithful.specs.f_tree.Facts.{Named}
+use Rattle.faithful.specs.c_tree.Opened.{meaning_opened}
 use Rattle.faithful.specs.Opened.{faithful_opened}
 use Rattle.faithful.specs.SameState.{running, ended}
 use Rattle.faithful.specs.SameTransfer as transfer

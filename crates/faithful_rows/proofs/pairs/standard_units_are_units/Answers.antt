@@ -4,10 +4,10 @@ use Rattle.std.specs.Ordering.{int_eq}
 use Rattle.std.proofs.Common.{refl, ap, subst, arith}
 use Rattle.std.proofs.lemmas.Bool.{ltb-true}
 use Rattle.std.proofs.lemmas.Bool.Decides.{Decides-int_eq}
-use Rattle.run_state.specs.Units.{UnitState}
-use Rattle.f_tree.specs.Values.{in_range}
-use Rattle.f_tree.specs.Runs.{with_records}
-use Rattle.f_tree.specs.Setting.{IsIn, first_in, later_in}
+use Rattle.faithful.specs.run_state.Units.{UnitState}
+use Rattle.faithful.specs.f_tree.Values.{in_range}
+use Rattle.faithful.specs.f_tree.Runs.{with_records}
+use Rattle.faithful.specs.f_tree.Setting.{IsIn, first_in, later_in}
 use Rattle.faithful.specs.UnitsAtStart.{AreBytes, IsFile}
 use Rattle.faithful_rows.proofs.pairs.standard_units_are_units.Goals as goal
 

@@ -1,9 +1,9 @@
 -- Object 0 is the common block, object 1 the class.
 use Rattle.std.specs.Prelude.{[], ◌∷◌}
 use Rattle.std.proofs.Common.{refl}
-use Rattle.f_tree.specs.Meaning.{everything}
-use Rattle.f_tree.specs.Runs.{runs_opened}
-use Rattle.c_tree.specs.Opened.{meaning_opened}
+use Rattle.faithful.specs.f_tree.Meaning.{everything}
+use Rattle.faithful.specs.f_tree.Runs.{runs_opened}
+use Rattle.faithful.specs.c_tree.Opened.{meaning_opened}
 use Rattle.faithful.specs.Opened.{faithful_opened}
 use Rattle.faithful.specs.SameState.{running, ended}
 use Rattle.faithful.specs.SameTransfer as transfer

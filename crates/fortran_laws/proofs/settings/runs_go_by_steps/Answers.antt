@@ -1,5 +1,5 @@
 use Rattle.std.proofs.Common.{◌≡◌, Some, refl}
-use Rattle.simulation.specs.Machine.{Runs, Over, Broken, Program, next, run}
+use Rattle.f_tree.specs.simulation.Machine.{Runs, Over, Broken, Program, next, run}
 use Rattle.f_tree.specs.Values.{Act}
 use Rattle.f_tree.specs.World.{Ending, fortran_sorts}
 use Rattle.f_tree.specs.Step.{fortran}

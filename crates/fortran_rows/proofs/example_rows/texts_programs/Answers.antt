@@ -1,6 +1,6 @@
 use Rattle.std.proofs.Common.{refl}
-use Rattle.f_tree.specs.Meaning.{everything}
-use Rattle.f_tree.specs.Runs.{runs_opened}
+use Rattle.fortran_checks.specs.f_tree.Meaning.{everything}
+use Rattle.fortran_checks.specs.f_tree.Runs.{runs_opened}
 use Rattle.fortran_rows.specs.TextsSources.{texts_sources_opened}
 use Rattle.fortran_rows.proofs.example_rows.texts_programs.Goals as goal
 

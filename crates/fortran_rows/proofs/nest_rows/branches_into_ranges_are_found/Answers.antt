@@ -1,6 +1,6 @@
 use Rattle.std.proofs.Common.{refl}
-use Rattle.f_tree.specs.Meaning.{everything}
-use Rattle.f_tree.specs.Nests.{nests_opened}
+use Rattle.fortran_checks.specs.f_tree.Meaning.{everything}
+use Rattle.fortran_checks.specs.f_tree.Nests.{nests_opened}
 use Rattle.fortran_rows.specs.ControlSources.{control_sources_opened}
 use Rattle.fortran_rows.specs.LoopsSources.{loops_sources_opened}
 use Rattle.fortran_rows.specs.NestsSources.{nests_sources_opened}

@@ -1,7 +1,7 @@
 use Rattle.std.proofs.Common.{refl}
-use Rattle.f_tree.specs.Meaning.{everything}
-use Rattle.f_tree.specs.RangeActs.{range_acts_opened}
-use Rattle.f_tree.specs.Runs.{runs_opened}
+use Rattle.fortran_checks.specs.f_tree.Meaning.{everything}
+use Rattle.fortran_checks.specs.f_tree.RangeActs.{range_acts_opened}
+use Rattle.fortran_checks.specs.f_tree.Runs.{runs_opened}
 use Rattle.fortran_rows.specs.RangeSources.{range_sources_opened}
 use Rattle.fortran_rows.proofs.range_rows.range_acts_are_told.Goals as goal
 

@@ -1,8 +1,8 @@
 use Rattle.std.proofs.Common.{refl}
-use Rattle.f_tree.specs.Meaning.{everything}
-use Rattle.f_tree.specs.Runs.{runs_opened}
+use Rattle.fortran_checks.specs.f_tree.Meaning.{everything}
+use Rattle.fortran_checks.specs.f_tree.Runs.{runs_opened}
 use Rattle.fortran_rows.specs.WorkedSources.{sources_opened}
-use Rattle.f_tree.specs.Setting.{no_names, another_name}
+use Rattle.fortran_checks.specs.f_tree.Setting.{no_names, another_name}
 use Rattle.fortran_laws.proofs.SettingsApart.{unit_setting}
 use Rattle.fortran_rows.proofs.rows.sum_is_printed.Goals as goal
 

@@ -1,6 +1,6 @@
 use Rattle.std.proofs.Common.{refl}
-use Rattle.f_tree.specs.Meaning.{everything}
-use Rattle.f_tree.specs.Runs.{runs_opened}
+use Rattle.fortran_checks.specs.f_tree.Meaning.{everything}
+use Rattle.fortran_checks.specs.f_tree.Runs.{runs_opened}
 use Rattle.fortran_rows.specs.TellingSources.{telling_sources_opened}
 use Rattle.fortran_rows.proofs.SettingExamples.{numbers_equivalenced_placed, common_after_its_types_placed}
 use Rattle.fortran_rows.proofs.telling_rows.shared_places_are_told_apart.Goals as goal

@@ -1,7 +1,7 @@
 use Rattle.std.proofs.Common.{refl}
-use Rattle.f_tree.specs.Meaning.{everything}
-use Rattle.f_tree.specs.Runs.{runs_opened, no_options}
-use Rattle.f_tree.specs.Checks.{checks_opened}
+use Rattle.fortran_checks.specs.f_tree.Meaning.{everything}
+use Rattle.fortran_checks.specs.f_tree.Runs.{runs_opened, no_options}
+use Rattle.fortran_checks.specs.f_tree.Checks.{checks_opened}
 use Rattle.fortran_checks.proofs.CheckLemmas.{checked_well, sets_well}
 use Rattle.fortran_rows.specs.StorageSources.{arrays_over_their_file, storage_sources_opened, block_named_external, common_made_longer, common_that_differs_by_unit, overlay_in_a_chain, overlay_of_a_matrix, texts_that_overlap, values_of_a_block}
 use Rattle.fortran_rows.specs.ControlSources.{control_sources_opened}

@@ -1,7 +1,7 @@
 use Rattle.std.proofs.Common.{refl}
-use Rattle.f_tree.specs.Meaning.{everything}
-use Rattle.f_tree.specs.Runs.{runs_opened, no_options}
-use Rattle.f_tree.specs.Checks.{checks_opened}
+use Rattle.fortran_checks.specs.f_tree.Meaning.{everything}
+use Rattle.fortran_checks.specs.f_tree.Runs.{runs_opened, no_options}
+use Rattle.fortran_checks.specs.f_tree.Checks.{checks_opened}
 use Rattle.fortran_checks.proofs.CheckLemmas.{checked_well, sets_well}
 use Rattle.fortran_rows.specs.TransferSources.{transfer_sources_opened, stock_report}
 use Rattle.fortran_rows.specs.FurtherSources.{further_sources_opened, block_with_values}

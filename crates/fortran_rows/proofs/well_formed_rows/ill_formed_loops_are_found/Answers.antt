@@ -1,7 +1,7 @@
 use Rattle.std.proofs.Common.{refl}
-use Rattle.f_tree.specs.Meaning.{everything}
-use Rattle.f_tree.specs.Runs.{runs_opened}
-use Rattle.f_tree.specs.Checks.{checks_opened}
+use Rattle.fortran_checks.specs.f_tree.Meaning.{everything}
+use Rattle.fortran_checks.specs.f_tree.Runs.{runs_opened}
+use Rattle.fortran_checks.specs.f_tree.Checks.{checks_opened}
 use Rattle.fortran_rows.specs.IllFormedSources.{ill_formed_sources_opened, bit_of_a_logical, while_over_a_number, while_without_its_end}
 use Rattle.fortran_rows.specs.NestsSources.{nests_sources_opened, loop_without_its_end_do}
 use Rattle.fortran_totality.proofs.IllFormedLemmas.{ill_formed}

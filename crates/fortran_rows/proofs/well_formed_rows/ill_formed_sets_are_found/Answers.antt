@@ -1,7 +1,7 @@
 use Rattle.std.proofs.Common.{refl}
-use Rattle.f_tree.specs.Meaning.{everything}
-use Rattle.f_tree.specs.Runs.{runs_opened}
-use Rattle.f_tree.specs.Checks.{checks_opened}
+use Rattle.fortran_checks.specs.f_tree.Meaning.{everything}
+use Rattle.fortran_checks.specs.f_tree.Runs.{runs_opened}
+use Rattle.fortran_checks.specs.f_tree.Checks.{checks_opened}
 use Rattle.fortran_rows.specs.IllFormedSources.{ill_formed_sources_opened, text_to_an_integer, sum_with_a_logical, variable_without_type, branch_to_no_statement, block_left_open, unit_without_its_end, loop_without_its_end, subscripts_too_few, format_that_is_nowhere, transfer_without_format, variable_of_any_length, array_of_any_size_in_a_list, dimension_of_another_type}
 use Rattle.fortran_totality.proofs.IllFormedLemmas.{ill_formed}
 use Rattle.fortran_rows.proofs.well_formed_rows.ill_formed_sets_are_found.Goals as goal

@@ -1,8 +1,8 @@
 use Rattle.std.proofs.Common.{refl}
 use Rattle.std.specs.Prelude.{codes}
-use Rattle.f_tree.specs.Meaning.{everything}
-use Rattle.f_tree.specs.Runs.{runs_opened, no_options}
-use Rattle.f_tree.specs.Checks.{checks_opened}
+use Rattle.fortran_checks.specs.f_tree.Meaning.{everything}
+use Rattle.fortran_checks.specs.f_tree.Runs.{runs_opened, no_options}
+use Rattle.fortran_checks.specs.f_tree.Checks.{checks_opened}
 use Rattle.fortran_checks.proofs.CheckLemmas.{checked_well, sets_well}
 use Rattle.fortran_rows.specs.BitsSources.{bits_sources_opened, character_in_a_number, numbers_that_overlap}
 use Rattle.fortran_rows.specs.LoopsSources.{loops_sources_opened}

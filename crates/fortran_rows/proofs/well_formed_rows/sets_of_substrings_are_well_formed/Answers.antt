@@ -1,7 +1,7 @@
 use Rattle.std.proofs.Common.{refl}
-use Rattle.f_tree.specs.Meaning.{everything}
-use Rattle.f_tree.specs.Runs.{runs_opened, no_options}
-use Rattle.f_tree.specs.Checks.{checks_opened}
+use Rattle.fortran_checks.specs.f_tree.Meaning.{everything}
+use Rattle.fortran_checks.specs.f_tree.Runs.{runs_opened, no_options}
+use Rattle.fortran_checks.specs.f_tree.Checks.{checks_opened}
 use Rattle.fortran_checks.proofs.CheckLemmas.{checked_well, sets_well}
 use Rattle.fortran_rows.specs.SubstringsSources.{substrings_sources_opened, right_side_before_a_function}
 use Rattle.fortran_rows.proofs.well_formed_rows.sets_of_substrings_are_well_formed.Goals as goal

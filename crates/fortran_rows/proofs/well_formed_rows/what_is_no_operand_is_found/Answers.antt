@@ -1,8 +1,8 @@
 use Rattle.std.proofs.Common.{refl}
 use Rattle.std.specs.Prelude.{[], ◌∷◌}
-use Rattle.f_tree.specs.Meaning.{everything}
-use Rattle.f_tree.specs.Runs.{runs_opened}
-use Rattle.f_tree.specs.Checks.{checks_opened}
+use Rattle.fortran_checks.specs.f_tree.Meaning.{everything}
+use Rattle.fortran_checks.specs.f_tree.Runs.{runs_opened}
+use Rattle.fortran_checks.specs.f_tree.Checks.{checks_opened}
 use Rattle.fortran_rows.specs.WorkedSources.{num}
 use Rattle.fortran_rows.specs.OperandsSources.{operands_sources_opened, arguments_too_few, no_such_intrinsic, part_of_a_constant, part_of_a_dummy, part_of_a_value, program_as_operand, remainder_over, subroutine_as_argument, subroutine_as_operand}
 use Rattle.fortran_totality.proofs.IllFormedLemmas.{ill_formed}

@@ -2,7 +2,7 @@ use Rattle.std.proofs.Common.{◌≡◌, to_z, of_z, refl, ap, sym, ◌∙◌, r
 use Rattle.std.specs.Prelude.{Ok}
 use Rattle.std.specs.Int.{w32}
 use Rattle.std.proofs.lemmas.Int.{to_z-of_z}
-use Rattle.run_state.specs.Bits.{complement}
+use Rattle.c_tree.specs.run_state.Bits.{complement}
 use Rattle.c_tree.specs.Library.{library}
 use Rattle.library_calls.proofs.ArgumentLemmas.{number-given, number-faulty}
 use Rattle.library_calls.proofs.numbers.i_not.Goals as goal

@@ -1,5 +1,5 @@
 use Rattle.std.proofs.Common.{sym, ap, ◌∙◌}
-use Rattle.found_rows.proofs.Walks.{put_as}
+use Rattle.loop_ranges.proofs.found_rows.Walks.{put_as}
 use Rattle.loop_entries.specs.PassedLabels.{told_by}
 use Rattle.loop_entries.specs.Branches.{branches_of}
 use Rattle.loop_entries.proofs.BranchForms as form

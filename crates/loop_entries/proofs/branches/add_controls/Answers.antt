@@ -1,4 +1,4 @@
-use Rattle.found_rows.proofs.Walks.{put_two}
+use Rattle.loop_ranges.proofs.found_rows.Walks.{put_two}
 use Rattle.loop_entries.proofs.BranchForms.{controls_are}
 use Rattle.loop_entries.proofs.branches.add_controls.Goals as goal
 

@@ -1,6 +1,6 @@
 use Rattle.std.proofs.Common.{ℕ, Option, List, None, get_or, ap, ◌∙◌}
 use Rattle.f_tree.specs.Lines.{unit_read}
-use Rattle.declaration_rows.specs.NameRows.{given_names}
+use Rattle.name_facts.specs.declaration_rows.NameRows.{given_names}
 use Rattle.loop_entries.proofs.FitLemmas.{reads_as, ranges_as, blocks_not, branches_not, entered_well}
 use Rattle.loop_entries.proofs.entries.are_entered_well.Goals as goal
 

@@ -1,7 +1,7 @@
 use Rattle.std.proofs.Common.{length, sym, ap, ◌∙◌}
 use Rattle.std.proofs.lemmas.Result.{IfOk-weaker}
 use Rattle.f_tree.specs.Lines.{unit_read}
-use Rattle.declaration_rows.specs.NameRows.{given_names}
+use Rattle.name_facts.specs.declaration_rows.NameRows.{given_names}
 use Rattle.loop_entries.proofs.FitLemmas.{reads_as, both_not, both_well}
 use Rattle.loop_entries.proofs.entries.are_nested_and_entered.Goals as goal
 

@@ -1,6 +1,6 @@
 use Rattle.std.proofs.lemmas.Result.{IfOk-weaker}
 use Rattle.f_tree.specs.Lines.{unit_read}
-use Rattle.declaration_rows.specs.NameRows.{given_names}
+use Rattle.name_facts.specs.declaration_rows.NameRows.{given_names}
 use Rattle.loop_entries.proofs.FitLemmas.{reads_as, places_are}
 use Rattle.loop_entries.proofs.FunctionLaws.{unit_told}
 use Rattle.loop_entries.proofs.entries.branches_stay_outside.Goals as goal

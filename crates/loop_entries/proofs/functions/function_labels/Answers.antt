@@ -1,9 +1,9 @@
 use Rattle.std.proofs.Common.{[], List, refl, ap, ◌∙◌, arith}
 use Rattle.std.proofs.lemmas.List.{drop_all}
-use Rattle.found_rows.proofs.Walks.{comes_on}
+use Rattle.loop_ranges.proofs.found_rows.Walks.{comes_on}
 use Rattle.f_tree.specs.declared.statements.Stmt.{Stmt}
 use Rattle.f_tree.specs.Attributes.{Expansion, from_all, arrays_of, definitions_in, expansions_from}
-use Rattle.declaration_rows.specs.NameRows.{own_attributes}
+use Rattle.name_facts.specs.declaration_rows.NameRows.{own_attributes}
 use Rattle.loop_entries.proofs.FunctionLaws.{expansions_step, expansions_end, none_told, all_told}
 use Rattle.loop_entries.proofs.UseLemmas.{statement_of}
 use Rattle.loop_entries.proofs.functions.function_labels.Goals as goal

@@ -1,6 +1,6 @@
 use Rattle.std.proofs.Common.{◌≡◌, [], List, drop}
 use Rattle.f_tree.specs.Attributes.{Expansion, from_all, arrays_of, definitions_in, expansions_from}
-use Rattle.declaration_rows.specs.NameRows.{own_attributes}
+use Rattle.name_facts.specs.declaration_rows.NameRows.{own_attributes}
 use Rattle.loop_entries.specs.PassedLabels.{AreFunctionLabels}
 use Rattle.loop_entries.proofs.functions.function_labels.Given as goal
 

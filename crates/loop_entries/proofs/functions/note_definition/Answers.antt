@@ -1,7 +1,7 @@
 use Rattle.std.proofs.Common.{sym, ap, ◌∙◌}
 use Rattle.f_tree.specs.Uses.{heading_of, defines_function}
 use Rattle.f_tree.specs.Attributes.{arrays_of}
-use Rattle.found_rows.proofs.Walks.{then_ok}
+use Rattle.loop_ranges.proofs.found_rows.Walks.{then_ok}
 use Rattle.name_table.specs.Named.{texts}
 use Rattle.loop_entries.proofs.FunctionLaws.{notes_none, defines_not, defines_none, definition_noted}
 use Rattle.loop_entries.proofs.functions.note_definition.Goals as goal

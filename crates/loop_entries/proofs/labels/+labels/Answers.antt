@@ -1,5 +1,5 @@
 use Rattle.std.proofs.Common.{List, ◌++◌, map, sym, ap, ◌∙◌, arith}
-use Rattle.found_rows.proofs.Walks.{each_more, each_end, put_as, put_two}
+use Rattle.loop_ranges.proofs.found_rows.Walks.{each_more, each_end, put_as, put_two}
 use Rattle.f_tree.specs.declared.expressions.Expr.{Expr}
 use Rattle.loop_entries.specs.PassedLabels.{told_by, joined, labels_of}
 use Rattle.loop_entries.proofs.LabelForms.{nothing_added, joined_step, joined_none, labels-Bind, none-Text}

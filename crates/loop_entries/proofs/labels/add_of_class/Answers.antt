@@ -1,5 +1,5 @@
 use Rattle.std.proofs.Common.{ap, ◌∙◌}
-use Rattle.found_rows.proofs.Walks.{put_as}
+use Rattle.loop_ranges.proofs.found_rows.Walks.{put_as}
 use Rattle.loop_entries.specs.PassedLabels.{constant_labels, own_labels}
 use Rattle.loop_entries.proofs.LabelForms.{nothing_added}
 use Rattle.loop_entries.proofs.TellsLemmas.{class_Constant, class_Function, class_other}

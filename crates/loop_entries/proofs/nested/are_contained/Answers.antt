@@ -1,6 +1,6 @@
 use Rattle.std.proofs.Common.{List, ◌≡◌, ◌++◌, length, sym, ap, ◌∙◌, arith}
 use Rattle.f_tree.specs.declared.refusals.Refusal.{Refusal}
-use Rattle.declaration_rows.specs.UnitRows.{crossing_rows}
+use Rattle.name_facts.specs.declaration_rows.UnitRows.{crossing_rows}
 use Rattle.loop_ranges.specs.OpenRanges.{ranges_at}
 use Rattle.loop_entries.proofs.CrossingLemmas.{none_by_length, contained_where_none}
 use Rattle.loop_entries.proofs.LineLemmas.{lines_count}

@@ -1,5 +1,5 @@
 use Rattle.std.proofs.Common.{ℕ, Option, List, None, ◌+◌, refl, arith}
-use Rattle.found_rows.proofs.Walks.{walk_more, walk_end}
+use Rattle.loop_ranges.proofs.found_rows.Walks.{walk_more, walk_end}
 use Rattle.f_tree.specs.Nests.{range_to}
 use Rattle.loop_entries.specs.LoopRanges.{ranges_to}
 use Rattle.loop_entries.proofs.RangeLemmas.{to_step, to_none}

@@ -2,7 +2,7 @@ use Rattle.std.proofs.Common.{◌≡◌, ◌<◌, ℕ, ◌+◌, drop, take, leng
 use Rattle.std.proofs.lemmas.List.{length-take-le}
 use Rattle.found_rows.proofs.Walks.{walk_more, walk_end}
 use Rattle.f_tree.specs.declared.statements.Stmt.{Stmt}
-use Rattle.declaration_rows.specs.UnitRows.{crossing_rows}
+use Rattle.found_rows.specs.declaration_rows.UnitRows.{crossing_rows}
 use Rattle.loop_ranges.specs.OpenRanges.{ranges_at}
 use Rattle.loop_ranges.proofs.CrossingLemmas.{row_at, row_put, ranges_more, crossing_step, crossing_none}
 use Rattle.loop_ranges.proofs.crossing.add_range_rows.Goals as goal

@@ -1,5 +1,5 @@
 use Rattle.std.proofs.Common.{◌≡◌, ◌++◌, take, drop}
-use Rattle.declaration_rows.specs.UnitRows.{crossing_rows}
+use Rattle.found_rows.specs.declaration_rows.UnitRows.{crossing_rows}
 use Rattle.loop_ranges.specs.OpenRanges.{ranges_at, AreRanges}
 use Rattle.loop_ranges.proofs.crossing.add_range_rows.Given as goal
 

@@ -1,6 +1,6 @@
 use Rattle.std.proofs.Common.{length, get_or, None, ap, ◌∙◌}
 use Rattle.std.proofs.lemmas.Result.{IfOk-weaker}
-use Rattle.declaration_rows.specs.UnitRows.{range_to}
+use Rattle.found_rows.specs.declaration_rows.UnitRows.{range_to}
 use Rattle.loop_ranges.specs.LoopEnds.{unit_ends}
 use Rattle.loop_ranges.proofs.EndLemmas.{length_unit_ends, terminal_at}
 use Rattle.loop_ranges.proofs.ends.terminal_places.Goals as goal

@@ -1,6 +1,6 @@
 use Rattle.std.proofs.Common.{◌++◌, length, sym, ap, ◌∙◌}
 use Rattle.found_rows.proofs.Walks.{then_ok}
-use Rattle.declaration_rows.specs.UnitRows.{crossing_rows}
+use Rattle.found_rows.specs.declaration_rows.UnitRows.{crossing_rows}
 use Rattle.loop_ranges.specs.LoopEnds.{unit_ends}
 use Rattle.loop_ranges.specs.OpenRanges.{ranges_at}
 use Rattle.loop_ranges.proofs.EndLemmas.{length_unit_ends, ranges_of_unit}

@@ -1,7 +1,7 @@
 use Rattle.std.proofs.Common.{◌++◌, ap, ◌∙◌}
 use Rattle.f_tree.specs.Lines.{unit_read}
-use Rattle.declaration_rows.specs.Verdicts.{first_of}
-use Rattle.declaration_rows.specs.UnitRows.{ranges_from, crossing_rows}
+use Rattle.found_rows.specs.declaration_rows.Verdicts.{first_of}
+use Rattle.found_rows.specs.declaration_rows.UnitRows.{ranges_from, crossing_rows}
 use Rattle.loop_ranges.proofs.faults.crossing_fault.Goals as goal
 
 pub returns : goal.returns

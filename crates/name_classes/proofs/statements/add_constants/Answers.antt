@@ -1,5 +1,5 @@
 use Rattle.std.proofs.Common.{List, ◌++◌, ◌∷◌, [], map, refl, sym, ap, ◌∙◌, arith}
-use Rattle.found_rows.proofs.Walks.{each_more, each_end}
+use Rattle.name_uses.proofs.found_rows.Walks.{each_more, each_end}
 use Rattle.f_tree.specs.Values.{Bytes}
 use Rattle.f_tree.specs.declared.statements.ConstantDefinition.{ConstantDefinition}
 use Rattle.name_table.specs.Named.{names_in}

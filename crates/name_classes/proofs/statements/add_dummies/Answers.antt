@@ -1,5 +1,5 @@
 use Rattle.std.proofs.Common.{refl, arith}
-use Rattle.found_rows.proofs.Walks.{each_more, each_end}
+use Rattle.name_uses.proofs.found_rows.Walks.{each_more, each_end}
 use Rattle.f_tree.specs.Attributes.{named_dummies}
 use Rattle.name_classes.specs.StatedNames.{dummy_name}
 use Rattle.name_classes.proofs.StatementForms.{dummies_step, dummies_none}

@@ -1,5 +1,5 @@
 use Rattle.std.proofs.Common.{List, ◌∷◌, [], get_or, refl, arith}
-use Rattle.found_rows.proofs.Walks.{each_more, each_end}
+use Rattle.name_uses.proofs.found_rows.Walks.{each_more, each_end}
 use Rattle.f_tree.specs.Attributes.{with_list, called}
 use Rattle.name_uses.specs.declared.uses.Use.{Use as Seen}
 use Rattle.name_uses.specs.UsesSeen.{use_of, used_in}

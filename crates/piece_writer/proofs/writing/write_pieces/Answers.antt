@@ -1,6 +1,6 @@
 use Rattle.std.proofs.Common.{◌+◌, ◌∙◌, ap, sym, subst, take, drop}
 use Rattle.std.specs.Vec.Iter.{into_iter_items}
-use Rattle.split_pieces.specs.Pieces.{texts_in}
+use Rattle.fsplit.specs.split_pieces.Pieces.{texts_in}
 use Rattle.piece_writer.proofs.WritingLemmas.{HasMade, next_left, next_at, made_on, not_made}
 use Rattle.piece_writer.proofs.writing.write_pieces.Goals as goal
 

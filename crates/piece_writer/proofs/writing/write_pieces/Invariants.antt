@@ -1,6 +1,6 @@
 use Rattle.std.proofs.Common.{◌≡◌, take, drop}
 use Rattle.std.specs.Vec.Iter.{into_iter_items}
-use Rattle.split_pieces.specs.Pieces.{texts_in}
+use Rattle.fsplit.specs.split_pieces.Pieces.{texts_in}
 use Rattle.piece_writer.proofs.WritingLemmas.{HasMade}
 use Rattle.piece_writer.proofs.writing.write_pieces.Given as goal
 

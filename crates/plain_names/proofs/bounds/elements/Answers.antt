@@ -9,7 +9,7 @@ pub loop-bound-preserved : goal.loop-bound-preserved
 loop-bound-preserved c = record {
   counted =
       count-more c.args.bounds.now c.loop-bound.bound-index _ _ _ c.loop-bound.count _ (2 ^ 64 - 1) c.loop-bound-test.true refl c.loop-bound.invariant.counted
-      (c.saturating_mul-count.ensures ∙ ap (λ n. min (c.loop-bound.count * n) (2 ^ 64 - 1)) c.length.ensures.size);
+      (c.saturating_mul-count.ensures ∙ ap (λ n. min (c.loop-bound.count * n) (2 ^ 64 - 1)) c.size.ensures.size);
   fits = omega (arith, c.saturating_mul-count.ensures);
 }
 

@@ -1,5 +1,5 @@
 use Rattle.std.proofs.Common.{◌≡◌, ◌*◌, ◌≤◌, ◌-◌, ◌^◌, min, drop}
-use Rattle.plain_names.specs.Elements.{elements_in}
+use Rattle.name_facts.specs.Dimensions.{elements_in}
 use Rattle.plain_names.proofs.bounds.elements.Given as goal
 
 abbrev pub invariant-loop-bound : goal.invariant-loop-bound

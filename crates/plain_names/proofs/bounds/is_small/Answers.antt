@@ -1,5 +1,5 @@
 use Rattle.std.proofs.Common.{◌*◌, min, nat_lt, ap, ◌∙◌, lit≤}
-use Rattle.plain_names.specs.Elements.{elements_in}
+use Rattle.name_facts.specs.Dimensions.{elements_in}
 use Rattle.plain_names.proofs.ElementLaws.{size-below}
 use Rattle.plain_names.proofs.bounds.is_small.Goals as goal
 

@@ -2,7 +2,7 @@
 use Rattle.std.proofs.Common.{◌≡◌, ◌+◌, ◌≤◌, length, take, refl, sym, ap, subst, ◌∙◌, arith, length-take}
 use Rattle.std.specs.Prelude.{IfSome}
 use Rattle.std.proofs.lemmas.List.{take_rest}
-use Rattle.fortran_text.specs.Lines.{lines}
+use Rattle.cards.specs.fortran_text.Lines.{lines}
 use Rattle.prototype_laws.specs.Reading.{prototypes_behind, reading}
 use Rattle.proto_file.proofs.LineSteps.{reading-start, read_stop, read_on, read_end}
 use Rattle.proto_file.proofs.reader.read_lines.Goals as goal

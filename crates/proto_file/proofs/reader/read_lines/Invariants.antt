@@ -1,5 +1,5 @@
 use Rattle.std.proofs.Common.{◌≡◌, ◌+◌, ◌≤◌, length}
-use Rattle.fortran_text.specs.Lines.{lines}
+use Rattle.cards.specs.fortran_text.Lines.{lines}
 use Rattle.prototype_laws.specs.Reading.{prototypes_behind, reading}
 use Rattle.proto_file.proofs.reader.read_lines.Given as goal
 

@@ -1,5 +1,5 @@
 use Rattle.std.proofs.Common.{take}
-use Rattle.declaration_rows.specs.GlobalRows.{all_units}
+use Rattle.source_acceptance.specs.declaration_rows.GlobalRows.{all_units}
 use Rattle.file_parse.specs.FirstRefusals.{IsFirstAmong}
 use Rattle.source_acceptance.specs.Acceptance.{deep_rows_of}
 use Rattle.source_reader.proofs.trees.deep_in_files.Given as goal

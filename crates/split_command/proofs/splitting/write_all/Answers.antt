@@ -1,4 +1,4 @@
-use Rattle.split_pieces.specs.Pieces.{texts_in}
+use Rattle.fsplit.specs.split_pieces.Pieces.{texts_in}
 use Rattle.split_command.proofs.SplitLemmas.{not_listed}
 use Rattle.split_command.proofs.splitting.write_all.Goals as goal
 

@@ -95,12 +95,12 @@ carry-returns-in-Unwritten-clause-built t c =
 
 pub carry-returns-in-Whole-clause-built : goal.carry-returns-in-Whole-clause-built
 carry-returns-in-Whole-clause-built t c =
-    carrying.carry_built (spec.structured (layout_of c.args.layout.now) c.args.span.turns) c.args.span.position c.args.items.now.items c.args.plan (plan.Whole c.in-Whole.statement) _ c.in-Whole.is
-    (carrying.carried_statement (spec.structured (layout_of c.args.layout.now) c.args.span.turns) c.args.span.position c.args.items.now.items c.in-Whole.statement)
+    carrying.carry_built (spec.structured (layout_of c.args.layout.now) c.args.span.turns) c.args.span.position c.args.items.now.items c.args.plan (plan.Whole c.in-Whole.part) _ c.in-Whole.is
+    (carrying.carried_whole (spec.structured (layout_of c.args.layout.now) c.args.span.turns) c.args.span.position c.args.items.now.items c.in-Whole.part)
 
 pub carry-returns-in-Whole-clause-rest : goal.carry-returns-in-Whole-clause-rest
 carry-returns-in-Whole-clause-rest t c =
-    carrying.carry_leaves c.args.items.now.items c.args.items.now.items c.args.plan (plan.Whole c.in-Whole.statement) (Some (spec.part c.in-Whole.statement 0)) c.in-Whole.is refl
+    carrying.carry_leaves c.args.items.now.items c.pass.new.items.items c.args.plan (plan.Whole c.in-Whole.part) (Some c.in-Whole.part) c.in-Whole.is c.pass.ensures
 
 pub carry-returns-in-OneArm-clause-built : goal.carry-returns-in-OneArm-clause-built
 carry-returns-in-OneArm-clause-built t c =

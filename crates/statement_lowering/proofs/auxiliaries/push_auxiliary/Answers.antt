@@ -1,5 +1,5 @@
 use Rattle.std.proofs.Common.{ap}
-use Rattle.l_core.specs.Steps as act
+use Rattle.lowered_tree.specs.l_core.Steps as act
 use Rattle.lowered_tree.specs.Shapes.{controls_of}
 use Rattle.statement_lowering.proofs.ControlSteps.{acting-done}
 use Rattle.statement_lowering.proofs.auxiliaries.push_auxiliary.Goals as goal

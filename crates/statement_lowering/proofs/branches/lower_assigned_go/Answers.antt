@@ -1,23 +1,16 @@
-use Rattle.std.specs.Prelude.{[], ◌∷◌}
-use Rattle.std.proofs.Common.{subst}
-use Rattle.l_core.specs.Pures as core
-use Rattle.l_core.specs.Steps as act
+use Rattle.std.specs.Prelude.{◌∷◌, map}
+use Rattle.lowered_tree.specs.l_core.Pures as core
+use Rattle.lowered_tree.specs.l_core.Steps as act
+use Rattle.lowering.specs.Statements.{each_once}
 use Rattle.statement_lowering.specs.StatementForms as form
-use Rattle.statement_lowering.specs.StatementOutcomes.{IsAppended}
-use Rattle.statement_lowering.proofs.Additions.{plain-outcome, memory-failed}
+use Rattle.statement_lowering.proofs.Additions.{plain-outcome}
 use Rattle.statement_lowering.proofs.StatementCodes.{code-going_assigned}
 use Rattle.statement_lowering.proofs.branches.lower_assigned_go.Goals as goal
 
-pub returns-in-Ok : goal.returns-in-Ok
-returns-in-Ok c =
+pub returns : goal.returns
+returns c =
     let around = c.args.around in
     let x = c.args.name.now in
     let labels = c.args.labels.now in
-    let before = c.args.steps.now.items in
-    let after = c.append.new.steps.items in
-    plain-outcome c.args.table.now around (form.going_assigned x labels) (act.JumpBy (core.Name x) labels ∷ []) before after c.append.result
-    (code-going_assigned around.once around.free around.room x labels)
-    (subst (λ (step : act.Step). IsAppended (step ∷ []) before after c.append.result) c.in-Ok.ensures c.append.ensures)
-
-pub returns-in-Err : goal.returns-in-Err
-returns-in-Err c = memory-failed c.args.table.now c.args.around _ (form.going_assigned c.args.name.now c.args.labels.now) c.args.steps.now.items c.args.steps.now.items
+    plain-outcome c.args.table.now around (form.going_assigned x labels) (act.JumpBy (core.Name x) (each_once labels) ∷ map act.Jump (each_once labels)) c.args.steps.now.items
+    c.append_jump_by.new.steps.items c.append_jump_by.result (code-going_assigned around.once around.free around.room x labels) c.append_jump_by.ensures

@@ -1,5 +1,5 @@
 use Rattle.std.specs.Prelude.{[], ◌∷◌}
-use Rattle.l_core.specs.Steps as act
+use Rattle.lowered_tree.specs.l_core.Steps as act
 use Rattle.statement_lowering.specs.StatementForms as form
 use Rattle.statement_lowering.proofs.Additions.{plain-outcome}
 use Rattle.statement_lowering.proofs.StatementCodes.{code-ending}

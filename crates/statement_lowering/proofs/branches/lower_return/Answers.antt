@@ -1,6 +1,6 @@
 use Rattle.std.specs.Prelude.{true, [], ◌∷◌, Some, None}
 use Rattle.std.proofs.Common.{ap}
-use Rattle.l_core.specs.Steps as act
+use Rattle.lowered_tree.specs.l_core.Steps as act
 use Rattle.expression_lowering.specs.TableNames.{is_lowered_value}
 use Rattle.statement_lowering.specs.StatementForms as form
 use Rattle.statement_lowering.specs.LoweredStatements.{optional_lowers}

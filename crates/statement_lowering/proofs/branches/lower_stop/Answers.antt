@@ -1,7 +1,7 @@
 use Rattle.std.specs.Prelude.{[], ◌∷◌}
 use Rattle.std.proofs.Common.{subst}
 use Rattle.f_tree.specs.Values.{Bytes}
-use Rattle.l_core.specs.Steps as act
+use Rattle.lowered_tree.specs.l_core.Steps as act
 use Rattle.statement_lowering.specs.StatementForms as form
 use Rattle.statement_lowering.specs.StatementOutcomes.{IsAppended}
 use Rattle.statement_lowering.proofs.Additions.{plain-outcome, memory-failed}

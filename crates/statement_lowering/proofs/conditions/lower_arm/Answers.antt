@@ -1,5 +1,5 @@
 use Rattle.std.specs.Prelude.{[], ◌∷◌}
-use Rattle.l_core.specs.Steps as act
+use Rattle.lowered_tree.specs.l_core.Steps as act
 use Rattle.lowering.specs.Statements.{unless_code}
 use Rattle.lowered_tree.specs.Shapes.{pure_of}
 use Rattle.expression_lowering.specs.declared.purpose.Purpose.TheVariants.{ForUse}

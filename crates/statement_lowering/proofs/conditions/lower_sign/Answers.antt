@@ -1,8 +1,8 @@
 use Rattle.std.specs.Prelude.{[], ◌∷◌, pos}
 use Rattle.f_tree.specs.Values.{IsInt}
 use Rattle.f_tree.specs.Terms.{IsLess, IsEqual}
-use Rattle.l_core.specs.Pures as core
-use Rattle.l_core.specs.Steps as act
+use Rattle.lowered_tree.specs.l_core.Pures as core
+use Rattle.lowered_tree.specs.l_core.Steps as act
 use Rattle.lowering.specs.Statements.{sign_code}
 use Rattle.lowered_tree.specs.Shapes.{pure_of}
 use Rattle.expression_lowering.specs.declared.purpose.Purpose.TheVariants.{ForLater}

@@ -4,7 +4,7 @@ use Rattle.std.proofs.Common.{arith}
 use Rattle.f_tree.specs.declared.statements.Control.{Control}
 use Rattle.f_tree.specs.Terms.{any_refers, terms}
 use Rattle.f_tree.specs.Lines.{way_of}
-use Rattle.l_core.specs.Pures as core
+use Rattle.lowered_tree.specs.l_core.Pures as core
 use Rattle.lowering.specs.Expressions as low
 use Rattle.lowered_tree.specs.declared.pures.Pure.{Pure}
 use Rattle.expression_lowering.specs.Purposes.{purpose_of}

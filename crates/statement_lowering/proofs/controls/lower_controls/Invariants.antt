@@ -1,7 +1,7 @@
 use Rattle.std.proofs.Common.{◌≡◌, true, drop}
 use Rattle.f_tree.specs.Terms.{terms}
 use Rattle.f_tree.specs.Lines.{Naming, way_of}
-use Rattle.l_core.specs.Pures as core
+use Rattle.lowered_tree.specs.l_core.Pures as core
 use Rattle.lowering.specs.Expressions as low
 use Rattle.expression_lowering.specs.TableNames.{AreFactsOf}
 use Rattle.expression_lowering.proofs.Walks.{IsOnward}

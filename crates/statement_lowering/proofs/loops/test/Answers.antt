@@ -1,5 +1,5 @@
 use Rattle.std.proofs.Common.{sym}
-use Rattle.l_core.specs.Pures as core
+use Rattle.lowered_tree.specs.l_core.Pures as core
 use Rattle.lowered_tree.specs.Shapes.{pure_of}
 use Rattle.statement_lowering.proofs.LoopLaws.{test-done, test-open}
 use Rattle.statement_lowering.proofs.loops.test.Goals as goal

@@ -1,6 +1,6 @@
 use Rattle.std.proofs.Common.{ap}
 use Rattle.f_tree.specs.Lines.{way_of}
-use Rattle.l_core.specs.Steps as act
+use Rattle.lowered_tree.specs.l_core.Steps as act
 use Rattle.lowered_tree.specs.Shapes.{layout_of, controls_of}
 use Rattle.statement_lowering.proofs.TransferLaws.{transfer-done, controls-covered, items-covered}
 use Rattle.statement_lowering.proofs.transfers.push_transfer.Goals as goal

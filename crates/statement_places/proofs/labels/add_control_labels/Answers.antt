@@ -1,4 +1,4 @@
-use Rattle.found_rows.proofs.Walks.{put_two}
+use Rattle.loop_ranges.proofs.found_rows.Walks.{put_two}
 use Rattle.statement_places.proofs.LabelLemmas.{control_labels_are}
 use Rattle.statement_places.proofs.labels.add_control_labels.Goals as goal
 

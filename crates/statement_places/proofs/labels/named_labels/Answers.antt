@@ -1,7 +1,7 @@
 use Rattle.std.proofs.Common.{arith}
 use Rattle.f_tree.specs.declared.statements.Stmt.{Stmt}
 use Rattle.f_tree.specs.Attributes.{from_all}
-use Rattle.found_rows.proofs.Walks.{each_more, each_end}
+use Rattle.loop_ranges.proofs.found_rows.Walks.{each_more, each_end}
 use Rattle.statement_places.specs.NamedLabels.{labels_of}
 use Rattle.statement_places.proofs.LabelLemmas.{labels_step, labels_none}
 use Rattle.statement_places.proofs.labels.named_labels.Goals as goal

@@ -1,5 +1,5 @@
 use Rattle.std.proofs.Common.{◌+◌, ℕ, [], ◌∷◌, ◌++◌, get_or, refl, ap, ◌∙◌}
-use Rattle.found_rows.proofs.Walks.{walk_more, walk_end}
+use Rattle.loop_ranges.proofs.found_rows.Walks.{walk_more, walk_end}
 use Rattle.statement_places.specs.StatementSizes.{turn_size_in}
 use Rattle.statement_places.specs.StepWays.{turns_in}
 use Rattle.statement_places.specs.declared.places.Turn.{Turn}

@@ -1,7 +1,7 @@
 use Rattle.std.proofs.Common.{subst, Err}
 use Rattle.fortran_grammar.specs.StatementSpelling.{SpellsBody}
 use Rattle.stmt_lex.specs.SeenTokens.{seen}
-use Rattle.expression_parse.specs.Readings.{IsExact}
+use Rattle.stmt_parse.specs.expression_parse.Readings.{IsExact}
 use Rattle.statement_reader.proofs.ReaderLemmas.{spelled_text, spells_nothing}
 use Rattle.statement_reader.proofs.reader.body_that_stands.Goals as goal
 

@@ -1,4 +1,4 @@
-use Rattle.found_rows.proofs.Walks.{then_ok}
+use Rattle.loop_ranges.proofs.found_rows.Walks.{then_ok}
 use Rattle.statements_judge.proofs.LabelLemmas.{added_some, added_none}
 use Rattle.statements_judge.proofs.labels.add_label.Goals as goal
 

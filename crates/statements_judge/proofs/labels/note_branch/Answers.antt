@@ -1,5 +1,5 @@
 use Rattle.std.proofs.Common.{sym, ◌∙◌}
-use Rattle.found_rows.proofs.Walks.{then_ok}
+use Rattle.loop_ranges.proofs.found_rows.Walks.{then_ok}
 use Rattle.f_tree.specs.Places.{has_label}
 use Rattle.declaration_rows.specs.UnitRows.{may_be_entered}
 use Rattle.statements_judge.proofs.LabelLemmas.{entered_by, passed_by}

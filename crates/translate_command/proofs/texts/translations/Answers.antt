@@ -1,6 +1,6 @@
 use Rattle.std.proofs.Common.{ap, subst, ◌∙◌, map}
 use Rattle.c_text.specs.Printed.{printed}
-use Rattle.source_reader.specs.Sources.{source_of}
+use Rattle.source_files.specs.source_reader.Sources.{source_of}
 use Rattle.source_translator.specs.TranslatedSource.{AreFilesOfSource}
 use Rattle.translate_command.proofs.TextLemmas.{texts_of_source}
 use Rattle.translate_command.proofs.texts.translations.Goals as goal

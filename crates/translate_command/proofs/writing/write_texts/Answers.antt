@@ -1,5 +1,5 @@
 use Rattle.std.proofs.Common.{◌∙◌, arith}
-use Rattle.translate_command.proofs.ListLemmas.{any_default}
+use Rattle.source_files.proofs.ListLemmas.{any_default}
 use Rattle.translate_command.proofs.WriteLemmas.{at_begin, behind_one, at_end, stopped_at}
 use Rattle.translate_command.proofs.writing.write_texts.Goals as goal
 

@@ -1,6 +1,6 @@
 use Rattle.std.proofs.Common.{◌≡◌, List, drop}
 use Rattle.std.specs.Prelude.{fold}
-use Rattle.main_translation.specs.Contents.{with_new}
+use Rattle.unit_forms.specs.main_translation.Contents.{with_new}
 use Rattle.unit_translation.specs.UnitContents.{LoweredUnit, constants_passed}
 use Rattle.translator.specs.LoweredFiles.{AreTold}
 use Rattle.translator.proofs.ListLemmas.{values_passed_by}

@@ -1,6 +1,6 @@
 use Rattle.std.proofs.Common.{◌≡◌, ◌++◌, drop}
 use Rattle.lowered_tree.specs.Shapes.{steps_of}
-use Rattle.main_file.specs.MainItems.{stops_from}
+use Rattle.main_translation.specs.main_file.MainItems.{stops_from}
 use Rattle.unit_contents.proofs.walks.string_positions.Given as goal
 
 -- those so far, and those of the steps that are left

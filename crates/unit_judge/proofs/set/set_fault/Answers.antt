@@ -1,7 +1,7 @@
 use Rattle.std.proofs.Common.{List, ap, ◌∙◌, arith}
 use Rattle.f_tree.specs.declared.units.Unit.{Unit as WrittenUnit}
-use Rattle.declaration_rows.specs.SetRows.{units_rows}
-use Rattle.declaration_rows.specs.Verdicts.{first_of}
+use Rattle.name_facts.specs.declaration_rows.SetRows.{units_rows}
+use Rattle.name_facts.specs.declaration_rows.Verdicts.{first_of}
 use Rattle.unit_judge.proofs.SetLemmas.{first_begin, files_more, files_end}
 use Rattle.unit_judge.proofs.set.set_fault.Goals as goal
 

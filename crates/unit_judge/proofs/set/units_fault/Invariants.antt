@@ -1,6 +1,6 @@
 use Rattle.std.proofs.Common.{◌≡◌, drop}
-use Rattle.declaration_rows.specs.SetRows.{units_rows}
-use Rattle.declaration_rows.specs.Verdicts.{first_of}
+use Rattle.name_facts.specs.declaration_rows.SetRows.{units_rows}
+use Rattle.name_facts.specs.declaration_rows.Verdicts.{first_of}
 use Rattle.refusal_order.specs.Earliest.{earliest}
 use Rattle.unit_judge.proofs.set.units_fault.Given as goal
 

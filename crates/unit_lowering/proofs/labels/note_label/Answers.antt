@@ -1,6 +1,6 @@
 use Rattle.std.proofs.Common.{nat_eq}
 use Rattle.std.specs.HashMap.{get_by}
-use Rattle.loop_ranges.proofs.LabelLemmas.{place_noted, place_none}
+use Rattle.statement_places.proofs.loop_ranges.LabelLemmas.{place_noted, place_none}
 use Rattle.unit_lowering.proofs.Appending.{then_ok}
 use Rattle.unit_lowering.proofs.labels.note_label.Goals as goal
 

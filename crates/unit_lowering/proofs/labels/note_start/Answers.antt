@@ -1,6 +1,6 @@
 use Rattle.std.proofs.Common.{nat_eq, sym}
 use Rattle.std.specs.HashMap.{get_by}
-use Rattle.loop_ranges.proofs.LabelLemmas.{kept_at, put_at}
+use Rattle.statement_places.proofs.loop_ranges.LabelLemmas.{kept_at, put_at}
 use Rattle.unit_lowering.proofs.Appending.{then_ok}
 use Rattle.unit_lowering.proofs.labels.note_start.Goals as goal
 

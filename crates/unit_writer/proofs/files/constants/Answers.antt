@@ -2,7 +2,7 @@ use Rattle.std.proofs.Common.{◌≡◌, List, ℕ, ℤ, pos, ◌∷◌, [], ◌
 use Rattle.std.proofs.lemmas.Int.{to_z-of_z}
 use Rattle.f_tree.specs.CNames.{made_name, ConstantOf}
 use Rattle.c_tree.specs.declared.file.CConstant.{CConstant}
-use Rattle.main_file.specs.MainFile.{constant_for}
+use Rattle.main_translation.specs.main_file.MainFile.{constant_for}
 use Rattle.unit_writer.proofs.Walks.{each_end, each_more}
 use Rattle.unit_writer.proofs.files.constants.Goals as goal
 

@@ -1,5 +1,5 @@
 use Rattle.std.proofs.Common.{◌≡◌, ◌++◌, map, drop}
-use Rattle.main_file.specs.MainFile.{constant_for}
+use Rattle.main_translation.specs.main_file.MainFile.{constant_for}
 use Rattle.unit_writer.proofs.files.constants.Given as goal
 
 abbrev pub invariant-loop-value : goal.invariant-loop-value

@@ -1,5 +1,5 @@
 use Rattle.std.proofs.Common.{◌≡◌, ◌+◌, ◌-◌, ◌++◌}
-use Rattle.main_file.specs.MainFile.{temporaries_from}
+use Rattle.main_translation.specs.main_file.MainFile.{temporaries_from}
 use Rattle.unit_writer.proofs.locals.add_temporaries.Given as goal
 
 abbrev pub invariant-loop-before : goal.invariant-loop-before

@@ -1,8 +1,8 @@
 use Rattle.std.specs.HashMap.{get_by}
 use Rattle.std.proofs.Common.{Option, ◌++◌, bytes_eq, map, ◌∙◌}
 use Rattle.f_tree.specs.Values.{Bytes}
-use Rattle.main_file.specs.MainFile.{call_for, lists_from, temporaries_from}
-use Rattle.unit_file.specs.UnitFile.{result_local}
+use Rattle.main_translation.specs.main_file.MainFile.{call_for, lists_from, temporaries_from}
+use Rattle.unit_translation.specs.unit_file.UnitFile.{result_local}
 use Rattle.unit_translation.specs.UnitContents.{returned_by}
 use Rattle.unit_contents.specs.ContentsOf.{listing_of}
 use Rattle.unit_writer.specs.declared.heading.Procedure.{Procedure}

@@ -1,7 +1,7 @@
 -- The name stands behind those of the file.
 use Rattle.std.proofs.Common.{◌≡◌, ◌∙◌, true, false}
 use Rattle.indexmap.proofs.CallerLemmas.{insert_entry-new}
-use Rattle.c_tree.specs.CText.{no_names}
+use Rattle.c_lexer.specs.c_tree.CText.{no_names}
 use Rattle.c_readers.specs.CallReader.{has_some}
 use Rattle.c_scope.specs.NamesSeen.{behind, stand_once}
 use Rattle.c_scope.specs.ScopeSeen.{scope_of, file_scope_of, here_of, file_here_of}

@@ -1,0 +1,1 @@
+pub use Rattle.c_readers.proofs.grammar

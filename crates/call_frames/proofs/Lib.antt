@@ -1,0 +1,3 @@
+pub mod FrameLists
+pub mod BindingLaws
+pub mod StartLaws

@@ -1,0 +1,5 @@
+pub mod TermForms
+pub mod DraftForms
+pub mod PartLaws
+pub mod ArgumentLaws
+pub mod MentionForms

@@ -1,0 +1,4 @@
+pub mod NamesInScope
+pub mod StringsSeen
+pub mod LinkedParts
+pub mod Mentions

@@ -1,0 +1,2 @@
+      CALL SHOW(N)
+      CALL SHOW(.TRUE.)

@@ -1,0 +1,5 @@
+      INTEGER FUNCTION TWICE(K)
+      INTEGER K
+      COMMON /TWO/ J
+      TWICE = J*K
+      END

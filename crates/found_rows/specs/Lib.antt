@@ -1,0 +1,1 @@
+pub use Rattle.declaration_rows.specs as declaration_rows

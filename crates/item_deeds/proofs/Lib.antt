@@ -1,0 +1,3 @@
+pub mod ArgumentLists
+pub mod FormLaws
+pub mod DeedLaws

@@ -1,0 +1,5 @@
+pub mod FewNumbers
+pub mod SignatureLaws
+pub mod StepLaws
+pub mod StackLaws
+pub mod RunLaws

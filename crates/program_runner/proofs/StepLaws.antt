@@ -1,0 +1,24 @@
+-- The item that comes next in a function (C89, 3.6).
+use Rattle.std.proofs.Common.{◌≡◌, ℕ, Some, None, ap, sym, ◌∙◌}
+use Rattle.std.specs.Prelude.{slice_get, option_map}
+use Rattle.std.proofs.lemmas.Option.{slice_get-map}
+use Rattle.c_tree.specs.simulation.Machine.{Breaks}
+use Rattle.c_tree.specs.Faults.{NoMeaning}
+use Rattle.c_tree.specs.World.{World}
+use Rattle.c_tree.specs.Steps.{View, deed, deed_at, step}
+use Rattle.linked_terms.specs.declared.items.LinkedItem.{LinkedItem}
+use Rattle.linked_terms.specs.LinkedItems.{flat_of}
+use Rattle.linked_programs.specs.declared.functions.LinkedFunction.{LinkedFunction}
+use Rattle.linked_programs.specs.LinkedPrograms.{function_of}
+
+pub step-known : (own : ℕ) (function : LinkedFunction) (view : View) (world : World) (item : LinkedItem) → Some item ≡ slice_get function.code view.position →
+    step (function_of own function) view world ≡ deed (function_of own function) view world (flat_of item)
+unfolding step
+step-known own function view world item is =
+    ap (deed_at (function_of own function) view world) (slice_get-map flat_of function.code view.position ∙ ap (option_map flat_of) (sym is))
+
+pub step-none : (own : ℕ) (function : LinkedFunction) (view : View) (world : World) → None ≡ slice_get function.code view.position →
+    step (function_of own function) view world ≡ Breaks NoMeaning
+unfolding step
+step-none own function view world is =
+    ap (deed_at (function_of own function) view world) (slice_get-map flat_of function.code view.position ∙ ap (option_map flat_of) (sym is))

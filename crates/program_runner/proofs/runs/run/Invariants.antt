@@ -1,0 +1,21 @@
+use Rattle.std.proofs.Common.{◌≡◌, ◌-◌, ◌≤◌, length}
+use Rattle.c_tree.specs.simulation.Machine as machine
+use Rattle.c_tree.specs.Meaning as meaning
+use Rattle.c_tree.specs.Steps.{language}
+use Rattle.linked_programs.specs.LinkedPrograms.{program_of}
+use Rattle.item_deeds.specs.Deeds.{world_of}
+use Rattle.item_deeds.specs.Forms.{SameForms}
+use Rattle.program_runner.specs.Stacks.{state_of, IsStack}
+use Rattle.program_runner.proofs.runs.run.Given as goal
+
+abbrev pub invariant-loop-taken : goal.invariant-loop-taken
+invariant-loop-taken g l = record {
+  reached : machine.run language (meaning.machine (program_of l.program)) l.taken (state_of l.initial.stack (world_of l.initial.run (g.L.Library.units l.initial.library) (g.L.Library.transfer l.initial.library)))
+      ≡ state_of l.stack (world_of l.run (g.L.Library.units l.library) (g.L.Library.transfer l.library));
+  stack : IsStack (length l.program.functions) l.stack;
+  kept : SameForms l.initial.run l.run;
+  few : l.taken ≤ l.steps;
+}
+
+abbrev pub decreases-loop-taken : goal.decreases-loop-taken
+decreases-loop-taken g l = l.steps - l.taken

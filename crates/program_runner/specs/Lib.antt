@@ -1,0 +1,6 @@
+pub mod Numbers
+pub mod Signatures
+pub mod Replies
+pub mod Stacks
+pub mod Events
+pub mod Outcomes

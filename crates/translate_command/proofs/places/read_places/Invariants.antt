@@ -1,7 +1,0 @@
-use Rattle.std.proofs.Common.{take}
-use Rattle.translate_command.specs.SourceReads.{ArePlacesRead}
-use Rattle.translate_command.proofs.places.read_places.Given as goal
-
--- the places up to here were read
-abbrev pub invariant-loop-place : goal.invariant-loop-place
-invariant-loop-place g l = ArePlacesRead 16777217 (take l.place-index l.places) l.texts (g.H.Shelf.state l.initial.shelf) (g.H.Shelf.state l.shelf)

@@ -1,0 +1,1 @@
+pub use Rattle.procedure_emission.proofs.c_laws

@@ -1,0 +1,1 @@
+pub use Rattle.plain_forms.proofs.lowering_laws

@@ -1,0 +1,1 @@
+pub use Rattle.unit_file.proofs.c_laws

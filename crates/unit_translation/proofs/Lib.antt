@@ -1,0 +1,1 @@
+pub use Rattle.unit_sites.proofs.c_laws
