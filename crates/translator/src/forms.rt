@@ -1,5 +1,5 @@
-//! The forms of statements that are translated: no shared storage, no initial values, no type CHARACTER, no label in a variable or as an argument, and no
-//! input or output but by lists. Sections 8 to 12 and 15.
+//! The forms of statements that are translated: no shared storage, no initial values, no type CHARACTER, no GO TO by a variable without its labels, no label
+//! as an argument, and no input or output but by lists. Sections 8 to 12 and 15.
 
 ghost use Rattle.std.specs.List.{list_all};
 ghost use Rattle.std.specs.Prelude.{◌≡◌};
