@@ -228,17 +228,17 @@ module _ (lfs : List (List LoweredUnit)) (plain : ArePlainUnits (all_lowered lfs
 
   -- ## A file
 
-  module _ (fs : List UnitsOfFile) (r : AreRendered lfs fs) (f : UnitsOfFile) (part : List Rendering) (of : AreOfOneFile r.renderings f part) where
+  module _ (fs : List UnitsOfFile) (r : AreRendered lfs fs) (f : UnitsOfFile) (these : List Rendering) (of : AreOfOneFile r.renderings f these) where
     abbrev zs : List ℤ
     zs = f.constants
 
     abbrev place_of : ℕ → ℕ
     place_of i = length of.before + i
 
-    there : (i : ℕ) (x : Rendering) → slice_get part i ≡ Some x → slice_get r.renderings (place_of i) ≡ Some x
-    there i x at = stands_in r.renderings f part of i x at
+    there : (i : ℕ) (x : Rendering) → slice_get these i ≡ Some x → slice_get r.renderings (place_of i) ≡ Some x
+    there i x at = stands_in r.renderings f these of i x at
 
-    function_spelled : (i : ℕ) (x : Rendering) → slice_get part i ≡ Some x → IsSpellable x
+    function_spelled : (i : ℕ) (x : Rendering) → slice_get these i ≡ Some x → IsSpellable x
     function_spelled i x at =
         let j = place_of i in
         let own = r.each j x (there i x at) in
@@ -256,19 +256,19 @@ module _ (lfs : List (List LoweredUnit)) (plain : ArePlainUnits (all_lowered lfs
         }
 
     -- the functions of the file are those of its units
-    own_by : (test : List ℕ → Bool) → ((j : ℕ) (u : LoweredUnit) → slice_get us j ≡ Some u → test (function_name u.unit) ≡ true) → (name : List ℕ) → IsIn name (own_names (inventories (written_of part))) → test name ≡ true
-    own_by test each name o = let found = rendered_in part name o in ap test (sym found.is) ∙ by found.from found.among
+    own_by : (test : List ℕ → Bool) → ((j : ℕ) (u : LoweredUnit) → slice_get us j ≡ Some u → test (function_name u.unit) ≡ true) → (name : List ℕ) → IsIn name (own_names (inventories (written_of these))) → test name ≡ true
+    own_by test each name o = let found = rendered_in these name o in ap test (sym found.is) ∙ by found.from found.among
       where
-        by : (x : Rendering) → IsIn x part → test x.written.inventory.name ≡ true
+        by : (x : Rendering) → IsIn x these → test x.written.inventory.name ≡ true
         by x p =
-            let place = at_in x part p in
+            let place = at_in x these p in
             let j = place_of place.index in
             let own = r.each j x (there place.index x place.at) in ap (λ (v : Inventory). test v.name) own.inventory ∙ each j own.unit own.at
 
     constant_small : (z : ℤ) → IsIn z zs → c_names.IsNumbered (ConstantOf z)
     constant_small z o =
         let place = at_in z zs o in
-        let x = some_at part 0 of.some in
+        let x = some_at these 0 of.some in
         small_magnitude z (r.translated.numbers (place_of 0) x.0 (there 0 x.0 x.1) place.index z (ap (λ constants. slice_get constants place.index) (of.constants 0 x.0 x.1) ∙ place.at))
 
     constant_named : (name : List ℕ) → IsIn name (constant_names zs) → is_name name ≡ true
@@ -277,17 +277,17 @@ module _ (lfs : List (List LoweredUnit)) (plain : ArePlainUnits (all_lowered lfs
     constant_open : (name : List ℕ) → IsIn name (constant_names zs) → closes name ≡ false
     constant_open name o = let found = in_map (λ z. made_name (ConstantOf z)) zs name o in subst (λ x. closes x ≡ false) found.is (constant_closes found.from (constant_small found.from found.among))
 
-    file_named : (name : List ℕ) → InEither name (constant_names zs) (own_names (inventories (written_of part))) → is_name name ≡ true
+    file_named : (name : List ℕ) → InEither name (constant_names zs) (own_names (inventories (written_of these))) → is_name name ≡ true
     file_named name (in_one p) = constant_named name p
     file_named name (in_other p) = own_by is_name function_word name p
 
-    pub file_is_spellable : AreSpellable zs part
+    pub file_is_spellable : AreSpellable zs these
     file_is_spellable = record {
       functions = function_spelled;
       names =
-          each_told is_name (constant_names zs ++ own_names (inventories (written_of part)))
-          (λ name o. file_named name (in_either name (constant_names zs) (own_names (inventories (written_of part))) o));
+          each_told is_name (constant_names zs ++ own_names (inventories (written_of these)))
+          (λ name o. file_named name (in_either name (constant_names zs) (own_names (inventories (written_of these))) o));
       apart = λ i name at.
-          none_by name (own_names (inventories (written_of part)))
+          none_by name (own_names (inventories (written_of these)))
           (λ other o same. let no : true ≡ false = sym (own_by closes function_closes other o) ∙ ap closes (sym same) ∙ constant_open name (in_at (constant_names zs) i name at) in absurd (cc));
     }

@@ -134,9 +134,9 @@ length_is unit v storage all one n o is =
 -- ## The functions
 
 -- a unit of the file among all
-pub stands_in : (rs : List Rendering) (f : UnitsOfFile) (part : List Rendering) → (of : AreOfOneFile rs f part) → (i : ℕ) (r : Rendering) → slice_get part i ≡ Some r → slice_get rs (length of.before + i) ≡ Some r
-stands_in rs f part of i r at =
-    ap (λ all. slice_get all (length of.before + i)) of.whole ∙ get_back of.before (part ++ of.behind) (length of.before + i) i r refl (get_front part of.behind i r at)
+pub stands_in : (rs : List Rendering) (f : UnitsOfFile) (these : List Rendering) → (of : AreOfOneFile rs f these) → (i : ℕ) (r : Rendering) → slice_get these i ≡ Some r → slice_get rs (length of.before + i) ≡ Some r
+stands_in rs f these of i r at =
+    ap (λ all. slice_get all (length of.before + i)) of.whole ∙ get_back of.before (these ++ of.behind) (length of.before + i) i r refl (get_front these of.behind i r at)
 
 distinct_front : (names more : List (List ℕ)) → AreDistinct (names ++ more) → AreDistinct names
 distinct_front names more distinct i j name at other = distinct i j name (get_front names more i name at) (get_front names more j name other)
@@ -146,21 +146,21 @@ distinct_back names more distinct i j name at other =
     let same : length names + i ≡ length names + j = distinct (length names + i) (length names + j) name (get_back names more (length names + i) i name refl at) (get_back names more (length names + j) j name refl other) in
     omega (arith, same)
 
-names_split : (before part behind : List Rendering) → names_in (written_of (before ++ (part ++ behind))) ≡ names_in (written_of before) ++ (names_in (written_of part) ++ names_in (written_of behind))
+names_split : (before these behind : List Rendering) → names_in (written_of (before ++ (these ++ behind))) ≡ names_in (written_of before) ++ (names_in (written_of these) ++ names_in (written_of behind))
 names_split [] [] behind = refl
-names_split [] (r ∷ part) behind = ap (λ names. r.written.inventory.name ∷ names) (names_split [] part behind)
-names_split (r ∷ before) part behind = ap (λ names. r.written.inventory.name ∷ names) (names_split before part behind)
+names_split [] (r ∷ these) behind = ap (λ names. r.written.inventory.name ∷ names) (names_split [] these behind)
+names_split (r ∷ before) these behind = ap (λ names. r.written.inventory.name ∷ names) (names_split before these behind)
 
 -- its functions are told apart as all are
-part_distinct : (rs : List Rendering) (f : UnitsOfFile) (part : List Rendering) → AreOfOneFile rs f part → AreDistinct (names_in (written_of rs)) → AreDistinct (names_in (written_of part))
-part_distinct rs f part of distinct =
-    distinct_front (names_in (written_of part)) (names_in (written_of of.behind))
-    (distinct_back (names_in (written_of of.before)) (names_in (written_of part) ++ names_in (written_of of.behind))
-    (subst AreDistinct (ap (λ all. names_in (written_of all)) of.whole ∙ names_split of.before part of.behind) distinct))
+part_distinct : (rs : List Rendering) (f : UnitsOfFile) (these : List Rendering) → AreOfOneFile rs f these → AreDistinct (names_in (written_of rs)) → AreDistinct (names_in (written_of these))
+part_distinct rs f these of distinct =
+    distinct_front (names_in (written_of these)) (names_in (written_of of.behind))
+    (distinct_back (names_in (written_of of.before)) (names_in (written_of these) ++ names_in (written_of of.behind))
+    (subst AreDistinct (ap (λ all. names_in (written_of all)) of.whole ∙ names_split of.before these of.behind) distinct))
 
-module _ (fs : List UnitsOfFile) (rs : List Rendering) (is : IsTranslatedSet fs rs) (f : UnitsOfFile) (part : List Rendering) (of : AreOfOneFile rs f part) (spellable : AreSpellable f.constants part) where
+module _ (fs : List UnitsOfFile) (rs : List Rendering) (is : IsTranslatedSet fs rs) (f : UnitsOfFile) (these : List Rendering) (of : AreOfOneFile rs f these) (spellable : AreSpellable f.constants these) where
   abbrev ws : List WrittenUnit
-  ws = written_of part
+  ws = written_of these
 
   abbrev constants : List ℤ
   constants = f.constants
@@ -177,7 +177,7 @@ module _ (fs : List UnitsOfFile) (rs : List Rendering) (is : IsTranslatedSet fs 
       let one = at_in x (constant_names constants) o in
       none_among x (names_in ws) (λ y p same. let other = at_in y (names_in ws) p in spellable.apart one.index x one.at other.index (other.at ∙ ap Some (sym same)))
 
-  module _ (i : ℕ) (r : Rendering) (at : slice_get part i ≡ Some r) (names : List (List ℕ))
+  module _ (i : ℕ) (r : Rendering) (at : slice_get these i ≡ Some r) (names : List (List ℕ))
       (apart : (x : List ℕ) → is_among x (linked.names_of (declared_constants (map constant_for constants))) ≡ true → is_among x (names ++ r.written.inventory.name ∷ []) ≡ false) where
     abbrev v : Inventory
     v = r.written.inventory
@@ -192,7 +192,7 @@ module _ (fs : List UnitsOfFile) (rs : List Rendering) (is : IsTranslatedSet fs 
     later_names = local_names (unit_locals v)
 
     there : slice_get rs j ≡ Some r
-    there = stands_in rs f part of i r at
+    there = stands_in rs f these of i r at
 
     unit : IsTranslatedUnit rs j r
     unit = is.units j r there
@@ -251,7 +251,7 @@ module _ (fs : List UnitsOfFile) (rs : List Rendering) (is : IsTranslatedSet fs 
 
   each : (before : List WrittenUnit) (w : WrittenUnit) (after : List WrittenUnit) → ws ≡ before ++ w ∷ after → IsSpelled (ReadsFunction (with_functions of_constants (names_in before)) (unit_function w))
   each before w after same =
-      let r = map_back (λ (q : Rendering). q.written) part (length before) w (ap (λ zs. slice_get zs (length before)) same ∙ at_back before w after) in
+      let r = map_back (λ (q : Rendering). q.written) these (length before) w (ap (λ zs. slice_get zs (length before)) same ∙ at_back before w after) in
       subst (λ (z : WrittenUnit). IsSpelled (ReadsFunction (with_functions of_constants (names_in before)) (unit_function z))) r.2 (one_spelled (length before) r.0 r.1 (names_in before) (none_of r.0 r.2))
     where
       none_of : (r : Rendering) → r.written ≡ w → (x : List ℕ) → is_among x (linked.names_of (declared_constants (map constant_for constants))) ≡ true → is_among x (names_in before ++ r.written.inventory.name ∷ []) ≡ false
@@ -263,19 +263,19 @@ module _ (fs : List UnitsOfFile) (rs : List Rendering) (is : IsTranslatedSet fs 
 
   constants_distinct : AreDistinct (constant_names constants)
   constants_distinct =
-      let r = some_at part 0 of.some in
-      subst (λ zs. AreDistinct (constant_names zs)) (of.constants 0 r.0 r.1) (is.units (length of.before + 0) r.0 (stands_in rs f part of 0 r.0 r.1)).built.differ.constants
+      let r = some_at these 0 of.some in
+      subst (λ zs. AreDistinct (constant_names zs)) (of.constants 0 r.0 r.1) (is.units (length of.before + 0) r.0 (stands_in rs f these of 0 r.0 r.1)).built.differ.constants
 
   constants_fit : (i : ℕ) (z : ℤ) → slice_get constants i ≡ Some z → in_range z ≡ true
   constants_fit i z at =
-      let r = some_at part 0 of.some in
-      is.numbers (length of.before + 0) r.0 (stands_in rs f part of 0 r.0 r.1) i z (ap (λ zs. slice_get zs i) (of.constants 0 r.0 r.1) ∙ at)
+      let r = some_at these 0 of.some in
+      is.numbers (length of.before + 0) r.0 (stands_in rs f these of 0 r.0 r.1) i z (ap (λ zs. slice_get zs i) (of.constants 0 r.0 r.1) ∙ at)
 
   all_names_new : AllNew [] (constant_texts (map constant_for constants) ++ names_in ws)
   all_names_new =
       subst (λ names. AllNew [] (names ++ names_in ws)) (sym constant_words)
       (all_new [] (constant_names constants ++ names_in ws) (λ name o. all_words (constant_names constants ++ names_in ws) spellable.names name o)
-      (apart_append (constant_names constants) (names_in ws) (apart_by (constant_names constants) constants_distinct) (apart_by (names_in ws) (part_distinct rs f part of is.differ))
+      (apart_append (constant_names constants) (names_in ws) (apart_by (constant_names constants) constants_distinct) (apart_by (names_in ws) (part_distinct rs f these of is.differ))
       (λ x y p q same. let one = at_in x (constant_names constants) p in let other = at_in y (names_in ws) q in spellable.apart one.index x one.at other.index (other.at ∙ ap Some (sym same))))
       (λ x y p q. elim q [ ]))
 
@@ -283,4 +283,4 @@ module _ (fs : List UnitsOfFile) (rs : List Rendering) (is : IsTranslatedSet fs 
   formed = file_spelled constants ws (constant_fit constants (λ z o. let there = at_in z constants o in constants_fit there.index z there.at)) all_names_new each
 
 pub unit_files_are_well_formed : UnitFilesAreWellFormed
-unit_files_are_well_formed fs rs is f part of spellable = subst (λ units. WellFormed (units_file f.constants units)) of.written (formed fs rs is f part of spellable)
+unit_files_are_well_formed fs rs is f these of spellable = subst (λ units. WellFormed (units_file f.constants units)) of.written (formed fs rs is f these of spellable)
