@@ -35,7 +35,7 @@ use Rattle.check_command.specs.PrototypeFiles.{HaveShapes, IsFirstBad, AreProtot
 use Rattle.check_command.specs.Listing.{file_names, AreListed}
 use Rattle.check_command.specs.CheckSteps.{SetChecked, listed, unread, IsRefusedIn, IsNotJudged, SourceChecked, judged, refused, no_memory}
 use Rattle.check_command.specs.CheckEnds.{AreFoundOn, EndedFound, IsBadOn, EndedNotPrototype, source_away, prototype_away, source_failed, prototype_failed, CheckEnded}
-use Rattle.check_command.proofs.FrontLemmas.{most_is}
+use Rattle.prototype_outputs.proofs.FrontLemmas.{most_is}
 use Rattle.check_command.proofs.ShelfLemmas.{shapes_on, parted, shapes_before, refused_on_shelf}
 
 -- WRITING AND READING, from the shelf as it was before

@@ -1,5 +1,4 @@
 mod ReadLemmas
-mod FrontLemmas
 mod ShelfLemmas
 mod ListingLemmas
 mod Endings

@@ -12,7 +12,7 @@ use Rattle.source_files.specs.SourceOnShelf.{files_on}
 use Rattle.source_files.specs.SourceReads.{place_fronts}
 use Rattle.source_files.proofs.ListLemmas.{some_same, IsMappedAt, mapped_at}
 use Rattle.check_command.specs.PrototypeFiles.{ArePrototypeFiles, HaveShapes, IsFirstBad}
-use Rattle.check_command.proofs.FrontLemmas.{refused_front, file_of_front}
+use Rattle.prototype_outputs.proofs.FrontLemmas.{refused_front, file_of_front}
 
 files_on_shelf : (n : ℕ) (c : Contents) (places : List Place) (files : List (List Prototype)) → n ≡ suc most_bytes → ArePrototypeFiles (place_fronts n c places) files →
     ArePrototypeFiles (files_on c places) files

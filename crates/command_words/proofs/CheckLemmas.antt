@@ -1,43 +1,27 @@
 -- Words of a check, one after the other.
-use Rattle.std.specs.Prelude.{◌≡◌, ℕ, suc, ◌+◌, ◌<◌, ◌≤◌, Bool, true, false, List, length, take, drop, Option, Some, None, if◌then◌else◌}
-use Rattle.std.specs.List.{list_any}
-use Rattle.std.proofs.Common.{refl, sym, ap, ◌∙◌, arith}
-use Rattle.std.proofs.lemmas.List.{drop_all, take_all}
+use Rattle.std.specs.Prelude.{◌≡◌, ℕ, suc, ◌+◌, ◌<◌, ◌≤◌, Bool, true, false, List, length, drop, Option, Some, None, if◌then◌else◌}
+use Rattle.std.proofs.Common.{sym, ap, ◌∙◌}
+use Rattle.std.proofs.lemmas.List.{drop_all}
 use Rattle.f2c_outside.specs.Texts.{word_at}
-use Rattle.command_words.specs.CommandWords.{names_a_file, is_some_file, is_some_checked, first_unchecked}
-use Rattle.command_words.proofs.WordLemmas.{plus_one, there, the_word, found_by, passed_by}
-
--- one of the words names a file
-pub file_found : (words : List (List ℕ)) (passed : ℕ) → passed < length words → is_some_file (word_at (passed + 1) words) ≡ true → list_any names_a_file words ≡ true
-file_found words passed within is =
-    sym (ap (list_any names_a_file) (take_all (length words) words (omega arith)))
-    ∙ found_by names_a_file is_some_file words (length words) passed (λ other. refl) within (omega arith) is
-
-pub file_passed : (words : List (List ℕ)) (passed : ℕ) → passed < length words → is_some_file (word_at (passed + 1) words) ≡ false →
-    list_any names_a_file (take passed words) ≡ false → list_any names_a_file (take (passed + 1) words) ≡ false
-file_passed words passed within is none = passed_by names_a_file is_some_file words passed (λ other. refl) within is none
-
-pub file_nowhere : (words : List (List ℕ)) (passed : ℕ) → length words ≤ passed → list_any names_a_file (take passed words) ≡ false → list_any names_a_file words ≡ false
-file_nowhere words passed past none = sym (ap (list_any names_a_file) (take_all passed words past)) ∙ none
+use Rattle.command_words.specs.CommandWords.{is_some_file, first_unchecked}
+use Rattle.command_words.proofs.WordLemmas.{plus_one, there, the_word}
 
 -- a check goes on with a word
-step : (words : List (List ℕ)) (passed : ℕ) (b : Bool) → passed < length words → is_some_checked (word_at (passed + 1) words) ≡ b →
+step : (words : List (List ℕ)) (passed : ℕ) (b : Bool) → passed < length words → is_some_file (word_at (passed + 1) words) ≡ b →
     first_unchecked (passed + 1) (drop passed words) ≡ (if b then first_unchecked (suc (passed + 1)) (drop (suc passed) words) else Some (passed + 1))
 unfolding first_unchecked
 step words passed b within is =
     let w = the_word words passed within in
     ap (first_unchecked (passed + 1)) (there words passed w.word w.at)
-    ∙ ap (λ t. if t then first_unchecked (suc (passed + 1)) (drop (suc passed) words) else Some (passed + 1)) (sym (ap is_some_checked w.numbered) ∙ is)
+    ∙ ap (λ t. if t then first_unchecked (suc (passed + 1)) (drop (suc passed) words) else Some (passed + 1)) (sym (ap is_some_file w.numbered) ∙ is)
 
-pub goes_on : (words : List (List ℕ)) (passed : ℕ) (all : Option ℕ) → passed < length words → is_some_checked (word_at (passed + 1) words) ≡ true →
-    all ≡ first_unchecked (passed + 1) (drop passed words) → (passed + 1 ≤ length words) × (all ≡ first_unchecked (passed + 1 + 1) (drop (passed + 1) words))
-goes_on words passed all within on is = (
-  omega (arith, within),
-  is ∙ step words passed true within on ∙ ap (λ n. first_unchecked n (drop (suc passed) words)) (sym (plus_one (passed + 1)))
-      ∙ ap (λ n. first_unchecked (passed + 1 + 1) (drop n words)) (sym (plus_one passed)),
-)
+pub goes_on : (words : List (List ℕ)) (passed : ℕ) (all : Option ℕ) → passed < length words → is_some_file (word_at (passed + 1) words) ≡ true →
+    all ≡ first_unchecked (passed + 1) (drop passed words) → all ≡ first_unchecked (passed + 1 + 1) (drop (passed + 1) words)
+goes_on words passed all within on is =
+    is ∙ step words passed true within on ∙ ap (λ n. first_unchecked n (drop (suc passed) words)) (sym (plus_one (passed + 1)))
+    ∙ ap (λ n. first_unchecked (passed + 1 + 1) (drop n words)) (sym (plus_one passed))
 
-pub stops : (words : List (List ℕ)) (passed : ℕ) (all : Option ℕ) → passed < length words → is_some_checked (word_at (passed + 1) words) ≡ false →
+pub stops : (words : List (List ℕ)) (passed : ℕ) (all : Option ℕ) → passed < length words → is_some_file (word_at (passed + 1) words) ≡ false →
     all ≡ first_unchecked (passed + 1) (drop passed words) → Some (passed + 1) ≡ all
 stops words passed all within on is = sym (is ∙ step words passed false within on)
 

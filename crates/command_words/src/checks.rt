@@ -1,7 +1,6 @@
 //! The words of a check of calls.
 
-ghost use Rattle.std.specs.Prelude.{◌≡◌};
-ghost use Rattle.std.specs.List.{list_any};
+ghost use Rattle.std.specs.Prelude.{◌≡◌, drop};
 ghost use Rattle.f2c_outside.specs.Texts.{word_at};
 ghost use Rattle.command_words.specs.CommandWords as words_of;
 
@@ -10,8 +9,12 @@ use f_tree::names::Options;
 use f2c_outside::texts::Words;
 use output_names::{is_file_word, is_prototype_word};
 
-/// The word that asks that calls be checked.
-pub(crate) const CHECK: &[u8] = b"-check";
+/// Whether a word asks that calls be checked.
+pub(crate) fn is_check(word: &[u8]) -> bool
+    ensures { result ≡ words_of.is_check word.now }
+{
+    word == b"-check".as_slice()
+}
 
 /// Whether a word names a file of a check.
 fn names_a_file(word: &[u8]) -> bool
@@ -30,39 +33,14 @@ fn is_file(words: &Words, number: usize) -> bool
     }
 }
 
-/// Whether there is a word with this number, with which a check goes on.
-fn is_checked(words: &Words, number: usize) -> bool
-    ensures { result ≡ words_of.is_some_checked (word_at number words.now) }
-{
-    match words.get(number) {
-        Some(word) => word == CHECK || names_a_file(word),
-        None => false,
-    }
-}
-
-/// Whether a word names a file.
-#[tactic(auto, using(crate::proofs::CheckLemmas::file_found, crate::proofs::CheckLemmas::file_passed, crate::proofs::CheckLemmas::file_nowhere))]
-fn has_file(words: &Words) -> bool
-    ensures { result ≡ list_any words_of.names_a_file words.now }
-{
-    let mut passed = 0;
-    while passed < words.len() {
-        if is_file(words, passed + 1) {
-            return true;
-        }
-        passed += 1;
-    }
-    false
-}
-
-/// The number of the first word with which no check goes on.
+/// The number of the first word behind the first with which no check goes on.
 #[tactic(auto, using(crate::proofs::CheckLemmas::goes_on, crate::proofs::CheckLemmas::stops, crate::proofs::CheckLemmas::ends))]
 fn first_unchecked(words: &Words) -> Option<usize>
-    ensures { result ≡ words_of.first_unchecked 1 words.now }
+    ensures { result ≡ words_of.first_unchecked 2 (drop 1 words.now) }
 {
-    let mut passed = 0;
+    let mut passed = 1;
     while passed < words.len() {
-        if !is_checked(words, passed + 1) {
+        if !is_file(words, passed + 1) {
             return Some(passed + 1);
         }
         passed += 1;
@@ -82,13 +60,13 @@ fn no_options() -> Options
     }
 }
 
-/// A check, unless it does not go on with a word, or no word names a file.
+/// A check, unless it does not go on with a word behind the first, or a file is missing there.
 pub(crate) fn check_by(words: &Words) -> Command
-    ensures { result ≡ words_of.check_by words.now (words_of.first_unchecked 1 words.now) }
+    ensures { result ≡ words_of.check_by words.now (words_of.first_unchecked 2 (drop 1 words.now)) }
 {
     match first_unchecked(words) {
         Some(number) => Command::BadWord(number),
-        None if has_file(words) => Command::Check(no_options()),
-        None => Command::BadWord(1),
+        None if 1 < words.len() => Command::Check(no_options()),
+        None => Command::BadWord(2),
     }
 }

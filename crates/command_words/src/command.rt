@@ -6,10 +6,11 @@ ghost use Rattle.f2c_outside.specs.Texts.{word_at};
 ghost use Rattle.output_names.specs.OutputNames.{have_one_output};
 ghost use Rattle.command_words.specs.CommandWords as words_of;
 
-use crate::checks::{CHECK, check_by};
+use crate::checks::{check_by, is_check};
+use crate::sources::{lacks_a_file, one_past};
 use f_tree::names::Options;
 use f2c_outside::texts::Words;
-use output_names::{have_one_output, is_file_word};
+use output_names::{have_one_output, is_file_word, is_prototype_word};
 
 /// Where splitting reads.
 #[derive(Clone, Copy)]
@@ -20,11 +21,22 @@ pub enum Origin {
     Word(usize),
 }
 
+/// How files are to be translated.
+#[derive(Clone, Copy)]
+pub struct Translation {
+    /// The options of the language.
+    pub options: Options,
+    /// Whether the prototypes of each file are written, too.
+    pub prototypes: bool,
+    /// Whether they are compared with those that were written before.
+    pub compared: bool,
+}
+
 /// What is to be done.
 #[derive(Clone, Copy)]
 pub enum Command {
-    /// Read the files that the words name, or Input, to their ends, and write their translations, under these options.
-    Translate(Options),
+    /// Read the files that the words name, or Input, to their ends, and write their translations.
+    Translate(Translation),
     /// Cut what is read there into its pieces, one for each program unit, and write each to a file of its own.
     Split(Origin),
     /// Read the files that the words name to their ends, and list the calls that disagree with what they call, under these options.
@@ -65,7 +77,20 @@ fn changes_nothing(word: &[u8]) -> bool
     word == b"-A".as_slice() || word == b"-w".as_slice() || word == b"-!bs".as_slice()
 }
 
-/// Whether a word is an option of a translation.
+/// The option by which prototypes are written.
+const WITH_PROTOTYPES: &[u8] = b"-P";
+
+/// The option by which they are compared with those that were written before, too.
+const WITH_COMPARISON: &[u8] = b"-Ps";
+
+/// Whether a word asks for prototypes.
+pub(crate) fn is_prototype_option(word: &[u8]) -> bool
+    ensures { result ≡ words_of.is_prototype_option word.now }
+{
+    word == WITH_PROTOTYPES || word == WITH_COMPARISON
+}
+
+/// Whether a word is an option of the language.
 fn is_option(word: &[u8]) -> bool
     ensures { result ≡ words_of.is_option word.now }
 {
@@ -143,7 +168,12 @@ fn goes_on(words: &Words, passed: usize) -> bool
     let count = words.len();
     prove!(passed < count);
     match words.get(passed + 1) {
-        Some(word) => is_option(word) || (is_file_word(word) && !is_taken(words, passed, word)),
+        Some(word) => {
+            is_option(word)
+                || is_prototype_option(word)
+                || is_prototype_word(word)
+                || (is_file_word(word) && !is_taken(words, passed, word))
+        }
         None => false,
     }
 }
@@ -163,13 +193,26 @@ fn first_other(words: &Words) -> Option<usize>
     None
 }
 
-/// A translation under options, unless it does not go on with a word.
+/// The translation that the words ask for.
+fn translation_of(words: &Words) -> Translation
+    ensures { result ≡ words_of.translation_of words.now }
+{
+    let compared = has_word(words, WITH_COMPARISON);
+    Translation {
+        options: options_of(words),
+        prototypes: has_word(words, WITH_PROTOTYPES) || compared,
+        compared,
+    }
+}
+
+/// A translation, unless it does not go on with a word, or a FORTRAN file is missing behind the last.
 fn translation_by(words: &Words) -> Command
     ensures { result ≡ words_of.translation_by words.now (words_of.first_other 1 [] words.now) }
 {
     match first_other(words) {
         Some(number) => Command::BadWord(number),
-        None => Command::Translate(options_of(words)),
+        None if lacks_a_file(words) => Command::BadWord(one_past(words)),
+        None => Command::Translate(translation_of(words)),
     }
 }
 
@@ -185,9 +228,9 @@ fn split_by(words: &Words) -> Command
     }
 }
 
-/// The command that the words ask for: translation where they are options and files, splitting where `-split` is the first and a FORTRAN
-/// file at most stands behind it, the usage where `-h` or `--help` is the only one, and a check of calls where they are `-check` and files, in any
-/// order, one file at least. No other command has a word yet.
+/// The command that the words ask for: translation where they are options and files, in any order, of which one names FORTRAN where a word asks for
+/// prototypes; splitting where `-split` is the first and a FORTRAN file at most stands behind it; the usage where `-h` or `--help` is the only one; and a
+/// check of calls where `-check` is the first and files stand behind it, one at least. No other command has a word yet.
 pub fn command_of_words(words: &Words) -> Command
     ensures { result ≡ words_of.command_of words.now }
 {
@@ -195,7 +238,7 @@ pub fn command_of_words(words: &Words) -> Command
         Some(first) if is_split(first) => split_by(words),
         Some(first) if is_help(first) && words.len() == 1 => Command::Help,
         Some(first) if is_help(first) => Command::BadWord(2),
-        Some(_) if has_word(words, CHECK) => check_by(words),
+        Some(first) if is_check(first) => check_by(words),
         _ => translation_by(words),
     }
 }

@@ -4,5 +4,6 @@
 
 mod checks;
 mod command;
+mod sources;
 
-pub use command::{Command, Origin, command_of_words};
+pub use command::{Command, Origin, Translation, command_of_words};

@@ -255,6 +255,7 @@ rows_check options words froms prototypes b m a outcome.Done ran said silent = r
 rows_check options words froms prototypes b m a outcome.Disagree ran said silent = rows_disagreeing options froms prototypes b m a ran said (silent tt)
 rows_check options words froms prototypes b m a (outcome.Refused refusal name) ran said silent = rows_refused options froms prototypes refusal name b m a ran said
 rows_check options words froms prototypes b m a (outcome.NotPrototype name line) ran said silent = rows_not_prototype options froms prototypes name line b m a ran said
+rows_check options words froms prototypes b m a outcome.Changed ran said silent = absurd ran
 rows_check options words froms prototypes b m a (outcome.BadWord number) ran said silent = absurd ran
 rows_check options words froms prototypes b m a (outcome.NotThere name) ran said silent = rows_away options froms prototypes name b m a ran said
 rows_check options words froms prototypes b m a (outcome.Unread place) ran said silent = rows_failed options froms prototypes place b m a ran said

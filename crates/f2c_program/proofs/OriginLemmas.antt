@@ -1,6 +1,5 @@
 -- Where the words of a command line let a command read.
-use Rattle.std.proofs.Common.{◌≡◌, ℕ, ◌≤◌, Bool, true, false, List, [], length, refl, sym, ◌∙◌, subst, arith, Option, Some, None}
-use Rattle.std.specs.List.{list_any}
+use Rattle.std.proofs.Common.{◌≡◌, ℕ, ◌≤◌, Bool, true, false, List, [], length, drop, refl, sym, ◌∙◌, subst, arith, Option, Some, None}
 use Rattle.std.specs.Prelude.{◌&&◌, nat_lt, nat_le, nat_eq, IsSomeAnd, if◌then◌else◌}
 use Rattle.std.proofs.lemmas.Bool.{and_parts}
 use Rattle.std.proofs.lemmas.Bool.Decides.{nat_tests}
@@ -9,10 +8,10 @@ use Rattle.f2c_outside.specs.Shelf.{IsSource}
 use Rattle.f2c_outside.specs.Texts.{word_at, IsName}
 use Rattle.output_names.specs.OutputNames.{has_ending, is_file_word}
 use Rattle.command_words.specs.declared.command.Command.{Command}
-use Rattle.command_words.specs.declared.command.Command.TheVariants.{Split, Check, Help, BadWord}
+use Rattle.command_words.specs.declared.command.Command.TheVariants.{Translate, Split, Check, Help, BadWord}
 use Rattle.command_words.specs.declared.command.Origin.{Origin}
 use Rattle.command_words.specs.declared.command.Origin.TheVariants as origin
-use Rattle.command_words.specs.CommandWords.{is_help, is_split, has_word, check_word, names_a_file, no_options, first_unchecked, check_by, first_other, translation_by, split_by, place_from, command_for, command_of}
+use Rattle.command_words.specs.CommandWords.{is_help, is_split, is_check, no_options, first_unchecked, check_by, first_other, lacks_a_file, one_past, translation_of, translation_by, split_by, place_from, command_for, command_of}
 use Rattle.f2c_program.specs.SplitOutcomes.{IsOrigin}
 
 at_least : (n : ℕ) → nat_lt 2 n ≡ true → 3 ≤ n
@@ -42,16 +41,20 @@ by_second : (words : List (List ℕ)) (second : Option (List ℕ)) (found : Orig
 by_second words None found second_is same = let its : origin.Input ≡ found = cc in subst (IsOrigin words) its tt
 by_second words (Some word) found second_is same = by_word words word (is_file_word word) (nat_eq (length words) 2) found second_is refl same
 
+no_file_translation : (words : List (List ℕ)) (lacks : Bool) (found : Origin) → (if lacks then BadWord (one_past words) else Translate (translation_of words)) ≡ Split found → ⊥
+no_file_translation words true found same = cc
+no_file_translation words false found same = cc
+
 no_translation : (words : List (List ℕ)) (other : Option ℕ) (found : Origin) → translation_by words other ≡ Split found → ⊥
-no_translation words None found same = cc
+no_translation words None found same = no_file_translation words (lacks_a_file words) found same
 no_translation words (Some number) found same = cc
 
-no_file_check : (some : Bool) (found : Origin) → (if some then Check no_options else BadWord 1) ≡ Split found → ⊥
+no_file_check : (some : Bool) (found : Origin) → (if some then Check no_options else BadWord 2) ≡ Split found → ⊥
 no_file_check true found same = cc
 no_file_check false found same = cc
 
 no_check : (words : List (List ℕ)) (unchecked : Option ℕ) (found : Origin) → check_by words unchecked ≡ Split found → ⊥
-no_check words None found same = no_file_check (list_any names_a_file words) found same
+no_check words None found same = no_file_check (nat_lt 1 (length words)) found same
 no_check words (Some number) found same = cc
 
 no_others : (words : List (List ℕ)) (checked : Bool) (unchecked other : Option ℕ) (found : Origin)
@@ -75,7 +78,7 @@ by_first words false help one checked unchecked other found same = absurd (no_he
 by_words : (words : List (List ℕ)) (first : Option (List ℕ)) (found : Origin) → command_for first words ≡ Split found → IsOrigin words found
 by_words words None found same = absurd (no_translation words (first_other 1 [] words) found same)
 by_words words (Some first) found same =
-    by_first words (is_split first) (is_help first) (nat_eq (length words) 1) (has_word check_word words) (first_unchecked 1 words) (first_other 1 [] words) found same
+    by_first words (is_split first) (is_help first) (nat_eq (length words) 1) (is_check first) (first_unchecked 2 (drop 1 words)) (first_other 1 [] words) found same
 
 pub origin_of : (words : List (List ℕ)) (asked : Command) (found : Origin) → asked ≡ command_of words → asked ≡ Split found → IsOrigin words found
 origin_of words asked found is split = by_words words (word_at 1 words) found (sym is ∙ split)

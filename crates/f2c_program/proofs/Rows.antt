@@ -6,11 +6,12 @@ use Rattle.outcomes.specs.declared.outcome.Outcome.TheVariants as outcome
 use Rattle.outcomes.specs.Outcomes.{status_of, IsSilent}
 use Rattle.outcomes.specs.Lines.{line_of, bad_word_line}
 use Rattle.outcomes.proofs.ToldLemmas.{gained}
-use Rattle.output_names.specs.WordPlaces.{inputs_of, outputs_of, files_named, prototypes_named}
+use Rattle.output_names.specs.WordPlaces.{outputs_of, files_named, prototypes_named}
 use Rattle.shelf_texts.specs.Messages.{Said}
 use Rattle.command_words.specs.declared.command.Command.{Command}
 use Rattle.command_words.specs.declared.command.Command.TheVariants as command
 use Rattle.command_words.specs.CommandWords.{place_from}
+use Rattle.f2c_program.specs.TranslateRows.{job_of}
 use Rattle.f2c_program.specs.TopCall.{WroteUsage, Ran, Commanded, HelpRows, BadWordRows, BadWordEnded}
 use Rattle.f2c_program.proofs.CheckRowLemmas.{rows_check}
 use Rattle.f2c_program.proofs.SplitRowLemmas.{rows-split}
@@ -52,6 +53,7 @@ rows_help words b m a (outcome.Unwritten place) ran said silent =
           in let less : b.faults < m.faults = ran.1.rose (omega arith) in omega arith;
     }
 rows_help words b m a outcome.Disagree ran said silent = absurd ran
+rows_help words b m a outcome.Changed ran said silent = absurd ran
 rows_help words b m a (outcome.Refused refusal name) ran said silent = absurd ran
 rows_help words b m a (outcome.NotPrototype name line) ran said silent = absurd ran
 rows_help words b m a (outcome.BadWord number) ran said silent = absurd ran
@@ -66,7 +68,8 @@ pub commanded :
     → Said (line_of words ended) m a
     → (IsSilent ended → a ≡ m)
     → Commanded words asked b a (status_of ended)
-commanded words (command.Translate options) b m a ended ran said silent = rows_translate options words (inputs_of words) (outputs_of words) b m a ended ran said silent
+commanded words (command.Translate asked) b m a ended ran said silent =
+    rows_translate asked.options words (job_of words asked) (outputs_of asked.prototypes words) b m a ended ran said silent
 commanded words (command.Split origin) b m a ended ran said silent = rows-split (place_from words origin) words b m a ended ran said silent
 commanded words (command.Check options) b m a ended ran said silent =
     rows_check options words (files_named words) (prototypes_named words) b m a ended ran said silent

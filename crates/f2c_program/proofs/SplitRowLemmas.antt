@@ -292,6 +292,7 @@ by_missing from words b m a (outcome.NotThere name) missing is said = rows-not_t
 by_missing from words b m a outcome.NoMemory missing is said = rows-no_memory from b m a missing.kept said
 by_missing from words b m a outcome.Done missing is said = absurd is
 by_missing from words b m a outcome.Disagree missing is said = absurd is
+by_missing from words b m a outcome.Changed missing is said = absurd is
 by_missing from words b m a (outcome.NotPrototype name line) missing is said = absurd is
 by_missing from words b m a (outcome.Refused refusal name) missing is said = absurd is
 by_missing from words b m a (outcome.BadWord number) missing is said = absurd is
@@ -306,6 +307,7 @@ by_refusal from words bytes refusal b m a (outcome.Refused r name) read long is 
 by_refusal from words bytes refusal b m a outcome.NoMemory read long is said = rows-no_memory from b m a long.kept said
 by_refusal from words bytes refusal b m a outcome.Done read long is said = absurd is
 by_refusal from words bytes refusal b m a outcome.Disagree read long is said = absurd is
+by_refusal from words bytes refusal b m a outcome.Changed read long is said = absurd is
 by_refusal from words bytes refusal b m a (outcome.NotPrototype name line) read long is said = absurd is
 by_refusal from words bytes refusal b m a (outcome.BadWord number) read long is said = absurd is
 by_refusal from words bytes refusal b m a (outcome.NotThere name) read long is said = absurd is

@@ -16,16 +16,17 @@ use Rattle.check_command.specs.declared.checked.Checked.TheVariants.{Agreeing, D
 use Rattle.check_command.specs.Listing.{answer_of}
 use Rattle.check_command.specs.CheckEnds.{AreFoundOn, IsBadOn, EndedListed, EndedUnlisted, EndedNotPrototype, EndedAway, EndedFailed}
 use Rattle.outcomes.specs.declared.outcome.Outcome.{Outcome}
-use Rattle.outcomes.specs.declared.outcome.Outcome.TheVariants.{Done, Disagree, Refused, NotPrototype, BadWord, NotThere, Unread, Unwritten, NoFreeName, NoMemory}
+use Rattle.outcomes.specs.declared.outcome.Outcome.TheVariants.{Done, Disagree, Changed, Refused, NotPrototype, BadWord, NotThere, Unread, Unwritten, NoFreeName, NoMemory}
 use Rattle.outcomes.specs.Lines.{refusal_line, not_prototype_line, shelf_fault_line, no_memory_line}
 use Rattle.shelf_texts.specs.ShelfLoops.{Both, IsKept, IsFront}
 use Rattle.shelf_texts.specs.Messages.{Gained}
-use Rattle.f2c_program.specs.TranslateRows.{AwayRow, MissingRow, UnreadRow, HasMissing}
+use Rattle.f2c_program.specs.TranslateRows.{AwayRow, MissingRow, UnreadRow, PrototypeUnreadRow, HasMissing}
 
 -- how a check ends with each outcome
 abbrev pub CheckEnded : Options → List Place → List Place → ShelfState → ShelfState → Outcome → Type 0
 CheckEnded options froms prototypes b a Done = EndedListed options froms prototypes Agreeing b a
 CheckEnded options froms prototypes b a Disagree = EndedListed options froms prototypes Disagreeing b a
+CheckEnded options froms prototypes b a Changed = ⊥
 CheckEnded options froms prototypes b a (Refused refusal name) = EndedRefusedFor Checking options froms refusal name b a
 CheckEnded options froms prototypes b a (NotPrototype name line) = EndedNotPrototype options froms prototypes name line b a
 CheckEnded options froms prototypes b a (BadWord number) = ⊥
@@ -64,12 +65,6 @@ pub record NotPrototypeRow (options : Options) (froms prototypes : List Place) (
 pub data CheckRefusedRow (options : Options) (froms prototypes : List Place) (before after : ℕ) (b a : Contents) : Type 0 where
   refused : RefusedSetRow options froms before after b a → CheckRefusedRow options froms prototypes before after b a
   not_prototype : NotPrototypeRow options froms prototypes before after b a → CheckRefusedRow options froms prototypes before after b a
-
--- status 3 where reading a prototype file failed: the line on Fault names it, and nothing else changed
-pub record PrototypeUnreadRow (prototypes : List Place) (before after : ℕ) (b a : Contents) : Type 0 where
-  pub place : Place
-  pub among : IsPlaceAmong prototypes place
-  pub said : Gained (shelf_fault_line place) before after b a
 
 -- status 3 where writing failed: Output is unchanged or has gained a front of the lines, and the line on Fault says so
 pub record UnlistedRow (options : Options) (froms prototypes : List Place) (before after : ℕ) (b a : Contents) : Type 0 where

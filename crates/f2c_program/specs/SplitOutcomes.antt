@@ -26,6 +26,7 @@ IsRefusedAt place refusal (outcome.Refused r name) = (r ≡ refusal) × (name �
 IsRefusedAt place refusal outcome.NoMemory = Unit {0}
 IsRefusedAt place refusal outcome.Done = ⊥
 IsRefusedAt place refusal outcome.Disagree = ⊥
+IsRefusedAt place refusal outcome.Changed = ⊥
 IsRefusedAt place refusal (outcome.NotPrototype name line) = ⊥
 IsRefusedAt place refusal (outcome.BadWord number) = ⊥
 IsRefusedAt place refusal (outcome.NotThere name) = ⊥

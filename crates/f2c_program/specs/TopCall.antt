@@ -2,7 +2,7 @@
 use Rattle.std.specs.Prelude.{◌≡◌, ℕ, ◌⊎◌, List}
 use Rattle.f2c_outside.specs.declared.shelves.Place.TheVariants.{Output}
 use Rattle.f2c_outside.specs.Shelf.{ShelfState, Rose}
-use Rattle.output_names.specs.WordPlaces.{inputs_of, outputs_of, files_named, prototypes_named}
+use Rattle.output_names.specs.WordPlaces.{outputs_of, files_named, prototypes_named}
 use Rattle.outcomes.specs.declared.outcome.Outcome.{Outcome}
 use Rattle.outcomes.specs.declared.outcome.Outcome.TheVariants as outcome
 use Rattle.outcomes.specs.Outcomes.{status_of, IsSilent}
@@ -15,7 +15,7 @@ use Rattle.command_words.specs.CommandWords.{command_of, place_from}
 use Rattle.f2c_program.specs.CheckRows.{CheckEnded, CheckRows}
 use Rattle.f2c_program.specs.SplitOutcomes.{SplitRan}
 use Rattle.f2c_program.specs.SplitRows.{SplitRows}
-use Rattle.f2c_program.specs.TranslateRows.{TranslateEnded, TranslateRows}
+use Rattle.f2c_program.specs.TranslateRows.{job_of, TranslateEnded, TranslateRows}
 use Rattle.f2c_program.specs.Usage.{usage}
 
 -- the usage was written, or not for a fault
@@ -23,6 +23,7 @@ abbrev pub WroteUsage : ShelfState → ShelfState → Outcome → Type 0
 WroteUsage b a outcome.Done = IsWritten Output usage b a
 WroteUsage b a (outcome.Unwritten place) = (place ≡ Output) × IsUnwritten Output usage b a
 WroteUsage b a outcome.Disagree = ⊥
+WroteUsage b a outcome.Changed = ⊥
 WroteUsage b a (outcome.Refused refusal name) = ⊥
 WroteUsage b a (outcome.NotPrototype name line) = ⊥
 WroteUsage b a (outcome.BadWord number) = ⊥
@@ -36,10 +37,11 @@ pub record BadWordEnded (number : ℕ) (b a : ShelfState) (ended : Outcome) : Ty
   pub named : ended ≡ outcome.BadWord number
   pub kept : IsKept b a
 
--- how each command ends, before its message is written: a translation goes from the files that the words name, or Input, to their C files, or Output;
+-- how each command ends, before its message is written: a translation goes from the files that the words name, or Input, to their C files, or Output,
+-- and to the files of their prototypes;
 -- a check reads the FORTRAN files and the prototype files that they name
 abbrev pub Ran : List (List ℕ) → Command → ShelfState → ShelfState → Outcome → Type 0
-Ran words (command.Translate options) b a ended = TranslateEnded options (inputs_of words) (outputs_of words) b a ended
+Ran words (command.Translate asked) b a ended = TranslateEnded asked.options (job_of words asked) (outputs_of asked.prototypes words) b a ended
 Ran words (command.Split origin) b a ended = SplitRan (place_from words origin) b a ended
 Ran words (command.Check options) b a ended = CheckEnded options (files_named words) (prototypes_named words) b a ended
 Ran words command.Help b a ended = WroteUsage b a ended
@@ -68,7 +70,7 @@ pub record HelpRows (b a : ShelfState) (status : ℕ) : Type 0 where
 
 -- what the exit status says of each command
 abbrev pub Commanded : List (List ℕ) → Command → ShelfState → ShelfState → ℕ → Type 0
-Commanded words (command.Translate options) b a status = TranslateRows options (inputs_of words) (outputs_of words) b a status
+Commanded words (command.Translate asked) b a status = TranslateRows asked.options (job_of words asked) (outputs_of asked.prototypes words) b a status
 Commanded words (command.Split origin) b a status = SplitRows (place_from words origin) b a status
 Commanded words (command.Check options) b a status = CheckRows options (files_named words) (prototypes_named words) b a status
 Commanded words command.Help b a status = HelpRows b a status

@@ -29,7 +29,7 @@ fn carry_out<H: Shelf>(alloc: Global, words: &Words, shelf: &mut H) -> Outcome
     ensures { Ran words.now (command_of words.now) (H.state shelf.old) (H.state shelf.new) result }
 {
     match command_of_words(words) {
-        Command::Translate(options) => translate_named(alloc, words, &options, shelf),
+        Command::Translate(asked) => translate_named(alloc, words, &asked, shelf),
         Command::Split(origin) => split(alloc, words, shelf, origin),
         Command::Check(options) => check_named(alloc, words, &options, shelf),
         Command::Help => write_usage(shelf),
@@ -41,14 +41,20 @@ fn carry_out<H: Shelf>(alloc: Global, words: &Words, shelf: &mut H) -> Outcome
 ///
 /// Words that end in `.f` name files: it reads each of them to its end, in their order, and each file that an INCLUDE statement there names, judges
 /// them as one set, and, only where all are accepted, writes for each its translation: the C file with its name, `.c` in place of `.f`, in the
-/// current folder. Where no word names a file, it translates Input on Output. Other words are the options of CSTR 149 that `--help` lists. With
+/// current folder. With `-P` and `-Ps` the prototypes of its functions go behind it to the file with `.P`, and with `-Ps` these are compared with those
+/// that stood there before. Words that end in `.P` name prototype files, which are read and checked for their form. Where no word names a FORTRAN file, it
+/// translates Input on Output, and no word asks for prototypes. Other words are the options of CSTR 149 that `--help` lists. With
 /// `-split` it writes each program unit of Input, or of the file that the next word names, to a new file of its own, and their names on Output; with
-/// `-check` it reads the files that are named, and the prototype files, which end in `.P`, and lists each call that disagrees with what it calls on
-/// Output; with the one word `-h` or `--help` it writes the usage there. The status is 0 where that was done, and then no call of the shelf failed; 1
+/// `-check`, behind which stand FORTRAN files and prototype files, it reads them and lists each call that disagrees with what it calls on
+/// Output; with the one word `-h` or `--help` it writes the usage there.
+///
+/// The status is 0 where that was done, and then no call of the shelf failed; 1
 /// exactly where the set has a first refusal, which is that it is too long where it is split, and the line on Fault names it and its file, or where a
 /// prototype file is none; 2 exactly where the words are others, or two files that are translated have one output name, and the line names the first
-/// with which no command goes on; 3 only where a file that is read is not there, and the line names it, or the shelf failed, and the line names the
-/// place that was being read or written; 5 where memory ran out; 11 where all was read and a call, one at least, is listed; 13 exactly where no number
+/// with which no command goes on, or the one that is missing behind the last; 3 only where a file that is read is not there, and the line names it, or the
+/// shelf failed, and the line names the
+/// place that was being read or written; 4 exactly where all was written, and a prototype file that was compared was missing, malformed, or had other
+/// prototypes; 5 where memory ran out; 11 where all was read and a call, one at least, is listed; 13 exactly where no number
 /// is free for the name of a piece, and the line says for which. After 1, 2, 5 and 13 nothing but the line on Fault was put anywhere; where writing a
 /// translation failed, the outputs before are whole, the one that failed is unchanged or holds a front of its text, and later ones are unchanged.
 pub fn f2c<H: Shelf>(alloc: Global, words: &Words, shelf: &mut H, units: UnitTable) -> Ended

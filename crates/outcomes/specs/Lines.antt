@@ -7,7 +7,7 @@ use Rattle.shelf_texts.specs.ShelfLoops.{joined}
 use Rattle.f_tree.specs.declared.refusals.Refusal.{Refusal}
 use Rattle.f_tree.specs.RefusalRows.{number_of, text_of}
 use Rattle.outcomes.specs.declared.outcome.Outcome.{Outcome}
-use Rattle.outcomes.specs.declared.outcome.Outcome.TheVariants.{Done, Disagree, Refused, NotPrototype, BadWord, NotThere, Unread, Unwritten, NoFreeName, NoMemory}
+use Rattle.outcomes.specs.declared.outcome.Outcome.TheVariants.{Done, Disagree, Changed, Refused, NotPrototype, BadWord, NotThere, Unread, Unwritten, NoFreeName, NoMemory}
 
 -- a place as a message names it: a file by its name, a stream in angle brackets
 abbrev pub shown : Place → List ℕ
@@ -81,6 +81,7 @@ no_memory_line = joined (codes "f2c: out of memory\n" ∷ [])
 abbrev pub line_of : List (List ℕ) → Outcome → List ℕ
 line_of words Done = []
 line_of words Disagree = []
+line_of words Changed = []
 line_of words (Refused refusal name) = refusal_line name refusal
 line_of words (NotPrototype name line) = not_prototype_line name line
 line_of words (BadWord number) = bad_word_line words number

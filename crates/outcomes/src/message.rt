@@ -121,7 +121,7 @@ pub fn say_outcome<H: Shelf>(shelf: &mut H, words: &Words, outcome: &Outcome)
     ensures silent { IsSilent outcome.now → H.state shelf.new ≡ H.state shelf.old }
 {
     match outcome {
-        Outcome::Done | Outcome::Disagree => {}
+        Outcome::Done | Outcome::Disagree | Outcome::Changed => {}
         Outcome::Refused(refusal, name) => say_refusal(shelf, refusal, name),
         Outcome::NotPrototype(name, line) => say_not_prototype(shelf, name.as_slice(), *line),
         Outcome::BadWord(number) => say_bad_word(shelf, words, *number),

@@ -13,6 +13,8 @@ pub enum Outcome {
     Done,
     /// The command did its work, and a call, one at least, disagrees with what it calls.
     Disagree,
+    /// The command did its work, and a prototype file, one at least, is not as it was.
+    Changed,
     /// The source has this first refusal, in the file with this name, or in Input.
     Refused(Refusal, Option<Text>),
     /// The file of this name is no prototype file, and this, counted from 1, is its first line such that the lines up to it are none.
@@ -33,7 +35,7 @@ pub enum Outcome {
 
 impl Outcome {
     /// The exit status: 0, 1 for a refusal, 2 for bad words, 3 for a file that is not there or a shelf
-    /// that failed, 5 where memory ran out, 11 where a call disagrees, 13 where a piece gets no name.
+    /// that failed, 4 where a prototype file is not as it was, 5 where memory ran out, 11 where a call disagrees, 13 where a piece gets no name.
     pub fn status(&self) -> u8
         ensures { result ≡ status_of self.now }
     {
@@ -42,6 +44,7 @@ impl Outcome {
             Outcome::Refused(_, _) | Outcome::NotPrototype(_, _) => 1,
             Outcome::BadWord(_) => 2,
             Outcome::NotThere(_) | Outcome::Unread(_) | Outcome::Unwritten(_) => 3,
+            Outcome::Changed => 4,
             Outcome::NoMemory => 5,
             Outcome::Disagree => 11,
             Outcome::NoFreeName(_) => 13,

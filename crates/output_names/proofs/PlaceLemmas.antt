@@ -1,9 +1,10 @@
 -- Words one after the other, and the places that they name.
 use Rattle.std.specs.Prelude.{◌≡◌, ℕ, zero, suc, ◌+◌, ◌<◌, ◌≤◌, Bool, true, false, List, [], ◌∷◌, ◌++◌, length, take, map, bytes_eq, slice_get, Some, None}
-use Rattle.std.specs.List.{filter}
+use Rattle.std.specs.List.{filter, flat_map}
 use Rattle.std.proofs.Common.{refl, sym, ap, ◌∙◌, arith}
 use Rattle.std.proofs.lemmas.List.{append_cancel_right, take_all}
 use Rattle.std.proofs.lemmas.List.Elements.{filter-append}
+use Rattle.std.proofs.lemmas.Grind.{flat_map-append}
 use Rattle.std.proofs.lemmas.Slice.Eq.{bytes_eq-Decides}
 use Rattle.f2c_outside.specs.Texts.{word_at}
 
@@ -45,6 +46,17 @@ place_more test f words passed word places more at are pushed =
     ∙ (sym (map_append f (filter test (take passed words)) (filter test (word ∷ [])))
     ∙ (ap (map f) (sym (filter-append test (take passed words) (word ∷ [])) ∙ ap (filter test) (sym (taken words passed word here)))
     ∙ ap (λ n. map f (filter test (take n words))) (sym (plus_one passed)))))
+
+-- and where each has several
+pub places_more : {P : Type 0} (test : List ℕ → Bool) (f : List ℕ → List P) (words : List (List ℕ)) (passed : ℕ) (word : List ℕ) (places more : List P) →
+    word_at (passed + 1) words ≡ Some word → places ≡ flat_map f (filter test (take passed words)) → more ≡ places ++ flat_map f (filter test (word ∷ [])) →
+    more ≡ flat_map f (filter test (take (passed + 1) words))
+places_more test f words passed word places more at are pushed =
+    let here = ap (λ n. word_at n words) (sym (plus_one passed)) ∙ at in
+    pushed ∙ (ap (λ ps. ps ++ flat_map f (filter test (word ∷ []))) are
+    ∙ (sym (flat_map-append f (filter test (take passed words)) (filter test (word ∷ [])))
+    ∙ (ap (flat_map f) (sym (filter-append test (take passed words) (word ∷ [])) ∙ ap (filter test) (sym (taken words passed word here)))
+    ∙ ap (λ n. flat_map f (filter test (take n words))) (sym (plus_one passed)))))
 
 never : (ws : List (List ℕ)) (k : ℕ) → k < length ws → slice_get ws k ≡ None → ⊥
 never [] k less at = absurd (omega (arith, less))

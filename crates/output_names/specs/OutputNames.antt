@@ -34,6 +34,10 @@ stem_of word = last_part (take (length word - 2) word)
 abbrev pub output_name : List ℕ → List ℕ
 output_name word = stem_of word ++ codes ".c"
 
+-- the file of its prototypes
+abbrev pub prototype_output : List ℕ → List ℕ
+prototype_output word = stem_of word ++ codes ".P"
+
 -- two words name files with one output name
 abbrev pub have_one_output : List ℕ → List ℕ → Bool
 have_one_output one other = is_file_word one && (is_file_word other && bytes_eq (output_name one) (output_name other))

@@ -1,6 +1,6 @@
 //! Words that name files, and the names of their translations.
 
-ghost use Rattle.std.specs.Prelude.{◌≡◌, ◌≤◌, length, bytes_eq, IsTrue, IfOk};
+ghost use Rattle.std.specs.Prelude.{◌≡◌, ◌≤◌, ◌++◌, length, bytes_eq, IsTrue, IfOk};
 ghost use Rattle.f2c_outside.specs.Texts.{IsName};
 ghost use Rattle.output_names.specs.OutputNames as names;
 
@@ -122,12 +122,29 @@ pub(crate) fn prototype_name(alloc: Global, word: &[u8]) -> Result<Name, NoMemor
     name_of(alloc, word)
 }
 
+/// The name of the FORTRAN file that a word names, without its folder, with another ending.
+fn name_ending(alloc: Global, word: &[u8], ending: &[u8]) -> Result<Name, NoMemory>
+    requires file { IsTrue (names.is_file_word word.now) }
+    requires two { length ending.now ≡ 2 }
+    ensures { IfOk result (λ name. name ≡ names.stem_of word.now ++ ending.now) }
+{
+    let mut bytes = Vec::from_slice(alloc, stem_of(word))?;
+    bytes.extend_from_slice(ending)?;
+    name_of(alloc, &bytes)
+}
+
 /// The name of the C file that is the translation of the FORTRAN file that a word names: that file's name without its folder, with `.c` in place of `.f`.
 pub(crate) fn output_name(alloc: Global, word: &[u8]) -> Result<Name, NoMemory>
     requires { IsTrue (names.is_file_word word.now) }
     ensures { IfOk result (λ name. name ≡ names.output_name word.now) }
 {
-    let mut bytes = Vec::from_slice(alloc, stem_of(word))?;
-    bytes.extend_from_slice(C_ENDING)?;
-    name_of(alloc, &bytes)
+    name_ending(alloc, word, C_ENDING)
+}
+
+/// The name of the file of its prototypes, likewise, with `.P` in place of `.f`.
+pub(crate) fn prototype_output(alloc: Global, word: &[u8]) -> Result<Name, NoMemory>
+    requires { IsTrue (names.is_file_word word.now) }
+    ensures { IfOk result (λ name. name ≡ names.prototype_output word.now) }
+{
+    name_ending(alloc, word, PROTOTYPE_ENDING)
 }

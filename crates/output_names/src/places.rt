@@ -1,12 +1,14 @@
 //! The places that the words of a command line name.
 
-ghost use Rattle.std.specs.Prelude.{◌≡◌, ◌++◌, ◌∷◌, [], map, IfOk};
-ghost use Rattle.std.specs.List.{filter};
+ghost use Rattle.std.specs.Prelude.{◌≡◌, ◌++◌, ◌∷◌, [], map, IsTrue, IfOk};
+ghost use Rattle.std.specs.List.{filter, flat_map};
 ghost use Rattle.f2c_outside.specs.declared.shelves.Place.TheVariants as place_of;
 ghost use Rattle.output_names.specs.OutputNames as names;
 ghost use Rattle.output_names.specs.WordPlaces as places_by;
 
-use crate::files::{input_name, is_file_word, is_prototype_word, output_name, prototype_name};
+use crate::files::{
+    input_name, is_file_word, is_prototype_word, output_name, prototype_name, prototype_output,
+};
 use f2c_outside::shelves::Place;
 use f2c_outside::texts::{NoMemory, Words};
 use plain_data::Items;
@@ -38,13 +40,51 @@ fn with_prototype(
     Ok(places)
 }
 
-/// Places, and the C file of the translation of the file that a word names, if it names one.
-fn with_output(alloc: Global, places: Items<Place>, word: &[u8]) -> Result<Items<Place>, NoMemory>
-    ensures { IfOk result (λ more. more ≡ places ++ map (λ w. place_of.File (names.output_name w)) (places_by.file_words (word.now ∷ []))) }
+/// Places, and the outputs of the file that a word names: its C file, and behind it the file of its prototypes where these are written.
+fn with_outputs_of_file(
+    alloc: Global,
+    places: Items<Place>,
+    word: &[u8],
+    prototypes: bool,
+) -> Result<Items<Place>, NoMemory>
+    requires { IsTrue (names.is_file_word word.now) }
+    ensures { IfOk result (λ more. more ≡ places ++ places_by.word_outputs prototypes word.now) }
+{
+    let mut places = places;
+    places.push(Place::File(output_name(alloc, word)?))?;
+    if prototypes {
+        places.push(Place::File(prototype_output(alloc, word)?))?;
+    }
+    Ok(places)
+}
+
+/// Places, and the outputs of the file that a word names, if it names one.
+fn with_outputs(
+    alloc: Global,
+    places: Items<Place>,
+    word: &[u8],
+    prototypes: bool,
+) -> Result<Items<Place>, NoMemory>
+    ensures { IfOk result (λ more. more ≡ places ++ flat_map (places_by.word_outputs prototypes) (places_by.file_words (word.now ∷ []))) }
+{
+    if is_file_word(word) {
+        with_outputs_of_file(alloc, places, word, prototypes)
+    } else {
+        Ok(places)
+    }
+}
+
+/// Places, and the file of the prototypes of the file that a word names, if it names one.
+fn with_prototype_output(
+    alloc: Global,
+    places: Items<Place>,
+    word: &[u8],
+) -> Result<Items<Place>, NoMemory>
+    ensures { IfOk result (λ more. more ≡ places ++ map (λ w. place_of.File (names.prototype_output w)) (places_by.file_words (word.now ∷ []))) }
 {
     let mut places = places;
     if is_file_word(word) {
-        places.push(Place::File(output_name(alloc, word)?))?;
+        places.push(Place::File(prototype_output(alloc, word)?))?;
     }
     Ok(places)
 }
@@ -100,18 +140,35 @@ pub fn inputs_of(alloc: Global, words: &Words) -> Result<Items<Place>, NoMemory>
     places_or(Place::Input, places)
 }
 
-/// The C files of the translations of the FORTRAN files that words name, in their order, or Output where they name none.
-pub fn outputs_of(alloc: Global, words: &Words) -> Result<Items<Place>, NoMemory>
-    ensures { IfOk result (λ places. places ≡ places_by.outputs_of words.now) }
+/// The C files of the translations of the FORTRAN files that words name, in their order, or Output where they name none. Where prototypes are written, the
+/// file of those of each stands behind its C file.
+pub fn outputs_of(alloc: Global, words: &Words, prototypes: bool) -> Result<Items<Place>, NoMemory>
+    ensures { IfOk result (λ places. places ≡ places_by.outputs_of prototypes words.now) }
 {
     let mut places = Items::new(alloc);
     let mut passed = 0;
     while passed < words.len() {
         passed += 1;
         match words.get(passed) {
-            Some(word) => places = with_output(alloc, places, word)?,
+            Some(word) => places = with_outputs(alloc, places, word, prototypes)?,
             None => {}
         }
     }
     places_or(Place::Output, places)
+}
+
+/// The files of the prototypes of the FORTRAN files that words name, in their order.
+pub fn prototype_outputs(alloc: Global, words: &Words) -> Result<Items<Place>, NoMemory>
+    ensures { IfOk result (λ places. places ≡ places_by.prototype_outputs words.now) }
+{
+    let mut places = Items::new(alloc);
+    let mut passed = 0;
+    while passed < words.len() {
+        passed += 1;
+        match words.get(passed) {
+            Some(word) => places = with_prototype_output(alloc, places, word)?,
+            None => {}
+        }
+    }
+    Ok(places)
 }

@@ -1,46 +1,9 @@
 //! What sources give that include files. (The rows of the table of refusals, one by one, are those of `source_rows`.)
 
-use f2c_outside::memory_shelf::MemoryShelf;
-use f2c_outside::texts::{Name, NameFail, Words};
-use f2c_outside::unit_table::UnitTable;
-use f2c_program::f2c;
+use crate::calls::{NamedFile, call};
 use std::alloc::Global;
 use std::process::Abort;
 use std::test::Fail;
-
-/// A file of the shelf: its name and its bytes.
-type NamedFile<'a> = (&'a [u8], &'a [u8]);
-
-/// Puts a file on a shelf.
-fn set_file(alloc: Global, shelf: &mut MemoryShelf, file: NamedFile) -> Result<(), Fail> {
-    match Name::new(alloc, file.0) {
-        Ok(name) => Ok(shelf.set_file(name, file.1)?),
-        Err(NameFail::NoMemory) => Err(Fail::from("no memory")),
-        Err(NameFail::BadName) => Err(Fail::from("no name")),
-    }
-}
-
-/// Calls `f2c` without words over a shelf in memory with these bytes on Input and these files, of which the shelf call of this number fails.
-fn call(
-    alloc: Global,
-    input: &[u8],
-    files: &[NamedFile],
-    failing: u64,
-) -> Result<(u8, MemoryShelf), Fail> {
-    let mut shelf = MemoryShelf::new(alloc)?;
-    shelf.set_input(input)?;
-    for file in files {
-        set_file(alloc, &mut shelf, *file)?;
-    }
-    shelf.fail_at(failing)?;
-    let ended = f2c(
-        alloc,
-        &Words::new(alloc)?,
-        &mut shelf,
-        UnitTable::new(alloc)?,
-    );
-    Ok((ended.status, shelf))
-}
 
 /// The source gives this line on Fault with this status, and nothing on Output; or its translation, where the line is empty.
 fn expect(
@@ -51,7 +14,7 @@ fn expect(
     status: u8,
     line: &[u8],
 ) -> Result<(), Fail> {
-    let (ended, shelf) = call(alloc, input, files, 0)?;
+    let (ended, shelf) = call(alloc, &[], input, files, 0)?;
     assert_eq!(rt; shelf.fault_text(), line);
     assert_eq!(rt; ended, status);
     assert_eq!(rt; shelf.output().is_empty(), status != 0);
@@ -61,9 +24,21 @@ fn expect(
 #[test]
 fn included_statements_stand_in_the_place_of_include(rt: HostRuntime) -> Result<(), Fail> {
     let alloc = rt.alloc();
-    let (_, joined) = call(alloc, b"      I=1\n      PRINT *,I\n      END\n", &[], 0)?;
+    let (_, joined) = call(
+        alloc,
+        &[],
+        b"      I=1\n      PRINT *,I\n      END\n",
+        &[],
+        0,
+    )?;
     let file: NamedFile = (b"b.inc", b"      I=1\n      PRINT *,I\n");
-    let (status, shelf) = call(alloc, b"      INCLUDE 'b.inc'\n      END\n", &[file], 0)?;
+    let (status, shelf) = call(
+        alloc,
+        &[],
+        b"      INCLUDE 'b.inc'\n      END\n",
+        &[file],
+        0,
+    )?;
     assert_eq!(rt; status, 0);
     assert_eq!(rt; shelf.output(), joined.output());
     Ok(())
@@ -139,7 +114,7 @@ fn each_shelf_call_fails_while_files_are_read(rt: HostRuntime) -> Result<(), Fai
     let input = b"      INCLUDE 'b.inc'\n      END\n";
     let file: NamedFile = (b"b.inc", b"      I=1\n");
     for failing in 1..=8 {
-        let (status, shelf) = call(alloc, input, &[file], failing)?;
+        let (status, shelf) = call(alloc, &[], input, &[file], failing)?;
         let line: &[u8] = if failing <= 4 {
             b"f2c: <stdin>: shelf fault\n"
         } else {

@@ -1,9 +1,6 @@
 //! What no clause says: the texts of worked rows, and that calls succeed with ample memory.
 
-use f2c_outside::memory_shelf::MemoryShelf;
-use f2c_outside::texts::Words;
-use f2c_outside::unit_table::UnitTable;
-use f2c_program::f2c;
+use crate::calls::call;
 use std::alloc::Global;
 use std::process::Abort;
 use std::test::Fail;
@@ -81,28 +78,9 @@ static integer c__3 = 3;
 
 const NOT_BUILT_AT_1: &[u8] = b"f2c: <stdin>:1: F99 not built yet\n";
 
-/// Calls `f2c` over a shelf in memory with these bytes on Input, of which the shelf call of this number
-/// fails, and gives the status and the shelf.
-fn call(
-    alloc: Global,
-    words: &[&str],
-    input: &[u8],
-    failing: u64,
-) -> Result<(u8, MemoryShelf), Fail> {
-    let mut given = Words::new(alloc)?;
-    for word in words {
-        given.push(word.as_bytes())?;
-    }
-    let mut shelf = MemoryShelf::new(alloc)?;
-    shelf.set_input(input)?;
-    shelf.fail_at(failing)?;
-    let ended = f2c(alloc, &given, &mut shelf, UnitTable::new(alloc)?);
-    Ok((ended.status, shelf))
-}
-
 /// The input is translated to this text.
 fn expect_text(rt: &impl Abort, alloc: Global, input: &[u8], text: &[u8]) -> Result<(), Fail> {
-    let (status, shelf) = call(alloc, &[], input, 0)?;
+    let (status, shelf) = call(alloc, &[], input, &[], 0)?;
     assert!(rt; shelf.fault_text().is_empty());
     assert_eq!(rt; status, 0);
     assert_eq!(rt; shelf.output(), text);
@@ -111,7 +89,7 @@ fn expect_text(rt: &impl Abort, alloc: Global, input: &[u8], text: &[u8]) -> Res
 
 /// The input is refused by this line.
 fn expect_refusal(rt: &impl Abort, alloc: Global, input: &[u8], line: &[u8]) -> Result<(), Fail> {
-    let (status, shelf) = call(alloc, &[], input, 0)?;
+    let (status, shelf) = call(alloc, &[], input, &[], 0)?;
     assert_eq!(rt; shelf.fault_text(), line);
     assert_eq!(rt; status, 1);
     assert!(rt; shelf.output().is_empty());
@@ -125,11 +103,29 @@ fn expect_bad_word(
     words: &[&str],
     line: &[u8],
 ) -> Result<(), Fail> {
-    let (status, shelf) = call(alloc, words, CARDS, 0)?;
+    let (status, shelf) = call(alloc, words, CARDS, &[], 0)?;
     assert_eq!(rt; shelf.fault_text(), line);
     assert_eq!(rt; status, 2);
     assert!(rt; shelf.output().is_empty());
     Ok(())
+}
+
+/// Words with which no command goes on, and words behind which one is missing.
+#[test]
+fn bad_words(rt: HostRuntime) -> Result<(), Fail> {
+    let alloc = rt.alloc();
+    expect_bad_word(&rt, alloc, &["-q"], b"f2c: word 1: -q\n")?;
+    expect_bad_word(&rt, alloc, &["a.f", "-q"], b"f2c: word 2: -q\n")?;
+    expect_bad_word(&rt, alloc, &["a.f", "b/a.f"], b"f2c: word 2: b/a.f\n")?;
+    expect_bad_word(&rt, alloc, &["-72", "-q"], b"f2c: word 2: -q\n")?;
+    expect_bad_word(&rt, alloc, &["-P"], b"f2c: word 2: missing\n")?;
+    let words = ["-u", "-Ps", "library.P"];
+    expect_bad_word(&rt, alloc, &words, b"f2c: word 4: missing\n")?;
+    expect_bad_word(&rt, alloc, &["-P", ".f"], b"f2c: word 2: .f\n")?;
+    expect_bad_word(&rt, alloc, &["-check"], b"f2c: word 2: missing\n")?;
+    expect_bad_word(&rt, alloc, &["a.f", "-check"], b"f2c: word 2: -check\n")?;
+    expect_bad_word(&rt, alloc, &["-check", "a.f", "-u"], b"f2c: word 3: -u\n")?;
+    expect_bad_word(&rt, alloc, &["-split", "a.P"], b"f2c: word 2: a.P\n")
 }
 
 #[test]
@@ -138,11 +134,7 @@ fn worked_rows(rt: HostRuntime) -> Result<(), Fail> {
     expect_text(&rt, alloc, CARDS, TEXT)?;
     expect_text(&rt, alloc, C_WORD_CARDS, C_WORD_TEXT)?;
     expect_refusal(&rt, alloc, b"", NOT_BUILT_AT_1)?;
-    expect_bad_word(&rt, alloc, &["-q"], b"f2c: word 1: -q\n")?;
-    expect_bad_word(&rt, alloc, &["a.f", "-q"], b"f2c: word 2: -q\n")?;
-    expect_bad_word(&rt, alloc, &["a.f", "b/a.f"], b"f2c: word 2: b/a.f\n")?;
-    expect_bad_word(&rt, alloc, &["-72", "-q"], b"f2c: word 2: -q\n")?;
-    let (status, shelf) = call(alloc, &["-72", "-72"], C_WORD_CARDS, 0)?;
+    let (status, shelf) = call(alloc, &["-72", "-72"], C_WORD_CARDS, &[], 0)?;
     assert_eq!(rt; status, 1);
     let line: &[u8] = b"f2c: <stdin>:3: F05 text past column 72\n";
     assert_eq!(rt; shelf.fault_text(), line);
@@ -167,7 +159,7 @@ fn input_at_its_limits(rt: HostRuntime) -> Result<(), Fail> {
     let alloc = rt.alloc();
     for (cards, bytes) in [(65_535, 0), (1, 16_777_216)] {
         let input = long_input(alloc, cards, bytes)?;
-        let (status, shelf) = call(alloc, &[], &input, 0)?;
+        let (status, shelf) = call(alloc, &[], &input, &[], 0)?;
         assert_eq!(rt; status, 0);
         assert!(rt; !shelf.output().is_empty());
     }
@@ -189,7 +181,7 @@ fn input_at_its_limits(rt: HostRuntime) -> Result<(), Fail> {
 
 /// The call of the shelf of this number fails: status 3, this line, and a front of the text on Output.
 fn expect_fault(rt: &impl Abort, alloc: Global, failing: u64, line: &[u8]) -> Result<(), Fail> {
-    let (status, shelf) = call(alloc, &[], CARDS, failing)?;
+    let (status, shelf) = call(alloc, &[], CARDS, &[], failing)?;
     assert_eq!(rt; shelf.fault_text(), line);
     assert_eq!(rt; status, 3);
     assert!(rt; TEXT.starts_with(shelf.output()));
@@ -211,7 +203,7 @@ fn each_shelf_call_fails(rt: HostRuntime) -> Result<(), Fail> {
     for failing in CALLS_OF_READING + 1..=CALLS_IN_ALL {
         expect_fault(&rt, alloc, failing, b"f2c: <stdout>: shelf fault\n")?;
     }
-    let (status, shelf) = call(alloc, &[], CARDS, CALLS_IN_ALL + 1)?;
+    let (status, shelf) = call(alloc, &[], CARDS, &[], CALLS_IN_ALL + 1)?;
     assert_eq!(rt; status, 0);
     assert_eq!(rt; shelf.output(), TEXT);
     Ok(())
@@ -221,7 +213,7 @@ fn each_shelf_call_fails(rt: HostRuntime) -> Result<(), Fail> {
 fn a_message_that_fails_keeps_its_status(rt: HostRuntime) -> Result<(), Fail> {
     // Three calls read an empty Input, and the fourth begins the message.
     for failing in 4..20 {
-        let (status, shelf) = call(rt.alloc(), &[], b"", failing)?;
+        let (status, shelf) = call(rt.alloc(), &[], b"", &[], failing)?;
         assert_eq!(rt; status, 1);
         assert!(rt; NOT_BUILT_AT_1.starts_with(shelf.fault_text()));
     }

@@ -1,7 +1,6 @@
 -- The texts of the files of an accepted source are its texts.
-use Rattle.std.specs.Prelude.{◌≡◌, ℕ, suc, ◌+◌, ◌<◌, ◌≤◌, List, [], ◌∷◌, ◌++◌, length, take, map, Some, option_map}
-use Rattle.std.proofs.Common.{refl, sym, ap, ◌∙◌, arith, get_or}
-use Rattle.std.proofs.lemmas.List.{take_all}
+use Rattle.std.specs.Prelude.{◌≡◌, ℕ, suc, ◌<◌, Bool, List, [], ◌∷◌, length, map, Some, option_map}
+use Rattle.std.proofs.Common.{refl, sym, ap, ◌∙◌, arith}
 use Rattle.f_tree.specs.declared.names.Options.{Options}
 use Rattle.f_tree.specs.declared.units.File.{File}
 use Rattle.f_tree.specs.declared.units.FileSet.{FileSet}
@@ -13,13 +12,17 @@ use Rattle.source_files.specs.faithful.Faithful.{SpellAll}
 use Rattle.source_files.specs.faithful.Signatures as signed
 use Rattle.source_files.specs.faithful.Signatures.{EachHasSignatures}
 use Rattle.source_files.specs.translated_files.TranslatedFiles.{files_of}
-use Rattle.translated_sets.specs.FaithfulSets.{translations_of, EachAcceptedSetIsFaithful}
+use Rattle.kept_loops.specs.KeptFunctions.{EachTranslationKeepsLoops}
+use Rattle.translated_sets.specs.FaithfulSets.{translations_of, EachAcceptedSetIsFaithful, EachAcceptedSetHasSignatures}
 use Rattle.source_files.specs.source_acceptance.SourceFiles as sources
 use Rattle.source_files.specs.source_acceptance.SourceFiles.{Source, SpellFiles, files_with_parts, SpellsSource}
 use Rattle.source_files.specs.source_verdict.SourceRows.{IsAccepted}
 use Rattle.source_translator.specs.TranslatedSource.{AreFilesOfSource}
-use Rattle.translate_command.specs.TranslatedTexts.{AreTextsOf}
-use Rattle.source_files.proofs.ListLemmas.{further, map_append}
+use Rattle.source_files.specs.source_reader.Sources.{source_of}
+use Rattle.prototype_outputs.specs.Outputs.{EachOutputIsOfItsFile, EachListIsOfItsFile}
+use Rattle.translate_command.specs.declared.texts.Made.{Made}
+use Rattle.translate_command.specs.TranslatedTexts.{AreTextsOf, AreOutputsOf}
+use Rattle.translate_command.specs.SourceTexts.{AreMadeOf, AreMadeFor}
 
 -- EACH FILE spells one tree
 spelled_length : (file : ℕ) (files : List (List ℕ)) (trees : List File) → SpellFiles file files trees → length trees ≡ length files
@@ -36,10 +39,10 @@ as_many source set spelled =
     ap length spelled.set_is ∙ (with_parts_length spelled.parts spelled.trees ∙ spelled_length 0 source.files spelled.trees spelled.files_spell)
 
 -- THE TEXTS
-texts_of : EachAcceptedSetIsFaithful → (options : Options) (source : Source) (set : FileSet) (made : List CFile) (texts : List (List ℕ)) → 0 < length source.files →
+texts_of : EachAcceptedSetIsFaithful → EachTranslationKeepsLoops → (options : Options) (source : Source) (set : FileSet) (made : List CFile) (texts : List (List ℕ)) → 0 < length source.files →
     IsAccepted options source set → files_of options set.files ≡ Some made → texts ≡ map printed made → AreTextsOf options source texts
 unfolding translations_of
-texts_of law options source set made texts some accepted are is =
+texts_of law kept options source set made texts some accepted are is =
     let translations : translations_of options set.files ≡ Some texts = ap (λ found. option_map (map printed) found) are ∙ ap Some (sym is) in
     let count = as_many source set accepted.spelled in
     record {
@@ -47,11 +50,8 @@ texts_of law options source set made texts some accepted are is =
       accepted = accepted;
       translations = translations;
       faithful = law options source set texts accepted (omega (arith, some, count)) translations;
+      loops = kept options set.files;
     }
-
-pub texts_of_source : EachAcceptedSetIsFaithful → (options : Options) (source : Source) (made : List CFile) (texts : List (List ℕ)) → 0 < length source.files →
-    AreFilesOfSource options source made → texts ≡ map printed made → AreTextsOf options source texts
-texts_of_source law options source made texts some of is = texts_of law options source of.set made texts some of.accepted of.files is
 
 -- as many texts as files
 as_many_spelled : (texts : List (List ℕ)) (files : List CFile) → SpellAll texts files → length texts ≡ length files
@@ -66,15 +66,24 @@ pub as_many_texts : (options : Options) (source : Source) (texts : List (List �
 as_many_texts options source texts made =
     as_many_spelled texts made.faithful.c_trees made.faithful.written ∙ as_many_signed options made.set.files made.faithful.c_trees made.faithful.signatures ∙ as_many source made.set made.accepted.spelled
 
--- C FILES in their order
-pub none_printed : (files : List CFile) (texts : List (List ℕ)) → texts ≡ [] → texts ≡ map printed (take 0 files)
-none_printed files texts is = is
+-- WHAT IS MADE of the C trees of a source is what is made for it
+made_of_source : EachAcceptedSetIsFaithful → EachTranslationKeepsLoops → EachAcceptedSetHasSignatures → EachOutputIsOfItsFile → EachListIsOfItsFile → (options : Options) (prototypes : Bool) (source : Source)
+    (set : FileSet) (trees : List CFile) (made : Made) → 0 < length source.files → IsAccepted options source set → files_of options set.files ≡ Some trees →
+    AreMadeOf prototypes trees made → AreOutputsOf options prototypes source (map printed trees) made.outputs made.lists
+unfolding texts_of
+made_of_source faithful_sets kept signed_sets outputs_law lists_law options prototypes source set trees made some accepted are is =
+    let count = as_many source set accepted.spelled in
+    let has = signed_sets options source set trees accepted (omega (arith, some, count)) are in
+    record {
+      made = texts_of faithful_sets kept options source set trees (map printed trees) some accepted are refl;
+      outputs_are = is.outputs ∙ outputs_law prototypes options set.files trees has;
+      lists_are = is.lists ∙ lists_law options set.files trees has;
+    }
 
-pub printed_more : (files : List CFile) (number : ℕ) (file : CFile) (texts more : List (List ℕ)) (text : List ℕ) → number < length files → file ≡ get_or files number file →
-    texts ≡ map printed (take number files) → text ≡ printed file → more ≡ texts ++ text ∷ [] → more ≡ map printed (take (number + 1) files)
-printed_more files number file texts more text within is before one pushed =
-    pushed ∙ (ap (λ ts. ts ++ text ∷ []) before ∙ (ap (λ t. map printed (take number files) ++ t ∷ []) one
-    ∙ (sym (map_append printed (take number files) (file ∷ [])) ∙ ap (map printed) (further files number file within is))))
-
-pub all_printed : (files : List CFile) (number : ℕ) (texts : List (List ℕ)) → length files ≤ number → texts ≡ map printed (take number files) → texts ≡ map printed files
-all_printed files number texts past before = before ∙ ap (map printed) (take_all number files past)
+pub made_for : EachAcceptedSetIsFaithful → EachTranslationKeepsLoops → EachAcceptedSetHasSignatures → EachOutputIsOfItsFile → EachListIsOfItsFile → (options : Options) (prototypes : Bool)
+    (files names included : List (List ℕ)) (trees : List CFile) (made : Made) → 0 < length files → AreFilesOfSource options (source_of files names included) trees →
+    AreMadeOf prototypes trees made → AreMadeFor options prototypes files names included made
+made_for faithful_sets kept signed_sets outputs_law lists_law options prototypes files names included trees made some of is = record {
+  texts = map printed trees;
+  are = made_of_source faithful_sets kept signed_sets outputs_law lists_law options prototypes (source_of files names included) of.set trees made some of.accepted of.files is;
+}

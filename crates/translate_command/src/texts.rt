@@ -1,48 +1,59 @@
-//! The texts of the translation of a source.
+//! The outputs of the translation of a source.
 
-ghost use Rattle.std.specs.Prelude.{◌≡◌, ◌<◌, List, length, map, ℕ, IfOk, IfErr};
-ghost use Rattle.c_text.specs.Printed.{printed};
+ghost use Rattle.std.specs.Prelude.{◌≡◌, ◌<◌, List, length, ℕ, IfOk, IfErr};
 ghost use Rattle.source_files.specs.source_reader.SourceReading.{IsNamed};
-ghost use Rattle.translate_command.specs.SourceTexts.{AreTextsFor, IsRefusedFor};
+ghost use Rattle.translate_command.specs.SourceTexts.{AreMadeFor, AreMadeOf, IsRefusedFor};
 
-use c_text::print_c;
 use c_tree::file::CFile;
 use f_tree::names::Options;
 use f_tree::{Fail, Text};
+use kept_loops::kept::translations_keep_loops;
 use plain_data::Items;
+use proto_file::Protos;
+use prototype_outputs::{lists_of, outputs_are_of_their_files, outputs_of};
 use source_files::SourceRead;
 use source_translator::translate_source;
 use std::alloc::{AllocError, Global};
-use translated_sets::sets::accepted_sets_are_faithful;
+use translated_sets::sets::{accepted_sets_are_faithful, accepted_sets_have_signatures};
 
-/// The texts of C files. An error says that there is no memory for them.
-#[tactic(auto, using(crate::proofs::TextLemmas::none_printed, crate::proofs::TextLemmas::printed_more, crate::proofs::TextLemmas::all_printed))]
-fn texts_of_files(alloc: Global, files: &[CFile]) -> Result<Items<Text>, AllocError>
-    ensures { IfOk result (λ texts. texts ≡ map printed files.now) }
-{
-    let mut texts = Items::new(alloc);
-    for file in files {
-        texts.push(Items::from_vec(print_c(alloc, file)?))?;
-    }
-    Ok(texts)
+/// The outputs of a source, and the prototypes of each of its files.
+#[derive(Drop)]
+pub(crate) struct Made {
+    /// The text of each C file, and where that is asked for the text of its prototypes behind it.
+    pub(crate) outputs: Items<Text>,
+    /// The prototypes of each file.
+    pub(crate) lists: Items<Protos>,
 }
 
-/// The C texts of a source, one for each of its files, which are faithful to it, or its first refusal.
+/// What is made of C files. An error says that there is no memory for it.
+fn made_of(alloc: Global, files: &[CFile], prototypes: bool) -> Result<Made, AllocError>
+    ensures { IfOk result (AreMadeOf prototypes files.now) }
+{
+    let outputs = outputs_of(alloc, files, prototypes)?;
+    let lists = lists_of(alloc, files)?;
+    Ok(Made { outputs, lists })
+}
+
+/// The outputs of a source, whose C texts are faithful to it and keep its loops, or its first refusal.
 pub(crate) fn translations(
     alloc: Global,
     options: &Options,
     read: &SourceRead,
-) -> Result<Items<Text>, Fail>
+    prototypes: bool,
+) -> Result<Made, Fail>
     requires { length read.now.included ≡ length read.now.named.names }
-    ensures done { (files : List (List ℕ)) → IsNamed options.now files read.now.named → 0 < length files → IfOk result (AreTextsFor options.now files read.now.named.names read.now.included) }
+    ensures done { (files : List (List ℕ)) → IsNamed options.now files read.now.named → 0 < length files → IfOk result (AreMadeFor options.now prototypes files read.now.named.names read.now.included) }
     ensures refused { (files : List (List ℕ)) → IsNamed options.now files read.now.named → IfErr result (IsRefusedFor options.now files read.now.named.names read.now.included) }
 {
     let files = translate_source(alloc, &read.named, read.included.as_slice(), options)?;
-    match texts_of_files(alloc, files.as_slice()) {
+    match made_of(alloc, files.as_slice(), prototypes) {
         Err(_) => Err(Fail::NoMemory),
-        Ok(texts) => {
+        Ok(made) => {
             accepted_sets_are_faithful();
-            Ok(texts)
+            translations_keep_loops();
+            accepted_sets_have_signatures();
+            outputs_are_of_their_files();
+            Ok(made)
         }
     }
 }

@@ -1,6 +1,6 @@
 //! Writing texts to places, in their order.
 
-ghost use Rattle.std.specs.Prelude.{◌≡◌, OnOk, IfErr};
+ghost use Rattle.std.specs.Prelude.{OnOk, IfErr};
 ghost use Rattle.std.specs.List.{All};
 ghost use Rattle.f2c_outside.specs.Shelf.{IsTarget};
 ghost use Rattle.translate_command.specs.WrittenTexts.{AreWritten, AreUnwritten, IsStoppedAt};

@@ -19,7 +19,7 @@ use Rattle.translated_files.specs.lowering.Units.{lowered_unit}
 use Rattle.translated_files.specs.c_tree.declared.file.CFile.{CFile}
 use Rattle.named_unit_laws.specs.c_text.Printed.{printed}
 use Rattle.translated_files.specs.faithful.Faithful.{Faithful}
-use Rattle.translated_files.specs.faithful.Signatures.{dummy_of}
+use Rattle.translated_files.specs.faithful.Signatures.{dummy_of, EachHasSignatures}
 use Rattle.translated_files.specs.main_translation.Outlined.{labels_in}
 use Rattle.translated_files.specs.unit_forms.OwnSetting.{own_facts}
 use Rattle.translated_files.specs.unit_forms.PlainProcedures.{is_plain_unit}
@@ -38,7 +38,8 @@ use Rattle.translated_files.specs.translated_forms.LoweredForms.{statements_lowe
 use Rattle.translated_files.specs.translated_forms.TranslatedForms.{stop_fits}
 use Rattle.translated_laws.proofs.Translated.{left, right, each_of, mapped, stops}
 use Rattle.translated_files.specs.TranslatedFiles.{text_fits, procedure_names, procedures_are_defined, passes_tests, lowered_by, lowered_at, lowered_before, lowered_from, files_before, lowered_files, has_units, each_has_units, made_files, files_of}
-use Rattle.translated_file_laws.specs.FaithfulFiles.{translations_of, EachTranslationIsFaithful}
+use Rattle.translated_file_laws.specs.FaithfulFiles.{translations_of, EachTranslationIsFaithful, EachTranslationHasSignatures}
+use Rattle.unit_faithfulness.proofs.Signed.{files_have_signatures}
 
 -- ## Texts that fit
 
@@ -313,3 +314,11 @@ translations_are_faithful_by named faithful_sets options trees texts faultless s
     let are = made_of options trees made.lfs made.lowered made.filled some in
     let plain = plain_units_of options trees made.lfs faultless are in
     subst (Faithful options trees) (sym (printed_each made.fs) ∙ ap (map printed) made.made ∙ source.gives) (faithful_sets options trees made.lfs made.fs faultless are (named made.lfs made.fs plain made.named))
+
+-- and the C files have the functions and the external objects of the files
+pub translations_have_signatures_by : EachNamedUnitIsAUnit → EachTranslationHasSignatures
+translations_have_signatures_by named options trees files faultless some h =
+    let made = made_of_files options trees files h in
+    let are = made_of options trees made.lfs made.lowered made.filled some in
+    let plain = plain_units_of options trees made.lfs faultless are in
+    subst (EachHasSignatures options trees) made.made (files_have_signatures options trees made.lfs made.fs are.of_files plain (named made.lfs made.fs plain made.named))

@@ -5,6 +5,7 @@ use Rattle.translated_files.specs.f_tree.declared.units.File.{File}
 use Rattle.translated_files.specs.c_tree.declared.file.CFile.{CFile}
 use Rattle.named_unit_laws.specs.c_text.Printed.{printed}
 use Rattle.translated_files.specs.faithful.Faithful.{Faithful}
+use Rattle.translated_files.specs.faithful.Signatures.{EachHasSignatures}
 pub use Rattle.plain_unit_files.specs.PlainUnitFiles.{IsFaultless}
 use Rattle.translated_files.specs.TranslatedFiles.{files_of, files_not_translated}
 
@@ -24,3 +25,7 @@ EachTranslatedSetHasFiles = (options : Options) (trees : List File) → files_no
 -- and their texts are faithful to the files, where these break no row of declarations and no name stands for two things
 abbrev pub EachTranslationIsFaithful : Type 0
 EachTranslationIsFaithful = (options : Options) (trees : List File) (texts : List (List ℕ)) → IsFaultless options trees → 0 < length trees → translations_of options trees ≡ Some texts → Faithful options trees texts
+
+-- and their C files have exactly the functions and the external objects of the files
+abbrev pub EachTranslationHasSignatures : Type 0
+EachTranslationHasSignatures = (options : Options) (trees : List File) (files : List CFile) → IsFaultless options trees → 0 < length trees → files_of options trees ≡ Some files → EachHasSignatures options trees files

@@ -1,6 +1,6 @@
 //! Translations and the FORTRAN files that they are of, as the contracts of calls that do nothing.
 
-ghost use Rattle.translated_file_laws.specs.FaithfulFiles.{EachTranslatedSetHasFiles, EachTranslationIsFaithful};
+ghost use Rattle.translated_file_laws.specs.FaithfulFiles.{EachTranslatedSetHasFiles, EachTranslationIsFaithful, EachTranslationHasSignatures};
 
 use named_unit_laws::bodies::named_units_are_units;
 use plain_unit_files::faithful_files::plain_unit_sets_are_faithful;
@@ -19,4 +19,12 @@ pub fn translations_are_faithful()
 {
     named_units_are_units();
     plain_unit_sets_are_faithful();
+}
+
+/// The C files of FORTRAN files that break no row have exactly the functions of the units of these, with their parameters, and their external objects (15.5 to
+/// 15.7 and 8.3).
+pub fn translations_have_signatures()
+    ensures { EachTranslationHasSignatures }
+{
+    named_units_are_units();
 }

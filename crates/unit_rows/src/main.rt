@@ -1,8 +1,7 @@
-//! Reads a FORTRAN source from standard input, and prints of each of its program units what its names are, and which row each judge of a unit
-//! finds first. The comment before a unit is its title; where that ends with the word `-u`, no name has a type by its first letter.
+//! Reads a FORTRAN source from standard input, and prints of each of its program units what its names are, and which row of declarations it breaks
+//! first. The comment before a unit is its title; where that ends with the word `-u`, no name has a type by its first letter.
 #![tactic(auto)]
 
-mod findings;
 mod names;
 mod source;
 mod units;

@@ -1,14 +1,14 @@
 //! What a unit is, as text.
 
 use crate::Stop;
-use crate::findings::{Finding, findings_of};
 use crate::names::{FactText, text_of};
 use crate::source::Source;
 use decl_table::name_facts;
-use f_tree::{Options, Unit, UnitKind};
+use f_tree::{Options, Refusal, Unit, UnitKind};
 use name_facts::NameFacts;
 use name_places::all_names;
 use name_uses::array_set;
+use unit_judge::unit_fault;
 
 /// The word for the kind of a unit.
 fn kind_word(kind: &UnitKind) -> &'static str {
@@ -54,29 +54,27 @@ fn print_names(rt: &HostRuntime, unit: &Unit) -> Result<(), Stop> {
     Ok(())
 }
 
-/// Prints a row that a judge finds, with its card.
-fn print_finding(rt: &HostRuntime, source: &Source, finding: &Finding) -> Result<(), Stop> {
-    let judge = finding.judge;
-    let number = finding.refusal.kind.number();
-    let words = text_of(finding.refusal.kind.text());
-    let card = finding.refusal.card;
+/// Prints a row that a unit breaks, with its card.
+fn print_refusal(rt: &HostRuntime, source: &Source, refusal: Refusal) -> Result<(), Stop> {
+    let number = refusal.kind.number();
+    let words = text_of(refusal.kind.text());
+    let card = refusal.card;
     let line = source.card(card).trim();
-    rt.println(format_args!("   {judge}: F{number} {words}, card {card}: {line}"))?;
+    rt.println(format_args!("   F{number} {words}, card {card}: {line}"))?;
     Ok(())
 }
 
-/// Prints the rows that the judges find.
-fn print_findings(
+/// Prints the first row that a unit breaks, if it breaks one.
+fn print_fault(
     rt: &HostRuntime,
     source: &Source,
     options: Options,
     unit: &Unit,
 ) -> Result<(), Stop> {
-    let findings = findings_of(rt.alloc(), options, unit)?;
-    for finding in findings.iter() {
-        print_finding(rt, source, finding)?;
+    match unit_fault(rt.alloc(), options, unit)? {
+        Some(refusal) => print_refusal(rt, source, refusal),
+        None => Ok(()),
     }
-    Ok(())
 }
 
 /// The options that a unit is judged with.
@@ -89,10 +87,10 @@ fn options_of(title: &str) -> Options {
     }
 }
 
-/// Prints the title of a unit, what its names are, and the rows that the judges find.
+/// Prints the title of a unit, what its names are, and the first row that it breaks.
 pub fn print_unit(rt: &HostRuntime, source: &Source, unit: &Unit) -> Result<(), Stop> {
     let title = source.title(unit.card);
     print_title(rt, title, unit)?;
     print_names(rt, unit)?;
-    print_findings(rt, source, options_of(title), unit)
+    print_fault(rt, source, options_of(title), unit)
 }

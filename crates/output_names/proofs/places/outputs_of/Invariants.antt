@@ -1,12 +1,11 @@
-use Rattle.std.proofs.Common.{◌≡◌, ◌-◌, ◌≤◌, map, take, length}
-use Rattle.f2c_outside.specs.declared.shelves.Place.TheVariants.{File}
-use Rattle.output_names.specs.OutputNames.{output_name}
-use Rattle.output_names.specs.WordPlaces.{file_words}
+use Rattle.std.proofs.Common.{◌≡◌, ◌-◌, ◌≤◌, take, length}
+use Rattle.std.specs.List.{flat_map}
+use Rattle.output_names.specs.WordPlaces.{file_words, word_outputs}
 use Rattle.output_names.proofs.places.outputs_of.Given as goal
 
 -- the places of the words up to here
 abbrev pub invariant-loop-passed : goal.invariant-loop-passed
-invariant-loop-passed l = (l.passed ≤ length l.words) × (l.places ≡ map (λ word. File (output_name word)) (file_words (take l.passed l.words)))
+invariant-loop-passed l = (l.passed ≤ length l.words) × (l.places ≡ flat_map (word_outputs l.prototypes) (file_words (take l.passed l.words)))
 
 abbrev pub decreases-loop-passed : goal.decreases-loop-passed
 decreases-loop-passed l = length l.words - l.passed

@@ -1,0 +1,4 @@
+pub mod Loops
+pub mod KeptLayouts
+pub use Rattle.c_tree.specs as c_tree
+pub use Rattle.named_items.specs as named_items

@@ -1,0 +1,61 @@
+-- What is counted in the example, and what its translation computes to.
+use Rattle.std.specs.Fmt.{digits}
+use Rattle.std.specs.Prelude.{◌≡◌, true, false, [], ◌∷◌, codes, Some, None}
+use Rattle.std.proofs.Common.{refl}
+use Rattle.statement_lowering.specs.LoweredStatements.{variable_is_text}
+use Rattle.statement_lowering.specs.expression_lowering.TableNames.{name_lowers, operator_lowers}
+use Rattle.translated_files.specs.f_tree.Attributes.{attributes_opened}
+use Rattle.translated_files.specs.f_tree.CNames.{is_name_byte, is_name, has_underscore, external_name, main_name, c_keywords, built_in_names, field_names, single_letters, is_reserved, takes_underscores, variable_name, constant_name, made_name}
+use Rattle.translated_files.specs.f_tree.Folds.{folds_opened}
+use Rattle.translated_files.specs.f_tree.Meaning.{everything}
+use Rattle.translated_files.specs.f_tree.Nests.{nests_opened}
+use Rattle.translated_files.specs.declaration_rows.GlobalRows.{global_rows_opened}
+use Rattle.translated_files.specs.declaration_rows.NameRows.{name_rows_opened}
+use Rattle.translated_files.specs.c_tree.Opened.{trees_opened}
+use Rattle.translated_files.specs.faithful.StorageImage.{function_name}
+use Rattle.translated_files.specs.faithful.Signatures.{named_formals}
+use Rattle.translated_files.specs.lowering.Expressions as lowered_expressions
+use Rattle.translated_files.specs.lowering.Statements as lowered_statements
+use Rattle.translated_files.specs.lowering.Units as lowered_units
+use Rattle.translated_files.specs.main_translation.Contents.{contents_opened}
+use Rattle.translated_files.specs.main_translation.Flow.{flow_opened}
+use Rattle.translated_files.specs.main_translation.Outlined.{outlined_opened}
+use Rattle.translated_files.specs.named_units.c_emit.Numbers.{numbers_opened}
+use Rattle.translated_files.specs.named_units.c_emit.Types.{if_numeric}
+use Rattle.translated_files.specs.named_units.c_structure.Expressions.{number_expr, with_two}
+use Rattle.translated_files.specs.named_units.c_structure.Statements as structure
+use Rattle.translated_files.specs.named_units.item_emission.NamedEmission.{named_emission_opened}
+use Rattle.translated_files.specs.named_units.named_items.Items.{items_opened}
+use Rattle.translated_files.specs.named_units.named_items.SamePlaces.{same_places_opened}
+use Rattle.translated_files.specs.named_units.named_items.Structured.{structured_opened}
+use Rattle.translated_files.specs.named_units.named_mains.NamedMains.{named_mains_opened}
+use Rattle.translated_files.specs.named_units.NamedUnits.{named_units_opened}
+use Rattle.translated_files.specs.named_units.unit_item_laws.AgreeingUnits.{agreeing_units_opened}
+use Rattle.translated_files.specs.unit_file.UnitFile.{unit_file_opened}
+use Rattle.translated_files.specs.unit_forms.PlainProcedures.{plain_procedures_opened}
+use Rattle.translated_files.specs.unit_forms.SpellableUnits.{spellable_units_opened}
+use Rattle.translated_files.specs.unit_forms.lowering_laws.Layout.{layout_opened}
+use Rattle.translated_files.specs.unit_forms.plain_forms.PlainUnits.{plain_units_opened}
+use Rattle.translated_files.specs.unit_forms.plain_forms.SpellableNames.{has_element, is_spellable_name, is_spellable}
+use Rattle.translated_files.specs.unit_translation.UnitBodies.{unit_bodies_opened}
+use Rattle.translated_files.specs.unit_translation.UnitContents.{unit_contents_opened}
+use Rattle.translated_files.specs.unit_translation.UnitFlow.{unit_flow_opened}
+use Rattle.translated_files.specs.translated_forms.LoweredForms.{lowered_forms_opened}
+use Rattle.translated_files.specs.translated_forms.TranslatedForms.{translated_forms_opened}
+use Rattle.translated_files.specs.TranslatedFiles.{translated_files_opened}
+use Rattle.loop_marks.specs.c_loops.Loops.{loops_opened}
+use Rattle.kept_loops.specs.Examples.{translated, ExampleIsCounted, examples_opened}
+use Rattle.kept_loops.specs.SourceLoops.{source_loops_opened}
+
+-- the files of the example, and none where loops are run at least once
+loops_translated : translated false ≡ Some (((record { fors = 2; dos = 0 }, codes "L__1" ∷ codes "L20" ∷ []) ∷ []) ∷ [])
+unfolding digits everything nests_opened is_name_byte is_name has_underscore external_name main_name c_keywords built_in_names field_names single_letters is_reserved takes_underscores variable_name constant_name made_name global_rows_opened name_rows_opened trees_opened function_name lowered_expressions.expressions_opened lowered_statements.statements_opened lowered_units.units_opened contents_opened flow_opened outlined_opened numbers_opened structure.statements_opened named_emission_opened items_opened same_places_opened structured_opened named_mains_opened named_units_opened agreeing_units_opened unit_file_opened plain_procedures_opened spellable_units_opened layout_opened plain_units_opened has_element is_spellable_name is_spellable unit_bodies_opened unit_contents_opened unit_flow_opened lowered_forms_opened translated_forms_opened translated_files_opened loops_opened examples_opened named_formals name_lowers operator_lowers variable_is_text if_numeric number_expr with_two
+loops_translated = refl
+
+none_once : translated true ≡ None
+unfolding digits everything nests_opened is_name_byte is_name has_underscore external_name main_name c_keywords built_in_names field_names single_letters is_reserved takes_underscores variable_name constant_name made_name global_rows_opened name_rows_opened trees_opened function_name lowered_expressions.expressions_opened lowered_statements.statements_opened lowered_units.units_opened contents_opened flow_opened outlined_opened numbers_opened structure.statements_opened named_emission_opened items_opened same_places_opened structured_opened named_mains_opened named_units_opened agreeing_units_opened unit_file_opened plain_procedures_opened spellable_units_opened layout_opened plain_units_opened has_element is_spellable_name is_spellable unit_bodies_opened unit_contents_opened unit_flow_opened lowered_forms_opened translated_forms_opened translated_files_opened loops_opened examples_opened named_formals name_lowers operator_lowers variable_is_text if_numeric number_expr with_two
+none_once = refl
+
+pub example_is_counted : ExampleIsCounted
+unfolding digits made_name folds_opened attributes_opened trees_opened loops_opened source_loops_opened examples_opened
+example_is_counted = record { dos = refl; whiles = refl; no_transfers = refl; no_implied = refl; labels = refl; allowed = refl; loops = loops_translated; once = none_once; no_loop = refl; other_label = refl }

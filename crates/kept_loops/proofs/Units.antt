@@ -1,0 +1,120 @@
+-- The function of one unit keeps its loops.
+use Rattle.std.specs.Prelude.{◌≡◌, ℕ, ◌+◌, Bool, true, false, ℤ, List, map, length, Option, Some, None, option_and_then, if◌then◌else◌}
+use Rattle.std.proofs.Common.{refl, sym, ap, ◌∙◌, subst, arith}
+use Rattle.translated_files.specs.f_tree.declared.names.Options.{Options}
+use Rattle.translated_files.specs.f_tree.declared.units.Unit.{Unit as GivenUnit}
+use Rattle.translated_files.specs.f_tree.Facts.{ProgramUnit, Facts}
+use Rattle.translated_files.specs.f_tree.Lines.{line_of, unit_read}
+use Rattle.translated_files.specs.f_tree.Meaning.{facts_at}
+use Rattle.translated_files.specs.f_tree.Setting.{IsIn}
+use Rattle.translated_files.specs.l_core.Steps.{Text}
+use Rattle.translated_files.specs.lowering.Units.{all_named, lowered_unit}
+use Rattle.translated_files.specs.c_tree.CLabels.{labels_of_all}
+use Rattle.translated_files.specs.c_tree.declared.file.CFunction.{CFunction}
+use Rattle.translated_files.specs.c_tree.declared.statement.CStmt.{CStmt}
+use Rattle.translated_files.specs.main_translation.Outlined.{labels_in, whiles_in, returns_last, if_returned, loop_at}
+use Rattle.translated_files.specs.named_units.named_items.declared.item.Item.{Item}
+use Rattle.translated_files.specs.named_units.named_items.Layouts.{Layout}
+use Rattle.translated_files.specs.named_units.named_items.Structured.{structured}
+use Rattle.translated_files.specs.named_units.named_mains.NamedMains.{items_from, statements_of}
+use Rattle.translated_files.specs.unit_translation.UnitContents.{LoweredUnit}
+use Rattle.translated_files.specs.unit_translation.UnitFlow.{kind_before, are_in_place}
+use Rattle.translated_files.specs.named_units.NamedUnits.{known_for, layout_for, named_body_of}
+use Rattle.translated_files.specs.unit_forms.OwnSetting.{own_facts}
+use Rattle.loop_marks.specs.c_loops.Loops.{loops_of_all}
+use Rattle.loop_marks.specs.c_loops.KeptLayouts.{loops_from, EachStructureIsKept}
+use Rattle.loop_marks.specs.DoStatements.{dos_among, whiles_among}
+use Rattle.loop_marks.specs.MarkedLoops.{EachTextMarksItsLoops, EachBranchIsNamed}
+use Rattle.loop_marks.proofs.Whole.{text_of}
+use Rattle.kept_loops.specs.SourceLoops.{do_statements, do_whiles, implied_dos, labels_named}
+use Rattle.kept_loops.specs.KeptFunctions.{KeepsLoops}
+use Rattle.kept_loops.proofs.SourceForms.{all_dos, all_whiles, dos_of_lines, whiles_of_lines, labels_of_lines, lines_read, once_read}
+use Rattle.kept_loops.proofs.Direct.{IsPlain, dos_are, whiles_are, dos_plain}
+use Rattle.kept_loops.proofs.Items.{as_many, begin_from, none_back}
+use Rattle.kept_loops.proofs.Names.{all_allowed}
+
+-- ## What a body was made by
+
+record HasBody (constants : List ℤ) (all : List LoweredUnit) (u : LoweredUnit) (body : List CStmt) : Type 0 where
+  items : List Item
+  emitted : items_from (known_for constants all u) (kind_before u.text) 0 u.text.steps ≡ Some items
+  statements : structured (layout_for u.text) (length items) 0 items ≡ Some body
+
+returned_by : (ss body : List CStmt) → if_returned ss ≡ Some body → ss ≡ body
+unfolding if_returned
+returned_by ss body h = by (returns_last ss) h
+  where
+    by : (b : Bool) → (if b then Some ss else None) ≡ Some body → ss ≡ body
+    by true g = cc
+    by false g = absurd (cc)
+
+statements_by : (layout : Layout) (items : List Item) (body : List CStmt) (found : Option (List CStmt)) → option_and_then if_returned found ≡ Some body → found ≡ Some body
+statements_by layout items body (Some ss) h = ap Some (returned_by ss body h)
+statements_by layout items body None h = absurd (cc)
+
+structured_by : (layout : Layout) (items : List Item) (body : List CStmt) → statements_of layout items ≡ Some body → structured layout (length items) 0 items ≡ Some body
+unfolding statements_of
+structured_by layout items body h = statements_by layout items body (structured layout (length items) 0 items) h
+
+items_by : (constants : List ℤ) (all : List LoweredUnit) (u : LoweredUnit) (body : List CStmt) (found : Option (List Item)) → items_from (known_for constants all u) (kind_before u.text) 0 u.text.steps ≡ found
+    → option_and_then (statements_of (layout_for u.text)) found ≡ Some body → HasBody constants all u body
+items_by constants all u body (Some items) is h = record { items = items; emitted = is; statements = structured_by (layout_for u.text) items body h }
+items_by constants all u body None is h = absurd (cc)
+
+has_body : (constants : List ℤ) (all : List LoweredUnit) (u : LoweredUnit) (body : List CStmt) → named_body_of constants all u ≡ Some body → HasBody constants all u body
+unfolding named_body_of
+has_body constants all u body h = by (are_in_place u.text 0 u.text.steps) h
+  where
+    by : (b : Bool) → (if b then option_and_then (statements_of (layout_for u.text)) (items_from (known_for constants all u) (kind_before u.text) 0 u.text.steps) else None) ≡ Some body → HasBody constants all u body
+    by true g = items_by constants all u body (items_from (known_for constants all u) (kind_before u.text) 0 u.text.steps) refl g
+    by false g = absurd (cc)
+
+-- ## One unit
+
+pub own_program : (us : List ProgramUnit) (j : ℕ) (unit : ProgramUnit) → (own_facts us j unit).program ≡ unit
+unfolding facts_at
+own_program us j unit = refl
+
+none_if : (b : Bool) (n : ℕ) → (b ≡ true → n ≡ 0) → 0 ≡ (if b then n else 0)
+none_if true n none = sym (none refl)
+none_if false n none = refl
+
+module _ (built : EachStructureIsKept) (marked : EachTextMarksItsLoops) (branches : EachBranchIsNamed) (options : Options) (given : GivenUnit) (c : Facts) (program : c.program ≡ unit_read options given) (plain : IsPlain (unit_read options given)) where
+  lines_are : (labels : List ℕ) × (c.program.lines ≡ map (line_of (unit_read options given).attribute labels) given.statements)
+  lines_are = let read = lines_read options given in (read.0, ap (λ (p : ProgramUnit). p.lines) program ∙ read.1)
+
+  once_is : c.program.onetrip ≡ options.onetrip
+  once_is = ap (λ (p : ProgramUnit). p.onetrip) program ∙ once_read options given
+
+  plain_lines : IsPlain c.program
+  plain_lines = subst IsPlain (sym program) plain
+
+  dos_counted : dos_among c.program.lines ≡ do_statements given
+  dos_counted = dos_are c.program.lines plain_lines.direct ∙ ap all_dos lines_are.1 ∙ dos_of_lines (unit_read options given).attribute lines_are.0 given.statements
+
+  whiles_counted : whiles_among c.program.lines ≡ do_whiles given
+  whiles_counted = whiles_are c.program.lines plain_lines.direct ∙ ap all_whiles lines_are.1 ∙ whiles_of_lines (unit_read options given).attribute lines_are.0 given.statements
+
+  labels_known : (u : Text) → lowered_unit c ≡ Some u → (label : ℕ) → IsIn label (labels_in u.steps) → IsIn label (labels_named given.statements)
+  labels_known u lowered label among =
+      labels_of_lines (unit_read options given).attribute lines_are.0 given.statements label (subst (λ ls. IsIn label (all_named ls)) lines_are.1 (branches c u lowered label among))
+
+  pub unit_keeps : (constants : List ℤ) (all : List LoweredUnit) (u : LoweredUnit) (f : CFunction) → lowered_unit c ≡ Some u.text → implied_dos given ≡ 0 → named_body_of constants all u ≡ Some f.body → KeepsLoops options given f
+  unit_keeps constants all u f lowered implied body_is =
+      let text = text_of c u.text lowered in
+      let loops = marked c u.text (dos_plain c.program.lines plain_lines.direct) plain_lines.ends lowered in
+      let body = has_body constants all u f.body body_is in
+      let known = known_for constants all u in
+      let many = as_many known (kind_before u.text) 0 u.text.steps body.items body.emitted in
+      let well = begin_from known (kind_before u.text) (loop_at u.text) 0 u.text.steps body.items body.emitted (λ j k size from is. loops.begin k size (ap (loop_at u.text) (let e : k ≡ j = omega (arith, from) in e) ∙ is)) in
+      let kept = built (layout_for u.text) (length body.items) 0 body.items f.body well body.statements in
+      let once : u.text.facts.program.onetrip ≡ options.onetrip = ap (λ (d : Facts). d.program.onetrip) (sym text.facts) ∙ once_is in
+      let counted : dos_among u.text.facts.program.lines ≡ do_statements given = ap (λ (d : Facts). dos_among d.program.lines) (sym text.facts) ∙ dos_counted in
+      let count : (loops_of_all f.body).fors ≡ (if options.onetrip then 0 else do_statements given) = kept.fors ∙ ap (loops_from (loop_at u.text) 0) many ∙ loops.number ∙ (λ k. if once k then 0 else counted k) in
+      let whiles : length (whiles_in u.text.marks) ≡ do_whiles given = loops.whiles ∙ ap (λ (d : Facts). whiles_among d.program.lines) (sym text.facts) ∙ whiles_counted in
+      let none : options.onetrip ≡ true → do_statements given ≡ 0 = λ is. sym counted ∙ loops.once (once ∙ is) (none_back known (kind_before u.text) 0 u.text.steps body.items body.emitted kept.tests) in
+      record {
+        fors = (let e : (loops_of_all f.body).fors ≡ (if options.onetrip then 0 else do_statements given) + implied_dos given = omega (arith, count, implied) in e);
+        dos = kept.dos ∙ none_if options.onetrip (do_statements given) none;
+        labels = all_allowed given u.text (layout_for u.text) (labels_of_all f.body).named (λ label among. labels_known u.text lowered label among) whiles (λ n. refl) kept.named;
+      }

@@ -1,0 +1,117 @@
+-- The loops and the transfers of a program unit, and the labels where its statements may lead; a statement that a logical IF guards counts as any other.
+-- ANSI X3.9-1978, sections 10.3, 11.1 to 11.4, 11.10, 12.7, 12.8 and 15.6.2.3; MIL-STD-1753 for DO WHILE.
+use Rattle.std.specs.List.{sum, flat_map}
+use Rattle.std.specs.Prelude.{ℕ, zero, suc, ◌+◌, List, [], ◌∷◌, ◌++◌, map}
+use Rattle.loop_marks.specs.l_core.f_tree.declared.expressions.Expr.TheOpen as expr
+use Rattle.loop_marks.specs.l_core.f_tree.declared.statements.Body.TheOpen as body
+use Rattle.loop_marks.specs.l_core.f_tree.declared.statements.Control.{Control}
+use Rattle.loop_marks.specs.l_core.f_tree.declared.statements.ControlValue.{ControlValue}
+use Rattle.loop_marks.specs.l_core.f_tree.declared.statements.ControlValue.TheVariants as value
+use Rattle.loop_marks.specs.l_core.f_tree.declared.statements.ControlWord.{ControlWord}
+use Rattle.loop_marks.specs.l_core.f_tree.declared.statements.ControlWord.TheVariants as word
+use Rattle.loop_marks.specs.l_core.f_tree.declared.statements.ListItem.TheOpen as item
+use Rattle.loop_marks.specs.l_core.f_tree.declared.statements.Stmt.{Stmt}
+use Rattle.loop_marks.specs.l_core.f_tree.declared.units.Unit.{Unit as GivenUnit}
+use Rattle.loop_marks.specs.l_core.f_tree.CNames.{made_name, StatementLabel, EntryLabel, MadeLabel}
+use Rattle.loop_marks.specs.l_core.f_tree.Attributes.{own_names}
+use Rattle.loop_marks.specs.l_core.f_tree.Folds.{fold_body, fold_expr, fold_item}
+
+-- ## Loops and transfers
+
+-- one layer of a statement, given how many the statement of a logical IF has: a DO statement (11.10)
+unfoldable pub layer_do : body.Body-F ℕ → ℕ
+layer_do (body.IfOne e n) = n
+layer_do (body.Do label control) = 1
+layer_do b = 0
+
+-- a DO WHILE
+unfoldable pub layer_while : body.Body-F ℕ → ℕ
+layer_while (body.IfOne e n) = n
+layer_while (body.DoWhile label e) = 1
+layer_while b = 0
+
+-- a READ, WRITE or PRINT (12.8)
+unfoldable pub layer_transfer : body.Body-F ℕ → ℕ
+layer_transfer (body.IfOne e n) = n
+layer_transfer (body.Transfer way controls items) = 1
+layer_transfer b = 0
+
+-- the implied DOs of an item (12.8.2.3)
+unfoldable pub layer_item : item.ListItem-F ℕ → ℕ
+layer_item (item.Item e) = 0
+layer_item (item.Loop ns control) = suc (sum ns)
+
+-- and of a transfer
+unfoldable pub layer_implied : body.Body-F ℕ → ℕ
+layer_implied (body.IfOne e n) = n
+layer_implied (body.Transfer way controls items) = sum (map (fold_item layer_item) items)
+layer_implied b = 0
+
+-- how many there are in statements
+unfoldable pub count_in : (body.Body-F ℕ → ℕ) → List Stmt → ℕ
+count_in layer [] = 0
+count_in layer (s ∷ ss) = fold_body layer s.body + count_in layer ss
+
+abbrev pub do_statements : GivenUnit → ℕ
+do_statements u = count_in layer_do u.statements
+
+abbrev pub do_whiles : GivenUnit → ℕ
+do_whiles u = count_in layer_while u.statements
+
+abbrev pub transfers : GivenUnit → ℕ
+transfers u = count_in layer_transfer u.statements
+
+abbrev pub implied_dos : GivenUnit → ℕ
+implied_dos u = count_in layer_implied u.statements
+
+-- ## Labels that are named
+
+-- the label of an alternate return argument (15.6.2.3)
+unfoldable pub layer_argument : expr.Expr-F (List ℕ) → List ℕ
+layer_argument (expr.AltReturn label) = label ∷ []
+layer_argument e = []
+
+-- the labels of ERR= and END= (12.7.1 and 12.7.2)
+unfoldable pub label_after : ControlWord → ControlValue → List ℕ
+label_after word.OnError (value.Label label) = label ∷ []
+label_after word.OnEnd (value.Label label) = label ∷ []
+label_after other v = []
+
+unfoldable pub labels_of_controls : List Control → List ℕ
+labels_of_controls [] = []
+labels_of_controls (c ∷ cs) = label_after c.word c.value ++ labels_of_controls cs
+
+-- one layer of a statement, given the labels that the statement of a logical IF names: ASSIGN (10.3), GO TO (11.1 to 11.3), the arithmetic IF (11.4), CALL,
+-- and input and output
+unfoldable pub layer_labels : body.Body-F (List ℕ) → List ℕ
+layer_labels (body.AssignLabel label x) = label ∷ []
+layer_labels (body.Goto label) = label ∷ []
+layer_labels (body.GotoList labels e) = labels
+layer_labels (body.GotoName x labels) = labels
+layer_labels (body.IfSign e below at above) = below ∷ at ∷ above ∷ []
+layer_labels (body.IfOne e labels) = labels
+layer_labels (body.Call x es) = flat_map (fold_expr layer_argument) es
+layer_labels (body.Transfer way controls items) = labels_of_controls controls
+layer_labels (body.Auxiliary which controls) = labels_of_controls controls
+layer_labels b = []
+
+unfoldable pub labels_named : List Stmt → List ℕ
+labels_named [] = []
+labels_named (s ∷ ss) = fold_body layer_labels s.body ++ labels_named ss
+
+-- ## Their names in C
+
+-- so many made labels
+unfoldable pub made_labels : ℕ → List (List ℕ)
+made_labels zero = []
+made_labels (suc n) = made_name (MadeLabel (suc n)) ∷ made_labels n
+
+-- the labels that the function of a unit may name: those of its statements that are named, those of its entries, and a made one for each transfer and each
+-- DO WHILE
+unfoldable pub labels_allowed : GivenUnit → List (List ℕ)
+labels_allowed u =
+    map (λ label. made_name (StatementLabel label)) (labels_named u.statements) ++ (map (λ x. made_name (EntryLabel x)) (own_names u) ++ made_labels (transfers u + do_whiles u))
+
+unfoldable pub source_loops_opened : Unit {0}
+unfolding layer_do layer_while layer_transfer layer_item layer_implied count_in layer_argument label_after labels_of_controls layer_labels labels_named made_labels labels_allowed
+source_loops_opened = tt

@@ -1,0 +1,4 @@
+pub mod Lists
+pub mod Owning
+pub mod Clearing
+pub mod Told

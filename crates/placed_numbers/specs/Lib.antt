@@ -1,0 +1,2 @@
+pub mod Owned
+pub use Rattle.placing_orders.specs as placing_orders

@@ -1,0 +1,4 @@
+pub mod NumberingLaws
+pub mod TieLaws
+pub mod RowLaws
+pub mod FrontLaws

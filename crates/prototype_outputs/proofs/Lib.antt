@@ -1,0 +1,3 @@
+mod OutputLemmas
+mod FormLemmas
+pub mod FrontLemmas

@@ -1,0 +1,3 @@
+pub mod Outputs
+pub mod Forms
+pub use Rattle.proto_file.specs.prototypes

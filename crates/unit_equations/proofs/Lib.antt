@@ -1,0 +1,2 @@
+pub mod BlockForms
+pub mod NumberForms

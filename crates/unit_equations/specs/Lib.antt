@@ -1,0 +1,2 @@
+pub mod BlocksTold
+pub mod NumbersTold
