@@ -13,6 +13,11 @@ const ADD: NamedFile = (
 
 const ADD_PROTOTYPES: NamedFile = (b"add.P", b"extern int add_(integer *n, integer *s);\n");
 
+const ADD_ONCE: NamedFile = (
+    b"src/add.f",
+    b"      SUBROUTINE ADD(N, S)\n      INTEGER N, S\n      S = S + N\n      END\n",
+);
+
 const TWICE: NamedFile = (
     b"twice.f",
     b"      INTEGER FUNCTION TWICE(K)\n      INTEGER K\n      TWICE = 2*K\n      END\n",
@@ -64,7 +69,7 @@ fn prototypes_are_written_and_compared(rt: HostRuntime) -> Result<(), Fail> {
 #[test]
 fn words_stand_in_any_order(rt: HostRuntime) -> Result<(), Fail> {
     let alloc = rt.alloc();
-    let files = [LIBRARY, (b"src/add.f".as_slice(), ADD.1), TWICE];
+    let files = [LIBRARY, ADD_ONCE, TWICE];
     let words = [
         "-w",
         "library.P",
