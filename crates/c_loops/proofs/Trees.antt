@@ -9,7 +9,7 @@ use Rattle.c_tree.specs.declared.statement.CStmt.{CStmt}
 use Rattle.c_tree.specs.declared.statement.CStmt.TheVariants as form
 use Rattle.c_tree.specs.CLabels.{no_label, both, labels_of, labels_of_all}
 use Rattle.named_items.specs.c_structure.Statements.{with_label}
-use Rattle.c_loops.specs.Loops.{no_loops, both_loops, within_for, loops_of, loops_in, loops_of_other, loops_of_all}
+use Rattle.c_loops.specs.Loops.{no_loops, both_loops, within_for, within_do, loops_of, loops_in, loops_of_other, loops_of_all}
 
 -- ## Loops
 
@@ -29,6 +29,11 @@ loops_if_else test first second = λ i. both_loops (loops_block first i) (loops_
 pub loops_for : (variable first test : CExpr) (next : CNext) (turn : List CStmt) → loops_of (form.For variable first test next turn) ≡ within_for (loops_of_all turn)
 unfolding loops_of loops_in loops_of_other loops_of_all trees_opened
 loops_for variable first test next turn = ap within_for (loops_block turn)
+
+-- an assignment, and a `do` behind it
+pub loops_do : (a b : CExpr) (turn : List CStmt) (test : CExpr) → loops_of (form.Block (form.Set a b ∷ form.DoWhile turn test ∷ [])) ≡ both_loops no_loops (both_loops (within_do (loops_of_all turn)) no_loops)
+unfolding loops_of loops_in loops_of_other loops_of_all trees_opened
+loops_do a b turn test = ap (λ l. both_loops no_loops (both_loops (within_do l) no_loops)) (loops_block turn)
 
 pub loops_labelled : (label : Option (List ℕ)) (s : CStmt) → loops_of (with_label label s) ≡ loops_of s
 unfolding with_label loops_of loops_in loops_of_other trees_opened
@@ -57,6 +62,10 @@ named_if_else test first second = λ i. both (named_block first i) (named_block 
 pub named_for : (variable first test : CExpr) (next : CNext) (turn : List CStmt) → labels_of (form.For variable first test next turn) ≡ labels_of_all turn
 unfolding trees_opened
 named_for variable first test next turn = named_block turn
+
+pub named_do : (a b : CExpr) (turn : List CStmt) (test : CExpr) → labels_of (form.Block (form.Set a b ∷ form.DoWhile turn test ∷ [])) ≡ both no_label (both (labels_of_all turn) no_label)
+unfolding trees_opened
+named_do a b turn test = ap (λ l. both no_label (both l no_label)) (named_block turn)
 
 pub named_labelled : (label : Option (List ℕ)) (s : CStmt) → (labels_of (with_label label s)).named ≡ (labels_of s).named
 unfolding with_label trees_opened

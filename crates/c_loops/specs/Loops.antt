@@ -1,5 +1,5 @@
 -- The loops of C statements: how many `for` and how many `do` there are among them, nested ones too. C89, 3.6.5.2 and 3.6.5.3.
-use Rattle.std.specs.Prelude.{ℕ, suc, ◌+◌, List, [], ◌∷◌}
+use Rattle.std.specs.Prelude.{ℕ, suc, ◌+◌, Bool, true, false, List, [], ◌∷◌}
 use Rattle.c_tree.specs.declared.statement.CStmt as stmt
 
 pub record Loops : Type 0 where
@@ -11,6 +11,11 @@ no_loops = record { fors = 0; dos = 0 }
 
 abbrev pub both_loops : Loops → Loops → Loops
 both_loops first second = record { fors = first.fors + second.fors; dos = first.dos + second.dos }
+
+-- so many loops that are tested behind each turn alone, or else before each
+abbrev pub loops_by : Bool → ℕ → Loops
+loops_by true count = record { fors = 0; dos = count }
+loops_by false count = record { fors = count; dos = 0 }
 
 -- a `for` around others, and a `do`
 abbrev pub within_for : Loops → Loops

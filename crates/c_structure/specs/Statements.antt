@@ -1,6 +1,7 @@
 -- Structured C statements whose flat form is a given list of items: a test that passes the items behind it is an `if`, with an `else` where it is said
 -- that the last of them passes the other arm; an item that picks one of the jumps behind it is a `switch`; a loop that is said to begin at an item is a
--- `for`; labels stand where it is said that they do. None for items that have no statement of their own. C89, 3.6.
+-- `for`, or an assignment and a `do` where its test stands behind the turn; labels stand where it is said that they do. None for items that have no
+-- statement of their own. C89, 3.6.
 use Rattle.std.specs.Prelude.{ℕ, ℤ, zero, suc, ◌+◌, ◌-◌, pos, negsuc, nat_eq, nat_le, Bool, true, false, not, ◌&&◌, List, [], ◌∷◌, ◌++◌, map, length, take, drop, Option, Some, None, is_none, option_map, slice_get, if◌then◌else◌}
 use Rattle.std.specs.List.{list_any}
 use Rattle.std.specs.Ordering.{int_eq}
@@ -194,14 +195,41 @@ is_loop o n size on off later =
     nat_eq on (suc (suc n)) && (nat_eq off (suc (suc n) + suc (suc size)) && (nat_le (suc (suc size)) (length later) && (goes_back (suc n) (slice_get later (suc size))
     && (is_none (o.label (suc n)) && (is_none (o.label (suc (suc n) + size)) && is_none (o.label (suc (suc (suc n) + size))))))))
 
-unfoldable pub loop_for : Outline → Writer → ℕ → ℕ → Flat → List Flat → Option (List CStmt)
-loop_for o write n size (Assign variable first) (Branch test on off ∷ later) =
+-- a loop whose variable is first set, with the test at once behind that
+unfoldable pub head_for : Outline → Writer → ℕ → ℕ → Term → Term → List Flat → Option (List CStmt)
+head_for o write n size variable first (Branch test on off ∷ later) =
     if is_loop o n size on off later then
     before
     (option_map (with_label (o.label n))
     (for_by (expr_for o.names variable) (expr_for o.names first) (expr_for o.names test) (next_for o.names variable (slice_get later size)) (write (suc (suc n)) (take size later))))
     (write (suc (suc n) + suc (suc size)) (drop (suc (suc size)) later))
     else None
+head_for o write n size variable first later = None
+
+-- a test behind so many items of a turn, at once behind the first item: back to the first of them where it holds, and else on; no label stands before it
+unfoldable pub tests_turn : Outline → ℕ → ℕ → Option Flat → Bool
+tests_turn o n size (Some (Branch test on off)) = nat_eq on (suc n) && (nat_eq off (suc (suc n + size)) && is_none (o.label (suc n + size)))
+tests_turn o n size item = false
+
+-- the expression that an item tests
+unfoldable pub test_in : Names → Option Flat → Option CExpr
+test_in names (Some (Branch test on off)) = expr_for names test
+test_in names item = None
+
+-- the first assignment, and the turn with the test behind it
+unfoldable pub do_by : Option CExpr → Option CExpr → Option (List CStmt) → Option CExpr → Option CStmt
+do_by (Some variable) (Some first) (Some turn) (Some test) = Some (stmt.Block (stmt.Set variable first ∷ stmt.DoWhile turn test ∷ []))
+do_by _ _ _ _ = None
+
+-- a loop whose variable is first set, with the turn at once behind that, and its test behind the turn
+unfoldable pub do_for : Outline → Writer → ℕ → ℕ → Term → Term → List Flat → Option (List CStmt)
+do_for o write n size variable first later =
+    before
+    (option_map (with_label (o.label n)) (do_by (expr_for o.names variable) (expr_for o.names first) (write (suc n) (take size later)) (test_in o.names (slice_get later size))))
+    (write (suc (suc n + size)) (drop (suc size) later))
+
+unfoldable pub loop_for : Outline → Writer → ℕ → ℕ → Flat → List Flat → Option (List CStmt)
+loop_for o write n size (Assign variable first) later = if tests_turn o n size (slice_get later size) then do_for o write n size variable first later else head_for o write n size variable first later
 loop_for o write n size item later = None
 
 unfoldable pub part_for : Outline → Writer → Option ℕ → ℕ → Flat → List Flat → Option (List CStmt)
@@ -215,5 +243,5 @@ statements_for o zero n (item ∷ later) = None
 statements_for o (suc turns) n (item ∷ later) = part_for o (statements_for o turns) (o.loop n) n item later
 
 unfoldable pub statements_opened : Unit {0}
-unfolding set_by call_by set_call_by statement_of strings_of_item strings_of_items with_label before if_by if_else_by end_of_arm if_for if_else_for arms_for branch_for case_by case_for before_cases cases_for is_case_number are_case_numbers switch_by switch_for item_for same_place added_by next_by next_for for_by goes_back is_loop loop_for part_for statements_for
+unfolding set_by call_by set_call_by statement_of strings_of_item strings_of_items with_label before if_by if_else_by end_of_arm if_for if_else_for arms_for branch_for case_by case_for before_cases cases_for is_case_number are_case_numbers switch_by switch_for item_for same_place added_by next_by next_for for_by goes_back is_loop head_for tests_turn test_in do_by do_for loop_for part_for statements_for
 statements_opened = tt

@@ -18,10 +18,10 @@ use Rattle.c_laws.specs.c_tree.Flat.{Flat, Assign, Branch, Select, Jump, Invoke,
 use Rattle.c_laws.specs.c_tree.Drafts.{Scope, Draft, bare, drafted, joined}
 use Rattle.c_laws.specs.c_tree.LinkedExpressions.{linked, name_of, linked_all, Calling, called, linked_call}
 use Rattle.c_laws.specs.c_tree.FlatForm as code
-use Rattle.c_laws.specs.c_tree.FlatForm.{LabelAt, Labels, Body, sequence, one, marked, if_only, if_else, jump_to, cases_from, case_jumps, next_item, tested, for_loop, body, body_of_all}
-use Rattle.c_laws.proofs.TreeEquations.{body-Label, body-If, body-IfElse, body-For}
+use Rattle.c_laws.specs.c_tree.FlatForm.{LabelAt, Labels, Body, sequence, one, marked, if_only, if_else, jump_to, cases_from, case_jumps, next_item, tested, for_loop, do_while, body, body_of_all}
+use Rattle.c_laws.proofs.TreeEquations.{body-Block, body-Label, body-If, body-IfElse, body-For, body-DoWhile}
 use Rattle.c_structure.specs.Expressions.{Names, expr_for, exprs_for, string_at, strings_in, strings_in_all}
-use Rattle.c_structure.specs.Statements.{Outline, set_by, call_by, set_call_by, statement_of, strings_of_item, strings_of_items, with_label, before, if_by, if_else_by, end_of_arm, Writer, if_for, if_else_for, arms_for, branch_for, case_by, case_for, before_cases, cases_for, are_case_numbers, switch_by, switch_for, item_for, same_place, added_by, next_by, next_for, for_by, goes_back, is_loop, loop_for, part_for, statements_for}
+use Rattle.c_structure.specs.Statements.{Outline, set_by, call_by, set_call_by, statement_of, strings_of_item, strings_of_items, with_label, before, if_by, if_else_by, end_of_arm, Writer, if_for, if_else_for, arms_for, branch_for, case_by, case_for, before_cases, cases_for, are_case_numbers, switch_by, switch_for, item_for, same_place, added_by, next_by, next_for, for_by, goes_back, is_loop, head_for, tests_turn, test_in, do_by, do_for, loop_for, part_for, statements_for}
 use Rattle.c_structure_laws.specs.Fitting.{KnowsArray, Knows, KnowsAll, KnowsItem, KnowsItems, AreNumbered, AreBytesOf, IsDrawn, mark_at, marks_from, Fits, AreLabels, StatementsAreTheirs}
 use Rattle.c_structure_laws.proofs.DrawnExpressions.{bytes_both, numbered_left, behind_both, drawn_bare, drawn_name, drawn_by, drawn_both, some_same, mapped_by, expr_drawn, exprs_drawn}
 
@@ -807,10 +807,10 @@ module _ (o : Outline) (scope : Scope) (labels : Labels) (are : AreLabels o labe
       (expr_drawn scope o.names test g.test g.test_is kt) (subst (λ it. IsNext v it g.next) same ny.next) (fit (suc (suc n)) turn g.turn g.turn_is (knows_take scope o.names size later knows)) bare bare' bare''))
       (λ others is. fit off rest others is (knows_drop scope o.names (suc (suc size)) later knows)))
 
-  loop_fits : (write : Writer) → WriterFits write → (n size : ℕ) (item : Flat) (later : List Flat) (ss : List CStmt) → loop_for o write n size item later ≡ Some ss → KnowsItem scope o.names item → KnowsItems scope o.names later
-      → Fits o scope labels n (item ∷ later) (body_of_all ss)
-  unfolding loop_for is_loop
-  loop_fits write fit n size (Assign v first) (Branch test on off ∷ later) ss h known knows = by (is_loop o n size on off later) refl h
+  head_fits : (write : Writer) → WriterFits write → (n size : ℕ) (v first : Term) (later : List Flat) (ss : List CStmt) → head_for o write n size v first later ≡ Some ss → KnowsItem scope o.names (Assign v first)
+      → KnowsItems scope o.names later → Fits o scope labels n (Assign v first ∷ later) (body_of_all ss)
+  unfolding head_for is_loop
+  head_fits write fit n size v first (Branch test on off ∷ later) ss h known knows = by (is_loop o n size on off later) refl h
     where
       by : (b : Bool) → is_loop o n size on off later ≡ b
           → (if b then
@@ -832,6 +832,153 @@ module _ (o : Outline) (scope : Scope) (labels : Labels) (are : AreLabels o labe
           (loop_found write fit n size v first test later ss room back (is_bare (o.label (suc n)) (left_true _ _ r4)) (is_bare (o.label (suc (suc n) + size)) (left_true _ _ r5))
           (is_bare (o.label (suc (suc (suc n) + size))) (right_true _ _ r5)) g known.0 known.1 knows.0 knows.1))
       by false so g = absurd (cc)
+  head_fits write fit n size v first later ss h known knows = absurd (cc)
+
+  -- ## Loops that are tested behind the turn
+
+  -- a statement for an item, and those for the items behind it
+  with_later : (n : ℕ) (item : Flat) (inner : List Flat) (b c : Body) → FitsUnlabelled n item [] b → Fits o scope labels (suc n) inner c → FitsUnlabelled n item inner (sequence b c)
+  with_later n item inner b c one other =
+      let first_size = one.size in
+      let later_size = other.size in
+      let xs = item ∷ [] in
+      let ks = strings_of_items o.names xs in
+      let js = strings_of_items o.names inner in
+      let there : n + b.size ≡ suc n = omega (arith, first_size) in
+      record {
+        size = (let whole : b.size + c.size ≡ suc (length inner) = omega (arith, first_size, later_size) in whole);
+        strings = bytes_both o.names b.items.strings c.items.strings ks js one.strings other.strings ∙ sym (ap (map o.names.string) (strings_append o.names xs inner));
+        marks = (λ i. one.marks i ++ c.labels (there i)) ∙ other.marks;
+        drawn = λ first are'.
+            let both = subst (AreNumbered first) (strings_append o.names xs inner) are' in
+            (λ i. one.drawn first (numbered_left first ks js both) i ++ c.items.drawn scope (first + length b.items.strings) labels (there i))
+            ∙ ap (λ zs. item ∷ zs) (other.drawn (first + length b.items.strings) (behind_both o.names first b.items.strings ks js one.strings both));
+      }
+
+  -- a turn, and the test behind it
+  turn_fits : (m size : ℕ) (test : Term) (turn : List Flat) (c : CExpr) (ss : List CStmt) → length turn ≡ size → IsDrawn o.names scope (strings_in o.names test) (linked c) test → Fits o scope labels m turn (body_of_all ss)
+      → o.label (m + size) ≡ None → Fits o scope labels m (turn ++ Branch test m (suc (m + size)) ∷ []) (do_while (body_of_all ss) c)
+  unfolding strings_of_items strings_of_item
+  turn_fits m size test turn c ss long dc fits bare =
+      let whole = body_of_all ss in
+      let sized = fits.size in
+      let behind = Branch test m (suc (m + size)) ∷ [] in
+      let hs = strings_of_items o.names turn in
+      let js = strings_in o.names test in
+      let all : strings_of_items o.names (turn ++ behind) ≡ hs ++ js = strings_append o.names turn behind ∙ ap (λ zs. hs ++ zs) (append-nil js) in
+      let off : m + whole.size + 1 ≡ suc (m + size) = omega (arith, sized, long) in
+      record {
+        size = (let counted = length-append turn behind in let total : whole.size + 1 ≡ length (turn ++ behind) = omega (arith, sized, counted) in total);
+        strings = bytes_both o.names whole.items.strings (linked c).strings hs js fits.strings dc.strings ∙ sym (ap (map o.names.string) all);
+        marks = fits.marks ∙ sym (append-nil (marks_from o.label m turn)) ∙ ap (λ l. marks_from o.label m turn ++ (mark_at (m + size) l ++ [])) (sym bare)
+            ∙ sym (marks_append o.label m (m + size) turn behind (omega (arith, long)));
+        drawn = λ k are'.
+            let numbered = subst (AreNumbered k) all are' in
+            (λ i. fits.drawn k (numbered_left k hs js numbered) i
+            ++ Branch (dc.drawn (k + length whole.items.strings) (behind_both o.names k whole.items.strings hs js fits.strings numbered) i) m (off i) ∷ []);
+      }
+
+  -- the last of some statements
+  last_fits : (m : ℕ) (items : List Flat) (s : CStmt) → Fits o scope labels m items (body s) → Fits o scope labels m items (body_of_all (s ∷ []))
+  last_fits m items s fits =
+      subst (λ zs. Fits o scope labels m zs (body_of_all (s ∷ []))) (append-nil items) (both_fit m (m + length items) items [] (body s) (body_of_all []) refl fits (nothing_fits (m + length items)))
+
+  do_fits : (n size : ℕ) (v first test : Term) (turn : List Flat) (a b c : CExpr) (ss : List CStmt) → length turn ≡ size → FitsUnlabelled n (Assign v first) [] (body (stmt.Set a b))
+      → IsDrawn o.names scope (strings_in o.names test) (linked c) test → Fits o scope labels (suc n) turn (body_of_all ss) → o.label (suc n + size) ≡ None
+      → FitsUnlabelled n (Assign v first) (turn ++ Branch test (suc n) (suc (suc n + size)) ∷ []) (body (stmt.Block (stmt.Set a b ∷ stmt.DoWhile ss c ∷ [])))
+  do_fits n size v first test turn a b c ss long set dc fits bare =
+      let items = turn ++ Branch test (suc n) (suc (suc n + size)) ∷ [] in
+      subst (FitsUnlabelled n (Assign v first) items) (sym (body-Block (stmt.Set a b ∷ stmt.DoWhile ss c ∷ [])))
+      (with_later n (Assign v first) items (body (stmt.Set a b)) (body_of_all (stmt.DoWhile ss c ∷ [])) set
+      (last_fits (suc n) items (stmt.DoWhile ss c) (subst (Fits o scope labels (suc n) items) (sym (body-DoWhile ss c)) (turn_fits (suc n) size test turn c ss long dc fits bare))))
+
+  record IsDo (x y : Option CExpr) (xs : Option (List CStmt)) (z : Option CExpr) (s : CStmt) : Type 0 where
+    variable : CExpr
+    first : CExpr
+    turn : List CStmt
+    test : CExpr
+    variable_is : x ≡ Some variable
+    first_is : y ≡ Some first
+    turn_is : xs ≡ Some turn
+    test_is : z ≡ Some test
+    is : stmt.Block (stmt.Set variable first ∷ stmt.DoWhile turn test ∷ []) ≡ s
+
+  do_of : (x y : Option CExpr) (xs : Option (List CStmt)) (z : Option CExpr) (s : CStmt) → do_by x y xs z ≡ Some s → IsDo x y xs z s
+  unfolding do_by
+  do_of (Some a) (Some b) (Some turn) (Some c) s h = record {
+    variable = a;
+    first = b;
+    turn = turn;
+    test = c;
+    variable_is = refl;
+    first_is = refl;
+    turn_is = refl;
+    test_is = refl;
+    is = some_same (stmt.Block (stmt.Set a b ∷ stmt.DoWhile turn c ∷ [])) s h;
+  }
+  do_of x y xs z s h = absurd (cc)
+
+  both_set : (a b : CExpr) → set_by (Some a) (Some b) ≡ Some (stmt.Set a b)
+  unfolding set_by
+  both_set a b = refl
+
+  -- the test behind a turn
+  record IsTestBehind (n size : ℕ) (found : Option Flat) : Type 0 where
+    test : Term
+    at : found ≡ Some (Branch test (suc n) (suc (suc n + size)))
+    bare : o.label (suc n + size) ≡ None
+
+  test_found : (n size : ℕ) (found : Option Flat) → tests_turn o n size found ≡ true → IsTestBehind n size found
+  unfolding tests_turn
+  test_found n size (Some (Branch test on off)) h =
+      let more = right_true _ _ h in
+      let first_on : on ≡ suc n = eqb-true on (suc n) (left_true _ _ h) in
+      let last_off : off ≡ suc (suc n + size) = eqb-true off (suc (suc n + size)) (left_true _ _ more) in
+      record { test = test; at = (λ i. Some (Branch test (first_on i) (last_off i))); bare = is_bare (o.label (suc n + size)) (right_true _ _ more) }
+  test_found n size found h = absurd (cc)
+
+  inside : (m : ℕ) (xs : List Flat) (item : Flat) → slice_get xs m ≡ Some item → suc m ≤ length xs
+  inside m [] item at = absurd (cc)
+  inside zero (x ∷ xs) item at = omega arith
+  inside (suc m) (x ∷ xs) item at = let less = inside m xs item at in omega (arith, less)
+
+  tested_by : (found : Option Flat) (test : Term) (on off : ℕ) (c : CExpr) → found ≡ Some (Branch test on off) → test_in o.names found ≡ Some c → expr_for o.names test ≡ Some c
+  unfolding test_in
+  tested_by found test on off c at is = sym (ap (test_in o.names) at) ∙ is
+
+  do_found : (write : Writer) → WriterFits write → (n size : ℕ) (v first : Term) (later : List Flat) (ss : List CStmt) → IsTestBehind n size (slice_get later size) → do_for o write n size v first later ≡ Some ss
+      → Knows scope o.names v → Knows scope o.names first → KnowsItems scope o.names later → Fits o scope labels n (Assign v first ∷ later) (body_of_all ss)
+  unfolding WriterFits do_for
+  do_found write fit n size v first later ss found h kv kf knows =
+      let turn = take size later in
+      let rest = drop (suc size) later in
+      let off = suc (suc n + size) in
+      let item = Branch found.test (suc n) off in
+      let room = inside size later item found.at in
+      let long : length turn ≡ size = length-take-le size later (omega (arith, room)) in
+      let counted = length-append turn (item ∷ []) in
+      let whole : (turn ++ item ∷ []) ++ rest ≡ later = append_assoc turn (item ∷ []) rest ∙ sym (around size later item found.at) in
+      let made = do_by (expr_for o.names v) (expr_for o.names first) (write (suc n) turn) (test_in o.names (slice_get later size)) in
+      subst (λ zs. Fits o scope labels n (Assign v first ∷ zs) (body_of_all ss)) whole
+      (first_fits n off (Assign v first) (turn ++ item ∷ []) rest made (write off rest) ss (omega (arith, counted, long)) h
+      (λ s is.
+      let d = do_of (expr_for o.names v) (expr_for o.names first) (write (suc n) turn) (test_in o.names (slice_get later size)) s is in
+      let test_is = tested_by (slice_get later size) found.test (suc n) off d.test found.at d.test_is in
+      let set = set_fits n v first (stmt.Set d.variable d.first) ((λ i. set_by (d.variable_is i) (d.first_is i)) ∙ both_set d.variable d.first) (kv, kf) in
+      subst (λ z. FitsUnlabelled n (Assign v first) (turn ++ item ∷ []) (body z)) d.is
+      (do_fits n size v first found.test turn d.variable d.first d.test d.turn long set (expr_drawn scope o.names found.test d.test test_is (knows_at size later item knows found.at))
+      (fit (suc n) turn d.turn d.turn_is (knows_take scope o.names size later knows)) found.bare))
+      (λ others is. fit off rest others is (knows_drop scope o.names (suc size) later knows)))
+
+  loop_fits : (write : Writer) → WriterFits write → (n size : ℕ) (item : Flat) (later : List Flat) (ss : List CStmt) → loop_for o write n size item later ≡ Some ss → KnowsItem scope o.names item → KnowsItems scope o.names later
+      → Fits o scope labels n (item ∷ later) (body_of_all ss)
+  unfolding loop_for
+  loop_fits write fit n size (Assign v first) later ss h known knows = by (tests_turn o n size (slice_get later size)) refl h
+    where
+      by : (b : Bool) → tests_turn o n size (slice_get later size) ≡ b → (if b then do_for o write n size v first later else head_for o write n size v first later) ≡ Some ss
+          → Fits o scope labels n (Assign v first ∷ later) (body_of_all ss)
+      by true so g = do_found write fit n size v first later ss (test_found n size (slice_get later size) so) g known.0 known.1 knows
+      by false so g = head_fits write fit n size v first later ss g known knows
   loop_fits write fit n size item later ss h known knows = absurd (cc)
 
   part_fits : (write : Writer) → WriterFits write → (found : Option ℕ) (n : ℕ) (item : Flat) (later : List Flat) (ss : List CStmt) → part_for o write found n item later ≡ Some ss → KnowsItem scope o.names item

@@ -1,5 +1,6 @@
--- A loop whose turn has a label, and a switch, as items and as C statements:
+-- A loop whose turn has a label, one that is tested behind its turn, and a switch, as items and as C statements:
 --     k = 0; for (i__ = 1; i__ <= 3; ++i__) { L10: k = k + i__; } return 0;
+--     L20: { i__ = 1; do { L10: k = k + i__; i__ = i__ + 1; } while (i__ <= 3); } return 0;
 --     switch (k) { case 1: goto L10; case 2: goto L20; } return 1; L20: k = 0; L10: return 0;
 use Rattle.std.specs.Prelude.{nat_eq, pos, false, List, [], ◌∷◌, Some, None, codes, if◌then◌else◌}
 use Rattle.c_laws.specs.c_tree.declared.expression.BinaryOp.TheVariants as op
@@ -36,6 +37,37 @@ its_statements =
     stmt.Set (expr.Name (codes "k")) (expr.Number (pos 0))
     ∷ stmt.For (expr.Name (codes "i__")) (expr.Number (pos 1)) (expr.Binary op.LessOrEqual (expr.Name (codes "i__")) (expr.Number (pos 3))) (next.Up (expr.Name (codes "i__")))
     (stmt.Label (codes "L10") (stmt.Set (expr.Name (codes "k")) (expr.Binary op.Add (expr.Name (codes "k")) (expr.Name (codes "i__")))) ∷ [])
+    ∷ stmt.Return (Some (expr.Number (pos 0)))
+    ∷ []
+
+abbrev pub items_of_do : List Flat
+items_of_do =
+    Assign (Variable 1 ToNumber) (Constant (pos 1))
+    ∷ Assign (Variable 0 ToNumber) (Between op.Add (Variable 0 ToNumber) (Variable 1 ToNumber))
+    ∷ Assign (Variable 1 ToNumber) (Between op.Add (Variable 1 ToNumber) (Constant (pos 1)))
+    ∷ Branch (Between op.LessOrEqual (Variable 1 ToNumber) (Constant (pos 3))) 1 4
+    ∷ Return (Some (Constant (pos 0)))
+    ∷ []
+
+abbrev pub outline_of_do : Outline
+outline_of_do = record {
+  names = record { object = λ k. if nat_eq k 0 then codes "k" else codes "i__"; string = λ k. None; routine = λ k. [] };
+  label = λ n. if nat_eq n 1 then Some (codes "L10") else if nat_eq n 0 then Some (codes "L20") else None;
+  ends_arm = λ n. false;
+  loop = λ n. if nat_eq n 0 then Some 2 else None;
+}
+
+abbrev pub statements_of_do : List CStmt
+statements_of_do =
+    stmt.Label (codes "L20")
+    (stmt.Block
+    (stmt.Set (expr.Name (codes "i__")) (expr.Number (pos 1))
+    ∷ stmt.DoWhile
+    (stmt.Label (codes "L10") (stmt.Set (expr.Name (codes "k")) (expr.Binary op.Add (expr.Name (codes "k")) (expr.Name (codes "i__"))))
+    ∷ stmt.Set (expr.Name (codes "i__")) (expr.Binary op.Add (expr.Name (codes "i__")) (expr.Number (pos 1)))
+    ∷ [])
+    (expr.Binary op.LessOrEqual (expr.Name (codes "i__")) (expr.Number (pos 3)))
+    ∷ []))
     ∷ stmt.Return (Some (expr.Number (pos 0)))
     ∷ []
 

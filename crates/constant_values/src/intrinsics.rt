@@ -358,7 +358,7 @@ fn of_many(
 
 /// An intrinsic function other than LEN, which takes no values. An error where memory ran out.
 #[tactic(auto, unfolding(crate::specs::Operands::data_of), using(crate::proofs::OperandLemmas::no_operands))]
-pub(crate) fn apply(
+pub fn apply(
     alloc: Global,
     function: IntrinsicFunction,
     values: &[ConstantValue],

@@ -13,6 +13,8 @@ mod valuing;
 
 pub use constants::Constants;
 pub use functions::{IntrinsicFunction, function_named};
+pub use intrinsics::apply;
+pub use operators::{binary, complemented, negated};
 pub use texts::fitted;
 pub use values::{copied, copied_if};
 pub use valuing::{bound_value, constant_value};

@@ -17,7 +17,7 @@ use std::alloc::{AllocError, Global};
 
 /// A value with the other sign.
 #[tactic(auto, unfolding(name_facts::specs::GivenFacts::datum_of, crate::specs::Folded::prefixed_folded, crate::specs::Folded::if_some, crate::specs::Folded::given, f_tree::specs::Valuing::prefixed))]
-pub(crate) fn negated(value: Option<ConstantValue>) -> Option<ConstantValue>
+pub fn negated(value: Option<ConstantValue>) -> Option<ConstantValue>
     ensures { option_map datum_of result ≡ prefixed_folded Negate (option_map datum_of value) }
 {
     match value {
@@ -31,7 +31,7 @@ pub(crate) fn negated(value: Option<ConstantValue>) -> Option<ConstantValue>
 
 /// The other truth value.
 #[tactic(auto, unfolding(name_facts::specs::GivenFacts::datum_of, crate::specs::Folded::prefixed_folded, crate::specs::Folded::if_some, crate::specs::Folded::given, f_tree::specs::Valuing::prefixed))]
-pub(crate) fn complemented(value: Option<ConstantValue>) -> Option<ConstantValue>
+pub fn complemented(value: Option<ConstantValue>) -> Option<ConstantValue>
     ensures { option_map datum_of result ≡ prefixed_folded Complement (option_map datum_of value) }
 {
     match value {
@@ -249,7 +249,7 @@ fn on_left(op: BinaryOp, one: &ConstantValue) -> Option<ConstantValue>
 
 /// An operator between two operands, which may have no values. An error where memory ran out.
 #[tactic(auto, using(crate::proofs::OperatorLemmas::unlike_forms))]
-pub(crate) fn binary(
+pub fn binary(
     alloc: Global,
     op: BinaryOp,
     one: &Option<ConstantValue>,

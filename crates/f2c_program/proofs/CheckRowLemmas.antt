@@ -1,5 +1,5 @@
 -- What each exit status says follows from how a check ended and from its message.
-use Rattle.std.proofs.Common.{◌≡◌, ℕ, ◌<◌, List, [], Option, Some, None, option_map, refl, ap, sym, ◌∙◌, subst, inl, inr, arith}
+use Rattle.std.proofs.Common.{◌≡◌, ℕ, ◌<◌, List, [], ◌∷◌, Option, Some, None, option_map, refl, ap, sym, ◌∙◌, subst, inl, inr, arith}
 use Rattle.std.specs.Prelude.{◌⊎◌, IfSome}
 use Rattle.std.proofs.lemmas.List.{append-nil}
 use Rattle.f2c_outside.specs.declared.shelves.Place.{Place}
@@ -7,6 +7,7 @@ use Rattle.f2c_outside.specs.declared.shelves.Place.TheVariants.{Output, File as
 use Rattle.f2c_outside.specs.Shelf.{ShelfState, Contents, Rose, added}
 use Rattle.f_tree.specs.declared.names.Options.{Options}
 use Rattle.f_tree.specs.declared.refusals.Refusal.{Refusal}
+use Rattle.check_command.specs.call_shapes.declared.findings.Finding.{Finding}
 use Rattle.check_command.specs.call_lines.FindingLines.{finding_lines}
 use Rattle.check_command.specs.source_verdict.SourceRows.{Checking}
 use Rattle.outcomes.specs.declared.outcome.Outcome.{Outcome}
@@ -16,14 +17,16 @@ use Rattle.outcomes.specs.Lines.{line_of, refusal_line, not_prototype_line, not_
 use Rattle.outcomes.proofs.ToldLemmas.{some_at, for_some, both_then, both_mapped, gained, said-nil, both-map}
 use Rattle.shelf_texts.specs.ShelfLoops.{Both, IsKept, IsFront, IsFrontWritten, written}
 use Rattle.shelf_texts.specs.Messages.{Said, Gained}
-use Rattle.check_command.specs.source_files.SourceOnShelf.{mentions, name_of_file, files_on, IsRefusedFor, IsMissing, IsFirstAway}
+use Rattle.check_command.specs.source_files.SourceOnShelf.{mentions, name_of_file, files_on, source_on, IsRefusedFor, IsMissing, IsFirstAway}
 use Rattle.check_command.specs.source_files.SourceEnds.{EndedRefusedFor, of_place, of_included, IsOfSource}
 use Rattle.check_command.specs.declared.checked.Checked.{Checked}
 use Rattle.check_command.specs.declared.checked.Checked.TheVariants.{Agreeing, Disagreeing}
+use Rattle.check_command.specs.Listing.{answer_of}
 use Rattle.check_command.specs.CheckEnds.{AreFoundOn, IsBadOn, EndedListed, EndedUnlisted, EndedNotPrototype, EndedAway, source_away, prototype_away, EndedFailed, source_failed, prototype_failed}
+use Rattle.checked_sources.specs.CheckedSources.{EachCheckedSourceRuns}
 use Rattle.f2c_program.specs.TranslateRows.{HasMissing}
 use Rattle.f2c_program.specs.TranslateRows as rows
-use Rattle.f2c_program.specs.CheckRows.{CheckEnded, ListedRow, CheckRefusedRow, UnlistedRow, CheckFaultRow, LacksFile, CheckRows}
+use Rattle.f2c_program.specs.CheckRows.{CheckEnded, ListedRow, CheckRefusedRow, UnlistedRow, CheckFaultRow, LacksFile, RunsAgree, CheckRows}
 use Rattle.f2c_program.specs.CheckRows as checks
 
 -- STATUSES 0 AND 11
@@ -44,11 +47,35 @@ listed_row options froms prototypes checked b m a ended said =
       listed = refl;
     })
 
-rows_agreeing : (options : Options) (froms prototypes : List Place) (b m a : ShelfState) → EndedListed options froms prototypes Agreeing b m → Said [] m a → a ≡ m →
+-- no call is found, so no run has one that differs
+none_of : (findings : List Finding) → Agreeing ≡ answer_of findings → findings ≡ []
+unfolding answer_of
+none_of [] is = refl
+none_of (finding ∷ findings) is = let clash : Agreeing ≡ Disagreeing = is in absurd (cc)
+
+runs_at : EachCheckedSourceRuns → (options : Options) (froms prototypes : List Place) (names : List (List ℕ)) (findings : List Finding) (c : Contents) →
+    Agreeing ≡ answer_of findings → AreFoundOn options froms prototypes names findings c → RunsAgree options froms c
+runs_at law options froms prototypes names findings c answer on = record {
+  set = on.found.set;
+  accepted = on.found.accepted;
+  agree = λ g units n setting.
+      law options (source_on c froms) on.found.set on.found.shapes g units n on.found.accepted
+      (sym on.found.findings_are ∙ none_of findings answer) setting;
+}
+
+runs_of : EachCheckedSourceRuns → (options : Options) (froms prototypes : List Place) (b m : ShelfState) → EndedListed options froms prototypes Agreeing b m →
+    IfSome b.told (RunsAgree options froms)
+runs_of law options froms prototypes b m ended =
+    for_some b.told (RunsAgree options froms) (λ c is.
+    runs_at law options froms prototypes ended.names ended.findings c ended.answer
+    (some_at b.told (AreFoundOn options froms prototypes ended.names ended.findings) c is ended.found.found_on))
+
+rows_agreeing : EachCheckedSourceRuns → (options : Options) (froms prototypes : List Place) (b m a : ShelfState) → EndedListed options froms prototypes Agreeing b m → Said [] m a → a ≡ m →
     CheckRows options froms prototypes b a 0
-rows_agreeing options froms prototypes b m a ended said silent = record {
+rows_agreeing law options froms prototypes b m a ended said silent = record {
   statuses = inl refl;
   agreeing = λ is. listed_row options froms prototypes Agreeing b m a ended said;
+  runs_agree = λ is. runs_of law options froms prototypes b m ended;
   disagreeing = λ is. absurd (omega arith);
   quiet = λ is. ap (λ (s : ShelfState). s.faults) silent ∙ ended.written.quiet;
   refused = λ is. absurd (omega arith);
@@ -62,6 +89,7 @@ rows_disagreeing : (options : Options) (froms prototypes : List Place) (b m a : 
 rows_disagreeing options froms prototypes b m a ended said silent = record {
   statuses = inr (inr (inr (inr refl)));
   agreeing = λ is. absurd (omega arith);
+  runs_agree = λ is. absurd (omega arith);
   disagreeing = λ is. listed_row options froms prototypes Disagreeing b m a ended said;
   quiet = λ is. ap (λ (s : ShelfState). s.faults) silent ∙ ended.written.quiet;
   refused = λ is. absurd (omega arith);
@@ -80,6 +108,7 @@ rows_refused_by : (options : Options) (froms prototypes : List Place) (b a : She
 rows_refused_by options froms prototypes b a row = record {
   statuses = inr (inl refl);
   agreeing = λ is. absurd (omega arith);
+  runs_agree = λ is. absurd (omega arith);
   disagreeing = λ is. absurd (omega arith);
   quiet = λ is. not_one 1 refl is;
   refused = λ is. row;
@@ -127,6 +156,7 @@ rows_fault : (options : Options) (froms prototypes : List Place) (b a : ShelfSta
 rows_fault options froms prototypes b a why row = record {
   statuses = inr (inr (inl refl));
   agreeing = λ is. absurd (omega arith);
+  runs_agree = λ is. absurd (omega arith);
   disagreeing = λ is. absurd (omega arith);
   quiet = λ is. not_three 3 refl is;
   refused = λ is. absurd (omega arith);
@@ -239,6 +269,7 @@ rows_no_memory : (options : Options) (froms prototypes : List Place) (b m a : Sh
 rows_no_memory options froms prototypes b m a kept said = record {
   statuses = inr (inr (inr (inl refl)));
   agreeing = λ is. absurd (omega arith);
+  runs_agree = λ is. absurd (omega arith);
   disagreeing = λ is. absurd (omega arith);
   quiet = λ is. not_five 5 refl is;
   refused = λ is. absurd (omega arith);
@@ -248,17 +279,18 @@ rows_no_memory options froms prototypes b m a kept said = record {
 }
 
 -- EACH OUTCOME
-pub rows_check : (options : Options) (words : List (List ℕ)) (froms prototypes : List Place) (b m a : ShelfState) (ended : Outcome)
+pub rows_check : EachCheckedSourceRuns → (options : Options) (words : List (List ℕ)) (froms prototypes : List Place) (b m a : ShelfState) (ended : Outcome)
     → CheckEnded options froms prototypes b m ended → Said (line_of words ended) m a → (IsSilent ended → a ≡ m)
     → CheckRows options froms prototypes b a (status_of ended)
-rows_check options words froms prototypes b m a outcome.Done ran said silent = rows_agreeing options froms prototypes b m a ran said (silent tt)
-rows_check options words froms prototypes b m a outcome.Disagree ran said silent = rows_disagreeing options froms prototypes b m a ran said (silent tt)
-rows_check options words froms prototypes b m a (outcome.Refused refusal name) ran said silent = rows_refused options froms prototypes refusal name b m a ran said
-rows_check options words froms prototypes b m a (outcome.NotPrototype name line) ran said silent = rows_not_prototype options froms prototypes name line b m a ran said
-rows_check options words froms prototypes b m a outcome.Changed ran said silent = absurd ran
-rows_check options words froms prototypes b m a (outcome.BadWord number) ran said silent = absurd ran
-rows_check options words froms prototypes b m a (outcome.NotThere name) ran said silent = rows_away options froms prototypes name b m a ran said
-rows_check options words froms prototypes b m a (outcome.Unread place) ran said silent = rows_failed options froms prototypes place b m a ran said
-rows_check options words froms prototypes b m a (outcome.Unwritten place) ran said silent = rows_unwritten options froms prototypes place b m a ran said
-rows_check options words froms prototypes b m a (outcome.NoFreeName number) ran said silent = absurd ran
-rows_check options words froms prototypes b m a outcome.NoMemory ran said silent = rows_no_memory options froms prototypes b m a ran said
+rows_check law options words froms prototypes b m a outcome.Done ran said silent =
+    rows_agreeing law options froms prototypes b m a ran said (silent tt)
+rows_check law options words froms prototypes b m a outcome.Disagree ran said silent = rows_disagreeing options froms prototypes b m a ran said (silent tt)
+rows_check law options words froms prototypes b m a (outcome.Refused refusal name) ran said silent = rows_refused options froms prototypes refusal name b m a ran said
+rows_check law options words froms prototypes b m a (outcome.NotPrototype name line) ran said silent = rows_not_prototype options froms prototypes name line b m a ran said
+rows_check law options words froms prototypes b m a outcome.Changed ran said silent = absurd ran
+rows_check law options words froms prototypes b m a (outcome.BadWord number) ran said silent = absurd ran
+rows_check law options words froms prototypes b m a (outcome.NotThere name) ran said silent = rows_away options froms prototypes name b m a ran said
+rows_check law options words froms prototypes b m a (outcome.Unread place) ran said silent = rows_failed options froms prototypes place b m a ran said
+rows_check law options words froms prototypes b m a (outcome.Unwritten place) ran said silent = rows_unwritten options froms prototypes place b m a ran said
+rows_check law options words froms prototypes b m a (outcome.NoFreeName number) ran said silent = absurd ran
+rows_check law options words froms prototypes b m a outcome.NoMemory ran said silent = rows_no_memory options froms prototypes b m a ran said

@@ -11,6 +11,7 @@ use Rattle.shelf_texts.specs.Messages.{Said}
 use Rattle.command_words.specs.declared.command.Command.{Command}
 use Rattle.command_words.specs.declared.command.Command.TheVariants as command
 use Rattle.command_words.specs.CommandWords.{place_from}
+use Rattle.checked_sources.specs.CheckedSources.{EachCheckedSourceRuns}
 use Rattle.f2c_program.specs.TranslateRows.{job_of}
 use Rattle.f2c_program.specs.TopCall.{WroteUsage, Ran, Commanded, HelpRows, BadWordRows, BadWordEnded}
 use Rattle.f2c_program.proofs.CheckRowLemmas.{rows_check}
@@ -63,15 +64,16 @@ rows_help words b m a (outcome.NoFreeName number) ran said silent = absurd ran
 rows_help words b m a outcome.NoMemory ran said silent = absurd ran
 
 pub commanded :
-    (words : List (List ℕ)) (asked : Command) (b m a : ShelfState) (ended : Outcome)
+    EachCheckedSourceRuns
+    → (words : List (List ℕ)) (asked : Command) (b m a : ShelfState) (ended : Outcome)
     → Ran words asked b m ended
     → Said (line_of words ended) m a
     → (IsSilent ended → a ≡ m)
     → Commanded words asked b a (status_of ended)
-commanded words (command.Translate asked) b m a ended ran said silent =
+commanded law words (command.Translate asked) b m a ended ran said silent =
     rows_translate asked.options words (job_of words asked) (outputs_of asked.prototypes words) b m a ended ran said silent
-commanded words (command.Split origin) b m a ended ran said silent = rows-split (place_from words origin) words b m a ended ran said silent
-commanded words (command.Check options) b m a ended ran said silent =
-    rows_check options words (files_named words) (prototypes_named words) b m a ended ran said silent
-commanded words command.Help b m a ended ran said silent = rows_help words b m a ended ran said silent
-commanded words (command.BadWord number) b m a ended ran said silent = rows_bad_word words number b m a ended ran said
+commanded law words (command.Split origin) b m a ended ran said silent = rows-split (place_from words origin) words b m a ended ran said silent
+commanded law words (command.Check options) b m a ended ran said silent =
+    rows_check law options words (files_named words) (prototypes_named words) b m a ended ran said silent
+commanded law words command.Help b m a ended ran said silent = rows_help words b m a ended ran said silent
+commanded law words (command.BadWord number) b m a ended ran said silent = rows_bad_word words number b m a ended ran said

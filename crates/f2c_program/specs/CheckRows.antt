@@ -5,10 +5,15 @@ use Rattle.f2c_outside.specs.declared.shelves.Place.TheVariants.{Output}
 use Rattle.f2c_outside.specs.Shelf.{ShelfState, Contents, Rose, Lacks, added}
 use Rattle.f_tree.specs.declared.names.Options.{Options}
 use Rattle.f_tree.specs.declared.refusals.Refusal.{Refusal}
+use Rattle.f_tree.specs.declared.units.FileSet.{FileSet}
+use Rattle.f_tree.specs.run_state.Units.{Units}
+use Rattle.f_tree.specs.Setting.{Setting, IsSetting}
+use Rattle.f_tree.specs.Meaning.{units_of, ftn}
+use Rattle.checked_sources.specs.agreeing_runs.Mismatches.{IsMismatched}
 use Rattle.check_command.specs.call_shapes.declared.findings.Finding.{Finding}
 use Rattle.check_command.specs.call_lines.FindingLines.{finding_lines}
-use Rattle.check_command.specs.source_verdict.SourceRows.{Checking}
-use Rattle.check_command.specs.source_files.SourceOnShelf.{mentions, name_of_file, files_on, IsRefusedFor}
+use Rattle.check_command.specs.source_verdict.SourceRows.{Checking, IsAcceptedFor}
+use Rattle.check_command.specs.source_files.SourceOnShelf.{mentions, name_of_file, files_on, source_on, IsRefusedFor}
 use Rattle.check_command.specs.source_files.SourceReads.{IsPlaceAmong}
 use Rattle.check_command.specs.source_files.SourceEnds.{EndedRefusedFor}
 use Rattle.check_command.specs.declared.checked.Checked.{Checked}
@@ -46,6 +51,14 @@ pub record ListedRow (options : Options) (froms prototypes : List Place) (checke
   pub found : AreFoundOn options froms prototypes names findings b
   pub answer : checked ≡ answer_of findings
   pub listed : a ≡ added Output (finding_lines names findings) b
+
+-- status 0: the set is accepted for checking, and in no run of it, over any units, does a call by a name that is no dummy procedure differ from the
+-- procedure of the set that it calls, in kind, in the type of its result, or in the number of its arguments or the kind or type of one
+pub record RunsAgree (options : Options) (froms : List Place) (contents : Contents) : Type 0 where
+  pub set : FileSet
+  pub accepted : IsAcceptedFor Checking options (source_on contents froms) set
+  pub agree : (g : Setting) (units : Units) (n : ℕ) → IsSetting (units_of options set) g →
+      IsMismatched g (units_of options set) (ftn g (units_of options set) units n) → ⊥
 
 -- status 1: the set has a first refusal, its line is on Fault and names its file, and nothing else changed
 pub record RefusedSetRow (options : Options) (froms : List Place) (before after : ℕ) (b a : Contents) : Type 0 where
@@ -93,6 +106,7 @@ pub data LacksFile (options : Options) (froms prototypes : List Place) (contents
 pub record CheckRows (options : Options) (froms prototypes : List Place) (b a : ShelfState) (status : ℕ) : Type 0 where
   pub statuses : (status ≡ 0) ⊎ ((status ≡ 1) ⊎ ((status ≡ 3) ⊎ ((status ≡ 5) ⊎ (status ≡ 11))))
   pub agreeing : status ≡ 0 → Both b.told a.told (ListedRow options froms prototypes Agreeing)
+  pub runs_agree : status ≡ 0 → IfSome b.told (RunsAgree options froms)
   pub disagreeing : status ≡ 11 → Both b.told a.told (ListedRow options froms prototypes Disagreeing)
   -- 0 and 11 only where no count rose in the call
   pub quiet : (status ≡ 0) ⊎ (status ≡ 11) → a.faults ≡ b.faults

@@ -8,6 +8,7 @@ use crate::checking::check_named;
 use crate::splitting::split;
 use crate::translating::translate_named;
 use crate::usage::write_usage;
+use checked_sources::laws::checked_sources_run;
 use command_words::{Command, command_of_words};
 use f2c_outside::shelves::Shelf;
 use f2c_outside::texts::Words;
@@ -55,13 +56,16 @@ fn carry_out<H: Shelf>(alloc: Global, words: &Words, shelf: &mut H) -> Outcome
 /// shelf failed, and the line names the
 /// place that was being read or written; 4 exactly where all was written, and a prototype file that was compared was missing, malformed, or had other
 /// prototypes; 5 where memory ran out; 11 where all was read and a call, one at least, is listed; 13 exactly where no number
-/// is free for the name of a piece, and the line says for which. After 1, 2, 5 and 13 nothing but the line on Fault was put anywhere; where writing a
-/// translation failed, the outputs before are whole, the one that failed is unchanged or holds a front of its text, and later ones are unchanged.
+/// is free for the name of a piece, and the line says for which. With 0 of `-check` no run of the files calls a procedure of theirs, by a name that is no
+/// dummy procedure, as another kind of procedure, with another type of result, or with arguments of another number, kind or type. After 1, 2, 5 and 13
+/// nothing but the line on Fault was put anywhere; where writing a translation failed, the outputs before are whole, the one that failed is unchanged or
+/// holds a front of its text, and later ones are unchanged.
 pub fn f2c<H: Shelf>(alloc: Global, words: &Words, shelf: &mut H, units: UnitTable) -> Ended
     ensures concluded { Concluded words.now (H.state shelf.old) (H.state shelf.new) result.status }
     ensures commanded { Commanded words.now (command_of words.now) (H.state shelf.old) (H.state shelf.new) result.status }
     ensures units { result.units ≡ units }
 {
+    checked_sources_run();
     let outcome = carry_out(alloc, words, shelf);
     say_outcome(shelf, words, &outcome);
     Ended {

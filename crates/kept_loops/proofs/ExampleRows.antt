@@ -47,15 +47,15 @@ use Rattle.loop_marks.specs.c_loops.Loops.{loops_opened}
 use Rattle.kept_loops.specs.Examples.{translated, ExampleIsCounted, examples_opened}
 use Rattle.kept_loops.specs.SourceLoops.{source_loops_opened}
 
--- the files of the example, and none where loops are run at least once
+-- the files of the example, and those where loops are run at least once
 loops_translated : translated false ≡ Some (((record { fors = 2; dos = 0 }, codes "L__1" ∷ codes "L20" ∷ []) ∷ []) ∷ [])
 unfolding digits everything nests_opened is_name_byte is_name has_underscore external_name main_name c_keywords built_in_names field_names single_letters is_reserved takes_underscores variable_name constant_name made_name global_rows_opened name_rows_opened trees_opened function_name lowered_expressions.expressions_opened lowered_statements.statements_opened lowered_units.units_opened contents_opened flow_opened outlined_opened numbers_opened structure.statements_opened named_emission_opened items_opened same_places_opened structured_opened named_mains_opened named_units_opened agreeing_units_opened unit_file_opened plain_procedures_opened spellable_units_opened layout_opened plain_units_opened has_element is_spellable_name is_spellable unit_bodies_opened unit_contents_opened unit_flow_opened lowered_forms_opened translated_forms_opened translated_files_opened loops_opened examples_opened named_formals name_lowers operator_lowers variable_is_text if_numeric number_expr with_two
 loops_translated = refl
 
-none_once : translated true ≡ None
+once_translated : translated true ≡ Some (((record { fors = 0; dos = 2 }, codes "L__1" ∷ codes "L20" ∷ []) ∷ []) ∷ [])
 unfolding digits everything nests_opened is_name_byte is_name has_underscore external_name main_name c_keywords built_in_names field_names single_letters is_reserved takes_underscores variable_name constant_name made_name global_rows_opened name_rows_opened trees_opened function_name lowered_expressions.expressions_opened lowered_statements.statements_opened lowered_units.units_opened contents_opened flow_opened outlined_opened numbers_opened structure.statements_opened named_emission_opened items_opened same_places_opened structured_opened named_mains_opened named_units_opened agreeing_units_opened unit_file_opened plain_procedures_opened spellable_units_opened layout_opened plain_units_opened has_element is_spellable_name is_spellable unit_bodies_opened unit_contents_opened unit_flow_opened lowered_forms_opened translated_forms_opened translated_files_opened loops_opened examples_opened named_formals name_lowers operator_lowers variable_is_text if_numeric number_expr with_two
-none_once = refl
+once_translated = refl
 
 pub example_is_counted : ExampleIsCounted
 unfolding digits made_name folds_opened attributes_opened trees_opened loops_opened source_loops_opened examples_opened
-example_is_counted = record { dos = refl; whiles = refl; no_transfers = refl; no_implied = refl; labels = refl; allowed = refl; loops = loops_translated; once = none_once; no_loop = refl; other_label = refl }
+example_is_counted = record { dos = refl; whiles = refl; no_transfers = refl; no_implied = refl; labels = refl; allowed = refl; loops = loops_translated; once = once_translated; no_loop = refl; other_label = refl }

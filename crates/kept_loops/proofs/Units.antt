@@ -21,7 +21,7 @@ use Rattle.translated_files.specs.unit_translation.UnitContents.{LoweredUnit}
 use Rattle.translated_files.specs.unit_translation.UnitFlow.{kind_before, are_in_place}
 use Rattle.translated_files.specs.named_units.NamedUnits.{known_for, layout_for, named_body_of}
 use Rattle.translated_files.specs.unit_forms.OwnSetting.{own_facts}
-use Rattle.loop_marks.specs.c_loops.Loops.{loops_of_all}
+use Rattle.loop_marks.specs.c_loops.Loops.{Loops, loops_by, loops_of_all}
 use Rattle.loop_marks.specs.c_loops.KeptLayouts.{loops_from, EachStructureIsKept}
 use Rattle.loop_marks.specs.DoStatements.{dos_among, whiles_among}
 use Rattle.loop_marks.specs.MarkedLoops.{EachTextMarksItsLoops, EachBranchIsNamed}
@@ -30,7 +30,7 @@ use Rattle.kept_loops.specs.SourceLoops.{do_statements, do_whiles, implied_dos, 
 use Rattle.kept_loops.specs.KeptFunctions.{KeepsLoops}
 use Rattle.kept_loops.proofs.SourceForms.{all_dos, all_whiles, dos_of_lines, whiles_of_lines, labels_of_lines, lines_read, once_read}
 use Rattle.kept_loops.proofs.Direct.{IsPlain, dos_are, whiles_are, dos_plain}
-use Rattle.kept_loops.proofs.Items.{as_many, begin_from, none_back}
+use Rattle.kept_loops.proofs.Items.{as_many, begin_from}
 use Rattle.kept_loops.proofs.Names.{all_allowed}
 
 -- ## What a body was made by
@@ -75,9 +75,13 @@ pub own_program : (us : List ProgramUnit) (j : ℕ) (unit : ProgramUnit) → (ow
 unfolding facts_at
 own_program us j unit = refl
 
-none_if : (b : Bool) (n : ℕ) → (b ≡ true → n ≡ 0) → 0 ≡ (if b then n else 0)
-none_if true n none = sym (none refl)
-none_if false n none = refl
+fors_by : (once : Bool) (n : ℕ) → (loops_by once n).fors ≡ (if once then 0 else n)
+fors_by true n = refl
+fors_by false n = refl
+
+dos_by : (once : Bool) (n : ℕ) → (loops_by once n).dos ≡ (if once then n else 0)
+dos_by true n = refl
+dos_by false n = refl
 
 module _ (built : EachStructureIsKept) (marked : EachTextMarksItsLoops) (branches : EachBranchIsNamed) (options : Options) (given : GivenUnit) (c : Facts) (program : c.program ≡ unit_read options given) (plain : IsPlain (unit_read options given)) where
   lines_are : (labels : List ℕ) × (c.program.lines ≡ map (line_of (unit_read options given).attribute labels) given.statements)
@@ -106,15 +110,15 @@ module _ (built : EachStructureIsKept) (marked : EachTextMarksItsLoops) (branche
       let body = has_body constants all u f.body body_is in
       let known = known_for constants all u in
       let many = as_many known (kind_before u.text) 0 u.text.steps body.items body.emitted in
-      let well = begin_from known (kind_before u.text) (loop_at u.text) 0 u.text.steps body.items body.emitted (λ j k size from is. loops.begin k size (ap (loop_at u.text) (let e : k ≡ j = omega (arith, from) in e) ∙ is)) in
-      let kept = built (layout_for u.text) (length body.items) 0 body.items f.body well body.statements in
       let once : u.text.facts.program.onetrip ≡ options.onetrip = ap (λ (d : Facts). d.program.onetrip) (sym text.facts) ∙ once_is in
+      let well = begin_from known (kind_before u.text) u.text body.items body.emitted loops options.onetrip once in
+      let kept = built (layout_for u.text) options.onetrip (length body.items) 0 body.items f.body well body.statements in
       let counted : dos_among u.text.facts.program.lines ≡ do_statements given = ap (λ (d : Facts). dos_among d.program.lines) (sym text.facts) ∙ dos_counted in
-      let count : (loops_of_all f.body).fors ≡ (if options.onetrip then 0 else do_statements given) = kept.fors ∙ ap (loops_from (loop_at u.text) 0) many ∙ loops.number ∙ (λ k. if once k then 0 else counted k) in
+      let all : loops_of_all f.body ≡ loops_by options.onetrip (do_statements given) = kept.loops ∙ ap (loops_by options.onetrip) (ap (loops_from (loop_at u.text) 0) many ∙ loops.number ∙ counted) in
+      let count : (loops_of_all f.body).fors ≡ (if options.onetrip then 0 else do_statements given) = ap (λ (x : Loops). x.fors) all ∙ fors_by options.onetrip (do_statements given) in
       let whiles : length (whiles_in u.text.marks) ≡ do_whiles given = loops.whiles ∙ ap (λ (d : Facts). whiles_among d.program.lines) (sym text.facts) ∙ whiles_counted in
-      let none : options.onetrip ≡ true → do_statements given ≡ 0 = λ is. sym counted ∙ loops.once (once ∙ is) (none_back known (kind_before u.text) 0 u.text.steps body.items body.emitted kept.tests) in
       record {
         fors = (let e : (loops_of_all f.body).fors ≡ (if options.onetrip then 0 else do_statements given) + implied_dos given = omega (arith, count, implied) in e);
-        dos = kept.dos ∙ none_if options.onetrip (do_statements given) none;
+        dos = ap (λ (x : Loops). x.dos) all ∙ dos_by options.onetrip (do_statements given);
         labels = all_allowed given u.text (layout_for u.text) (labels_of_all f.body).named (λ label among. labels_known u.text lowered label among) whiles (λ n. refl) kept.named;
       }

@@ -93,9 +93,9 @@ pub record ExampleIsCounted : Type 0 where
   pub no_implied : implied_dos looped ≡ 0
   pub labels : labels_named looped.statements ≡ 20 ∷ []
   pub allowed : labels_allowed looped ≡ codes "L20" ∷ codes "L__1" ∷ []
-  -- it is translated; where loops are run at least once it is not yet
+  -- it is translated; where loops are run at least once, with a `do` for each DO
   pub loops : translated false ≡ Some (((record { fors = 2; dos = 0 }, codes "L__1" ∷ codes "L20" ∷ []) ∷ []) ∷ [])
-  pub once : translated true ≡ None
+  pub once : translated true ≡ Some (((record { fors = 0; dos = 2 }, codes "L__1" ∷ codes "L20" ∷ []) ∷ []) ∷ [])
   -- jumps are no loop, and the label that they go to is none of those that its function may name
   pub no_loop : (loops_of_all jumping).fors ≡ 0
   pub other_label : list_all (is_among (labels_allowed looped)) (labels_of_all jumping).named ≡ false

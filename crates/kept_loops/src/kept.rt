@@ -18,7 +18,7 @@ pub fn translations_keep_loops()
 }
 
 /// A unit with two loops that end with one statement, a DO WHILE and a GO TO has two DO statements and a DO WHILE, and its function two `for`s, and jumps to
-/// one label of the unit and to one made label; where loops are run at least once it has no translation yet; and a loop that is written with jumps is no loop.
+/// one label of the unit and to one made label; where loops are run at least once it has two `do`s and no `for`; and a loop that is written with jumps is no loop.
 pub fn example_is_counted()
     ensures { ExampleIsCounted }
 {}

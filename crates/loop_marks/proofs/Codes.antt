@@ -6,7 +6,7 @@ use Rattle.lowering.specs.l_core.f_tree.Terms.{Terms, NoMore, More}
 use Rattle.lowering.specs.l_core.f_tree.Facts as head
 use Rattle.lowering.specs.l_core.f_tree.Facts.{Head, Form, Passes, On, Mark, Plain, Opens, Arm, Closes, Line, ProgramUnit}
 use Rattle.lowering.specs.l_core.Pures.{Pure, Pures, NoPure, AndPure}
-use Rattle.lowering.specs.l_core.Steps.{Step, Put, Unless}
+use Rattle.lowering.specs.l_core.Steps.{Step, Put, Unless, AgainIf}
 use Rattle.lowering.specs.Statements.{behind_operands, with_operands, unless_code, loop_operands, test_by, loop_test, loop_code, form_code, head_code}
 use Rattle.lowering.specs.Units.{steps_of, is_counted, ended_at, turn_sizes, skip_size, form_size, line_size, size_before, start_of, mark_at, own_start, form_size_at, own_end}
 
@@ -46,6 +46,11 @@ behind_of : (xs : List Step) (more : Option (List Step)) (all : List Step) → b
 unfolding behind_operands
 behind_of xs None all h = absurd (cc)
 behind_of xs (Some later) all h = record { later = later; later_is = refl; is = (let same : xs ++ later ≡ all = cc in same) }
+
+-- a test that goes back where it holds
+abbrev pub tests_back : Step → Bool
+tests_back (AgainIf test size) = true
+tests_back st = false
 
 -- ## DO statements
 
@@ -188,6 +193,10 @@ pub start_up : (p : ProgramUnit) (i j : ℕ) → i ≤ j → start_of p i ≤ st
 unfolding start_of
 start_up p i j le = size_up p 0 i j p.lines le
 
+pub start_first : (p : ProgramUnit) → start_of p 0 ≡ 0
+unfolding start_of
+start_first p = size_none p 0 p.lines
+
 pub start_next : (p : ProgramUnit) (i : ℕ) (line : Line) → slice_get p.lines i ≡ Some line → start_of p (suc i) ≡ start_of p i + line_size p i line
 unfolding start_of
 start_next p i line is = size_next p 0 i i p.lines line (let e : i ≡ 0 + i = omega arith in e) is
@@ -203,6 +212,14 @@ ends_at_line p i line is =
 pub ends_low : (p : ProgramUnit) (i : ℕ) → start_of p i ≤ own_end p i
 unfolding own_end own_start
 ends_low p i = let e : start_of p i ≤ start_of p i + mark_at (slice_get p.lines i) + form_size_at p i (slice_get p.lines i) = omega arith in e
+
+pub own_low : (p : ProgramUnit) (i : ℕ) → start_of p i ≤ own_start p i
+unfolding own_start
+own_low p i = let e : start_of p i ≤ start_of p i + mark_at (slice_get p.lines i) = omega arith in e
+
+pub own_high : (p : ProgramUnit) (i : ℕ) → own_start p i ≤ own_end p i
+unfolding own_end
+own_high p i = let e : own_start p i ≤ own_start p i + form_size_at p i (slice_get p.lines i) = omega arith in e
 
 -- a statement ends before the next one begins
 pub ends_before : (p : ProgramUnit) (i : ℕ) (line : Line) → slice_get p.lines i ≡ Some line → own_end p i ≤ start_of p (suc i)

@@ -104,6 +104,10 @@ counted_turn : (p : ProgramUnit) (from : ℕ) (r : Range) → is_counted (slice_
 unfolding turn_of
 counted_turn p from r counted = if_true (is_counted (slice_get p.lines r.first)) (turn_code p.onetrip (way_back p r (from + 1)) (loop_lowered p (free_at p r.first) r).value) (Again (way_back p r from) ∷ []) counted
 
+pub while_turn : (p : ProgramUnit) (from : ℕ) (r : Range) → is_counted (slice_get p.lines r.first) ≡ false → turn_of p from r ≡ Again (way_back p r from) ∷ []
+unfolding turn_of
+while_turn p from r other = if_false (is_counted (slice_get p.lines r.first)) (turn_code p.onetrip (way_back p r (from + 1)) (loop_lowered p (free_at p r.first) r).value) (Again (way_back p r from) ∷ []) other
+
 module _ (p : ProgramUnit) (steps : List Step) (lowered : lines_code p 0 p.lines ≡ Some steps) where
   pub parts_at : (i : ℕ) (line : Line) → slice_get p.lines i ≡ Some line → (code : List Step) × LineParts p i line code
   parts_at i line is =
@@ -151,7 +155,7 @@ module _ (p : ProgramUnit) (steps : List Step) (lowered : lines_code p 0 p.lines
       let sum : length (turn_of p from r) + length (turns_of p (from + turn_size p r) rs) ≡ turn_size p r + turn_sizes p rs = omega (arith, one, more) in
       both ∙ sum
 
-  line_long : (i : ℕ) (line : Line) (code : List Step) → line_code p i line ≡ Some code → length code ≡ line_size p i line
+  pub line_long : (i : ℕ) (line : Line) (code : List Step) → line_code p i line ≡ Some code → length code ≡ line_size p i line
   unfolding line_size
   line_long i line code e =
       let parts = line_parts p i line code e in

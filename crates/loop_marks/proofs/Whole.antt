@@ -15,6 +15,7 @@ use Rattle.loop_marks.proofs.Starts.{loops_are_marked}
 pub record IsTextOf (c : Facts) (u : Text) : Type 0 where
   pub facts : c ≡ u.facts
   pub steps : lines_code u.facts.program 0 u.facts.program.lines ≡ Some u.steps
+  pub places : u.position ≡ (λ label. option_map (start_of u.facts.program) (place_of_label u.facts.program label))
   pub marks : u.marks ≡ lines_marks u.facts.program 0 u.facts.program.lines
 
 text_by : (c : Facts) (u : Text) (found : Option (List Step)) → lines_code c.program 0 c.program.lines ≡ found → text_with c found ≡ Some u → IsTextOf c u
@@ -28,7 +29,7 @@ text_by c u (Some steps) is h =
       position = λ label. option_map (start_of c.program) (place_of_label c.program label);
       marks = lines_marks c.program 0 c.program.lines;
     } ≡ u = cc in
-    subst (IsTextOf c) same (record { facts = refl; steps = is; marks = refl })
+    subst (IsTextOf c) same (record { facts = refl; steps = is; places = refl; marks = refl })
 
 pub text_of : (c : Facts) (u : Text) → lowered_unit c ≡ Some u → IsTextOf c u
 unfolding lowered_unit
@@ -37,7 +38,7 @@ text_of c u h = text_by c u (lines_code c.program 0 c.program.lines) refl h
 pub each_text_marks_its_loops : EachTextMarksItsLoops
 each_text_marks_its_loops c u plain ends h =
     let text = text_of c u h in
-    loops_are_marked u text.steps text.marks (ap (λ (d : Facts). each_ends d.program 0 d.program.lines) (sym text.facts) ∙ ends) (ap (λ (d : Facts). dos_are_plain d.program.lines) (sym text.facts) ∙ plain)
+    loops_are_marked u text.steps text.places text.marks (ap (λ (d : Facts). each_ends d.program 0 d.program.lines) (sym text.facts) ∙ ends) (ap (λ (d : Facts). dos_are_plain d.program.lines) (sym text.facts) ∙ plain)
 
 pub each_branch_is_named : EachBranchIsNamed
 each_branch_is_named c u h label among =

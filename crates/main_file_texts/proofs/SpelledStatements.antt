@@ -13,20 +13,20 @@ use Rattle.main_translation_laws.specs.c_tree.Tokens.{Token, Word, Digits, Sign}
 use Rattle.main_translation_laws.specs.c_tree.CWords.{Separated, last_item, one_item, is_among, is_name}
 use Rattle.main_translation_laws.specs.c_tree.CLabels.{labels_of, labels_of_all}
 use Rattle.main_translation_laws.specs.c_tree.CExpressionText.{Scope, ReadsExpr, ReadsArguments, no_argument, some_arguments, ReadsCall, by_name, through_a_parameter}
-use Rattle.main_translation_laws.specs.c_tree.CStatementText.{ReadsCases, no_case, one_case, has_twice, case_numbers, ReadsNext, up, added, for_head, tested, ReadsStmt, assigned, assigned_call, called, empty, labelled, jump, returned, returned_value, if_only, if_else, switched, repeated_for, ReadsStmts, closed, one_more}
+use Rattle.main_translation_laws.specs.c_tree.CStatementText.{ReadsCases, no_case, one_case, has_twice, case_numbers, ReadsNext, up, added, for_head, tested, ReadsStmt, assigned, assigned_call, called, empty, a_block, labelled, jump, returned, returned_value, if_only, if_else, switched, repeated_for, repeated_do, ReadsStmts, closed, one_more}
 use Rattle.main_translation_laws.specs.c_tree.Drafts as linking
 use Rattle.main_translation_laws.specs.c_tree.Access.{ToFunction}
 use Rattle.main_translation_laws.specs.c_tree.Terms.{Term, Constant, Variable, Between}
 use Rattle.main_translation_laws.specs.c_tree.Flat.{Flat, Assign, Branch, Select, Jump, Invoke, Return, ReturnAnswer, Nothing, Lost, Ignored, Kept, Returned, Direct, Through, Nowhere, CaseAt}
 use Rattle.main_translation_laws.specs.c_structure.Expressions as expressions
 use Rattle.main_translation_laws.specs.c_structure.Expressions.{Names, expr_for, exprs_for}
-use Rattle.main_translation_laws.specs.c_structure.Statements.{Outline, set_by, call_by, set_call_by, statement_of, with_label, before, if_by, if_else_by, end_of_arm, Writer, if_for, if_else_for, arms_for, branch_for, case_by, case_for, before_cases, cases_for, are_case_numbers, switch_by, switch_for, item_for, same_place, added_by, next_by, next_for, for_by, is_loop, loop_for, part_for, statements_for}
+use Rattle.main_translation_laws.specs.c_structure.Statements.{Outline, set_by, call_by, set_call_by, statement_of, with_label, before, if_by, if_else_by, end_of_arm, Writer, if_for, if_else_for, arms_for, branch_for, case_by, case_for, before_cases, cases_for, are_case_numbers, switch_by, switch_for, item_for, same_place, added_by, next_by, next_for, for_by, is_loop, head_for, tests_turn, test_in, do_by, do_for, loop_for, part_for, statements_for}
 use Rattle.main_translation_laws.specs.c_structure_laws.Fitting.{Knows, KnowsAll, KnowsItem, KnowsItems}
 use Rattle.main_translation_laws.proofs.c_structure_laws.DrawnExpressions.{some_same}
 use Rattle.main_file_texts.specs.WellFormedMains.{IsSpelled, Agrees, HasNoField, HaveNoField, and_term, ItemHasNoField, ItemsHaveNoField, AllStand, StatementsAreSpelled, AreSpelled}
 use Rattle.main_file_texts.proofs.SpelledTerms.{anywhere, term_spelled}
 use Rattle.main_file_texts.proofs.CaseNumbers.{HasDigits, digits_of, none_twice}
-use Rattle.main_file_texts.proofs.TreeLabels.{labels_label, labels_if, labels_if_else, labels_switch, labels_for}
+use Rattle.main_file_texts.proofs.TreeLabels.{labels_block, labels_label, labels_if, labels_if_else, labels_switch, labels_for, labels_do}
 
 -- ## Labels that are named
 
@@ -481,9 +481,10 @@ module _ (o : Outline) (scope : Scope) (links : linking.Scope) (agrees : Agrees 
       })
   for_fine x y z m xs s h one other third fourth inner = absurd (cc)
 
-  loop_fine : (write : Writer) → WriterFine write → (n size : ℕ) (item : Flat) (later : List Flat) (ss : List CStmt) → loop_for o write n size item later ≡ Some ss → ItemIsPlain links o.names item → ItemsArePlain links o.names later → AreFine ss
-  unfolding WriterFine loop_for
-  loop_fine write fine n size (Assign v first) (Branch test on off ∷ later) ss h plain plains = by (is_loop o n size on off later) h
+  head_fine : (write : Writer) → WriterFine write → (n size : ℕ) (v first : Term) (later : List Flat) (ss : List CStmt) → head_for o write n size v first later ≡ Some ss → ItemIsPlain links o.names (Assign v first)
+      → ItemsArePlain links o.names later → AreFine ss
+  unfolding WriterFine head_for
+  head_fine write fine n size v first (Branch test on off ∷ later) ss h plain plains = by (is_loop o n size on off later) h
     where
       by : (b : Bool)
           → (if b then
@@ -499,6 +500,63 @@ module _ (o : Outline) (scope : Scope) (links : linking.Scope) (agrees : Agrees 
           (λ turn is'. fine (suc (suc n)) (take size later) turn is' (plain_take links o.names size later plains.1)))
           (λ rest is. fine (suc (suc n) + suc (suc size)) (drop (suc (suc size)) later) rest is (plain_drop links o.names (suc (suc size)) later plains.1))
       by false g = absurd (cc)
+  head_fine write fine n size v first later ss h plain plains = absurd (cc)
+
+  tested_is : (found : Option Flat) (d : CExpr) → test_in o.names found ≡ Some d → ((item : Flat) → found ≡ Some item → ItemIsPlain links o.names item) → IsSpelled (ReadsExpr scope 0 d)
+  unfolding test_in
+  tested_is (Some (Branch test on off)) d h plains = let plain = plains (Branch test on off) refl in term_is test d h plain.0 plain.1
+  tested_is found d h plains = absurd (cc)
+
+  repeated_fine : (turn : List CStmt) (d : CExpr) → IsSpelled (ReadsExpr scope 0 d) → AreFine turn → IsFine (stmt.DoWhile turn d)
+  repeated_fine turn d test arm =
+      let last : List Token → List Token = λ behind. Sign (codes ")") ∷ Sign (codes ";") ∷ behind in
+      let middle : List Token → List Token = λ behind. Word (codes "while") ∷ Sign (codes "(") ∷ test.from (last behind) in
+      record {
+        text = record {
+          from = λ behind. Word (codes "do") ∷ Sign (codes "{") ∷ arm.text.from (middle behind);
+          reads = λ behind. repeated_do refl refl (arm.text.reads (middle behind)) (tested (codes "while") refl refl (test.reads (last behind)) refl) refl;
+        };
+        named = subst (λ l. AllStand o.label l.named) (sym (labels_do turn d)) arm.named;
+      }
+
+  block_fine : (ss : List CStmt) → AreFine ss → IsFine (stmt.Block ss)
+  block_fine ss inner = record {
+    text = record { from = λ behind. Sign (codes "{") ∷ inner.text.from behind; reads = λ behind. a_block refl (inner.text.reads behind) };
+    named = subst (λ l. AllStand o.label l.named) (sym (labels_block ss)) inner.named;
+  }
+
+  both_set : (a b : CExpr) → set_by (Some a) (Some b) ≡ Some (stmt.Set a b)
+  unfolding set_by
+  both_set a b = refl
+
+  do_by_fine : (x y : Option CExpr) (xs : Option (List CStmt)) (z : Option CExpr) (s : CStmt) → do_by x y xs z ≡ Some s → ((a : CExpr) → x ≡ Some a → IsSpelled (ReadsExpr scope 0 a)) → ((b : CExpr) → y ≡ Some b → IsSpelled (ReadsExpr scope 0 b))
+      → ((turn : List CStmt) → xs ≡ Some turn → AreFine turn) → ((d : CExpr) → z ≡ Some d → IsSpelled (ReadsExpr scope 0 d)) → IsFine s
+  unfolding do_by
+  do_by_fine (Some a) (Some b) (Some turn) (Some d) s h one other inner last =
+      let repeated = stmt.DoWhile turn d in
+      let set = set_fine (Some a) (Some b) (stmt.Set a b) (both_set a b) one other in
+      subst IsFine (some_same (stmt.Block (stmt.Set a b ∷ repeated ∷ [])) s h)
+      (block_fine (stmt.Set a b ∷ repeated ∷ []) (more_fine (stmt.Set a b) (repeated ∷ []) set (more_fine repeated [] (repeated_fine turn d (last d refl) (inner turn refl)) nothing_fine)))
+  do_by_fine x y xs z s h one other inner last = absurd (cc)
+
+  do_fine : (write : Writer) → WriterFine write → (n size : ℕ) (v first : Term) (later : List Flat) (ss : List CStmt) → do_for o write n size v first later ≡ Some ss → ItemIsPlain links o.names (Assign v first)
+      → ItemsArePlain links o.names later → AreFine ss
+  unfolding WriterFine do_for
+  do_fine write fine n size v first later ss h plain plains =
+      before_fine n (do_by (expr_for o.names v) (expr_for o.names first) (write (suc n) (take size later)) (test_in o.names (slice_get later size))) (write (suc (suc n + size)) (drop (suc size) later)) ss h
+      (λ s is. do_by_fine (expr_for o.names v) (expr_for o.names first) (write (suc n) (take size later)) (test_in o.names (slice_get later size)) s is
+      (λ a is'. term_is v a is' plain.0.0 plain.1.0) (λ b is'. term_is first b is' plain.0.1 plain.1.1)
+      (λ turn is'. fine (suc n) (take size later) turn is' (plain_take links o.names size later plains))
+      (λ d is'. tested_is (slice_get later size) d is' (λ item at. plain_at links o.names size later item plains at)))
+      (λ rest is. fine (suc (suc n + size)) (drop (suc size) later) rest is (plain_drop links o.names (suc size) later plains))
+
+  loop_fine : (write : Writer) → WriterFine write → (n size : ℕ) (item : Flat) (later : List Flat) (ss : List CStmt) → loop_for o write n size item later ≡ Some ss → ItemIsPlain links o.names item → ItemsArePlain links o.names later → AreFine ss
+  unfolding loop_for
+  loop_fine write fine n size (Assign v first) later ss h plain plains = by (tests_turn o n size (slice_get later size)) h
+    where
+      by : (b : Bool) → (if b then do_for o write n size v first later else head_for o write n size v first later) ≡ Some ss → AreFine ss
+      by true g = do_fine write fine n size v first later ss g plain plains
+      by false g = head_fine write fine n size v first later ss g plain plains
   loop_fine write fine n size item later ss h plain plains = absurd (cc)
 
   part_fine : (write : Writer) → WriterFine write → (found : Option ℕ) (n : ℕ) (item : Flat) (later : List Flat) (ss : List CStmt) → part_for o write found n item later ≡ Some ss → ItemIsPlain links o.names item

@@ -33,6 +33,10 @@ pub labels_for : (variable first test : CExpr) (next : CNext) (turn : List CStmt
 unfolding trees_opened
 labels_for variable first test next turn = labels_block turn
 
+pub labels_do : (turn : List CStmt) (test : CExpr) → labels_of (form.DoWhile turn test) ≡ labels_of_all turn
+unfolding trees_opened
+labels_do turn test = labels_block turn
+
 pub labels_switch : (value : CExpr) (cases : List CCase) → labels_of (form.Switch value cases) ≡ record { stand = []; named = map (λ (case : CCase). case.label) cases }
 unfolding trees_opened
 labels_switch value cases = refl

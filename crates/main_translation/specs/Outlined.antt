@@ -1,9 +1,9 @@
 -- The statements of a main program's function: labels where branches go, arms and loops where the marks of its lowered text are. C89, 3.6; CSTR 149.
 use Rattle.std.specs.List.{list_any}
-use Rattle.std.specs.Prelude.{ℕ, suc, nat_eq, nat_lt, Bool, true, false, ◌&&◌, List, [], ◌∷◌, length, position, Option, Some, None, is_none, option_and_then, slice_get, if◌then◌else◌}
+use Rattle.std.specs.Prelude.{ℕ, suc, nat_eq, nat_lt, Bool, true, false, ◌&&◌, List, [], ◌∷◌, length, drop, position, Option, Some, None, is_none, option_and_then, slice_get, if◌then◌else◌}
 use Rattle.main_file.specs.f_tree.Facts.{ProgramUnit}
 use Rattle.main_file.specs.f_tree.CNames.{made_name, StatementLabel, MadeLabel}
-use Rattle.main_file.specs.l_core.Steps.{Step, Unless, Skip, Jump, Mark, Marked, OpensLoop, OpensWhile, Text}
+use Rattle.main_file.specs.l_core.Steps.{Step, Unless, AgainIf, Skip, Jump, Mark, Marked, OpensLoop, OpensLoopOnce, OpensWhile, Text}
 use Rattle.main_file.specs.c_tree.declared.statement.CStmt as stmt
 use Rattle.main_file.specs.c_tree.declared.statement.CStmt.{CStmt}
 use Rattle.main_file.specs.c_tree.Flat.{Flat}
@@ -66,8 +66,27 @@ unfoldable pub turn_of : Option Step → Option ℕ
 turn_of (Some (Unless p (suc (suc size)))) = Some size
 turn_of st = None
 
+unfoldable pub is_opening_once : Mark → Bool
+is_opening_once OpensLoopOnce = true
+is_opening_once mark = false
+
+unfoldable pub opens_once : ℕ → Marked → Bool
+opens_once n one = is_opening_once one.mark && nat_eq one.at n
+
+-- does a step test behind so many others, and go back to the first of them
+unfoldable pub goes_back_by : ℕ → Step → Bool
+goes_back_by count (AgainIf p m) = nat_eq m count
+goes_back_by count st = false
+
+-- the turn of a loop that is tested behind it reaches to the first step that goes back to its begin, so many steps before these
+unfoldable pub turn_behind : ℕ → List Step → Option ℕ
+turn_behind count [] = None
+turn_behind count (st ∷ later) = if goes_back_by count st then Some count else turn_behind (suc count) later
+
+-- a loop whose variable is set by a step, with the test at once behind that, or behind the turn alone
 unfoldable pub loop_at : Text → ℕ → Option ℕ
-loop_at u n = if list_any (opens_loop (suc n)) u.marks then turn_of (slice_get u.steps (suc n)) else None
+loop_at u n =
+    if list_any (opens_loop (suc n)) u.marks then turn_of (slice_get u.steps (suc n)) else if list_any (opens_once (suc n)) u.marks then turn_behind 0 (drop (suc n) u.steps) else None
 
 abbrev pub outline_of : Inventory → Bases → Text → Outline
 outline_of v b u = record {
@@ -105,5 +124,5 @@ body_of unit u =
     else None
 
 unfoldable pub outlined_opened : Unit {0}
-unfolding labels_in stands_at label_before opens_while whiles_in name_by label_at passes_arms is_opening opens_loop turn_of loop_at returns returns_last if_returned body_of
+unfolding labels_in stands_at label_before opens_while whiles_in name_by label_at passes_arms is_opening opens_loop turn_of is_opening_once opens_once goes_back_by turn_behind loop_at returns returns_last if_returned body_of
 outlined_opened = tt

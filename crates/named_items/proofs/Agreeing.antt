@@ -24,7 +24,7 @@ use Rattle.named_items.specs.Structured as named
 use Rattle.named_items.specs.Structured.{part}
 use Rattle.named_items.specs.Agreement.{places_of, TellsPlaces, ItemsAreStructured}
 use Rattle.named_items.proofs.WrittenAlike.{left_true, right_true}
-use Rattle.named_items.proofs.NamedItems.{some_same, mapped_by, assigned, called, set_call, items_first, items_later, no_items, no_flats, items_take, items_drop, items_length, items_at, tells_take, tells_later, tells_drop, set_from, test_from, switch_from, jump_from, ends_alike, back_alike}
+use Rattle.named_items.proofs.NamedItems.{some_same, mapped_by, assigned, called, set_call, items_first, items_later, no_items, no_flats, items_take, items_drop, items_length, items_at, tells_take, tells_later, tells_drop, set_from, test_from, switch_from, jump_from, ends_alike, back_alike, turn_alike, test_alike}
 use Rattle.named_items.proofs.Growth.{Told, next_alike}
 
 -- ## One item
@@ -122,6 +122,25 @@ unfolding named.for_by
 for_of head size (Some next) (Some turn) p h = record { next = next; turn = turn; next_is = refl; turn_is = refl; is = some_same (part (stmt.For head.variable head.first head.test next turn) (size + 3)) p h }
 for_of head size (Some next) None p h = absurd (cc)
 for_of head size None y p h = absurd (cc)
+
+record IsDo (a b : CExpr) (size : ℕ) (x : Option (List CStmt)) (y : Option CExpr) (p : Part) : Type 0 where
+  turn : List CStmt
+  test : CExpr
+  turn_is : x ≡ Some turn
+  test_is : y ≡ Some test
+  is : part (stmt.Block (stmt.Set a b ∷ stmt.DoWhile turn test ∷ [])) (size + 1) ≡ p
+
+do_of : (a b : CExpr) (size : ℕ) (x : Option (List CStmt)) (y : Option CExpr) (p : Part) → named.do_by a b size x y ≡ Some p → IsDo a b size x y p
+unfolding named.do_by
+do_of a b size (Some turn) (Some test) p h = record {
+  turn = turn;
+  test = test;
+  turn_is = refl;
+  test_is = refl;
+  is = some_same (part (stmt.Block (stmt.Set a b ∷ stmt.DoWhile turn test ∷ [])) (size + 1)) p h;
+}
+do_of a b size (Some turn) None p h = absurd (cc)
+do_of a b size None y p h = absurd (cc)
 
 record IsMarked (label : Option (List ℕ)) (x : Option Part) (p : Part) : Type 0 where
   bare : Part
@@ -413,8 +432,8 @@ module _ (o : Outline) where
 
   for_goes : (W : flat.Writer) (V : named.Writer) → Agree W V → (n size on off : ℕ) (v u t : Term) (head : Head) (fs : List Flat) (is : List Item) (p : Part) → expr_for o.names v ≡ Some head.variable → expr_for o.names u ≡ Some head.first
       → expr_for o.names t ≡ Some head.test → items_for o.names fs ≡ Some is → TellsPlaces o.names (Assign v u ∷ Branch t on off ∷ fs) → flat.is_loop o n size on off fs ≡ true → named.turns_for V n size head is ≡ Some p
-      → Goes W n (Branch t on off ∷ fs) (flat.loop_for o W n size (Assign v u) (Branch t on off ∷ fs)) p
-  unfolding named.turns_for flat.loop_for flat.for_by
+      → Goes W n (Branch t on off ∷ fs) (flat.head_for o W n size v u (Branch t on off ∷ fs)) p
+  unfolding named.turns_for flat.head_for flat.for_by
   for_goes W V agree n size on off v u t head fs is p place first test items tells loops h =
       let tells' = tells_later o.names (Branch t on off) fs (tells_later o.names (Assign v u) (Branch t on off ∷ fs) tells) in
       let a = for_of head size (named.next_for head.variable (slice_get is size)) (V (n + 2) (take size is)) p h in
@@ -422,7 +441,7 @@ module _ (o : Outline) where
       at W (suc (suc n)) (n + 2) (take size fs) (Some a.turn) (omega arith) (agree (n + 2) (take size fs) (take size is) a.turn (items_take o.names size fs is items) (tells_take o.names size fs tells') a.turn_is) in
       let next = next_alike o.names v head.variable (slice_get fs size) (slice_get is size) a.next (told_at v u t on off size fs tells) place (items_at o.names size fs is items) a.next_is in
       let more : size + 3 ≡ suc (suc (suc size)) = omega arith in
-      subst (Goes W n (Branch t on off ∷ fs) (flat.loop_for o W n size (Assign v u) (Branch t on off ∷ fs))) a.is
+      subst (Goes W n (Branch t on off ∷ fs) (flat.head_for o W n size v u (Branch t on off ∷ fs))) a.is
       (λ rest others.
       ap (λ c. if c then flat.before (option_map (with_label (o.label n)) (flat.for_by (expr_for o.names v) (expr_for o.names u) (expr_for o.names t) (flat.next_for o.names v (slice_get fs size)) (W (suc (suc n)) (take size fs))))
       (W (suc (suc n) + suc (suc size)) (drop (suc (suc size)) fs)) else None) loops
@@ -432,22 +451,59 @@ module _ (o : Outline) where
       (at W (suc (suc n) + suc (suc size)) (n + 1 + (size + 3)) (drop (suc (suc size)) fs) (Some rest) (omega arith) (ap (λ k. W (n + 1 + (size + 3)) (drop k (Branch t on off ∷ fs))) (sym more) ∙ others)))
 
   head_goes : (W : flat.Writer) (V : named.Writer) → Agree W V → (n size : ℕ) (v u : Term) (a b : CExpr) (fs : List Flat) (is : List Item) (p : Part) → expr_for o.names v ≡ Some a → expr_for o.names u ≡ Some b
-      → items_for o.names fs ≡ Some is → TellsPlaces o.names (Assign v u ∷ fs) → named.head_for (places_of o) V n size a b is ≡ Some p → Goes W n fs (flat.loop_for o W n size (Assign v u) fs) p
+      → items_for o.names fs ≡ Some is → TellsPlaces o.names (Assign v u ∷ fs) → named.head_for (places_of o) V n size a b is ≡ Some p → Goes W n fs (flat.head_for o W n size v u fs) p
   unfolding named.head_for
   head_goes W V agree n size v u a b [] (item.Branch e on off ∷ is) p place first items tells h = absurd (no_flats o.names (item.Branch e on off) is items)
   head_goes W V agree n size v u a b (f ∷ fs) (item.Branch e on off ∷ is) p place first items tells h =
       let t = test_from o.names f e on off (items_first o.names f fs (item.Branch e on off) is items) in
       let items' = items_later o.names f fs (item.Branch e on off) is items in
-      subst (λ g. Goes W n (g ∷ fs) (flat.loop_for o W n size (Assign v u) (g ∷ fs)) p) (sym t.is)
+      subst (λ g. Goes W n (g ∷ fs) (flat.head_for o W n size v u (g ∷ fs)) p) (sym t.is)
       (by t.test t.test_is (subst (λ g. TellsPlaces o.names (Assign v u ∷ g ∷ fs)) t.is tells) items' (named.is_loop (places_of o) n size on off is) refl h)
     where
       by : (t : Term) → expr_for o.names t ≡ Some e → TellsPlaces o.names (Assign v u ∷ Branch t on off ∷ fs) → items_for o.names fs ≡ Some is → (c : Bool) → named.is_loop (places_of o) n size on off is ≡ c
           → (if c then named.turns_for V n size (record { variable = a; first = b; test = e }) is else None) ≡ Some p
-          → Goes W n (Branch t on off ∷ fs) (flat.loop_for o W n size (Assign v u) (Branch t on off ∷ fs)) p
+          → Goes W n (Branch t on off ∷ fs) (flat.head_for o W n size v u (Branch t on off ∷ fs)) p
       by t test tells' items' true so g =
           for_goes W V agree n size on off v u t (record { variable = a; first = b; test = e }) fs is p place first test items' tells' (loop_alike n size on off fs is items' so) g
       by t test tells' items' false so g = absurd (cc)
   head_goes W V agree n size v u a b fs is p place first items tells h = absurd (cc)
+
+  -- ## Loops that are tested behind the turn
+
+  do_goes : (W : flat.Writer) (V : named.Writer) → Agree W V → (n size : ℕ) (v u : Term) (a b : CExpr) (fs : List Flat) (is : List Item) (p : Part) → expr_for o.names v ≡ Some a → expr_for o.names u ≡ Some b
+      → items_for o.names fs ≡ Some is → TellsPlaces o.names fs → named.do_for V n size a b is ≡ Some p → Goes W n fs (flat.do_for o W n size v u fs) p
+  unfolding named.do_for flat.do_for flat.do_by
+  do_goes W V agree n size v u a b fs is p place first items tells h =
+      let d = do_of a b size (V (n + 1) (take size is)) (named.test_in (slice_get is size)) p h in
+      let turn : W (suc n) (take size fs) ≡ Some d.turn =
+      at W (suc n) (n + 1) (take size fs) (Some d.turn) (omega arith) (agree (n + 1) (take size fs) (take size is) d.turn (items_take o.names size fs is items) (tells_take o.names size fs tells) d.turn_is) in
+      let test = test_alike o.names (slice_get fs size) (slice_get is size) d.test (items_at o.names size fs is items) d.test_is in
+      let more : suc size ≡ size + 1 = omega arith in
+      subst (Goes W n fs (flat.do_for o W n size v u fs)) d.is
+      (λ rest others. before_gives n (flat.do_by (expr_for o.names v) (expr_for o.names u) (W (suc n) (take size fs)) (flat.test_in o.names (slice_get fs size))) (W (suc (suc n + size)) (drop (suc size) fs))
+      (stmt.Block (stmt.Set a b ∷ stmt.DoWhile d.turn d.test ∷ [])) rest
+      (λ k. flat.do_by (place k) (first k) (turn k) (test k))
+      (at W (suc (suc n + size)) (n + 1 + (size + 1)) (drop (suc size) fs) (Some rest) (omega arith) (ap (λ k. W (n + 1 + (size + 1)) (drop k fs)) more ∙ others)))
+
+  set_goes : (W : flat.Writer) (V : named.Writer) → Agree W V → (n size : ℕ) (v u : Term) (a b : CExpr) (fs : List Flat) (is : List Item) (p : Part) → expr_for o.names v ≡ Some a → expr_for o.names u ≡ Some b
+      → items_for o.names fs ≡ Some is → TellsPlaces o.names (Assign v u ∷ fs) → named.loop_for (places_of o) V n size (item.Assign a b) is ≡ Some p → Goes W n fs (flat.loop_for o W n size (Assign v u) fs) p
+  unfolding named.loop_for flat.loop_for
+  set_goes W V agree n size v u a b fs is p place first items tells h = by (named.tests_turn (places_of o) n size (slice_get is size)) refl h
+    where
+      alike : flat.tests_turn o n size (slice_get fs size) ≡ named.tests_turn (places_of o) n size (slice_get is size)
+      alike = turn_alike o n size (slice_get fs size) (slice_get is size) (items_at o.names size fs is items)
+
+      by : (c : Bool) → named.tests_turn (places_of o) n size (slice_get is size) ≡ c
+          → (if c then named.do_for V n size a b is else named.head_for (places_of o) V n size a b is) ≡ Some p
+          → Goes W n fs (if flat.tests_turn o n size (slice_get fs size) then flat.do_for o W n size v u fs else flat.head_for o W n size v u fs) p
+      by true so g =
+          goes_as W n fs (if flat.tests_turn o n size (slice_get fs size) then flat.do_for o W n size v u fs else flat.head_for o W n size v u fs) (flat.do_for o W n size v u fs) p
+          (ap (λ c. if c then flat.do_for o W n size v u fs else flat.head_for o W n size v u fs) (alike ∙ so))
+          (do_goes W V agree n size v u a b fs is p place first items (tells_later o.names (Assign v u) fs tells) g)
+      by false so g =
+          goes_as W n fs (if flat.tests_turn o n size (slice_get fs size) then flat.do_for o W n size v u fs else flat.head_for o W n size v u fs) (flat.head_for o W n size v u fs) p
+          (ap (λ c. if c then flat.do_for o W n size v u fs else flat.head_for o W n size v u fs) (alike ∙ so))
+          (head_goes W V agree n size v u a b fs is p place first items tells g)
 
   loop_goes : (W : flat.Writer) (V : named.Writer) → Agree W V → (n size : ℕ) (f : Flat) (fs : List Flat) (i : Item) (is : List Item) (p : Part) → item_for o.names f ≡ Some i → items_for o.names fs ≡ Some is → TellsPlaces o.names (f ∷ fs)
       → named.loop_for (places_of o) V n size i is ≡ Some p → Goes W n fs (flat.loop_for o W n size f fs) p
@@ -455,7 +511,7 @@ module _ (o : Outline) where
   loop_goes W V agree n size f fs (item.Assign a b) is p named items tells h =
       let s = set_from o.names f a b named in
       goes_as W n fs (flat.loop_for o W n size f fs) (flat.loop_for o W n size (Assign s.place s.value) fs) p (ap (λ g. flat.loop_for o W n size g fs) s.is)
-      (head_goes W V agree n size s.place s.value a b fs is p s.place_is s.value_is items (subst (λ g. TellsPlaces o.names (g ∷ fs)) s.is tells) h)
+      (set_goes W V agree n size s.place s.value a b fs is p s.place_is s.value_is items (subst (λ g. TellsPlaces o.names (g ∷ fs)) s.is tells) h)
   loop_goes W V agree n size f fs i is p named items tells h = absurd (cc)
 
   -- ## Statements

@@ -1,11 +1,12 @@
 -- Items by names and the flat ones that they are of.
-use Rattle.std.specs.Prelude.{◌≡◌, ℕ, zero, suc, true, nat_eq, List, [], ◌∷◌, map, length, take, drop, Option, Some, None, option_map, slice_get}
-use Rattle.std.proofs.Common.{refl, sym, ap, ◌∙◌}
+use Rattle.std.specs.Prelude.{◌≡◌, ℕ, zero, suc, ◌+◌, true, false, ◌&&◌, nat_eq, List, [], ◌∷◌, map, length, take, drop, Option, Some, None, is_none, option_map, slice_get}
+use Rattle.std.proofs.Common.{refl, sym, ap, ◌∙◌, arith}
 use Rattle.c_tree.specs.declared.expression.CExpr.{CExpr}
 use Rattle.c_tree.specs.Access.{ToFunction}
 use Rattle.c_tree.specs.Terms.{Term, Variable}
 use Rattle.c_tree.specs.Flat.{Flat, Assign, Branch, Select, Jump, Invoke, Return, Nothing, Ignored, Kept, Direct, Through, CaseAt}
 use Rattle.c_structure.specs.Expressions.{Names, expr_for, exprs_for}
+use Rattle.c_structure.specs.Statements.{Outline}
 use Rattle.c_structure.specs.Statements as flat
 use Rattle.named_items.specs.declared.item.Callee.{Callee}
 use Rattle.named_items.specs.declared.item.Case.{Case}
@@ -13,7 +14,7 @@ use Rattle.named_items.specs.declared.item.Item.{Item}
 use Rattle.named_items.specs.declared.item.Item.TheVariants as item
 use Rattle.named_items.specs.Items.{by_name, through, assign_by, call_by, set_call_by, case_of, item_for, before_items, items_for}
 use Rattle.named_items.specs.Structured as named
-use Rattle.named_items.specs.Agreement.{TellsPlaces}
+use Rattle.named_items.specs.Agreement.{places_of, TellsPlaces}
 
 pub some_same : {A : Type 0} → (x y : A) → Some x ≡ Some y → x ≡ y
 some_same x y h = cc
@@ -320,3 +321,39 @@ unfolding named.goes_back flat.goes_back
 back_alike names n m (Some f) (Some (item.Jump q)) same is h = ap (flat.goes_back m) (ap Some (jump_from names f q is)) ∙ ap (nat_eq q) (sym same) ∙ h
 back_alike names n m None (Some (item.Jump q)) same is h = absurd is
 back_alike names n m x y same is h = absurd (cc)
+
+-- ## Tests behind a turn
+
+no_test : (o : Outline) (n size : ℕ) (f : Flat) (i : Item) → item_for o.names f ≡ Some i → ((e : CExpr) (on off : ℕ) → i ≡ item.Branch e on off → ⊥) → flat.tests_turn o n size (Some f) ≡ false
+unfolding item_for flat.tests_turn
+no_test o n size (Branch t on off) i is other = let m = mapped_by (λ e. item.Branch e on off) (expr_for o.names t) i is in absurd (other m.one on off (sym m.is))
+no_test o n size f i is other = refl
+
+tests_alike : (o : Outline) (n size on off : ℕ) (t : Term) (e : CExpr) → flat.tests_turn o n size (Some (Branch t on off)) ≡ named.tests_turn (places_of o) n size (Some (item.Branch e on off))
+unfolding flat.tests_turn named.tests_turn
+tests_alike o n size on off t e =
+    let first : suc n ≡ n + 1 = omega arith in
+    let last : suc (suc n + size) ≡ n + size + 2 = omega arith in
+    let own : suc n + size ≡ n + size + 1 = omega arith in
+    (λ k. nat_eq on (first k) && (nat_eq off (last k) && is_none (o.label (own k))))
+
+pub turn_alike : (o : Outline) (n size : ℕ) (x : Option Flat) (y : Option Item) → IsNamed o.names x y → flat.tests_turn o n size x ≡ named.tests_turn (places_of o) n size y
+unfolding flat.tests_turn named.tests_turn
+turn_alike o n size (Some f) (Some (item.Branch e on off)) is =
+    let t = test_from o.names f e on off is in ap (flat.tests_turn o n size) (ap Some t.is) ∙ tests_alike o n size on off t.test e
+turn_alike o n size (Some f) (Some (item.Assign a b)) is = no_test o n size f (item.Assign a b) is (λ e on off g. cc)
+turn_alike o n size (Some f) (Some (item.Select e cases otherwise)) is = no_test o n size f (item.Select e cases otherwise) is (λ e' on off g. cc)
+turn_alike o n size (Some f) (Some (item.Jump position)) is = no_test o n size f (item.Jump position) is (λ e on off g. cc)
+turn_alike o n size (Some f) (Some (item.Call callee arguments)) is = no_test o n size f (item.Call callee arguments) is (λ e on off g. cc)
+turn_alike o n size (Some f) (Some (item.SetCall target callee arguments)) is = no_test o n size f (item.SetCall target callee arguments) is (λ e on off g. cc)
+turn_alike o n size (Some f) (Some (item.Return value)) is = no_test o n size f (item.Return value) is (λ e on off g. cc)
+turn_alike o n size (Some f) (Some item.Nothing) is = no_test o n size f item.Nothing is (λ e on off g. cc)
+turn_alike o n size None None is = refl
+turn_alike o n size (Some f) None is = absurd is
+turn_alike o n size None (Some i) is = absurd is
+
+pub test_alike : (names : Names) (x : Option Flat) (y : Option Item) (c : CExpr) → IsNamed names x y → named.test_in y ≡ Some c → flat.test_in names x ≡ Some c
+unfolding flat.test_in named.test_in
+test_alike names (Some f) (Some (item.Branch e on off)) c is h = let t = test_from names f e on off is in ap (flat.test_in names) (ap Some t.is) ∙ t.test_is ∙ h
+test_alike names None (Some (item.Branch e on off)) c is h = absurd is
+test_alike names x y c is h = absurd (cc)

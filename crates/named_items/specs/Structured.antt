@@ -1,6 +1,6 @@
 -- Structured C statements for flat items by their names: a test that passes the items behind it is an `if`, with an `else` where it is said that the
--- last of them passes the other arm; an item that picks one of the jumps behind it is a `switch`; a loop that is said to begin at an item is a `for`;
--- labels stand where it is said that they do. C89, 3.6.
+-- last of them passes the other arm; an item that picks one of the jumps behind it is a `switch`; a loop that is said to begin at an item is a `for`,
+-- or an assignment and a `do` where its test stands behind the turn; labels stand where it is said that they do. C89, 3.6.
 use Rattle.std.specs.Prelude.{ℕ, ℤ, zero, suc, ◌+◌, ◌-◌, pos, nat_eq, nat_lt, nat_le, Bool, false, ◌&&◌, List, [], ◌∷◌, map, length, take, drop, Option, Some, None, is_none, slice_get, if◌then◌else◌}
 use Rattle.std.specs.Ordering.{int_eq}
 use Rattle.c_tree.specs.declared.expression.CExpr.{CExpr, Binary', more_of-CExpr}
@@ -189,9 +189,28 @@ head_for l write n size variable first (Branch test on off ∷ later) =
     if is_loop l n size on off later then turns_for write n size (record { variable = variable; first = first; test = test }) later else None
 head_for l write n size variable first later = None
 
+-- a test behind so many items of a turn, at once behind the first item: back to the first of them where it holds, and else on; no label stands before it
+unfoldable pub tests_turn : Layout → ℕ → ℕ → Option Item → Bool
+tests_turn l n size (Some (Branch test on off)) = nat_eq on (n + 1) && (nat_eq off (n + size + 2) && is_none (l.label (n + size + 1)))
+tests_turn l n size item = false
+
+-- the expression that an item tests
+unfoldable pub test_in : Option Item → Option CExpr
+test_in (Some (Branch test on off)) = Some test
+test_in item = None
+
+-- the first assignment and the `do`, to which so many items of a turn and the test behind them belong
+unfoldable pub do_by : CExpr → CExpr → ℕ → Option (List CStmt) → Option CExpr → Option Part
+do_by variable first size (Some turn) (Some test) = Some (part (stmt.Block (stmt.Set variable first ∷ stmt.DoWhile turn test ∷ [])) (size + 1))
+do_by variable first size _ _ = None
+
+-- a loop whose variable is first set, with the turn at once behind that, and its test behind the turn
+unfoldable pub do_for : Writer → ℕ → ℕ → CExpr → CExpr → List Item → Option Part
+do_for write n size variable first later = do_by variable first size (write (n + 1) (take size later)) (test_in (slice_get later size))
+
 -- a loop that begins at an item
 unfoldable pub loop_for : Layout → Writer → ℕ → ℕ → Item → List Item → Option Part
-loop_for l write n size (Assign variable first) later = head_for l write n size variable first later
+loop_for l write n size (Assign variable first) later = if tests_turn l n size (slice_get later size) then do_for write n size variable first later else head_for l write n size variable first later
 loop_for l write n size item later = None
 
 -- ## Statements
@@ -227,5 +246,5 @@ structured l zero n (item ∷ later) = None
 structured l (suc turns) n (item ∷ later) = onward (structured l turns) n later (part_at l (structured l turns) n item later)
 
 unfoldable pub structured_opened : Unit {0}
-unfolding goto_label call_of set_call_of statement_of alone if_by if_else_by end_of_arm one_arm two_arms arms_for branch_for test_for case_for cases_for switch_by switch_for plain_for added_in sum_in is_one next_by next_from next_for goes_back is_unmarked is_loop for_by turns_for head_for loop_for part_for marked part_at behind onward structured
+unfolding goto_label call_of set_call_of statement_of alone if_by if_else_by end_of_arm one_arm two_arms arms_for branch_for test_for case_for cases_for switch_by switch_for plain_for added_in sum_in is_one next_by next_from next_for goes_back is_unmarked is_loop for_by turns_for head_for tests_turn test_in do_by do_for loop_for part_for marked part_at behind onward structured
 structured_opened = tt

@@ -66,6 +66,14 @@ in_for : (variable first test : CExpr) (turn : CNext) (inner : List CStmt)
 unfolding trees_opened
 in_for variable first test turn inner = ap (λ b. expression_of_bytes variable && (expression_of_bytes first && (expression_of_bytes test && (next_of_bytes turn && b)))) (in_block inner)
 
+in_do : (inner : List CStmt) (test : CExpr) → statement_of_bytes (stmt.DoWhile inner test) ≡ (statements_of_bytes inner && expression_of_bytes test)
+unfolding trees_opened
+in_do inner test = ap (λ b. b && expression_of_bytes test) (in_block inner)
+
+in_set : (a b : CExpr) → statement_of_bytes (stmt.Set a b) ≡ (expression_of_bytes a && expression_of_bytes b)
+unfolding trees_opened
+in_set a b = refl
+
 -- ## One item
 
 abbrev part_of_bytes : Part → Bool
@@ -178,6 +186,23 @@ for_by head size (Some turn) (Some inner) has one others =
 for_by head size (Some turn) None has one others = refl
 for_by head size None xs has one others = refl
 
+test_found : (i : Option Item) → passes item_of_bytes i ≡ true → passes expression_of_bytes (items.test_in i) ≡ true
+unfolding items.test_in
+test_found (Some (Branch test on off)) h = h
+test_found i h = refl
+
+do_by : (a b : CExpr) (size : ℕ) (xs : Option (List CStmt)) (x : Option CExpr) → expression_of_bytes a ≡ true → expression_of_bytes b ≡ true → passes statements_of_bytes xs ≡ true → passes expression_of_bytes x ≡ true
+    → passes part_of_bytes (items.do_by a b size xs x) ≡ true
+unfolding items.do_by
+do_by a b size (Some turn) (Some test) one other inner last =
+    let repeated = stmt.DoWhile turn test in
+    let set : statement_of_bytes (stmt.Set a b) ≡ true = in_set a b ∙ both (expression_of_bytes a) (expression_of_bytes b) one other in
+    let loop : statement_of_bytes repeated ≡ true = in_do turn test ∙ both (statements_of_bytes turn) (expression_of_bytes test) inner last in
+    in_block (stmt.Set a b ∷ repeated ∷ [])
+    ∙ both (statement_of_bytes (stmt.Set a b)) (statements_of_bytes (repeated ∷ [])) set (both (statement_of_bytes repeated) (statements_of_bytes []) loop refl)
+do_by a b size (Some turn) None one other inner last = refl
+do_by a b size None x one other inner last = refl
+
 -- ## Statements
 
 labelled : (label : Option (List ℕ)) (s : CStmt) → statement_of_bytes s ≡ true → statement_of_bytes (with_label label s) ≡ true
@@ -246,10 +271,20 @@ module _ (write : Writer) (writes : WritesBytes write) where
       chosen part_of_bytes (items.is_loop l n size on off later) (items.turns_for write n size head later) None (turns n size head later has (right (expression_of_bytes test) (items_of_bytes later) hs)) refl
   headed l n size variable first later one other hs = refl
 
+  once : (n size : ℕ) (variable first : CExpr) (later : List Item) → expression_of_bytes variable ≡ true → expression_of_bytes first ≡ true → items_of_bytes later ≡ true
+      → passes part_of_bytes (items.do_for write n size variable first later) ≡ true
+  unfolding items.do_for
+  once n size variable first later one other hs =
+      do_by variable first size (write (n + 1) (take size later)) (items.test_in (slice_get later size)) one other (writes (n + 1) (take size later) (taken item_of_bytes size later hs))
+      (test_found (slice_get later size) (found item_of_bytes size later hs))
+
   looped : (l : Layout) (n size : ℕ) (i : Item) (later : List Item) → item_of_bytes i ≡ true → items_of_bytes later ≡ true → passes part_of_bytes (items.loop_for l write n size i later) ≡ true
   unfolding items.loop_for
   looped l n size (Assign variable first) later h hs =
-      headed l n size variable first later (left (expression_of_bytes variable) (expression_of_bytes first) h) (right (expression_of_bytes variable) (expression_of_bytes first) h) hs
+      let one = left (expression_of_bytes variable) (expression_of_bytes first) h in
+      let other = right (expression_of_bytes variable) (expression_of_bytes first) h in
+      chosen part_of_bytes (items.tests_turn l n size (slice_get later size)) (items.do_for write n size variable first later) (items.head_for l write n size variable first later)
+      (once n size variable first later one other hs) (headed l n size variable first later one other hs)
   looped l n size i later h hs = refl
 
   parted : (l : Layout) (loop : Option ℕ) (n : ℕ) (i : Item) (later : List Item) → item_of_bytes i ≡ true → items_of_bytes later ≡ true → passes part_of_bytes (items.part_for l write loop n i later) ≡ true

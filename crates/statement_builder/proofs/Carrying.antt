@@ -10,9 +10,9 @@ use Rattle.named_items.specs.declared.item.Item.{Item}
 use Rattle.named_items.specs.declared.part.Head.{Head}
 use Rattle.named_items.specs.declared.part.Part.{Part}
 use Rattle.named_items.specs.Layouts.{Layout}
-use Rattle.named_items.specs.Structured.{Writer, part, if_by, if_else_by, one_arm, two_arms, next_for, for_by, turns_for, part_for, marked, part_at, structured}
+use Rattle.named_items.specs.Structured.{Writer, part, if_by, if_else_by, one_arm, two_arms, next_for, for_by, turns_for, test_in, do_by, do_for, part_for, marked, part_at, structured}
 use Rattle.statement_builder.specs.declared.plan.Plan.{Plan}
-use Rattle.statement_builder.specs.declared.plan.Plan.TheVariants.{Unwritten, Whole, OneArm, TwoArms, Turns}
+use Rattle.statement_builder.specs.declared.plan.Plan.TheVariants.{Unwritten, Whole, OneArm, TwoArms, Turns, Once}
 use Rattle.statement_builder.specs.Plans.{carried, popped, steps, Plans, Ahead, Carries}
 use Rattle.statement_builder.specs.Taking.{Leaves, Takes}
 use Rattle.statement_builder.proofs.Building.{some_same}
@@ -91,6 +91,25 @@ pub turns_leave : (queue rest last : List Item) (size : ℕ) (r : Option Part) �
 turns_leave queue rest last size None left gone = tt
 turns_leave queue rest last size (Some p) left gone = gone ∙ ap (drop 2) left ∙ drop-drop 2 size queue
 
+pub once_built : (l : Layout) (t n size : ℕ) (queue rest : List Item) (a b : CExpr) (turn : List CStmt) (r : Option Part) → Some turn ≡ structured l t (n + 1) (take size queue) → rest ≡ drop size queue
+    → r ≡ do_by a b size (Some turn) (test_in (slice_get rest 0)) → r ≡ do_for (structured l t) n size a b queue
+unfolding do_for
+once_built l t n size queue rest a b turn r is left made =
+    made ∙ (λ k. do_by a b size (is k) (test_in ((ap (λ xs. slice_get xs 0) left ∙ get_drop size queue) k)))
+
+without_any : (a b : CExpr) (size : ℕ) (test : Option CExpr) → None ≡ do_by a b size None test
+unfolding do_by
+without_any a b size None = refl
+without_any a b size (Some test) = refl
+
+pub once_none : (l : Layout) (t n size : ℕ) (queue : List Item) (a b : CExpr) → None ≡ structured l t (n + 1) (take size queue) → None ≡ do_for (structured l t) n size a b queue
+unfolding do_for
+once_none l t n size queue a b is = without_any a b size (test_in (slice_get queue size)) ∙ ap (λ found. do_by a b size found (test_in (slice_get queue size))) is
+
+pub once_leave : (queue rest last : List Item) (size : ℕ) (r : Option Part) → rest ≡ drop size queue → last ≡ drop 1 rest → Leaves queue last (size + 1) r
+once_leave queue rest last size None left gone = tt
+once_leave queue rest last size (Some p) left gone = gone ∙ ap (drop 1) left ∙ drop-drop 1 size queue
+
 -- ## Plans
 
 pub carry_built : (write : Writer) (n : ℕ) (queue : List Item) (plan known : Plan) (r : Option Part) → plan ≡ known → r ≡ carried write n known queue → r ≡ carried write n plan queue
@@ -120,6 +139,10 @@ pub carried_turns : (write : Writer) (n size : ℕ) (queue : List Item) (head : 
 unfolding carried
 carried_turns write n size queue head = refl
 
+pub carried_once : (write : Writer) (n size : ℕ) (queue : List Item) (a b : CExpr) → do_for write n size a b queue ≡ carried write n (Once a b size) queue
+unfolding carried
+carried_once write n size queue a b = refl
+
 -- ## Parts
 
 if_taken : (test : CExpr) (size : ℕ) (first : Option (List CStmt)) (p : Part) → Some p ≡ if_by test size first → p.taken ≡ size
@@ -139,9 +162,15 @@ for_taken head size (Some next) (Some turn) p h = ap (λ q. q.taken) (some_same 
 for_taken head size (Some next) None p h = absurd (cc)
 for_taken head size None turn p h = absurd (cc)
 
+do_taken : (a b : CExpr) (size : ℕ) (turn : Option (List CStmt)) (test : Option CExpr) (p : Part) → Some p ≡ do_by a b size turn test → p.taken ≡ size + 1
+unfolding do_by
+do_taken a b size (Some turn) (Some test) p h = ap (λ q. q.taken) (some_same p (part (stmt.Block (stmt.Set a b ∷ stmt.DoWhile turn test ∷ [])) (size + 1)) h)
+do_taken a b size (Some turn) None p h = absurd (cc)
+do_taken a b size None test p h = absurd (cc)
+
 -- a part has the items that its plan has taken and those ahead that belong to it
 taken_is : (write : Writer) (n : ℕ) (queue : List Item) (plan : Plan) (p : Part) → Some p ≡ carried write n plan queue → p.taken ≡ popped plan + steps plan
-unfolding carried one_arm two_arms turns_for
+unfolding carried one_arm two_arms turns_for do_for
 taken_is write n queue Unwritten p h = absurd (cc)
 taken_is write n queue (Whole q) p h = let same : p.taken ≡ q.taken = ap (λ r. r.taken) (some_same p q h) in omega (arith, same)
 taken_is write n queue (OneArm test size) p h = let same = if_taken test size (write (n + 1) (take size queue)) p h in omega (arith, same)
@@ -149,6 +178,7 @@ taken_is write n queue (TwoArms test size other) p h =
     let same = if_else_taken test (size + 1 + other) (write (n + 1) (take size queue)) (write (n + size + 2) (take other (drop (size + 1) queue))) p h in omega (arith, same)
 taken_is write n queue (Turns head size) p h =
     let same = for_taken head size (next_for head.variable (slice_get queue size)) (write (n + 2) (take size queue)) p h in omega (arith, same)
+taken_is write n queue (Once a b size) p h = let same = do_taken a b size (write (n + 1) (take size queue)) (test_in (slice_get queue size)) p h in omega (arith, same)
 
 -- what is ahead once there is a plan, where it gives a part
 ahead_is : (write : Writer) (n : ℕ) (old new : List Item) (plan : Plan) (p : Part) → Some p ≡ carried write n plan new → Ahead old new plan → new ≡ drop (popped plan) old
@@ -158,6 +188,7 @@ ahead_is write n old new (Whole q) p h ahead = ahead
 ahead_is write n old new (OneArm test size) p h ahead = ahead
 ahead_is write n old new (TwoArms test size other) p h ahead = ahead
 ahead_is write n old new (Turns head size) p h ahead = ahead
+ahead_is write n old new (Once a b size) p h ahead = ahead
 
 pub part_takes : (write : Writer) (n count : ℕ) (old new last : List Item) (plan : Plan) (found : Option Part) → found ≡ carried write n plan new → Ahead old new plan → popped plan + steps plan ≤ count → Carries new last plan found
     → Takes old last count found
@@ -183,6 +214,7 @@ room_ahead count old new (Whole p) room ahead fits = let long = ap length ahead 
 room_ahead count old new (OneArm test size) room ahead fits = let long = ap length ahead in omega (arith, long, room, fits)
 room_ahead count old new (TwoArms test size other) room ahead fits = let long = ap length ahead in omega (arith, long, room, fits)
 room_ahead count old new (Turns head size) room ahead fits = let long = ap length ahead ∙ length-drop 1 old in omega (arith, long, room, fits)
+room_ahead count old new (Once a b size) room ahead fits = let long = ap length ahead in omega (arith, long, room, fits)
 
 pub room_left : (old new : List Item) (size other : ℕ) → new ≡ drop size old → size + 1 + other ≤ length old → 1 + other ≤ length new
 room_left old new size other left room = let long = ap length left ∙ length-drop size old in omega (arith, long, room)

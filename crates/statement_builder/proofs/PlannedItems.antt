@@ -11,9 +11,9 @@ use Rattle.named_items.specs.declared.item.Item.TheVariants as item
 use Rattle.named_items.specs.declared.part.Head.{Head}
 use Rattle.named_items.specs.declared.part.Part.{Part}
 use Rattle.named_items.specs.Layouts.{Layout}
-use Rattle.named_items.specs.Structured.{Writer, part, statement_of, alone, if_by, if_else_by, end_of_arm, one_arm, two_arms, arms_for, branch_for, test_for, switch_for, plain_for, next_for, is_loop, for_by, turns_for, head_for, loop_for, part_for}
+use Rattle.named_items.specs.Structured.{Writer, test_in, part, statement_of, alone, if_by, if_else_by, end_of_arm, one_arm, two_arms, arms_for, branch_for, test_for, switch_for, plain_for, next_for, is_loop, for_by, turns_for, head_for, tests_turn, do_by, do_for, loop_for, part_for}
 use Rattle.statement_builder.specs.declared.plan.Plan.{Plan}
-use Rattle.statement_builder.specs.declared.plan.Plan.TheVariants.{Unwritten, Whole, OneArm, TwoArms, Turns}
+use Rattle.statement_builder.specs.declared.plan.Plan.TheVariants.{Unwritten, Whole, OneArm, TwoArms, Turns, Once}
 use Rattle.statement_builder.specs.Plans.{carried, whole, turns, loop_plan, popped, steps, Ahead}
 use Rattle.statement_builder.proofs.Building.{some_same, take_less, drop_less, get_less}
 
@@ -55,6 +55,12 @@ unfolding carried turns_for
 carried_turns write n count size queue head less =
     ap (λ found. for_by head size (next_for head.variable found) (write (n + 2) (take size queue))) (sym (get_less size count queue less))
     ∙ ap (λ xs. for_by head size (next_for head.variable (slice_get (take count queue) size)) (write (n + 2) xs)) (sym (take_less size count queue (omega (arith, less))))
+
+pub carried_once : (write : Writer) (n count size : ℕ) (queue : List Item) (a b : CExpr) → size < count → carried write n (Once a b size) queue ≡ do_for write n size a b (take count queue)
+unfolding carried do_for
+carried_once write n count size queue a b less =
+    ap (λ found. do_by a b size (write (n + 1) (take size queue)) (test_in found)) (sym (get_less size count queue less))
+    ∙ ap (λ xs. do_by a b size (write (n + 1) xs) (test_in (slice_get (take count queue) size))) (sym (take_less size count queue (omega (arith, less))))
 
 pub carried_whole : (write : Writer) (n : ℕ) (queue : List Item) (found : Option Part) → carried write n (whole found) queue ≡ found
 unfolding carried whole
@@ -179,9 +185,52 @@ part_loop l write found size n i later is = ap (λ f. part_for l write f n i lat
 
 -- ## Loops
 
-pub loop_set : (l : Layout) (write : Writer) (n size : ℕ) (later : List Item) (a b : CExpr) (i : Item) → i ≡ item.Assign a b → head_for l write n size a b later ≡ loop_for l write n size i later
-unfolding loop_for
+pub loop_set : (l : Layout) (write : Writer) (n size : ℕ) (later : List Item) (a b : CExpr) (i : Item) → i ≡ item.Assign a b → loop_for l write n size (item.Assign a b) later ≡ loop_for l write n size i later
 loop_set l write n size later a b i is = ap (λ j. loop_for l write n size j later) (sym is)
+
+-- an item of a span is inside it
+inside : (size count : ℕ) (queue : List Item) (i : Item) → slice_get (take count queue) size ≡ Some i → size < count
+inside size zero queue i h = absurd (cc)
+inside size (suc count) [] i h = absurd (cc)
+inside zero (suc count) (x ∷ queue) i h = omega arith
+inside (suc size) (suc count) (x ∷ queue) i h = let less = inside size count queue i h in omega (arith, less)
+
+past : (size count : ℕ) (queue : List Item) → count ≤ size → slice_get (take count queue) size ≡ None
+past size zero queue h = refl
+past size (suc count) [] h = refl
+past zero (suc count) (x ∷ queue) h = absurd (omega arith)
+past (suc size) (suc count) (x ∷ queue) h = past size count queue (omega arith)
+
+not_past : (l : Layout) (n size : ℕ) (found : Option Item) → found ≡ None → false ≡ tests_turn l n size found
+unfolding tests_turn
+not_past l n size found is = sym (ap (tests_turn l n size) is)
+
+pub tested_past : (l : Layout) (n size count : ℕ) (queue : List Item) → count ≤ size → false ≡ tests_turn l n size (slice_get (take count queue) size)
+tested_past l n size count queue h = not_past l n size (slice_get (take count queue) size) (past size count queue h)
+
+pub tested_inside : (l : Layout) (n size count : ℕ) (queue : List Item) (found : Option Item) → found ≡ slice_get queue size → size < count → tests_turn l n size found ≡ tests_turn l n size (slice_get (take count queue) size)
+tested_inside l n size count queue found is less = ap (tests_turn l n size) (is ∙ sym (get_less size count queue less))
+
+test_inside : (l : Layout) (n size count : ℕ) (queue : List Item) (found : Option Item) → slice_get (take count queue) size ≡ found → tests_turn l n size found ≡ true → size < count
+unfolding tests_turn
+test_inside l n size count queue None is h = absurd (cc)
+test_inside l n size count queue (Some i) is h = inside size count queue i is
+
+-- the test of a loop stands inside the span
+pub once_inside : (l : Layout) (n size count : ℕ) (queue : List Item) (b : Bool) → b ≡ tests_turn l n size (slice_get (take count queue) size) → b ≡ true → size < count
+once_inside l n size count queue b is holds = test_inside l n size count queue (slice_get (take count queue) size) refl (sym is ∙ holds)
+
+pub set_once : (l : Layout) (write : Writer) (n size count : ℕ) (queue : List Item) (a b : CExpr) (t : Bool) → t ≡ tests_turn l n size (slice_get (take count queue) size) → t ≡ true
+    → carried write n (Once a b size) queue ≡ loop_for l write n size (item.Assign a b) (take count queue)
+unfolding loop_for
+set_once l write n size count queue a b t is holds =
+    carried_once write n count size queue a b (once_inside l n size count queue t is holds)
+    ∙ sym (ap (λ c. if c then do_for write n size a b (take count queue) else head_for l write n size a b (take count queue)) (sym is ∙ holds))
+
+pub set_head : (l : Layout) (write : Writer) (n size : ℕ) (later : List Item) (a b : CExpr) (t : Bool) → t ≡ tests_turn l n size (slice_get later size) → t ≡ false
+    → head_for l write n size a b later ≡ loop_for l write n size (item.Assign a b) later
+unfolding loop_for
+set_head l write n size later a b t is fails = sym (ap (λ c. if c then do_for write n size a b later else head_for l write n size a b later) (sym is ∙ fails))
 
 pub loop_other : (l : Layout) (write : Writer) (n size : ℕ) (later : List Item) (i : Item) → ((a b : CExpr) → i ≡ item.Assign a b → ⊥) → None ≡ loop_for l write n size i later
 unfolding loop_for
@@ -280,6 +329,7 @@ ahead_same queue (Whole p) none = refl
 ahead_same queue (OneArm test size) none = refl
 ahead_same queue (TwoArms test size other) none = refl
 ahead_same queue (Turns head size) none = absurd (omega arith)
+ahead_same queue (Once a b size) none = refl
 
 pub both_counted : (plan : Plan) (count : ℕ) → popped plan ≡ 0 → steps plan ≤ count → popped plan + steps plan ≤ count
 both_counted plan count none fits = omega arith

@@ -6,9 +6,9 @@ use Rattle.named_items.specs.declared.item.Item.{Item}
 use Rattle.named_items.specs.declared.item.Item.TheVariants.{Branch}
 use Rattle.named_items.specs.declared.part.Part.{Part}
 use Rattle.named_items.specs.Layouts.{Layout}
-use Rattle.named_items.specs.Structured.{Writer, one_arm, two_arms, is_loop, turns_for}
+use Rattle.named_items.specs.Structured.{Writer, one_arm, two_arms, is_loop, turns_for, do_for}
 use Rattle.statement_builder.specs.declared.plan.Plan.{Plan}
-use Rattle.statement_builder.specs.declared.plan.Plan.TheVariants.{Unwritten, Whole, OneArm, TwoArms, Turns}
+use Rattle.statement_builder.specs.declared.plan.Plan.TheVariants.{Unwritten, Whole, OneArm, TwoArms, Turns, Once}
 
 -- the part that a plan gives, where the items ahead are written so
 unfoldable pub carried : Writer → ℕ → Plan → List Item → Option Part
@@ -17,6 +17,7 @@ carried write n (Whole p) ahead = Some p
 carried write n (OneArm test size) ahead = one_arm write n test size ahead
 carried write n (TwoArms test size other) ahead = two_arms write n test size other ahead
 carried write n (Turns head size) ahead = turns_for write n size head ahead
+carried write n (Once variable first size) ahead = do_for write n size variable first ahead
 
 -- how many items a plan has taken already
 abbrev pub popped : Plan → ℕ
@@ -25,6 +26,7 @@ popped (Whole p) = 0
 popped (OneArm test size) = 0
 popped (TwoArms test size other) = 0
 popped (Turns head size) = 1
+popped (Once variable first size) = 0
 
 -- how many items ahead belong to it
 abbrev pub steps : Plan → ℕ
@@ -33,6 +35,7 @@ steps (Whole p) = p.taken
 steps (OneArm test size) = size
 steps (TwoArms test size other) = size + 1 + other
 steps (Turns head size) = size + 2
+steps (Once variable first size) = size + 1
 
 -- a plan gives what is asked for, however the items ahead are written
 abbrev pub Plans : ℕ → List Item → (Writer → Option Part) → Plan → Type 0
@@ -45,6 +48,7 @@ Ahead old new (Whole p) = new ≡ old
 Ahead old new (OneArm test size) = new ≡ old
 Ahead old new (TwoArms test size other) = new ≡ old
 Ahead old new (Turns head size) = new ≡ drop 1 old
+Ahead old new (Once variable first size) = new ≡ old
 
 -- the items ahead that belong to a plan are taken, where a part comes of it
 abbrev pub Carries : List Item → List Item → Plan → Option Part → Type 0

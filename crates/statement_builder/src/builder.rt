@@ -7,7 +7,7 @@ ghost use Rattle.statement_builder.specs.Plans.{Carries, carried, steps};
 ghost use Rattle.statement_builder.specs.Taking.{Leaves, Takes};
 
 use crate::growth::next_for;
-use crate::parts::{for_by, if_by, if_else_by, marked, nothing, pass, passed};
+use crate::parts::{do_by, for_by, if_by, if_else_by, marked, nothing, pass, passed, test_in};
 use crate::plan::Plan;
 use crate::planning::plan_part;
 use crate::span::Span;
@@ -120,6 +120,9 @@ fn carry(
             two_arms(alloc, layout, items, span, test, size, other)
         }
         Plan::Turns(head, size) => turns_for(alloc, layout, items, span, head, size),
+        Plan::Once(variable, first, size) => {
+            once_for(alloc, layout, items, span, variable, first, size)
+        }
     }
 }
 
@@ -232,4 +235,48 @@ fn closed(items: &mut VecDeque<Item>, head: Head, size: usize, turn: Items<CStmt
     let next = next_for(&head.variable, items.pop_front());
     passed(items.pop_front());
     for_by(head, size, next, turn)
+}
+
+/// A loop whose variable is first set, behind that: so many items of a turn and the test.
+#[cycle(statements)]
+fn once_for(
+    alloc: Global,
+    layout: &Layout,
+    items: &mut VecDeque<Item>,
+    span: Span,
+    variable: CExpr,
+    first: CExpr,
+    size: usize,
+) -> Result<Option<Part>, AllocError>
+    requires room { size + 1 ≤ length items.old.items }
+    requires fits { span.position + 1 + (size + 1) < 2 ^ 64 }
+    ensures built { IfOk result (λ r. r ≡ spec.do_for (spec.structured (layout_of layout.now) span.turns) span.position size variable first items.old.items) }
+    ensures rest { IfOk result (Leaves items.old.items items.new.items (size + 1)) }
+{
+    let arm = Span {
+        position: span.position + 1,
+        count: size,
+        turns: span.turns,
+    };
+    let Some(turn) = statements(alloc, layout, items, arm)? else {
+        return Ok(nothing((variable, first)));
+    };
+    tested(alloc, items, variable, first, size, turn)
+}
+
+/// A loop whose turn is written: its test is taken.
+fn tested(
+    alloc: Global,
+    items: &mut VecDeque<Item>,
+    variable: CExpr,
+    first: CExpr,
+    size: usize,
+    turn: Items<CStmt>,
+) -> Result<Option<Part>, AllocError>
+    requires { size + 1 < 2 ^ 64 }
+    ensures built { IfOk result (λ r. r ≡ spec.do_by variable first size (Some turn) (spec.test_in (slice_get items.old.items 0))) }
+    ensures rest { items.new.items ≡ drop 1 items.old.items }
+{
+    let test = test_in(items.pop_front());
+    do_by(alloc, variable, first, size, turn, test)
 }

@@ -1,4 +1,4 @@
-//! Whether the items behind the first of a loop are those of a loop, and where the jump at the end of an arm goes.
+//! Whether the items behind the first of a loop are those of a loop, whether its test stands behind the turn, and where the jump at the end of an arm goes.
 
 ghost use Rattle.std.specs.Prelude.{◌≡◌, ◌+◌, ◌<◌, ◌≤◌, ◌^◌, option_copied, length, slice_get, take};
 ghost use Rattle.named_items.specs.Layouts.{layout_of};
@@ -46,6 +46,36 @@ fn is_unmarked(layout: &Layout, position: usize, size: usize) -> bool
     layout.label(position + 1).is_none()
         && layout.label(position + size + 2).is_none()
         && layout.label(position + size + 3).is_none()
+}
+
+/// Whether an item is a test behind a turn of so many items, at once behind the one at a position, and no label stands before it.
+#[tactic(auto, unfolding(named_items::specs::Structured::tests_turn))]
+fn tests_turn(layout: &Layout, position: usize, size: usize, item: Option<&Item>) -> bool
+    requires { position + size + 2 < 2 ^ 64 }
+    ensures { result ≡ spec.tests_turn (layout_of layout.now) position size (option_copied item.entry) }
+{
+    match item {
+        Some(Item::Branch(_, on, off)) => {
+            *on == position + 1
+                && *off == position + size + 2
+                && layout.label(position + size + 1).is_none()
+        }
+        _ => false,
+    }
+}
+
+/// Whether the test of a loop stands behind so many items of its turn.
+pub(crate) fn is_tested_behind(
+    layout: &Layout,
+    items: &VecDeque<Item>,
+    span: Span,
+    size: usize,
+) -> bool
+    requires within { span.count ≤ length items.now.items }
+    requires fits { span.position + 1 + span.count < 2 ^ 64 }
+    ensures { result ≡ spec.tests_turn (layout_of layout.now) span.position size (slice_get (take span.count items.now.items) size) }
+{
+    size < span.count && tests_turn(layout, span.position, size, at(items, size))
 }
 
 /// Whether a test stands at once behind the first item, then so many items of a turn, one more and the jump back, and no label but in the turn.

@@ -1,6 +1,6 @@
 //! Statements with the items that belong to them, from parts that are built already.
 
-ghost use Rattle.std.specs.Prelude.{◌≡◌, ◌+◌, ◌<◌, ◌^◌, drop, option_copied, IfOk, Option, Some, None};
+ghost use Rattle.std.specs.Prelude.{◌≡◌, ◌+◌, ◌<◌, ◌^◌, [], ◌∷◌, drop, option_copied, IfOk, Option, Some, None};
 ghost use Rattle.c_tree.specs.declared.statement.CStmt.TheVariants as stmt;
 ghost use Rattle.c_structure.specs.Statements.{with_label};
 ghost use Rattle.named_items.specs.Layouts.{layout_of};
@@ -213,5 +213,57 @@ pub(crate) fn for_by(
             taken: size + 3,
         }),
         None => None,
+    }
+}
+
+/// The expression that an item tests.
+#[tactic(auto, unfolding(named_items::specs::Structured::test_in))]
+pub(crate) fn test_in(item: Option<Item>) -> Option<CExpr>
+    ensures { result ≡ spec.test_in item }
+{
+    match item {
+        Some(Item::Branch(test, _, _)) => Some(test),
+        _ => None,
+    }
+}
+
+/// An assignment, and a `do` behind it.
+fn set_and_do(
+    alloc: Global,
+    variable: CExpr,
+    first: CExpr,
+    turn: Items<CStmt>,
+    test: CExpr,
+) -> Result<CStmt, AllocError>
+    ensures { IfOk result (λ s. s ≡ stmt.Block (stmt.Set variable first ∷ stmt.DoWhile turn test ∷ [])) }
+{
+    let mut inner = Vec::new(alloc);
+    inner.push(CStmt::Set(variable, first))?;
+    inner.push(CStmt::DoWhile(turn, test))?;
+    Ok(CStmt::Block(Items::from_vec(inner)))
+}
+
+/// An assignment and a `do` whose turn has so many items, with the test behind them.
+#[tactic(auto, unfolding(named_items::specs::Structured::do_by))]
+pub(crate) fn do_by(
+    alloc: Global,
+    variable: CExpr,
+    first: CExpr,
+    size: usize,
+    turn: Items<CStmt>,
+    test: Option<CExpr>,
+) -> Result<Option<Part>, AllocError>
+    requires { size + 1 < 2 ^ 64 }
+    ensures { IfOk result (λ p. p ≡ spec.do_by variable first size (Some turn) test) }
+{
+    match test {
+        Some(test) => {
+            let statement = set_and_do(alloc, variable, first, turn, test)?;
+            Ok(Some(Part {
+                statement,
+                taken: size + 1,
+            }))
+        }
+        None => Ok(nothing((variable, first, turn))),
     }
 }

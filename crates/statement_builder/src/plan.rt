@@ -16,4 +16,6 @@ pub(crate) enum Plan {
     TwoArms(CExpr, usize, usize),
     /// A `for` whose turn has so many items, with its growth and the jump back behind them. The test is taken already.
     Turns(Head, usize),
+    /// An assignment and a `do` whose turn has so many items, with the test behind them.
+    Once(CExpr, CExpr, usize),
 }

@@ -1,12 +1,13 @@
 //! Plans for items: tests with one arm or two, loops, and statements of their own.
 
 ghost use Rattle.std.specs.Prelude.{◌≡◌, ◌+◌, ◌<◌, ◌≤◌, ◌^◌, IfOk, length, take};
+ghost use Rattle.named_items.specs.declared.item.Item.TheVariants as item;
 ghost use Rattle.named_items.specs.Layouts.{layout_of};
 ghost use Rattle.named_items.specs.Structured as spec;
 ghost use Rattle.statement_builder.specs.Plans.{Ahead, Plans, loop_plan, popped, steps, turns, whole};
 
 use crate::cases::switch_for;
-use crate::loop_tests::{at, end_of_arm, is_loop};
+use crate::loop_tests::{at, end_of_arm, is_loop, is_tested_behind};
 use crate::parts::{alone, statement_of};
 use crate::plan::Plan;
 use crate::span::Span;
@@ -234,6 +235,28 @@ fn plan_head(
     plan_behind(layout, items, behind, size, variable, first, item)
 }
 
+/// A loop whose variable is first set by an item, with the test behind the turn, or at once behind that.
+fn plan_set(
+    layout: &Layout,
+    items: &mut VecDeque<Item>,
+    span: Span,
+    size: usize,
+    variable: CExpr,
+    first: CExpr,
+) -> Plan
+    requires within { span.count ≤ length items.old.items }
+    requires fits { span.position + 1 + span.count < 2 ^ 64 }
+    ensures built { Plans span.position items.new.items (λ write. spec.loop_for (layout_of layout.now) write span.position size (item.Assign variable first) (take span.count items.old.items)) result }
+    ensures ahead { Ahead items.old.items items.new.items result }
+    ensures counted { popped result + steps result ≤ span.count }
+{
+    if is_tested_behind(layout, items, span, size) {
+        Plan::Once(variable, first, size)
+    } else {
+        plan_head(layout, items, span, size, variable, first)
+    }
+}
+
 /// A loop that begins at an item.
 fn plan_loop(
     layout: &Layout,
@@ -249,7 +272,7 @@ fn plan_loop(
     ensures counted { popped result + steps result ≤ span.count }
 {
     match item {
-        Item::Assign(variable, first) => plan_head(layout, items, span, size, variable, first),
+        Item::Assign(variable, first) => plan_set(layout, items, span, size, variable, first),
         other => unwritten(other),
     }
 }

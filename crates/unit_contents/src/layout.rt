@@ -1,10 +1,10 @@
 //! The labels, arms and loops of the function of a unit, by the positions of its steps. C89, 3.6; CSTR 149.
 
-ghost use Rattle.std.specs.Prelude.{◌≡◌, ◌<◌, ◌||◌, ◌&&◌, ℕ, false, Some, None, is_none, IfOk, length, slice_get, slice_index_or, if◌then◌else◌};
+ghost use Rattle.std.specs.Prelude.{◌≡◌, ◌<◌, ◌||◌, ◌&&◌, ℕ, true, false, Some, None, is_none, IfOk, length, slice_get, slice_index_or};
 ghost use Rattle.lowered_tree.specs.Shapes.{step_of, steps_of};
 ghost use Rattle.lowered_text.specs.Texts.{mark_of, marked_of};
 ghost use Rattle.main_translation.specs.Outlined as spec;
-ghost use Rattle.unit_contents.specs.Tables.{AreNames, AreOpenings, AreArms, AreTurns, AreLaidOut};
+ghost use Rattle.unit_contents.specs.Tables.{AreNames, is_opening_by, opens_by, AreOpenings, AreArms, turn_opened, AreTurns, AreLaidOut};
 
 use crate::firsts::{first_labels, first_whiles};
 use crate::targets::note;
@@ -92,22 +92,41 @@ fn is_opening(mark: Mark) -> bool
     matches!(mark, Mark::OpensLoop)
 }
 
-/// Notes where a mark opens a loop, if it opens one and the table has the place.
-fn note_opening(openings: &mut [bool], marked: Marked)
-    ensures { (n : ℕ) → n < length openings.old → slice_index_or openings.new n false ≡ (slice_index_or openings.old n false || spec.opens_loop n (marked_of marked)) }
+/// Whether a mark opens a loop whose variable is tested behind each turn alone.
+#[tactic(auto, unfolding(main_translation::specs::Outlined::is_opening_once, lowered_text::specs::Texts::mark_of))]
+fn is_opening_once(mark: Mark) -> bool
+    ensures { result ≡ spec.is_opening_once (mark_of mark) }
 {
-    if is_opening(marked.mark) {
+    matches!(mark, Mark::OpensLoopOnce)
+}
+
+/// Whether a mark opens a loop that is tested behind each turn alone, or else one that is tested before each.
+fn is_opening_by(once: bool, mark: Mark) -> bool
+    ensures { result ≡ is_opening_by once (mark_of mark) }
+{
+    if once {
+        is_opening_once(mark)
+    } else {
+        is_opening(mark)
+    }
+}
+
+/// Notes where a mark opens a loop of one of these kinds, if it opens one and the table has the place.
+fn note_opening(openings: &mut [bool], once: bool, marked: Marked)
+    ensures { (n : ℕ) → n < length openings.old → slice_index_or openings.new n false ≡ (slice_index_or openings.old n false || opens_by once n (marked_of marked)) }
+{
+    if is_opening_by(once, marked.mark) {
         note(openings, marked.at);
     }
 }
 
-/// Where loops open.
-fn openings(alloc: Global, text: &LoweredText) -> Result<Vec<bool>, AllocError>
-    ensures { IfOk result (λ openings. AreOpenings text.now openings.items) }
+/// Where loops open that are tested behind each turn alone, or else those that are tested before each.
+fn openings(alloc: Global, text: &LoweredText, once: bool) -> Result<Vec<bool>, AllocError>
+    ensures { IfOk result (λ openings. AreOpenings text.now once openings.items) }
 {
     let mut openings = vec![in alloc; false; text.steps.len()]?;
     for marked in text.marks.as_slice() {
-        note_opening(&mut openings, *marked);
+        note_opening(&mut openings, once, *marked);
     }
     Ok(openings)
 }
@@ -122,26 +141,63 @@ fn turn_of(step: &Step) -> Option<usize>
     }
 }
 
-/// How many steps the turn of a loop has that the step at a position tests, where a loop opens there.
-fn turn_at(openings: &[bool], steps: &[Step], position: usize) -> Option<usize>
-    requires { length openings.now ≡ length steps.now }
-    ensures { result ≡ (if slice_index_or openings.now position false then spec.turn_of (slice_get (steps_of steps.now) position) else None) }
+/// Whether a step tests behind so many others, and goes back to the first of them.
+#[tactic(auto, using(crate::proofs::LayoutLaws::back_forms))]
+fn goes_back_by(count: usize, step: &Step) -> bool
+    ensures { result ≡ spec.goes_back_by count (step_of step.now) }
 {
-    if position < steps.len() && openings[position] {
-        turn_of(&steps[position])
+    match step {
+        Step::AgainIf(_, passed) => *passed == count,
+        _ => false,
+    }
+}
+
+/// How many steps the turn has that these begin with, if it is tested behind them.
+fn turn_behind(steps: &[Step]) -> Option<usize>
+    ensures { result ≡ spec.turn_behind 0 (steps_of steps.now) }
+{
+    for (count, step) in steps.iter().enumerate() {
+        if goes_back_by(count, step) {
+            return Some(count);
+        }
+    }
+    None
+}
+
+/// How many steps the turn of a loop has that opens at a position, if one does: with the step that tests it, or with its turn.
+#[tactic(auto, using(crate::proofs::LayoutLaws::opened_forms))]
+fn turn_at(openings: &[bool], onces: &[bool], steps: &[Step], position: usize) -> Option<usize>
+    requires tested { length openings.now ≡ length steps.now }
+    requires once { length onces.now ≡ length steps.now }
+    ensures { result ≡ turn_opened steps.now openings.now onces.now position }
+{
+    if position >= steps.len() {
+        return None;
+    }
+    if openings[position] {
+        return turn_of(&steps[position]);
+    }
+    if onces[position] {
+        turn_behind(&steps[position..])
     } else {
         None
     }
 }
 
 /// How many steps the turns of loops have, by the steps that first set their variables.
-fn turns(alloc: Global, openings: &[bool], steps: &[Step]) -> Result<Vec<Option<usize>>, AllocError>
-    requires { length openings.now ≡ length steps.now }
-    ensures { IfOk result (λ turns. AreTurns steps.now openings.now turns.items) }
+fn turns(
+    alloc: Global,
+    openings: &[bool],
+    onces: &[bool],
+    steps: &[Step],
+) -> Result<Vec<Option<usize>>, AllocError>
+    requires tested { length openings.now ≡ length steps.now }
+    requires once { length onces.now ≡ length steps.now }
+    ensures { IfOk result (λ turns. AreTurns steps.now openings.now onces.now turns.items) }
 {
     let mut turns = Vec::new(alloc);
     for position in 0..steps.len() {
-        turns.push(turn_at(openings, steps, position + 1))?;
+        turns.push(turn_at(openings, onces, steps, position + 1))?;
     }
     Ok(turns)
 }
@@ -153,8 +209,9 @@ pub(crate) fn layout(alloc: Global, text: &LoweredText) -> Result<Layout, AllocE
     let steps = text.steps.as_slice();
     let labels = label_names(alloc, text)?;
     let arms = arms(alloc, steps, labels.as_slice())?;
-    let openings = openings(alloc, text)?;
-    let loops = turns(alloc, openings.as_slice(), steps)?;
+    let tested = openings(alloc, text, false)?;
+    let onces = openings(alloc, text, true)?;
+    let loops = turns(alloc, tested.as_slice(), onces.as_slice(), steps)?;
     Ok(Layout {
         labels,
         arms,

@@ -11,6 +11,6 @@ returns-clause-commanded g c =
     Commanded c.args.words.now (command_of c.args.words.now) (g.H.Shelf.state c.args.shelf.now)
     (g.H.Shelf.state c.say_outcome.new.shelf) status)
     (sym c.status.ensures)
-    (commanded c.args.words.now (command_of c.args.words.now) (g.H.Shelf.state c.args.shelf.now)
+    (commanded c.checked_sources_run.ensures c.args.words.now (command_of c.args.words.now) (g.H.Shelf.state c.args.shelf.now)
     (g.H.Shelf.state c.carry_out-outcome.new.shelf) (g.H.Shelf.state c.say_outcome.new.shelf) c.carry_out-outcome.result
     c.carry_out-outcome.ensures c.say_outcome.ensures.said c.say_outcome.ensures.silent)

@@ -62,6 +62,29 @@ turns_for-returns-clause-rest t c =
     carrying.turns_leave c.args.items.now.items c.statements.new.items.items c.closed.new.items.items c.args.size c.closed.result
     (building.leaves_some c.args.items.now.items c.statements.new.items.items c.args.size _ c.in-Some.turn c.in-Some.is c.in_ok-turn.ensures.rest) c.closed.ensures.rest
 
+pub once_for-returns-in_default-clause-built : goal.once_for-returns-in_default-clause-built
+once_for-returns-in_default-clause-built t c =
+    c.nothing.ensures
+    ∙ carrying.once_none (layout_of c.args.layout.now) c.args.span.turns c.args.span.position c.args.size c.args.items.now.items c.args.variable c.args.first (sym c.in_default.is ∙ c.in_ok-turn.ensures.written)
+
+pub once_for-returns-in_default-clause-rest : goal.once_for-returns-in_default-clause-rest
+once_for-returns-in_default-clause-rest t c = building.leaves_none c.args.items.now.items c.statements.new.items.items (c.args.size + 1) c.nothing.result c.nothing.ensures
+
+pub once_for-returns-clause-built : goal.once_for-returns-clause-built
+once_for-returns-clause-built t c =
+    building.if_ok _ _ c.tested.result
+    (λ r made. carrying.once_built (layout_of c.args.layout.now) c.args.span.turns c.args.span.position c.args.size c.args.items.now.items c.statements.new.items.items c.args.variable c.args.first c.in-Some.turn r
+    (sym c.in-Some.is ∙ c.in_ok-turn.ensures.written)
+    (building.leaves_some c.args.items.now.items c.statements.new.items.items c.args.size _ c.in-Some.turn c.in-Some.is c.in_ok-turn.ensures.rest) made)
+    c.tested.ensures.built
+
+pub once_for-returns-clause-rest : goal.once_for-returns-clause-rest
+once_for-returns-clause-rest t c =
+    building.if_ok _ _ c.tested.result
+    (λ r made. carrying.once_leave c.args.items.now.items c.statements.new.items.items c.tested.new.items.items c.args.size r
+    (building.leaves_some c.args.items.now.items c.statements.new.items.items c.args.size _ c.in-Some.turn c.in-Some.is c.in_ok-turn.ensures.rest) c.tested.ensures.rest)
+    c.tested.ensures.built
+
 pub second_arm-statements-requires : goal.second_arm-statements-requires
 second_arm-statements-requires t c =
     let room = carrying.room_behind c.args.items.now.items c.pop_front.new.self.items c.args.arm.count c.pop_front.ensures.rest c.requires.within in
@@ -87,6 +110,9 @@ carry-two_arms-requires t c = let same : steps c.args.plan ≡ c.in-TwoArms.size
 
 pub carry-turns_for-requires : goal.carry-turns_for-requires
 carry-turns_for-requires t c = let same : steps c.args.plan ≡ c.in-Turns.size + 2 = ap steps c.in-Turns.is in search rules
+
+pub carry-once_for-requires : goal.carry-once_for-requires
+carry-once_for-requires t c = let same : steps c.args.plan ≡ c.in-Once.size + 1 = ap steps c.in-Once.is in search rules
 
 pub carry-returns-in-Unwritten-clause-built : goal.carry-returns-in-Unwritten-clause-built
 carry-returns-in-Unwritten-clause-built t c =
@@ -141,6 +167,19 @@ carry-returns-in-Turns-clause-rest t c =
     building.if_ok _ _ c.turns_for.result
     (λ r leaves. carrying.carry_leaves c.args.items.now.items c.turns_for.new.items.items c.args.plan (plan.Turns c.in-Turns.head c.in-Turns.size) r c.in-Turns.is leaves)
     c.turns_for.ensures.rest
+
+pub carry-returns-in-Once-clause-built : goal.carry-returns-in-Once-clause-built
+carry-returns-in-Once-clause-built t c =
+    building.if_ok _ _ c.once_for.result
+    (λ r is. carrying.carry_built (spec.structured (layout_of c.args.layout.now) c.args.span.turns) c.args.span.position c.args.items.now.items c.args.plan (plan.Once c.in-Once.variable c.in-Once.first c.in-Once.size) r c.in-Once.is
+    (is ∙ carrying.carried_once (spec.structured (layout_of c.args.layout.now) c.args.span.turns) c.args.span.position c.in-Once.size c.args.items.now.items c.in-Once.variable c.in-Once.first))
+    c.once_for.ensures.built
+
+pub carry-returns-in-Once-clause-rest : goal.carry-returns-in-Once-clause-rest
+carry-returns-in-Once-clause-rest t c =
+    building.if_ok _ _ c.once_for.result
+    (λ r leaves. carrying.carry_leaves c.args.items.now.items c.once_for.new.items.items c.args.plan (plan.Once c.in-Once.variable c.in-Once.first c.in-Once.size) r c.in-Once.is leaves)
+    c.once_for.ensures.rest
 
 pub part_at-carry-requires : goal.part_at-carry-requires
 part_at-carry-requires t c =

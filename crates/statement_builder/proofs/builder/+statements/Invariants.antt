@@ -13,6 +13,9 @@ decreases-one_arm l = 8 * l.span.turns + 1
 abbrev pub decreases-second_arm : goal.decreases-second_arm
 decreases-second_arm l = 8 * l.arm.turns + 1
 
+abbrev pub decreases-once_for : goal.decreases-once_for
+decreases-once_for l = 8 * l.span.turns + 1
+
 abbrev pub decreases-turns_for : goal.decreases-turns_for
 decreases-turns_for l = 8 * l.span.turns + 1
 

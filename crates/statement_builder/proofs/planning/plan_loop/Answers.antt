@@ -5,7 +5,7 @@ use Rattle.statement_builder.proofs.planning.plan_loop.Goals as goal
 
 pub returns-in-Assign-clause-built : goal.returns-in-Assign-clause-built
 returns-in-Assign-clause-built c =
-    λ write. c.plan_head.ensures.built write
+    λ write. c.plan_set.ensures.built write
     ∙ loop_set (layout_of c.args.layout.now) write c.args.span.position c.args.size (take c.args.span.count c.args.items.now.items) c.in-Assign.variable c.in-Assign.first c.args.item c.in-Assign.is
 
 pub returns-in_default : goal.returns-in_default

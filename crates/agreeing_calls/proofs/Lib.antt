@@ -1,0 +1,11 @@
+mod AgreementLemmas
+mod DefinitionLemmas
+mod DummyLemmas
+mod ReadLemmas
+mod RefusalLemmas
+mod SeenLemmas
+mod SetLemmas
+mod ShapeLemmas
+mod StatementLemmas
+mod TreeLemmas
+mod UnitLemmas

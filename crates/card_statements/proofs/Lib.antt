@@ -1,0 +1,3 @@
+mod AscendingCards
+mod IncludedCards
+pub mod OneStatement

@@ -1,0 +1,2 @@
+pub mod CardStatements
+pub use Rattle.source_acceptance.specs as source_acceptance

@@ -1,0 +1,2 @@
+pub mod CheckedSources
+pub use Rattle.agreeing_calls.specs.agreeing_runs

@@ -1,0 +1,4 @@
+//! The prototypes of a small file: rows that are computed from its tree.
+#![tactic(auto)]
+
+pub mod rows;

@@ -1,0 +1,3 @@
+pub mod StatementLaws
+pub mod CloseLaws
+pub mod OpenLaws
