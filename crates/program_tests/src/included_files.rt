@@ -1,4 +1,4 @@
-//! What sources give that include files. (The rows of the table of refusals, one by one, are those of `source_rows`.)
+//! What sources give that include files. (The rows of the table of refusals, one by one, and files that are not there, are cases of `command_rows`.)
 
 use crate::calls::{NamedFile, call};
 use std::alloc::Global;
@@ -42,47 +42,6 @@ fn included_statements_stand_in_the_place_of_include(rt: HostRuntime) -> Result<
     assert_eq!(rt; status, 0);
     assert_eq!(rt; shelf.output(), joined.output());
     Ok(())
-}
-
-/// INCLUDE of a file that is not there is told before what the statements have, and after what the cards of the file have.
-#[test]
-fn included_files_that_are_not_there(rt: HostRuntime) -> Result<(), Fail> {
-    let alloc = rt.alloc();
-    let line = b"f2c: b.inc: not there\n";
-    expect(
-        &rt,
-        alloc,
-        b"      INCLUDE 'b.inc'\n      END\n",
-        &[],
-        3,
-        line,
-    )?;
-    expect(
-        &rt,
-        alloc,
-        b"      I=\n      INCLUDE 'b.inc'\n      END\n",
-        &[],
-        3,
-        line,
-    )?;
-    let both = b"      INCLUDE 'a.inc'\n      INCLUDE 'b.inc'\n      INCLUDE 'c.inc'\n      END\n";
-    expect(
-        &rt,
-        alloc,
-        both,
-        &[(b"a.inc", b"      I=\n"), (b"c.inc", b"")],
-        3,
-        line,
-    )?;
-    let line = b"f2c: <stdin>:2: F06 no END\n";
-    expect(
-        &rt,
-        alloc,
-        b"      INCLUDE 'b.inc'\n      I=1\n",
-        &[],
-        1,
-        line,
-    )
 }
 
 /// So many comments.

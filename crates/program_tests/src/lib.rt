@@ -1,5 +1,5 @@
-//! Tests alone, of the top call over shelves in memory: words, texts, messages, limits, sources that include files, sets of files, prototype files, each
-//! call of the shelf that fails, and the units that are handed in.
+//! Tests alone, of the top call over shelves in memory: texts, limits, sources that include files, prototype files, each call of the shelf that fails, and
+//! the units that are handed in. (Commands with their statuses and messages, one by one, are the table of `command_rows`.)
 #![tactic(auto)]
 
 #[cfg(test)]
@@ -10,7 +10,5 @@ mod handed_units;
 mod included_files;
 #[cfg(test)]
 mod prototype_words;
-#[cfg(test)]
-mod several_files;
 #[cfg(test)]
 mod texts_and_messages;

@@ -1,4 +1,4 @@
-//! Prototype files of translations: they are written, compared and checked for their form, and each call of the shelf fails once. CSTR 149.
+//! Prototype files of translations: they are written, and each call of the shelf fails once. CSTR 149.
 
 use crate::calls::{NamedFile, call, call_over, file_on, name_of, shelf_of};
 use f2c_outside::memory_shelf::MemoryShelf;
@@ -41,30 +41,6 @@ fn expect_file(
     Ok(())
 }
 
-/// With other bytes in the old prototype file, or without it, the comparison gives status 4, and the prototypes are written.
-fn expect_changed(rt: &impl Abort, alloc: Global, olds: &[NamedFile]) -> Result<(), Fail> {
-    let mut shelf = shelf_of(alloc, olds)?;
-    shelf.set_file(name_of(alloc, ADD.0)?, ADD.1)?;
-    assert_eq!(rt; call_over(alloc, &["-Ps", "add.f"], &mut shelf)?, 4);
-    assert!(rt; shelf.fault_text().is_empty() && shelf.output().is_empty());
-    expect_file(rt, alloc, &shelf, ADD_PROTOTYPES)?;
-    assert_eq!(rt; call_over(alloc, &["-Ps", "add.f"], &mut shelf)?, 0);
-    Ok(())
-}
-
-#[test]
-fn prototypes_are_written_and_compared(rt: HostRuntime) -> Result<(), Fail> {
-    let alloc = rt.alloc();
-    let mut shelf = shelf_of(alloc, &[ADD])?;
-    assert_eq!(rt; call_over(alloc, &["-P", "add.f"], &mut shelf)?, 0);
-    expect_file(&rt, alloc, &shelf, ADD_PROTOTYPES)?;
-    assert_eq!(rt; call_over(alloc, &["-Ps", "add.f"], &mut shelf)?, 0);
-    expect_changed(&rt, alloc, &[])?;
-    expect_changed(&rt, alloc, &[(b"add.P", b"")])?;
-    expect_changed(&rt, alloc, &[(b"add.P", b"int x;\n")])?;
-    expect_changed(&rt, alloc, &[(b"add.P", TWICE_PROTOTYPES.1)])
-}
-
 /// Options and files of both kinds stand in any order, an option as often as one likes; the prototypes of a file in another folder go to the current one.
 #[test]
 fn words_stand_in_any_order(rt: HostRuntime) -> Result<(), Fail> {
@@ -88,39 +64,6 @@ fn words_stand_in_any_order(rt: HostRuntime) -> Result<(), Fail> {
     assert_eq!(rt; status, 0);
     expect_file(&rt, alloc, &shelf, ADD_PROTOTYPES)?;
     expect_file(&rt, alloc, &shelf, TWICE_PROTOTYPES)
-}
-
-/// The command is refused with this status and line, and nothing is written.
-fn expect_refused(
-    rt: &impl Abort,
-    alloc: Global,
-    words: &[&str],
-    files: &[NamedFile],
-    status: u8,
-    line: &[u8],
-) -> Result<(), Fail> {
-    let input = b"      I=2\n      END\n";
-    let (ended, shelf) = call(alloc, words, input, files, 0)?;
-    assert_eq!(rt; shelf.fault_text(), line);
-    assert_eq!(rt; ended, status);
-    assert!(rt; shelf.output().is_empty());
-    assert!(rt; file_on(alloc, &shelf, b"add.c")?.is_none());
-    Ok(())
-}
-
-/// The files that words name are checked for their form, behind the FORTRAN files, and first read; also beside Input.
-#[test]
-fn further_prototype_files_are_checked(rt: HostRuntime) -> Result<(), Fail> {
-    let alloc = rt.alloc();
-    let bad: NamedFile = (b"add.P", b"int x;\n");
-    let line = b"f2c: add.P:1: not a prototype\n";
-    expect_refused(&rt, alloc, &["-P", "add.f", "add.P"], &[ADD, bad], 1, line)?;
-    expect_refused(&rt, alloc, &["add.P"], &[bad], 1, line)?;
-    let real: NamedFile = (b"add.f", b"      X=1\n      END\n");
-    let first = b"f2c: add.f:1: F20 name has type REAL\n";
-    expect_refused(&rt, alloc, &["add.P", "add.f"], &[real, bad], 1, first)?;
-    let away = b"f2c: add.P: not there\n";
-    expect_refused(&rt, alloc, &["add.P", "add.f"], &[real], 3, away)
 }
 
 /// The words of two translations: the second compares two files that are as they were.

@@ -96,38 +96,6 @@ fn expect_refusal(rt: &impl Abort, alloc: Global, input: &[u8], line: &[u8]) -> 
     Ok(())
 }
 
-/// The words are refused by this line.
-fn expect_bad_word(
-    rt: &impl Abort,
-    alloc: Global,
-    words: &[&str],
-    line: &[u8],
-) -> Result<(), Fail> {
-    let (status, shelf) = call(alloc, words, CARDS, &[], 0)?;
-    assert_eq!(rt; shelf.fault_text(), line);
-    assert_eq!(rt; status, 2);
-    assert!(rt; shelf.output().is_empty());
-    Ok(())
-}
-
-/// Words with which no command goes on, and words behind which one is missing.
-#[test]
-fn bad_words(rt: HostRuntime) -> Result<(), Fail> {
-    let alloc = rt.alloc();
-    expect_bad_word(&rt, alloc, &["-q"], b"f2c: word 1: -q\n")?;
-    expect_bad_word(&rt, alloc, &["a.f", "-q"], b"f2c: word 2: -q\n")?;
-    expect_bad_word(&rt, alloc, &["a.f", "b/a.f"], b"f2c: word 2: b/a.f\n")?;
-    expect_bad_word(&rt, alloc, &["-72", "-q"], b"f2c: word 2: -q\n")?;
-    expect_bad_word(&rt, alloc, &["-P"], b"f2c: word 2: missing\n")?;
-    let words = ["-u", "-Ps", "library.P"];
-    expect_bad_word(&rt, alloc, &words, b"f2c: word 4: missing\n")?;
-    expect_bad_word(&rt, alloc, &["-P", ".f"], b"f2c: word 2: .f\n")?;
-    expect_bad_word(&rt, alloc, &["-check"], b"f2c: word 2: missing\n")?;
-    expect_bad_word(&rt, alloc, &["a.f", "-check"], b"f2c: word 2: -check\n")?;
-    expect_bad_word(&rt, alloc, &["-check", "a.f", "-u"], b"f2c: word 3: -u\n")?;
-    expect_bad_word(&rt, alloc, &["-split", "a.P"], b"f2c: word 2: a.P\n")
-}
-
 #[test]
 fn worked_rows(rt: HostRuntime) -> Result<(), Fail> {
     let alloc = rt.alloc();
