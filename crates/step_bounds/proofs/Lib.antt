@@ -1,0 +1,4 @@
+pub mod StepFactors
+pub mod References
+pub mod Units
+pub mod Bounds
