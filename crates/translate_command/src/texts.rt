@@ -14,6 +14,7 @@ use prototype_outputs::{lists_of, outputs_are_of_their_files, outputs_of};
 use source_files::SourceRead;
 use source_translator::translate_source;
 use std::alloc::{AllocError, Global};
+use step_bounds::bounded::translations_are_bounded;
 use translated_sets::sets::{accepted_sets_are_faithful, accepted_sets_have_signatures};
 
 /// The outputs of a source, and the prototypes of each of its files.
@@ -34,7 +35,7 @@ fn made_of(alloc: Global, files: &[CFile], prototypes: bool) -> Result<Made, All
     Ok(Made { outputs, lists })
 }
 
-/// The outputs of a source, whose C texts are faithful to it and keep its loops, or its first refusal.
+/// The outputs of a source, whose C texts are faithful to it, keep its loops and have bounded step factors, or its first refusal.
 pub(crate) fn translations(
     alloc: Global,
     options: &Options,
@@ -51,6 +52,7 @@ pub(crate) fn translations(
         Ok(made) => {
             accepted_sets_are_faithful();
             translations_keep_loops();
+            translations_are_bounded();
             accepted_sets_have_signatures();
             outputs_are_of_their_files();
             Ok(made)
