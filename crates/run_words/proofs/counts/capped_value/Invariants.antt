@@ -1,0 +1,8 @@
+use Rattle.std.proofs.Common.{◌≡◌, take}
+use Rattle.std.specs.Prelude.{min}
+use Rattle.std.specs.Str.Parse.{digits_value}
+use Rattle.run_words.proofs.counts.capped_value.Given as goal
+
+-- the value of the digits up to here
+abbrev pub invariant-loop-digit : goal.invariant-loop-digit
+invariant-loop-digit l = l.value ≡ min (digits_value 10 (take l.digit-index l.digits)) 1000000000001
