@@ -1,6 +1,8 @@
 pub mod SourceForms
 pub mod Direct
 pub mod Items
+pub mod OwnLabels
+pub mod Mentions
 pub mod Names
 pub mod Units
 pub mod Files

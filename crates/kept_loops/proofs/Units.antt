@@ -1,5 +1,5 @@
 -- The function of one unit keeps its loops.
-use Rattle.std.specs.Prelude.{◌≡◌, ℕ, ◌+◌, Bool, true, false, ℤ, List, map, length, Option, Some, None, option_and_then, if◌then◌else◌}
+use Rattle.std.specs.Prelude.{◌≡◌, ℕ, ◌+◌, Bool, true, false, ℤ, List, map, length, filter, Option, Some, None, option_and_then, if◌then◌else◌}
 use Rattle.std.proofs.Common.{refl, sym, ap, ◌∙◌, subst, arith}
 use Rattle.translated_files.specs.f_tree.declared.names.Options.{Options}
 use Rattle.translated_files.specs.f_tree.declared.units.Unit.{Unit as GivenUnit}
@@ -8,11 +8,11 @@ use Rattle.translated_files.specs.f_tree.Lines.{line_of, unit_read}
 use Rattle.translated_files.specs.f_tree.Meaning.{facts_at}
 use Rattle.translated_files.specs.f_tree.Setting.{IsIn}
 use Rattle.translated_files.specs.l_core.Steps.{Text}
-use Rattle.translated_files.specs.lowering.Units.{all_named, lowered_unit}
+use Rattle.translated_files.specs.lowering.Units.{start_of, all_named, lowered_unit}
 use Rattle.translated_files.specs.c_tree.CLabels.{labels_of_all}
 use Rattle.translated_files.specs.c_tree.declared.file.CFunction.{CFunction}
 use Rattle.translated_files.specs.c_tree.declared.statement.CStmt.{CStmt}
-use Rattle.translated_files.specs.main_translation.Outlined.{labels_in, whiles_in, returns_last, if_returned, loop_at}
+use Rattle.translated_files.specs.main_translation.Outlined.{labels_in, stands_at, whiles_in, returns_last, if_returned, loop_at}
 use Rattle.translated_files.specs.named_units.named_items.declared.item.Item.{Item}
 use Rattle.translated_files.specs.named_units.named_items.Layouts.{Layout}
 use Rattle.translated_files.specs.named_units.named_items.Structured.{structured}
@@ -26,12 +26,13 @@ use Rattle.loop_marks.specs.c_loops.KeptLayouts.{loops_from, EachStructureIsKept
 use Rattle.loop_marks.specs.DoStatements.{dos_among, whiles_among}
 use Rattle.loop_marks.specs.MarkedLoops.{EachTextMarksItsLoops, EachBranchIsNamed}
 use Rattle.loop_marks.proofs.Whole.{text_of}
-use Rattle.kept_loops.specs.SourceLoops.{do_statements, do_whiles, implied_dos, labels_named}
+use Rattle.kept_loops.specs.SourceLoops.{do_statements, do_whiles, implied_dos, labels_named, is_label_of}
 use Rattle.kept_loops.specs.KeptFunctions.{KeepsLoops}
 use Rattle.kept_loops.proofs.SourceForms.{all_dos, all_whiles, dos_of_lines, whiles_of_lines, labels_of_lines, lines_read, once_read}
 use Rattle.kept_loops.proofs.Direct.{IsPlain, dos_are, whiles_are, dos_plain}
 use Rattle.kept_loops.proofs.Items.{as_many, begin_from}
-use Rattle.kept_loops.proofs.Names.{all_allowed}
+use Rattle.kept_loops.proofs.Names.{all_allowed, jumps_forward}
+use Rattle.kept_loops.proofs.OwnLabels.{in_filter, of_statements}
 
 -- ## What a body was made by
 
@@ -103,6 +104,16 @@ module _ (built : EachStructureIsKept) (marked : EachTextMarksItsLoops) (branche
   labels_known u lowered label among =
       labels_of_lines (unit_read options given).attribute lines_are.0 given.statements label (subst (λ ls. IsIn label (all_named ls)) lines_are.1 (branches c u lowered label among))
 
+  labels_stand : (u : Text) → lowered_unit c ≡ Some u → (label n : ℕ) → stands_at (u.position label) n ≡ true → is_label_of given.statements label ≡ true
+  labels_stand u lowered label n stands =
+      let text = text_of c u lowered in
+      let lines : u.facts.program.lines ≡ map (line_of (unit_read options given).attribute lines_are.0) given.statements = ap (λ (d : Facts). d.program.lines) (sym text.facts) ∙ lines_are.1 in
+      of_statements u.facts.program (start_of u.facts.program) (unit_read options given).attribute lines_are.0 given.statements label n lines (ap (λ place. stands_at (place label) n) (sym text.places) ∙ stands)
+
+  labels_are_own : (u : Text) → lowered_unit c ≡ Some u → (label n : ℕ) → IsIn label (labels_in u.steps) → stands_at (u.position label) n ≡ true → IsIn label (filter (is_label_of given.statements) (labels_named given.statements))
+  labels_are_own u lowered label n among stands =
+      in_filter (is_label_of given.statements) label (labels_named given.statements) (labels_known u lowered label among) (labels_stand u lowered label n stands)
+
   pub unit_keeps : (constants : List ℤ) (all : List LoweredUnit) (u : LoweredUnit) (f : CFunction) → lowered_unit c ≡ Some u.text → implied_dos given ≡ 0 → named_body_of constants all u ≡ Some f.body → KeepsLoops options given f
   unit_keeps constants all u f lowered implied body_is =
       let text = text_of c u.text lowered in
@@ -120,5 +131,6 @@ module _ (built : EachStructureIsKept) (marked : EachTextMarksItsLoops) (branche
       record {
         fors = (let e : (loops_of_all f.body).fors ≡ (if options.onetrip then 0 else do_statements given) + implied_dos given = omega (arith, count, implied) in e);
         dos = ap (λ (x : Loops). x.dos) all ∙ dos_by options.onetrip (do_statements given);
-        labels = all_allowed given u.text (layout_for u.text) (labels_of_all f.body).named (λ label among. labels_known u.text lowered label among) whiles (λ n. refl) kept.named;
+        labels = all_allowed given u.text (labels_are_own u.text lowered) whiles (layout_for u.text) (labels_of_all f.body).named (λ n. refl) kept.named;
+        forward = jumps_forward given u.text (labels_are_own u.text lowered) whiles (layout_for u.text) f.body (λ n. refl) kept.named;
       }

@@ -1,4 +1,5 @@
 pub mod SourceLoops
+pub mod NamedAhead
 pub mod KeptFunctions
 pub mod Examples
 pub use Rattle.loop_marks.specs.c_loops

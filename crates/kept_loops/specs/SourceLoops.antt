@@ -1,7 +1,7 @@
 -- The loops and the transfers of a program unit, and the labels where its statements may lead; a statement that a logical IF guards counts as any other.
--- ANSI X3.9-1978, sections 10.3, 11.1 to 11.4, 11.10, 12.7, 12.8 and 15.6.2.3; MIL-STD-1753 for DO WHILE.
-use Rattle.std.specs.List.{sum, flat_map}
-use Rattle.std.specs.Prelude.{ℕ, zero, suc, ◌+◌, List, [], ◌∷◌, ◌++◌, map}
+-- ANSI X3.9-1978, sections 3.4, 10.3, 11.1 to 11.4, 11.10, 12.7, 12.8 and 15.6.2.3; MIL-STD-1753 for DO WHILE.
+use Rattle.std.specs.List.{sum, list_any, flat_map}
+use Rattle.std.specs.Prelude.{ℕ, zero, suc, ◌+◌, Bool, List, [], ◌∷◌, ◌++◌, map, filter}
 use Rattle.loop_marks.specs.l_core.f_tree.declared.expressions.Expr.TheOpen as expr
 use Rattle.loop_marks.specs.l_core.f_tree.declared.statements.Body.TheOpen as body
 use Rattle.loop_marks.specs.l_core.f_tree.declared.statements.Control.{Control}
@@ -15,6 +15,7 @@ use Rattle.loop_marks.specs.l_core.f_tree.declared.units.Unit.{Unit as GivenUnit
 use Rattle.loop_marks.specs.l_core.f_tree.CNames.{made_name, StatementLabel, EntryLabel, MadeLabel}
 use Rattle.loop_marks.specs.l_core.f_tree.Attributes.{own_names}
 use Rattle.loop_marks.specs.l_core.f_tree.Folds.{fold_body, fold_expr, fold_item}
+use Rattle.loop_marks.specs.l_core.f_tree.Places.{has_label}
 
 -- ## Loops and transfers
 
@@ -99,7 +100,15 @@ unfoldable pub labels_named : List Stmt → List ℕ
 labels_named [] = []
 labels_named (s ∷ ss) = fold_body layer_labels s.body ++ labels_named ss
 
+-- one of some statements has a label (3.4)
+unfoldable pub is_label_of : List Stmt → ℕ → Bool
+is_label_of ss label = list_any (λ (s : Stmt). has_label s.label label) ss
+
 -- ## Their names in C
+
+-- of the labels of a unit that its statements name
+unfoldable pub statement_labels : GivenUnit → List (List ℕ)
+statement_labels u = map (λ label. made_name (StatementLabel label)) (filter (is_label_of u.statements) (labels_named u.statements))
 
 -- so many made labels
 unfoldable pub made_labels : ℕ → List (List ℕ)
@@ -109,9 +118,8 @@ made_labels (suc n) = made_name (MadeLabel (suc n)) ∷ made_labels n
 -- the labels that the function of a unit may name: those of its statements that are named, those of its entries, and a made one for each transfer and each
 -- DO WHILE
 unfoldable pub labels_allowed : GivenUnit → List (List ℕ)
-labels_allowed u =
-    map (λ label. made_name (StatementLabel label)) (labels_named u.statements) ++ (map (λ x. made_name (EntryLabel x)) (own_names u) ++ made_labels (transfers u + do_whiles u))
+labels_allowed u = statement_labels u ++ (map (λ x. made_name (EntryLabel x)) (own_names u) ++ made_labels (transfers u + do_whiles u))
 
 unfoldable pub source_loops_opened : Unit {0}
-unfolding layer_do layer_while layer_transfer layer_item layer_implied count_in layer_argument label_after labels_of_controls layer_labels labels_named made_labels labels_allowed
+unfolding layer_do layer_while layer_transfer layer_item layer_implied count_in layer_argument label_after labels_of_controls layer_labels labels_named is_label_of statement_labels made_labels labels_allowed
 source_loops_opened = tt
