@@ -1,6 +1,6 @@
 -- What is counted in the example, and what its translation computes to.
 use Rattle.std.specs.Fmt.{digits}
-use Rattle.std.specs.Prelude.{◌≡◌, ℕ, ◌≤◌, true, false, ◌||◌, List, [], ◌∷◌, length, codes, Some, None}
+use Rattle.std.specs.Prelude.{◌≡◌, ℕ, ◌≤◌, true, false, ◌||◌, List, [], ◌∷◌, length, codes, Some}
 use Rattle.std.proofs.Common.{refl, sym, ◌∙◌, arith}
 use Rattle.statement_lowering.specs.LoweredStatements.{variable_is_text}
 use Rattle.statement_lowering.specs.expression_lowering.TableNames.{name_lowers, operator_lowers}

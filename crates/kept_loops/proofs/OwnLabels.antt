@@ -1,5 +1,4 @@
 -- A label that has a place in the text of a unit is that of a statement of the unit.
-use Rattle.std.specs.List.{list_any}
 use Rattle.std.specs.Prelude.{◌≡◌, ℕ, suc, Bool, true, false, ◌||◌, List, [], ◌∷◌, map, filter, Option, Some, None, cond, option_map, if◌then◌else◌}
 use Rattle.std.proofs.Common.{refl, sym, ap, ◌∙◌, subst}
 use Rattle.translated_files.specs.f_tree.declared.statements.Stmt.{Stmt}
