@@ -1,0 +1,79 @@
+//! The functions of the library and what they answer (CSTR 149, appendix on the run time library).
+
+ghost use Rattle.std.specs.Prelude.{ℤ, Option};
+ghost use Rattle.c_tree.specs.run_state.Units.{Units};
+ghost use Rattle.c_tree.specs.run_state.Endings as endings;
+ghost use Rattle.c_tree.specs.World.{Transfer};
+ghost use Rattle.item_deeds.specs.Deeds.{world_of};
+ghost use Rattle.item_deeds.specs.Forms.{SameForms};
+ghost use Rattle.run_library.specs.Signatures.{IsCall};
+ghost use Rattle.run_library.specs.Replies.{Answers};
+ghost use Rattle.run_library.specs.Devices.{ToldOfCall};
+
+use c_tree::outcome::{CFault, CValue};
+use run_bytes::RunBytes;
+
+/// Why a run cannot go on.
+#[derive(Clone, Copy, Debug, PartialEq, Eq)]
+pub enum RunBreak {
+    /// By a fault of the subset.
+    Fault(CFault),
+    /// The definitions say nothing of what comes next. No program of well-formed files that break no rule of linking comes there.
+    Meaningless,
+}
+
+/// What a function of the library gives.
+#[derive(Drop)]
+pub enum LibraryReply<E: Drop> {
+    /// A number.
+    Gives(i32),
+    /// No value.
+    Void,
+    /// The end of the run.
+    Stops(E),
+}
+
+/// Why a call gives nothing.
+#[derive(Clone, Copy, Debug, PartialEq, Eq)]
+pub enum CallBreak {
+    /// The run cannot go on.
+    Break(RunBreak),
+    /// The device of this unit failed.
+    Device(i32),
+}
+
+/// The functions of the library, with the external units and the transfer in progress.
+///
+/// What it holds may leave open which transfer of the definitions is in progress: it stands for each of some units and transfers.
+///
+/// `none_failed` says of the library before a call and after it that no device failed in the call, and `failed_on` that the device of a
+/// unit failed and no other. A count for each unit would not do: a closed unit has no device, and an opened one has that of its file.
+pub trait Library {
+    /// How a call ends a run.
+    type Ending: Drop;
+
+    ghost stands: { Self → Units → Option Transfer → Type 0 };
+
+    ghost none_failed: { Self → Self → Type 0 };
+
+    ghost failed_on: { ℤ → Self → Self → Type 0 };
+
+    ghost ending: { Self.Ending → endings.Ending };
+
+    /// Calls the function of a number with the values of its arguments, which agree with what it takes in number and kind. Objects keep
+    /// their forms.
+    ///
+    /// # Errors
+    /// Why the run cannot go on, or the unit whose device failed.
+    fn call(
+        &mut self,
+        number: usize,
+        values: &[CValue],
+        run: &mut RunBytes,
+    ) -> Result<LibraryReply<Self::Ending>, CallBreak>
+        requires { IsCall number values.now }
+        ensures meaning { (units : Units) → (transfer : Option Transfer) → stands self.old units transfer →
+            Answers ending number values.now (world_of run.old units transfer) (stands self.new) run.new result }
+        ensures devices { ToldOfCall none_failed failed_on self.old self.new result }
+        ensures forms { SameForms run.old run.new };
+}
