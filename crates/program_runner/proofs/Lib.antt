@@ -2,4 +2,6 @@ pub mod FewNumbers
 pub mod SignatureLaws
 pub mod StepLaws
 pub mod StackLaws
+pub mod DeviceLaws
+pub mod CallLaws
 pub mod RunLaws

@@ -27,13 +27,15 @@ use Rattle.run_bytes.specs.Layout.{unset_object}
 use Rattle.item_deeds.specs.Deeds.{view_of, world_of}
 use Rattle.item_deeds.specs.Forms.{forms, SameForms}
 use Rattle.call_frames.specs.Frames.{HasFrame}
-use Rattle.program_runner.specs.declared.library.RunBreak.{RunBreak}
+use Rattle.run_library.specs.declared.library.RunBreak.{RunBreak}
+use Rattle.run_library.specs.Replies.{break_of, StandsIn}
 use Rattle.program_runner.specs.declared.stack.CallFrame.{CallFrame}
 use Rattle.program_runner.specs.declared.stack.CallStack.{CallStack}
 use Rattle.program_runner.specs.declared.runs.RunOutcome.{RunOutcome}
 use Rattle.program_runner.specs.declared.runs.RunOutcome.TheVariants as outcome
-use Rattle.program_runner.specs.Replies.{break_of}
-use Rattle.program_runner.specs.Outcomes.{FramesStand, Reaches, Stands, Begins}
+use Rattle.program_runner.specs.declared.events.StepEvent.{StepEvent}
+use Rattle.program_runner.specs.Events.{event_of}
+use Rattle.program_runner.specs.Outcomes.{FramesStand, Reaches, Stands, Begins, UnlessFailed}
 use Rattle.program_runner.specs.Numbers.{has}
 use Rattle.program_runner.specs.Stacks.{Frames, frames_of, numbers_of, waiting, state_of, IsPushed}
 use Rattle.program_runner.proofs.StackLaws.{active-has}
@@ -145,6 +147,7 @@ over-for-good ending program state count steps stack world (outcome.Stopped stop
     (reaches.0, stays-up-to program state (Over (ending stop) reaches.0 world) count steps (over-stays program (ending stop) reaches.0 world) reaches.1 few)
 over-for-good ending program state count steps stack world (outcome.Broken why number) reaches not few =
     (reaches.0, stays-up-to program state (Broken (break_of why) (number ∷ reaches.0)) count steps (broken-stays program (break_of why) (number ∷ reaches.0)) reaches.1 few)
+over-for-good ending program state count steps stack world (outcome.Failed unit) reaches not few = reaches
 
 -- EVENTS OF THE ACTIVE FUNCTION
 abbrev state_with : LinkedProgram → ℕ → View → Frames → World → State Ending sorts
@@ -157,37 +160,59 @@ happens : (program : LinkedProgram) (own number : ℕ) (function : LinkedFunctio
 happens program own number function view frames world event is all does =
     next-known program number function view frames world event (sym is) (ap (λ own. step (function_of own function) view world) (sym all) ∙ does)
 
-pub goes-on : (program : LinkedProgram) (own number : ℕ) (function : LinkedFunction) (view : View) (frames : Frames) (world : World) (onward : View) (after : World) →
-    Some function ≡ slice_get program.functions number → own ≡ length program.functions → step (function_of own function) view world ≡ Goes onward after →
-    next language (machine (program_of program)) (Runs number view frames world) ≡ Runs number onward frames after
+pub goes-on : (program : Program sorts) (number : ℕ) (frames : Frames) (onward : View) (after : World) → act language program (Goes onward after) number frames ≡ Runs number onward frames after
 unfolding machine_opened
-goes-on program own number function view frames world onward after is all does = happens program own number function view frames world (Goes onward after) is all does
+goes-on program number frames onward after = refl
 
-pub ends-by : (program : LinkedProgram) (own number : ℕ) (function : LinkedFunction) (view : View) (frames : Frames) (world : World) (how : Ending) (last : View) (after : World) →
-    Some function ≡ slice_get program.functions number → own ≡ length program.functions → step (function_of own function) view world ≡ Ends how last after →
-    next language (machine (program_of program)) (Runs number view frames world) ≡ Over how (Has number last ∷ frames) after
+pub ends-by : (program : Program sorts) (number : ℕ) (frames : Frames) (how : Ending) (last : View) (after : World) → act language program (Ends how last after) number frames ≡ Over how (Has number last ∷ frames) after
 unfolding machine_opened
-ends-by program own number function view frames world how last after is all does = happens program own number function view frames world (Ends how last after) is all does
+ends-by program number frames how last after = refl
 
-pub calls-one : (program : LinkedProgram) (own number : ℕ) (function : LinkedFunction) (view : View) (frames : Frames) (world : World) (held : View) (after : World) (called : ℕ) (values : List CValue) →
-    Some function ≡ slice_get program.functions number → own ≡ length program.functions → step (function_of own function) view world ≡ Calls held after called values →
-    next language (machine (program_of program)) (Runs number view frames world)
+pub calls-one : (program : LinkedProgram) (number : ℕ) (frames : Frames) (held : View) (after : World) (called : ℕ) (values : List CValue) →
+    act language (machine (program_of program)) (Calls held after called values) number frames
     ≡ calling language (machine (program_of program)) (numbered (program_of program).functions called) called values after (Has number held ∷ frames)
 unfolding machine_opened
-calls-one program own number function view frames world held after called values is all does =
-    happens program own number function view frames world (Calls held after called values) is all does
+calls-one program number frames held after called values = refl
 
-pub answers-one : (program : LinkedProgram) (own number : ℕ) (function : LinkedFunction) (view : View) (frames : Frames) (world : World) (given : Option ℤ) (after : World) →
-    Some function ≡ slice_get program.functions number → own ≡ length program.functions → step (function_of own function) view world ≡ Answers after given →
-    next language (machine (program_of program)) (Runs number view frames world) ≡ answering language (machine (program_of program)) number frames after given
+pub answers-one : (program : Program sorts) (number : ℕ) (frames : Frames) (given : Option ℤ) (after : World) → act language program (Answers after given) number frames ≡ answering language program number frames after given
 unfolding machine_opened
-answers-one program own number function view frames world given after is all does = happens program own number function view frames world (Answers after given) is all does
+answers-one program number frames given after = refl
 
-pub breaks-by : (program : LinkedProgram) (own number : ℕ) (function : LinkedFunction) (view : View) (frames : Frames) (world : World) (why : Break) →
-    Some function ≡ slice_get program.functions number → own ≡ length program.functions → step (function_of own function) view world ≡ Breaks why →
-    next language (machine (program_of program)) (Runs number view frames world) ≡ Broken why (number ∷ numbers frames)
+pub breaks-by : (program : Program sorts) (number : ℕ) (frames : Frames) (why : Break) → act language program (Breaks why) number frames ≡ Broken why (number ∷ numbers frames)
 unfolding machine_opened
-breaks-by program own number function view frames world why is all does = happens program own number function view frames world (Breaks why) is all does
+breaks-by program number frames why = refl
+
+-- RUNS IN WHICH NO DEVICE FAILED
+pub unless : {E : Type 0} (how : RunOutcome E) (Holds : Type 0) → Holds → UnlessFailed how Holds
+unless outcome.Running Holds is = is
+unless outcome.Returned Holds is = is
+unless (outcome.Stopped ending) Holds is = is
+unless (outcome.Broken why number) Holds is = is
+unless (outcome.Failed unit) Holds is = tt
+
+pub unless-so : {E : Type 0} (how : RunOutcome E) (First Second : Type 0) → (First → Second) → UnlessFailed how First → UnlessFailed how Second
+unless-so outcome.Running First Second makes is = makes is
+unless-so outcome.Returned First Second makes is = makes is
+unless-so (outcome.Stopped ending) First Second makes is = makes is
+unless-so (outcome.Broken why number) First Second makes is = makes is
+unless-so (outcome.Failed unit) First Second makes is = tt
+
+-- the next step of a run, by what the active function does
+pub next-so : {E : Type 0} (ending : E → Ending) (program : LinkedProgram) (own : ℕ) (function : LinkedFunction) (old new : CallStack) (before : World) (stands : Units → Option Transfer → Type 0)
+    (middle objects : List Object) (values : List CValue) (event : StepEvent E) (how : RunOutcome E) → Some function ≡ slice_get program.functions old.top.number → own ≡ length program.functions →
+    StandsIn stands middle (λ after. step (function_of own function) (view_of old.top.view) before ≡ event_of ending after values event) →
+    ((units : Units) → (transfer : Option Transfer) → Reaches ending (act language (machine (program_of program)) (event_of ending (world_of middle units transfer) values event) old.top.number (frames_of (waiting old))) new (world_of objects units transfer) how) →
+    UnlessFailed how (StandsIn stands objects (λ after. Reaches ending (next language (machine (program_of program)) (state_of old before)) new after how))
+next-so ending program own function old new before stands middle objects values event how is all does makes =
+    unless how (StandsIn stands objects (λ after. Reaches ending (next language (machine (program_of program)) (state_of old before)) new after how))
+    (record {
+      units = does.units;
+      transfer = does.transfer;
+      stood = does.stood;
+      holds = subst (λ (state : State Ending sorts). Reaches ending state new (world_of objects does.units does.transfer) how)
+          (sym (happens program own old.top.number function (view_of old.top.view) (frames_of (waiting old)) before (event_of ending (world_of middle does.units does.transfer) values event) is all does.holds))
+          (makes does.units does.transfer);
+    })
 
 -- ANSWERS
 pub answers-nobody : (program : Program sorts) (number : ℕ) (waits : List CallFrame) (world : World) (given : Option ℤ) → waits ≡ [] →
@@ -323,11 +348,11 @@ begun-so program number main function old new (Ok begun) same is begins = begun-
 begun-so program number main function old new (Err reason) same is begins = begins
 
 -- MANY STEPS OF A RUN
-pub goes-further : (program : Program sorts) (count : ℕ) (first state after : State Ending sorts) → run language program count first ≡ state → next language program state ≡ after →
+goes-further : (program : Program sorts) (count : ℕ) (first state after : State Ending sorts) → run language program count first ≡ state → next language program state ≡ after →
     run language program (count + 1) first ≡ after
 goes-further program count first state after reached goes = one-run program count first ∙ ap (next language program) reached ∙ goes
 
-pub over-after : {E : Type 0} (ending : E → Ending) (program : Program sorts) (first state : State Ending sorts) (count steps : ℕ) (stack : CallStack) (world : World) (how : RunOutcome E) →
+over-after : {E : Type 0} (ending : E → Ending) (program : Program sorts) (first state : State Ending sorts) (count steps : ℕ) (stack : CallStack) (world : World) (how : RunOutcome E) →
     run language program count first ≡ state → Reaches ending (next language program state) stack world how → ((how ≡ outcome.Running) → ⊥) → count < steps →
     Reaches ending (run language program steps first) stack world how
 over-after ending program first state count steps stack world how reached reaches not few =
@@ -335,11 +360,42 @@ over-after ending program first state count steps stack world how reached reache
     (subst (λ (state : State Ending sorts). Reaches ending state stack world how) (sym (goes-further program count first state (next language program state) reached refl)) reaches)
     not (omega arith)
 
+-- one step more, of a library that stands for the units and the transfer of a world
+pub goes-further-by : (program : Program sorts) (count : ℕ) (first : State Ending sorts) (stack new : CallStack) (stands stood : Units → Option Transfer → Type 0) (old objects : List Object) →
+    StandsIn stands old (λ after. run language program count first ≡ state_of stack after) →
+    ((units : Units) → (transfer : Option Transfer) → stands units transfer → StandsIn stood objects (λ after. next language program (state_of stack (world_of old units transfer)) ≡ state_of new after)) →
+    StandsIn stood objects (λ after. run language program (count + 1) first ≡ state_of new after)
+goes-further-by program count first stack new stands stood old objects reached goes =
+    let onward = goes reached.units reached.transfer reached.stood in
+    record {
+      units = onward.units;
+      transfer = onward.transfer;
+      stood = onward.stood;
+      holds = goes-further program count first (state_of stack (world_of old reached.units reached.transfer)) (state_of new (world_of objects onward.units onward.transfer)) reached.holds onward.holds;
+    }
+
+pub over-by : {E : Type 0} (ending : E → Ending) (program : Program sorts) (count steps : ℕ) (first : State Ending sorts) (stack new : CallStack) (stands stood : Units → Option Transfer → Type 0)
+    (old objects : List Object) (how : RunOutcome E) → StandsIn stands old (λ after. run language program count first ≡ state_of stack after) →
+    ((units : Units) → (transfer : Option Transfer) → stands units transfer →
+    UnlessFailed how (StandsIn stood objects (λ after. Reaches ending (next language program (state_of stack (world_of old units transfer))) new after how))) →
+    ((how ≡ outcome.Running) → ⊥) → count < steps → UnlessFailed how (StandsIn stood objects (λ after. Reaches ending (run language program steps first) new after how))
+over-by ending program count steps first stack new stands stood old objects how reached goes not few =
+    unless-so how (StandsIn stood objects (λ after. Reaches ending (next language program (state_of stack (world_of old reached.units reached.transfer))) new after how))
+    (StandsIn stood objects (λ after. Reaches ending (run language program steps first) new after how))
+    (λ last. record {
+      units = last.units;
+      transfer = last.transfer;
+      stood = last.stood;
+      holds = over-after ending program first (state_of stack (world_of old reached.units reached.transfer)) count steps new (world_of objects last.units last.transfer) how reached.holds last.holds not few;
+    })
+    (goes reached.units reached.transfer reached.stood)
+
 pub stands-so : {E : Type 0} (ending : E → Ending) (state : State Ending sorts) (stack : CallStack) (world : World) (how : RunOutcome E) → Reaches ending state stack world how → Stands ending state world how
 stands-so ending state stack world outcome.Running reaches = (stack.top.number, view_of stack.top.view, frames_of (waiting stack), reaches)
 stands-so ending state stack world outcome.Returned reaches = reaches
 stands-so ending state stack world (outcome.Stopped how) reaches = reaches
 stands-so ending state stack world (outcome.Broken why number) reaches = reaches
+stands-so ending state stack world (outcome.Failed unit) reaches = reaches
 
 broken-for-good : (program : Program sorts) (first : State Ending sorts) (steps : ℕ) (why : Break) → first ≡ Broken why [] → run language program steps first ≡ Broken why []
 broken-for-good program first steps why is =
@@ -353,7 +409,7 @@ run-from program units steps objects transfer are none =
     ap (λ objects. run language (machine program) steps (begun language (machine program) (main_number program) [] (world_of objects units None))) (sym are)
     ∙ ap (λ transfer. run language (machine program) steps (begun language (machine program) (main_number program) [] (world_of objects units transfer))) (sym none)
 
-pub whole-run : {E : Type 0} (ending : E → Ending) (program : linking.Program) (units : Units) (steps : ℕ) (old new : List Object) (transfer : Option Transfer) (stack after : CallStack) (last : World) (how : RunOutcome E) →
+whole-run : {E : Type 0} (ending : E → Ending) (program : linking.Program) (units : Units) (steps : ℕ) (old new : List Object) (transfer : Option Transfer) (stack after : CallStack) (last : World) (how : RunOutcome E) →
     old ≡ program.objects → transfer ≡ None →
     begun language (machine program) (main_number program) [] (world_of old units transfer) ≡ state_of stack (world_of new units transfer) →
     Reaches ending (run language (machine program) steps (state_of stack (world_of new units transfer))) after last how → Stands ending (run_of program units steps) last how
@@ -361,6 +417,22 @@ whole-run ending program units steps old new transfer stack after last how are n
     subst (λ (state : State Ending sorts). Stands ending state last how)
     (sym (run-from program units steps old transfer are none ∙ ap (run language (machine program) steps) begins))
     (stands-so ending (run language (machine program) steps (state_of stack (world_of new units transfer))) after last how reaches)
+
+pub whole-run-by : {E : Type 0} (ending : E → Ending) (program : linking.Program) (units : Units) (steps : ℕ) (old middle objects : List Object) (stack new : CallStack) (stood : Units → Option Transfer → Type 0)
+    (how : RunOutcome E) → old ≡ program.objects →
+    begun language (machine program) (main_number program) [] (world_of old units None) ≡ state_of stack (world_of middle units None) →
+    UnlessFailed how (StandsIn stood objects (λ after. Reaches ending (run language (machine program) steps (state_of stack (world_of middle units None))) new after how)) →
+    UnlessFailed how (StandsIn stood objects (λ after. Stands ending (run_of program units steps) after how))
+whole-run-by ending program units steps old middle objects stack new stood how are begins reaches =
+    unless-so how (StandsIn stood objects (λ after. Reaches ending (run language (machine program) steps (state_of stack (world_of middle units None))) new after how))
+    (StandsIn stood objects (λ after. Stands ending (run_of program units steps) after how))
+    (λ last. record {
+      units = last.units;
+      transfer = last.transfer;
+      stood = last.stood;
+      holds = whole-run ending program units steps old middle None stack new (world_of objects last.units last.transfer) how are refl begins last.holds;
+    })
+    reaches
 
 pub whole-refused : (program : linking.Program) (units : Units) (steps : ℕ) (old : List Object) (transfer : Option Transfer) (why : CFault) → old ≡ program.objects → transfer ≡ None →
     begun language (machine program) (main_number program) [] (world_of old units transfer) ≡ Broken (Faults why) [] → run_of program units steps ≡ Broken (Faults why) []

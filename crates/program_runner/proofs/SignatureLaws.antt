@@ -10,8 +10,9 @@ use Rattle.c_tree.specs.World.{World}
 use Rattle.c_tree.specs.Builtins.{Signature, signatures}
 use Rattle.c_tree.specs.Library.{library}
 use Rattle.c_tree.specs.Steps.{Wants, View, takes_all, may_give, library_called, given_that, replied}
+use Rattle.run_library.specs.Signatures.{IsCall}
 use Rattle.program_runner.specs.declared.signatures.LibrarySignature.{LibrarySignature}
-use Rattle.program_runner.specs.Signatures.{taken_of, Shape, shape_of, listed_shape, IsCall, Allows}
+use Rattle.program_runner.specs.Signatures.{taken_of, Shape, shape_of, listed_shape, Allows}
 
 pub shape-at : (table : List LibrarySignature) (number : ℕ) (found : Option LibrarySignature) → map shape_of table ≡ map listed_shape signatures → found ≡ slice_get table number →
     option_map shape_of found ≡ option_map listed_shape (slice_get signatures number)

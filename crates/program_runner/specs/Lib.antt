@@ -1,6 +1,5 @@
 pub mod Numbers
 pub mod Signatures
-pub mod Replies
 pub mod Stacks
 pub mod Events
 pub mod Outcomes

@@ -1,5 +1,5 @@
 -- How a run stands, as the machine of C texts has it (C89, 3.6.6.4).
-use Rattle.std.specs.Prelude.{◌≡◌, ℕ, List, [], ◌∷◌, Some, Result, Ok, Err, slice_get}
+use Rattle.std.specs.Prelude.{◌≡◌, ℕ, ℤ, List, [], ◌∷◌, Some, Result, Ok, Err, slice_get}
 use Rattle.c_tree.specs.simulation.Machine as machine
 use Rattle.c_tree.specs.simulation.Machine.{State, Runs, Over}
 use Rattle.c_tree.specs.run_state.Endings.{Ending, Plain}
@@ -11,10 +11,11 @@ use Rattle.c_tree.specs.Steps.{sorts, View}
 use Rattle.linked_programs.specs.declared.functions.LinkedFunction.{LinkedFunction}
 use Rattle.linked_programs.specs.declared.programs.LinkedProgram.{LinkedProgram}
 use Rattle.call_frames.specs.Frames.{HasFrame}
+use Rattle.run_library.specs.Replies.{break_of}
+use Rattle.run_library.specs.Devices.{NoFailure, FailsAtLast}
 use Rattle.program_runner.specs.declared.stack.CallStack.{CallStack}
 use Rattle.program_runner.specs.declared.runs.RunOutcome.{RunOutcome}
 use Rattle.program_runner.specs.declared.runs.RunOutcome.TheVariants as outcome
-use Rattle.program_runner.specs.Replies.{break_of}
 use Rattle.program_runner.specs.Events.{HasRoom}
 use Rattle.program_runner.specs.Stacks.{Frames, state_of, IsStack}
 
@@ -32,6 +33,7 @@ Leaves ending state world outcome.Running = ⊥
 Leaves ending state world outcome.Returned = state ≡ Over Plain [] world
 Leaves ending state world (outcome.Stopped how) = (frames : Frames) × (state ≡ Over (ending how) frames world)
 Leaves ending state world (outcome.Broken why number) = (callers : List ℕ) × (state ≡ machine.Broken (break_of why) (number ∷ callers))
+Leaves ending state world (outcome.Failed unit) = ⊥
 
 -- a run that goes on with these active functions, or is over
 abbrev pub Reaches : {E : Type 0} → (E → Ending) → State Ending sorts → CallStack → World → RunOutcome E → Type 0
@@ -48,6 +50,16 @@ abbrev pub KeepsStack : {E : Type 0} → ℕ → CallStack → RunOutcome E → 
 KeepsStack functions stack outcome.Running = IsStack functions stack
 KeepsStack functions stack over = Unit {0}
 
+-- what is said of a run in which no device failed
+abbrev pub UnlessFailed : {E : Type 0} → RunOutcome E → Type 0 → Type 0
+UnlessFailed (outcome.Failed unit) Holds = Unit {0}
+UnlessFailed how Holds = Holds
+
+-- no device failed in a run, or that of a unit in its last call of the library
+abbrev pub ToldOfRun : {L E : Type 0} → (L → L → Type 0) → (ℤ → L → L → Type 0) → L → L → RunOutcome E → Type 0
+ToldOfRun none_failed failed_on old new (outcome.Failed unit) = FailsAtLast none_failed failed_on unit old new
+ToldOfRun none_failed failed_on old new how = NoFailure none_failed old new
+
 -- the main program begins and is the only active function, or it does not begin by a fault
 abbrev pub Begins : State Ending sorts → World → Result CallStack CFault → Type 0
 Begins state world (Ok stack) = state ≡ state_of stack world
@@ -56,3 +68,13 @@ Begins state world (Err fault) = state ≡ machine.Broken (Faults fault) []
 abbrev pub IsRunOf : {E : Type 0} → (E → Ending) → State Ending sorts → World → Result (RunOutcome E) CFault → Type 0
 IsRunOf ending state world (Ok how) = Stands ending state world how
 IsRunOf ending state world (Err fault) = state ≡ machine.Broken (Faults fault) []
+
+-- what is said of a whole run in which no device failed
+abbrev pub UnlessRunFailed : {E : Type 0} → Result (RunOutcome E) CFault → Type 0 → Type 0
+UnlessRunFailed (Ok how) Holds = UnlessFailed how Holds
+UnlessRunFailed (Err fault) Holds = Holds
+
+-- the devices of the units in a whole run; where its main program does not begin none is called
+abbrev pub ToldOfWholeRun : {L E : Type 0} → (L → L → Type 0) → (ℤ → L → L → Type 0) → L → L → Result (RunOutcome E) CFault → Type 0
+ToldOfWholeRun none_failed failed_on old new (Ok how) = ToldOfRun none_failed failed_on old new how
+ToldOfWholeRun none_failed failed_on old new (Err fault) = NoFailure none_failed old new

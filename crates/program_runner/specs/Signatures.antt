@@ -1,5 +1,5 @@
 -- What functions of the library take and give, in the table of the code (CSTR 149, appendix on the run time library).
-use Rattle.std.specs.Prelude.{◌≡◌, ℕ, Bool, true, List, map, Some, Result, Ok, Err, slice_get}
+use Rattle.std.specs.Prelude.{◌≡◌, ℕ, Bool, true, List, map, Result, Ok, Err, slice_get}
 use Rattle.c_tree.specs.simulation.Machine.{Breaks}
 use Rattle.c_tree.specs.declared.outcome.CValue.{CValue}
 use Rattle.c_tree.specs.declared.outcome.CFault.{CFault}
@@ -7,7 +7,8 @@ use Rattle.c_tree.specs.Faults.{Faults}
 use Rattle.c_tree.specs.World.{World}
 use Rattle.c_tree.specs.Builtins as builtins
 use Rattle.c_tree.specs.Builtins.{Signature, signatures}
-use Rattle.c_tree.specs.Steps.{Wants, View, takes_all, may_give, library_called}
+use Rattle.c_tree.specs.Steps.{Wants, View, may_give, library_called}
+use Rattle.run_library.specs.Signatures.{IsCall}
 use Rattle.program_runner.specs.declared.signatures.Taken.{Taken}
 use Rattle.program_runner.specs.declared.signatures.Taken.TheVariants as kind
 use Rattle.program_runner.specs.declared.signatures.LibrarySignature.{LibrarySignature}
@@ -26,12 +27,6 @@ shape_of signature = record { kinds = map taken_of signature.takes.now; gives = 
 
 abbrev pub listed_shape : Signature → Shape
 listed_shape signature = record { kinds = signature.takes; gives = signature.gives }
-
--- a function of the library that is called with values that it takes
-pub record IsCall (number : ℕ) (values : List CValue) : Type 0 where
-  pub signature : Signature
-  pub known : slice_get signatures number ≡ Some signature
-  pub agrees : takes_all signature.takes values ≡ true
 
 -- a call may be made, whose value may be used so; or its fault
 abbrev pub Allows : ℕ → List CValue → Wants → Result (Unit {0}) CFault → Type 0

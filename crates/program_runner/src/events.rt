@@ -1,6 +1,6 @@
 //! What the next step of an active function does, calls of the library among it (C89, 3.6).
 
-ghost use Rattle.std.specs.Prelude.{◌≡◌, ℕ, ◌<◌, ◌≤◌, ◌+◌, ◌^◌, List, Option, Ok, length, take, slice_get};
+ghost use Rattle.std.specs.Prelude.{◌≡◌, ℕ, ◌<◌, ◌≤◌, ◌+◌, ◌^◌, List, Option, Ok, IfOk, length, take, slice_get};
 ghost use Rattle.c_tree.specs.run_state.Units.{Units};
 ghost use Rattle.c_tree.specs.run_state.Endings.{Ending};
 ghost use Rattle.c_tree.specs.declared.outcome.CValue.{CValue};
@@ -12,11 +12,10 @@ ghost use Rattle.linked_terms.specs.LinkedItems.{flat_of};
 ghost use Rattle.linked_programs.specs.LinkedPrograms.{function_of};
 ghost use Rattle.item_deeds.specs.Deeds.{view_of, wants_of, world_of, argument_count};
 ghost use Rattle.item_deeds.specs.Forms.{SameForms};
+ghost use Rattle.run_library.specs.Replies.{reply_of};
 ghost use Rattle.program_runner.specs.Signatures.{Allows};
-ghost use Rattle.program_runner.specs.Replies.{reply_of};
-ghost use Rattle.program_runner.specs.Events.{event_of, IsCalled, HasRoom};
+ghost use Rattle.program_runner.specs.Events.{event_of, broken_of, StepsBy, ToldOfStep, IsCalled, HasRoom};
 
-use crate::library::{Library, LibraryReply, RunBreak};
 use crate::signatures::allowed;
 use c_tree::outcome::CValue;
 use c_tree::types::ResultType;
@@ -25,6 +24,7 @@ use item_deeds::{CallView, CallWants, Deed, perform};
 use linked_programs::LinkedFunction;
 use linked_terms::LinkedItem;
 use run_bytes::RunBytes;
+use run_library::{CallBreak, Library, LibraryReply, RunBreak};
 
 /// What a step of a function does.
 #[derive(Drop)]
@@ -92,7 +92,24 @@ fn replied<E: Drop>(
     }
 }
 
+/// What the caller does with a call of the library that gives nothing.
+///
+/// # Errors
+/// The unit whose device failed.
+fn broken<E: Drop>(reason: CallBreak) -> Result<StepEvent<E>, i32>
+    ensures is { result ≡ broken_of reason }
+    ensures called { (position room : ℕ) → IfOk result (IsCalled position room) }
+{
+    match reason {
+        CallBreak::Break(reason) => Ok(StepEvent::Breaks(reason)),
+        CallBreak::Device(unit) => Err(unit),
+    }
+}
+
 /// A call of a function of the library that may be called so.
+///
+/// # Errors
+/// The unit whose device failed.
 fn call_made<L: Library>(
     view: CallView,
     wants: CallWants,
@@ -100,21 +117,25 @@ fn call_made<L: Library>(
     values: &[CValue],
     run: &mut RunBytes,
     library: &mut L,
-) -> StepEvent<L::Ending>
+) -> Result<StepEvent<L::Ending>, i32>
     requires ready { view.position + 1 < 2 ^ 64 }
     requires allowed { Allows number values.now (wants_of wants) (Ok tt) }
-    ensures meaning { (given : List CValue) → steps.library_called (view_of view) (world_of run.old (L.units library.old) (L.transfer library.old)) (wants_of wants) values.now (slice_get signatures number)
-        ≡ event_of L.ending (world_of run.new (L.units library.new) (L.transfer library.new)) given result }
-    ensures called { (position room : ℕ) → IsCalled position room result }
+    ensures meaning { (units : Units) → (transfer : Option Transfer) → (given : List CValue) → L.stands library.old units transfer →
+        StepsBy L.ending (steps.library_called (view_of view) (world_of run.old units transfer) (wants_of wants) values.now (slice_get signatures number)) (L.stands library.new) run.new given result }
+    ensures devices { ToldOfStep L.none_failed L.failed_on library.old library.new result }
+    ensures called { (position room : ℕ) → IfOk result (IsCalled position room) }
     ensures forms { SameForms run.old run.new }
 {
     match library.call(number, values, run) {
-        Ok(reply) => replied(view, wants, reply, run),
-        Err(reason) => StepEvent::Breaks(reason),
+        Ok(reply) => Ok(replied(view, wants, reply, run)),
+        Err(reason) => broken(reason),
     }
 }
 
 /// A call of a function of the library, which is one step of the caller.
+///
+/// # Errors
+/// The unit whose device failed.
 fn library_called<L: Library>(
     view: CallView,
     wants: CallWants,
@@ -122,16 +143,17 @@ fn library_called<L: Library>(
     values: &[CValue],
     run: &mut RunBytes,
     library: &mut L,
-) -> StepEvent<L::Ending>
+) -> Result<StepEvent<L::Ending>, i32>
     requires { view.position + 1 < 2 ^ 64 }
-    ensures meaning { (given : List CValue) → steps.library_called (view_of view) (world_of run.old (L.units library.old) (L.transfer library.old)) (wants_of wants) values.now (slice_get signatures number)
-        ≡ event_of L.ending (world_of run.new (L.units library.new) (L.transfer library.new)) given result }
-    ensures called { (position room : ℕ) → IsCalled position room result }
+    ensures meaning { (units : Units) → (transfer : Option Transfer) → (given : List CValue) → L.stands library.old units transfer →
+        StepsBy L.ending (steps.library_called (view_of view) (world_of run.old units transfer) (wants_of wants) values.now (slice_get signatures number)) (L.stands library.new) run.new given result }
+    ensures devices { ToldOfStep L.none_failed L.failed_on library.old library.new result }
+    ensures called { (position room : ℕ) → IfOk result (IsCalled position room) }
     ensures forms { SameForms run.old run.new }
 {
     match allowed(number, values, wants) {
         Ok(()) => call_made(view, wants, number, values, run, library),
-        Err(fault) => StepEvent::Breaks(RunBreak::Fault(fault)),
+        Err(fault) => Ok(StepEvent::Breaks(RunBreak::Fault(fault))),
     }
 }
 
@@ -144,6 +166,9 @@ pub(crate) fn first_values(buffer: &[CValue], count: usize) -> &[CValue]
 }
 
 /// What an item does, in a function that gives its caller such a value.
+///
+/// # Errors
+/// The unit whose device failed.
 fn item_step<L: Library>(
     own: usize,
     gives: ResultType,
@@ -152,26 +177,27 @@ fn item_step<L: Library>(
     buffer: &mut [CValue],
     run: &mut RunBytes,
     library: &mut L,
-) -> StepEvent<L::Ending>
+) -> Result<StepEvent<L::Ending>, i32>
     requires ready { view.position + 1 < 2 ^ 64 }
     requires room { argument_count item.now ≤ length buffer.old }
     ensures meaning { (function : linking.Function) → function.own ≡ own → function.result ≡ gives →
-        steps.deed function (view_of view) (world_of run.old (L.units library.old) (L.transfer library.old)) (flat_of item.now)
-        ≡ event_of L.ending (world_of run.new (L.units library.new) (L.transfer library.new)) buffer.new result }
-    ensures called { IsCalled view.position (length buffer.new) result }
+        (units : Units) → (transfer : Option Transfer) → L.stands library.old units transfer →
+        StepsBy L.ending (steps.deed function (view_of view) (world_of run.old units transfer) (flat_of item.now)) (L.stands library.new) run.new buffer.new result }
+    ensures devices { ToldOfStep L.none_failed L.failed_on library.old library.new result }
+    ensures called { IfOk result (IsCalled view.position (length buffer.new)) }
     ensures forms { SameForms run.old run.new }
 {
     match perform(own, gives, view, item, run, buffer) {
-        Deed::Goes(view) => StepEvent::Goes(view),
+        Deed::Goes(view) => Ok(StepEvent::Goes(view)),
         Deed::Calls {
             view,
             number,
             count,
-        } => StepEvent::Calls {
+        } => Ok(StepEvent::Calls {
             view,
             number,
             count,
-        },
+        }),
         Deed::Library {
             view,
             wants,
@@ -185,12 +211,15 @@ fn item_step<L: Library>(
             run,
             library,
         ),
-        Deed::Answers(answer) => StepEvent::Answers(answer),
-        Deed::Breaks(fault) => StepEvent::Breaks(RunBreak::Fault(fault)),
+        Deed::Answers(answer) => Ok(StepEvent::Answers(answer)),
+        Deed::Breaks(fault) => Ok(StepEvent::Breaks(RunBreak::Fault(fault))),
     }
 }
 
 /// The next step of a function of a program that has `own` functions. The buffer has room for the arguments of each call.
+///
+/// # Errors
+/// The unit whose device failed.
 pub(crate) fn step<L: Library>(
     own: usize,
     function: &LinkedFunction,
@@ -198,11 +227,12 @@ pub(crate) fn step<L: Library>(
     buffer: &mut [CValue],
     run: &mut RunBytes,
     library: &mut L,
-) -> StepEvent<L::Ending>
+) -> Result<StepEvent<L::Ending>, i32>
     requires { HasRoom (length buffer.old) function.now.code }
-    ensures meaning { steps.step (function_of own function.now) (view_of view) (world_of run.old (L.units library.old) (L.transfer library.old))
-        ≡ event_of L.ending (world_of run.new (L.units library.new) (L.transfer library.new)) buffer.new result }
-    ensures called { IsCalled view.position (length buffer.new) result }
+    ensures meaning { (units : Units) → (transfer : Option Transfer) → L.stands library.old units transfer →
+        StepsBy L.ending (steps.step (function_of own function.now) (view_of view) (world_of run.old units transfer)) (L.stands library.new) run.new buffer.new result }
+    ensures devices { ToldOfStep L.none_failed L.failed_on library.old library.new result }
+    ensures called { IfOk result (IsCalled view.position (length buffer.new)) }
     ensures forms { SameForms run.old run.new }
 {
     match function.code.get(view.position) {
@@ -211,6 +241,6 @@ pub(crate) fn step<L: Library>(
             prove!(within);
             item_step(own, function.result, view, item, buffer, run, library)
         }
-        None => StepEvent::Breaks(RunBreak::Meaningless),
+        None => Ok(StepEvent::Breaks(RunBreak::Meaningless)),
     }
 }

@@ -12,11 +12,12 @@ ghost use Rattle.linked_programs.specs.LinkedPrograms.{program_of, function_of};
 ghost use Rattle.call_frames.specs.Frames.{HasFrame};
 ghost use Rattle.item_deeds.specs.Deeds.{view_of, world_of};
 ghost use Rattle.item_deeds.specs.Forms.{SameForms};
+ghost use Rattle.run_library.specs.Replies.{StandsIn};
 ghost use Rattle.program_runner.specs.Stacks.{frames_of, waiting, state_of, IsStack};
-ghost use Rattle.program_runner.specs.Outcomes.{FramesStand, HasArgumentRoom, Reaches, KeepsStack};
+ghost use Rattle.program_runner.specs.Events.{event_of, IsCalled};
+ghost use Rattle.program_runner.specs.Outcomes.{FramesStand, HasArgumentRoom, Reaches, KeepsStack, UnlessFailed, ToldOfRun};
 
 use crate::events::{StepEvent, first_values, step};
-use crate::library::{Library, RunBreak};
 use crate::runs::RunOutcome;
 use crate::stack::{CallFrame, CallStack};
 use c_tree::outcome::{CFault, CValue};
@@ -24,6 +25,7 @@ use call_frames::{resume, start};
 use item_deeds::CallView;
 use linked_programs::{LinkedFunction, LinkedProgram};
 use run_bytes::RunBytes;
+use run_library::{Library, RunBreak};
 
 /// A run that breaks by a fault in the active function.
 fn faulty<E: Drop>(stack: &CallStack, fault: CFault) -> RunOutcome<E>
@@ -135,35 +137,25 @@ fn answer<E: Drop>(stack: &mut CallStack, given: Option<i32>, run: &mut RunBytes
     }
 }
 
-/// The next step of a run.
-pub(crate) fn next<L: Library>(
+/// What an event of the active function makes of the run. The first values of a buffer are those of the arguments of a call.
+fn happened<E: Drop>(
     program: &LinkedProgram,
     stack: &mut CallStack,
-    buffer: &mut [CValue],
+    event: StepEvent<E>,
+    buffer: &[CValue],
     run: &mut RunBytes,
-    library: &mut L,
-) -> RunOutcome<L::Ending>
+) -> RunOutcome<E>
     requires stack { IsStack (length program.now.functions) stack.old }
-    requires room { HasArgumentRoom program.now (length buffer.old) }
+    requires called { IsCalled stack.old.top.view.position (length buffer.now) event }
     requires frames { FramesStand program.now run.old }
-    ensures meaning { Reaches L.ending
-        (machine.next language (meaning.machine (program_of program.now)) (state_of stack.old (world_of run.old (L.units library.old) (L.transfer library.old))))
-        stack.new (world_of run.new (L.units library.new) (L.transfer library.new)) result }
+    ensures meaning { (ending : E → Ending) → (units : Units) → (transfer : Option Transfer) →
+        Reaches ending
+        (machine.act language (meaning.machine (program_of program.now)) (event_of ending (world_of run.old units transfer) buffer.now event) stack.old.top.number (frames_of (waiting stack.old)))
+        stack.new (world_of run.new units transfer) result }
     ensures stack { KeepsStack (length program.now.functions) stack.new result }
     ensures forms { SameForms run.old run.new }
 {
-    let frame = stack.top;
-    let Some(function) = program.functions.get(frame.number) else {
-        unreachable!();
-    };
-    match step(
-        program.functions.len(),
-        function,
-        frame.view,
-        buffer,
-        run,
-        library,
-    ) {
+    match event {
         StepEvent::Goes(view) => {
             stack.top.view = view;
             RunOutcome::Running
@@ -184,7 +176,42 @@ pub(crate) fn next<L: Library>(
         StepEvent::Answers(given) => answer(stack, given, run),
         StepEvent::Breaks(reason) => RunOutcome::Broken {
             reason,
-            function: frame.number,
+            function: stack.top.number,
         },
+    }
+}
+
+/// The next step of a run.
+pub(crate) fn next<L: Library>(
+    program: &LinkedProgram,
+    stack: &mut CallStack,
+    buffer: &mut [CValue],
+    run: &mut RunBytes,
+    library: &mut L,
+) -> RunOutcome<L::Ending>
+    requires stack { IsStack (length program.now.functions) stack.old }
+    requires room { HasArgumentRoom program.now (length buffer.old) }
+    requires frames { FramesStand program.now run.old }
+    ensures meaning { (units : Units) → (transfer : Option Transfer) → L.stands library.old units transfer →
+        UnlessFailed result (StandsIn (L.stands library.new) run.new (λ after.
+        Reaches L.ending (machine.next language (meaning.machine (program_of program.now)) (state_of stack.old (world_of run.old units transfer))) stack.new after result)) }
+    ensures devices { ToldOfRun L.none_failed L.failed_on library.old library.new result }
+    ensures stack { KeepsStack (length program.now.functions) stack.new result }
+    ensures forms { SameForms run.old run.new }
+{
+    let frame = stack.top;
+    let Some(function) = program.functions.get(frame.number) else {
+        unreachable!();
+    };
+    match step(
+        program.functions.len(),
+        function,
+        frame.view,
+        buffer,
+        run,
+        library,
+    ) {
+        Ok(event) => happened(program, stack, event, buffer, run),
+        Err(unit) => RunOutcome::Failed(unit),
     }
 }

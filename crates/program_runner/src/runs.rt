@@ -12,16 +12,17 @@ ghost use Rattle.linked_programs.specs.LinkedPrograms.{program_of, function_of};
 ghost use Rattle.item_deeds.specs.Deeds.{world_of};
 ghost use Rattle.item_deeds.specs.Forms.{SameForms};
 ghost use Rattle.call_frames.specs.Frames.{HasFrame};
+ghost use Rattle.run_library.specs.Replies.{StandsIn};
 ghost use Rattle.program_runner.specs.Stacks.{state_of, IsStack};
-ghost use Rattle.program_runner.specs.Outcomes.{FramesStand, HasArgumentRoom, Reaches, KeepsStack, Stands, Begins, IsRunOf};
+ghost use Rattle.program_runner.specs.Outcomes.{FramesStand, HasArgumentRoom, Reaches, KeepsStack, UnlessFailed, ToldOfRun, Begins, IsRunOf, UnlessRunFailed, ToldOfWholeRun};
 
-use crate::library::{Library, RunBreak};
 use crate::machine::next;
 use crate::stack::{CallFrame, CallStack};
 use c_tree::outcome::{CFault, CValue};
 use call_frames::start;
 use linked_programs::{LinkedFunction, LinkedProgram};
 use run_bytes::RunBytes;
+use run_library::{Library, RunBreak};
 use std::alloc::{AllocError, Global};
 
 /// How a run stands.
@@ -40,6 +41,8 @@ pub enum RunOutcome<E: Drop> {
         /// The number of the function in whose name it breaks.
         function: usize,
     },
+    /// The device of this unit failed.
+    Failed(i32),
 }
 
 /// Whether a function is the main program.
@@ -109,7 +112,8 @@ pub fn begin(
     }
 }
 
-/// Goes so many steps on, as long as the run is not over. The buffer has room for the arguments of each call.
+/// Goes so many steps on, as long as the run is not over. The buffer has room for the arguments of each call. The run is that of the
+/// definitions for all units and each transfer in progress for which the library stands, unless the device of a unit fails.
 pub fn run<L: Library>(
     program: &LinkedProgram,
     stack: &mut CallStack,
@@ -121,9 +125,10 @@ pub fn run<L: Library>(
     requires stack { IsStack (length program.now.functions) stack.old }
     requires room { HasArgumentRoom program.now (length buffer.old) }
     requires frames { FramesStand program.now run.old }
-    ensures meaning { Reaches L.ending
-        (machine.run language (meaning.machine (program_of program.now)) steps (state_of stack.old (world_of run.old (L.units library.old) (L.transfer library.old))))
-        stack.new (world_of run.new (L.units library.new) (L.transfer library.new)) result }
+    ensures meaning { (units : Units) → (transfer : Option Transfer) → L.stands library.old units transfer →
+        UnlessFailed result (StandsIn (L.stands library.new) run.new (λ after.
+        Reaches L.ending (machine.run language (meaning.machine (program_of program.now)) steps (state_of stack.old (world_of run.old units transfer))) stack.new after result)) }
+    ensures devices { ToldOfRun L.none_failed L.failed_on library.old library.new result }
     ensures stack { KeepsStack (length program.now.functions) stack.new result }
     ensures forms { SameForms run.old run.new }
 {
@@ -137,8 +142,9 @@ pub fn run<L: Library>(
     RunOutcome::Running
 }
 
-/// Runs a program from its main program on, so many steps, or until it is over. Its objects hold what they start with, and no transfer is
-/// in progress. The buffer has room for the arguments of each call. An error where memory ran out.
+/// Runs a program from its main program on, so many steps, or until it is over. Its objects hold what they start with. The buffer has room
+/// for the arguments of each call. The run is that of the definitions for all units for which the library stands without a transfer in
+/// progress, unless the device of a unit fails. An error where memory ran out.
 ///
 /// # Errors
 /// Where the main program does not begin, that is where there is none or it has parameters: why.
@@ -153,8 +159,9 @@ pub fn run_program<L: Library>(
     requires frames { FramesStand program.now objects.old }
     requires room { HasArgumentRoom program.now (length buffer.old) }
     requires objects { objects.old ≡ (program_of program.now).objects }
-    requires transfer { L.transfer library.old ≡ None }
-    ensures { IfOk result (IsRunOf L.ending (meaning.run_of (program_of program.now) (L.units library.old) steps) (world_of objects.new (L.units library.new) (L.transfer library.new))) }
+    ensures meaning { IfOk result (λ ran. (units : Units) → L.stands library.old units None →
+        UnlessRunFailed ran (StandsIn (L.stands library.new) objects.new (λ after. IsRunOf L.ending (meaning.run_of (program_of program.now) units steps) after ran))) }
+    ensures devices { IfOk result (ToldOfWholeRun L.none_failed L.failed_on library.old library.new) }
 {
     match begin(alloc, program, objects)? {
         Ok(mut stack) => Ok(Ok(run(program, &mut stack, buffer, objects, library, steps))),

@@ -1,19 +1,16 @@
-use Rattle.std.proofs.Common.{ap, ◌∙◌}
-use Rattle.c_tree.specs.Steps as steps
 use Rattle.item_deeds.specs.Deeds.{view_of, wants_of, world_of}
-use Rattle.program_runner.proofs.SignatureLaws.{call-made}
+use Rattle.program_runner.proofs.CallLaws.{call-broken, told-broken}
+use Rattle.program_runner.proofs.DeviceLaws.{one-call}
 use Rattle.program_runner.proofs.events.call_made.Goals as goal
 
-pub call-requires : goal.call-requires
-call-requires g c = c.requires.allowed.0
-
-pub returns-in-Ok-clause-meaning : goal.returns-in-Ok-clause-meaning
-returns-in-Ok-clause-meaning g c = λ given.
-    call-made c.args.number c.args.values.now (view_of c.args.view) (world_of c.args.run.now (g.L.Library.units c.args.library.now) (g.L.Library.transfer c.args.library.now)) (wants_of c.args.wants) c.requires.allowed.0 c.requires.allowed.1
-    ∙ ap (λ reply. steps.given_that reply (steps.replied (view_of c.args.view) (wants_of c.args.wants))) (c.in-Ok.ensures.meaning c.requires.allowed.0.signature c.requires.allowed.0.known)
-    ∙ c.replied.ensures.meaning g.L.Library.ending (g.L.Library.units c.call.new.self) (g.L.Library.transfer c.call.new.self) given
+pub returns-in-Ok-clause-devices : goal.returns-in-Ok-clause-devices
+returns-in-Ok-clause-devices g c = one-call c.in-Ok.ensures.devices
 
 pub returns-in-Err-clause-meaning : goal.returns-in-Err-clause-meaning
-returns-in-Err-clause-meaning g c = λ given.
-    call-made c.args.number c.args.values.now (view_of c.args.view) (world_of c.args.run.now (g.L.Library.units c.args.library.now) (g.L.Library.transfer c.args.library.now)) (wants_of c.args.wants) c.requires.allowed.0 c.requires.allowed.1
-    ∙ ap (λ reply. steps.given_that reply (steps.replied (view_of c.args.view) (wants_of c.args.wants))) (c.in-Err.ensures.meaning c.requires.allowed.0.signature c.requires.allowed.0.known)
+returns-in-Err-clause-meaning g c = λ units transfer given stood.
+    call-broken g.L.Library.ending c.args.number c.args.values.now (view_of c.args.view) (world_of c.args.run.now units transfer) (wants_of c.args.wants) (g.L.Library.stands c.call.new.self) c.call.new.run given
+    c.in-Err.reason c.broken.result c.broken.ensures.is c.requires.allowed.0 c.requires.allowed.1 (c.in-Err.ensures.meaning units transfer stood)
+
+pub returns-in-Err-clause-devices : goal.returns-in-Err-clause-devices
+returns-in-Err-clause-devices g c =
+    told-broken g.L.Library.none_failed g.L.Library.failed_on c.args.library.now c.call.new.self c.in-Err.reason c.broken.result c.broken.ensures.is c.in-Err.ensures.devices

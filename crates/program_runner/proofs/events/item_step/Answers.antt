@@ -1,25 +1,32 @@
-use Rattle.std.proofs.Common.{length, ap, sym, ◌∙◌, arith}
+use Rattle.std.proofs.Common.{length, ap, sym, ◌∙◌, subst}
 use Rattle.std.specs.Prelude.{slice_get}
 use Rattle.c_tree.specs.Builtins.{signatures}
 use Rattle.c_tree.specs.Steps as steps
 use Rattle.item_deeds.specs.Deeds.{view_of, wants_of, world_of}
+use Rattle.run_library.specs.Devices.{no_call}
+use Rattle.program_runner.specs.Events.{StepsBy}
 use Rattle.program_runner.proofs.events.item_step.Goals as goal
 
-pub library_called-requires : goal.library_called-requires
-library_called-requires g c = omega (arith, c.in-Library.ensures.told.0)
+pub returns-in-Goes-clause-devices : goal.returns-in-Goes-clause-devices
+returns-in-Goes-clause-devices g c = no_call
 
-pub first_values-requires : goal.first_values-requires
-first_values-requires g c = c.in-Library.ensures.told.1
-
-pub returns-in-Calls-clause-called : goal.returns-in-Calls-clause-called
-returns-in-Calls-clause-called g c = (c.in-Calls.ensures.told.0, c.requires.ready, c.in-Calls.ensures.told.1)
+pub returns-in-Calls-clause-devices : goal.returns-in-Calls-clause-devices
+returns-in-Calls-clause-devices g c = no_call
 
 pub returns-in-Library-clause-meaning : goal.returns-in-Library-clause-meaning
-returns-in-Library-clause-meaning g c = λ function own gives.
-    c.in-Library.ensures.meaning function own gives (g.L.Library.units c.args.library.now) (g.L.Library.transfer c.args.library.now)
-    ∙ ap (λ values. steps.library_called (view_of c.in-Library.view) (world_of c.perform.new.run (g.L.Library.units c.args.library.now) (g.L.Library.transfer c.args.library.now)) (wants_of c.in-Library.wants) values (slice_get signatures c.in-Library.number))
-    (sym c.first_values.ensures)
-    ∙ c.library_called.ensures.meaning c.perform.new.buffer
+returns-in-Library-clause-meaning g c = λ function own gives units transfer stood.
+    subst
+    (λ (happens : steps.Happening).
+    StepsBy g.L.Library.ending happens (g.L.Library.stands c.library_called.new.library) c.library_called.new.run c.perform.new.buffer c.library_called.result)
+    (sym (c.in-Library.ensures.meaning function own gives units transfer
+    ∙ ap (λ values. steps.library_called (view_of c.in-Library.view) (world_of c.perform.new.run units transfer) (wants_of c.in-Library.wants) values (slice_get signatures c.in-Library.number)) (sym c.first_values.ensures)))
+    (c.library_called.ensures.meaning units transfer c.perform.new.buffer stood)
 
 pub returns-in-Library-clause-called : goal.returns-in-Library-clause-called
 returns-in-Library-clause-called g c = c.library_called.ensures.called c.args.view.position (length c.perform.new.buffer)
+
+pub returns-in-Answers-clause-devices : goal.returns-in-Answers-clause-devices
+returns-in-Answers-clause-devices g c = no_call
+
+pub returns-in-Breaks-clause-devices : goal.returns-in-Breaks-clause-devices
+returns-in-Breaks-clause-devices g c = no_call

@@ -4,7 +4,7 @@ use Rattle.c_tree.specs.Steps as steps
 use Rattle.c_tree.specs.Steps.{sorts, language}
 use Rattle.linked_programs.specs.LinkedPrograms.{function_of}
 use Rattle.item_deeds.specs.Deeds.{view_of, world_of}
-use Rattle.program_runner.specs.declared.library.RunBreak.TheVariants.{Fault}
+use Rattle.run_library.specs.declared.library.RunBreak.TheVariants.{Fault}
 use Rattle.program_runner.specs.Outcomes.{Reaches}
 use Rattle.program_runner.specs.Stacks.{frames_of, waiting}
 use Rattle.program_runner.proofs.RunLaws.{broken-so, refused-first}

@@ -3,7 +3,7 @@ use Rattle.c_tree.specs.simulation.Machine as machine
 use Rattle.c_tree.specs.declared.outcome.CFault.TheVariants.{Active}
 use Rattle.c_tree.specs.Steps.{language}
 use Rattle.item_deeds.specs.Deeds.{view_of}
-use Rattle.program_runner.specs.declared.library.RunBreak.TheVariants.{Fault}
+use Rattle.run_library.specs.declared.library.RunBreak.TheVariants.{Fault}
 use Rattle.program_runner.specs.Stacks.{frames_of, waiting}
 use Rattle.program_runner.proofs.RunLaws.{broken-so, enters-busy, enters-idle}
 use Rattle.program_runner.proofs.machine.entered.Goals as goal
