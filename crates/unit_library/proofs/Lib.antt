@@ -1,0 +1,10 @@
+pub mod ArgumentLaws
+pub mod SameCalls
+pub mod ObjectLaws
+pub mod TextForms
+pub mod StopLaws
+pub mod PlaceLaws
+pub mod UnitLaws
+pub mod TransferLaws
+pub mod ItemLaws
+pub mod ReplyLaws

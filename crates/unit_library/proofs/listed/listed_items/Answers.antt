@@ -1,0 +1,11 @@
+use Rattle.std.proofs.Common.{None, refl}
+use Rattle.unit_library.specs.Arguments.{argument}
+use Rattle.unit_library.proofs.SameCalls.{held-as}
+use Rattle.unit_library.proofs.ItemLaws.{items-outside}
+use Rattle.unit_library.proofs.listed.listed_items.Goals as goal
+
+pub returns-in-None : goal.returns-in-None
+returns-in-None g c =
+    held-as _ _ c.args.run.now c.args.run.now c.args.transfer.now None _ _ c.broken.result c.in-None.is
+    (items-outside _ c.args.run.now (argument c.args.values.now 0) (argument c.args.values.now 1) (argument c.args.values.now 2) (argument c.args.values.now 3) _ c.broken.result refl
+    c.broken.ensures)

@@ -1,0 +1,40 @@
+-- The transfer in progress, and the units and the transfer for which a library stands (ANSI X3.9-1978, 12.8).
+use Rattle.std.specs.Prelude.{◌≡◌, List, Option, Some, None, Result, Ok, Err}
+use Rattle.c_tree.specs.run_state.Units.{Units}
+use Rattle.c_tree.specs.World.{Transfer}
+use Rattle.f2c_outside.specs.Table.{Row}
+use Rattle.f2c_outside.specs.Meaning.{Tells, units_of}
+use Rattle.unit_answers.specs.declared.ends.CallEnd.{CallEnd}
+use Rattle.unit_answers.specs.declared.ends.CallEnd.TheVariants.{Fault, Ended, Device}
+use Rattle.listed_output.specs.declared.calls.ListedOutput.{ListedOutput}
+use Rattle.listed_output.specs.declared.calls.Start.{Start}
+use Rattle.listed_output.specs.declared.calls.Start.TheVariants.{Begins, Answers}
+use Rattle.listed_output.specs.declared.calls.Passage.{Passage}
+use Rattle.listed_output.specs.declared.calls.Passage.TheVariants.{GoesOn, Over}
+use Rattle.listed_output.specs.Transferring.{StandsFor}
+use Rattle.unit_library.specs.declared.transfers.TransferInProgress.{TransferInProgress}
+use Rattle.unit_library.specs.declared.transfers.TransferInProgress.TheVariants as going
+
+-- what is held of a transfer stands for one in progress, or none is in progress
+abbrev pub InProgress : Option TransferInProgress → Option Transfer → Type 0
+InProgress None transfer = transfer ≡ None
+InProgress (Some (going.ListedOutput output)) None = ⊥
+InProgress (Some (going.ListedOutput output)) (Some transfer) = StandsFor output transfer
+
+-- rows whose devices all tell their records, and a transfer, stand for these units and this transfer
+pub record Standing (rows : List Row) (held : Option TransferInProgress) (units : Units) (transfer : Option Transfer) : Type 0 where
+  pub tells : Tells rows
+  pub means : units ≡ units_of rows
+  pub in_progress : InProgress held transfer
+
+abbrev pub behind_start : Result Start CallEnd → Option TransferInProgress
+behind_start (Ok (Begins output)) = Some (going.ListedOutput output)
+behind_start (Ok (Answers number)) = None
+behind_start (Err reason) = None
+
+abbrev pub behind_items : Result Passage CallEnd → ListedOutput → ListedOutput → Option TransferInProgress
+behind_items (Ok GoesOn) before after = Some (going.ListedOutput after)
+behind_items (Ok (Over number)) before after = None
+behind_items (Err (Fault fault)) before after = Some (going.ListedOutput before)
+behind_items (Err (Ended number)) before after = None
+behind_items (Err (Device unit)) before after = None

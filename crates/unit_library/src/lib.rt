@@ -1,0 +1,28 @@
+//! The functions of the library over a table of external units (CSTR 149, appendix on the run time library): texts and numbers, STOP and
+//! the report of a place outside its bounds, OPEN, CLOSE, BACKSPACE, REWIND and ENDFILE, and list-directed output on a unit.
+//!
+//! A call takes no memory. Of the transfers the others cannot begin yet; what their items and their ends answer where none is in progress,
+//! or one of another kind, is answered as it is.
+//!
+//! Each function that changes a unit table has a `requires` that always holds: a function with one is proved whatever devices there are,
+//! and one without where those that its callees may make are among them.
+#![tactic(auto)]
+
+mod arguments;
+mod breaks;
+mod calls;
+mod copies;
+mod endings;
+mod functions;
+mod library;
+mod listed;
+mod numbers;
+mod replies;
+mod statements;
+mod stops;
+mod texts;
+mod transfers;
+
+pub use breaks::LibraryBreak;
+pub use endings::RunEnding;
+pub use library::UnitLibrary;

@@ -1,0 +1,193 @@
+//! The calls of transfers (ANSI X3.9-1978, 12.8 and 13.6.2).
+
+ghost use Rattle.std.specs.Prelude.{◌≡◌, List, []};
+ghost use Rattle.c_tree.specs.Faults.{failing};
+ghost use Rattle.c_tree.specs.Objects.{Object};
+ghost use Rattle.c_tree.specs.Builtins as builtin;
+ghost use Rattle.f2c_outside.specs.Table.{Row};
+ghost use Rattle.f2c_outside.specs.Rows.{rows_of};
+ghost use Rattle.unit_library.specs.Functions.{kind_of};
+ghost use Rattle.unit_library.specs.Arguments.{front};
+ghost use Rattle.unit_library.specs.Calls.{Calls};
+ghost use Rattle.unit_library.specs.Items.{formatted_fault};
+
+use crate::arguments::argument;
+use crate::breaks::LibraryBreak;
+use crate::endings::RunEnding;
+use crate::functions::TransferType;
+use crate::replies::{broken, ended, passed, started};
+use crate::transfers::{TransferInProgress, behind_items, behind_start};
+use c_tree::outcome::{CFault, CValue};
+use control_lists::{count_from, length_from, number_through};
+use f2c_outside::devices::Device;
+use f2c_outside::unit_table::UnitTable;
+use listed_output::{ListedOutput, do_lio, e_wsle, s_wsle};
+use run_bytes::RunBytes;
+use run_library::LibraryReply;
+
+/// The start of list-directed output on a unit, outside every transfer.
+fn begin_listed(
+    values: &[CValue],
+    run: &RunBytes,
+    units: &UnitTable,
+    transfer: &mut Option<TransferInProgress>,
+) -> Result<LibraryReply<RunEnding>, LibraryBreak>
+    requires { transfer.old ≡ None }
+    ensures { Calls (builtin.Begin (kind_of TransferType.ListedOutput)) (front 1 0 values.now) run.now run.now transfer.old transfer.new (rows_of (λ b. (⟦<dyn Device as Device>⟧ b.vtable).device_state b.value) units.now) (rows_of (λ b. (⟦<dyn Device as Device>⟧ b.vtable).device_state b.value) units.now) result }
+{
+    let pointer = argument(values, 0);
+    let start = s_wsle(run, units, pointer);
+    *transfer = behind_start(start);
+    started(start)
+}
+
+/// The start of a transfer outside every other. Those that the library lacks cannot begin.
+fn begin_first(
+    which: TransferType,
+    values: &[CValue],
+    run: &RunBytes,
+    units: &UnitTable,
+    transfer: &mut Option<TransferInProgress>,
+) -> Result<LibraryReply<RunEnding>, LibraryBreak>
+    requires { transfer.old ≡ None }
+    ensures { Calls (builtin.Begin (kind_of which)) (front 1 0 values.now) run.now run.now transfer.old transfer.new (rows_of (λ b. (⟦<dyn Device as Device>⟧ b.vtable).device_state b.value) units.now) (rows_of (λ b. (⟦<dyn Device as Device>⟧ b.vtable).device_state b.value) units.now) result }
+{
+    match which {
+        TransferType::ListedOutput => begin_listed(values, run, units, transfer),
+        _ => Err(LibraryBreak::NotBuilt),
+    }
+}
+
+/// The start of a transfer. In another one it is the fault `Library`.
+pub(crate) fn begin(
+    which: TransferType,
+    values: &[CValue],
+    run: &RunBytes,
+    units: &UnitTable,
+    transfer: &mut Option<TransferInProgress>,
+) -> Result<LibraryReply<RunEnding>, LibraryBreak>
+    requires { Unit {0} }
+    ensures { Calls (builtin.Begin (kind_of which)) (front 1 0 values.now) run.now run.now transfer.old transfer.new (rows_of (λ b. (⟦<dyn Device as Device>⟧ b.vtable).device_state b.value) units.now) (rows_of (λ b. (⟦<dyn Device as Device>⟧ b.vtable).device_state b.value) units.now) result }
+{
+    match *transfer {
+        None => begin_first(which, values, run, units, transfer),
+        Some(_) => broken(CFault::Library),
+    }
+}
+
+/// Items of list-directed output on a unit.
+fn put_listed(
+    values: &[CValue],
+    run: &RunBytes,
+    units: &mut UnitTable,
+    output: ListedOutput,
+    transfer: &mut Option<TransferInProgress>,
+) -> Result<LibraryReply<RunEnding>, LibraryBreak>
+    requires { transfer.old ≡ Some (TransferInProgress.ListedOutput output) }
+    ensures { Calls builtin.do_lio (front 4 0 values.now) run.now run.now transfer.old transfer.new (rows_of (λ b. (⟦<dyn Device as Device>⟧ b.vtable).device_state b.value) units.old) (rows_of (λ b. (⟦<dyn Device as Device>⟧ b.vtable).device_state b.value) units.new) result }
+{
+    let kind = argument(values, 0);
+    let count = argument(values, 1);
+    let first = argument(values, 2);
+    let size = argument(values, 3);
+    let mut going = output;
+    let passage = do_lio(&mut going, units, run, kind, count, first, size);
+    *transfer = behind_items(passage, output, going);
+    passed(passage)
+}
+
+/// List-directed items. Outside every transfer they are the fault `Library`.
+pub(crate) fn listed_items(
+    values: &[CValue],
+    run: &RunBytes,
+    units: &mut UnitTable,
+    transfer: &mut Option<TransferInProgress>,
+) -> Result<LibraryReply<RunEnding>, LibraryBreak>
+    requires { Unit {0} }
+    ensures { Calls builtin.do_lio (front 4 0 values.now) run.now run.now transfer.old transfer.new (rows_of (λ b. (⟦<dyn Device as Device>⟧ b.vtable).device_state b.value) units.old) (rows_of (λ b. (⟦<dyn Device as Device>⟧ b.vtable).device_state b.value) units.new) result }
+{
+    match *transfer {
+        None => broken(CFault::Library),
+        Some(TransferInProgress::ListedOutput(output)) => {
+            put_listed(values, run, units, output, transfer)
+        }
+    }
+}
+
+/// The fault of items under a format in a transfer without one: that of their count or their length, else `Library`.
+fn formatted_fault(run: &RunBytes, count: CValue, size: CValue) -> CFault
+    ensures { formatted_fault run.now count size ≡ failing result }
+{
+    match number_through(run, count) {
+        Ok(number) => match count_from(number) {
+            Ok(_) => match length_from(size) {
+                Ok(_) => CFault::Library,
+                Err(fault) => fault,
+            },
+            Err(fault) => fault,
+        },
+        Err(fault) => fault,
+    }
+}
+
+/// Items under a format, in whose place there is a fault while no formatted transfer can begin.
+pub(crate) fn formatted_items(
+    values: &[CValue],
+    run: &RunBytes,
+    transfer: Option<TransferInProgress>,
+) -> Result<LibraryReply<RunEnding>, LibraryBreak>
+    ensures { (rows : List Row) → Calls builtin.do_fio (front 3 0 values.now) run.now run.now transfer transfer rows rows result }
+{
+    let count = argument(values, 0);
+    let size = argument(values, 2);
+    match transfer {
+        None => broken(CFault::Library),
+        Some(_) => broken(formatted_fault(run, count, size)),
+    }
+}
+
+/// The end of list-directed output on a unit, in one.
+fn finish_listed(
+    units: &mut UnitTable,
+    output: ListedOutput,
+    transfer: &mut Option<TransferInProgress>,
+) -> Result<LibraryReply<RunEnding>, LibraryBreak>
+    requires { transfer.old ≡ Some (TransferInProgress.ListedOutput output) }
+    ensures { (objects : List Object) → Calls (builtin.Finish (kind_of TransferType.ListedOutput)) [] objects objects transfer.old transfer.new (rows_of (λ b. (⟦<dyn Device as Device>⟧ b.vtable).device_state b.value) units.old) (rows_of (λ b. (⟦<dyn Device as Device>⟧ b.vtable).device_state b.value) units.new) result }
+{
+    *transfer = None;
+    ended(e_wsle(output, units))
+}
+
+/// The end of a transfer in list-directed output on a unit. That of another kind is the fault `Library`.
+fn finish_in_listed(
+    which: TransferType,
+    units: &mut UnitTable,
+    output: ListedOutput,
+    transfer: &mut Option<TransferInProgress>,
+) -> Result<LibraryReply<RunEnding>, LibraryBreak>
+    requires { transfer.old ≡ Some (TransferInProgress.ListedOutput output) }
+    ensures { (objects : List Object) → Calls (builtin.Finish (kind_of which)) [] objects objects transfer.old transfer.new (rows_of (λ b. (⟦<dyn Device as Device>⟧ b.vtable).device_state b.value) units.old) (rows_of (λ b. (⟦<dyn Device as Device>⟧ b.vtable).device_state b.value) units.new) result }
+{
+    match which {
+        TransferType::ListedOutput => finish_listed(units, output, transfer),
+        _ => broken(CFault::Library),
+    }
+}
+
+/// The end of a transfer. Where none is in progress it is the fault `Library`.
+pub(crate) fn finish(
+    which: TransferType,
+    units: &mut UnitTable,
+    transfer: &mut Option<TransferInProgress>,
+) -> Result<LibraryReply<RunEnding>, LibraryBreak>
+    requires { Unit {0} }
+    ensures { (objects : List Object) → Calls (builtin.Finish (kind_of which)) [] objects objects transfer.old transfer.new (rows_of (λ b. (⟦<dyn Device as Device>⟧ b.vtable).device_state b.value) units.old) (rows_of (λ b. (⟦<dyn Device as Device>⟧ b.vtable).device_state b.value) units.new) result }
+{
+    match *transfer {
+        None => broken(CFault::Library),
+        Some(TransferInProgress::ListedOutput(output)) => {
+            finish_in_listed(which, units, output, transfer)
+        }
+    }
+}
