@@ -7,7 +7,7 @@ use Rattle.c_tree.specs.declared.outcome.CFault.{CFault}
 use Rattle.c_tree.specs.declared.outcome.CFault.TheVariants as fault
 use Rattle.c_tree.specs.Faults.{Break, Faults, Or, after, failing}
 use Rattle.c_tree.specs.Objects.{Object}
-use Rattle.c_tree.specs.World.{World, Layout, Listed, Transfer, Reply}
+use Rattle.c_tree.specs.World.{Layout, Transfer, Reply}
 use Rattle.c_tree.specs.Builtins.{do_lio, do_fio}
 use Rattle.c_tree.specs.Library.{library}
 use Rattle.c_tree.specs.LibraryArguments.{number_through, count_from, length_from}

@@ -1,5 +1,5 @@
 -- A call by the number of its function (CSTR 149, appendix on the run time library).
-use Rattle.std.proofs.Common.{◌≡◌, ℕ, true, false, List, Option, Some, None, refl, ap, sym, ◌∙◌}
+use Rattle.std.proofs.Common.{◌≡◌, ℕ, true, false, List, Option, Some, None, ap, sym, ◌∙◌}
 use Rattle.std.specs.Prelude.{slice_get, option_map, not, Ok, Err}
 use Rattle.c_tree.specs.run_state.Units.{Units}
 use Rattle.c_tree.specs.declared.outcome.CValue.{CValue}
@@ -12,10 +12,9 @@ use Rattle.item_deeds.specs.Deeds.{world_of}
 use Rattle.f2c_outside.specs.Table.{Row}
 use Rattle.unit_library.specs.declared.breaks.LibraryBreak.TheVariants as broken
 use Rattle.run_library.specs.Signatures.{IsCall}
-use Rattle.run_library.specs.Replies.{StandsIn}
 use Rattle.unit_library.specs.declared.functions.LibraryFunction.{LibraryFunction}
 use Rattle.unit_library.specs.declared.transfers.TransferInProgress.{TransferInProgress}
-use Rattle.unit_library.specs.Functions.{form_of, listed_form, builtin_of, argument_count, is_built, lacking, is_lacked}
+use Rattle.unit_library.specs.Functions.{form_of, listed_form, builtin_of, argument_count, is_built, lacking}
 use Rattle.unit_library.specs.Arguments.{front}
 use Rattle.unit_library.specs.Numbered.{AnswersNumber, LacksNumber}
 use Rattle.unit_library.specs.Transfers.{Standing}

@@ -1,25 +1,22 @@
 -- A call of STOP ends the run with its text (ANSI X3.9-1978, 11.12).
 use Rattle.std.proofs.Common.{◌≡◌, ℕ, true, length, List, [], ◌∷◌, Option, refl, ap, sym, ◌∙◌, arith, eqb-true}
-use Rattle.std.specs.Prelude.{◌==◌, Result, Ok, Err}
+use Rattle.std.specs.Prelude.{◌==◌, Ok, Err}
 use Rattle.c_tree.specs.run_state.Units.{Units}
 use Rattle.c_tree.specs.declared.outcome.CValue.{CValue}
-use Rattle.c_tree.specs.declared.outcome.CFault.{CFault}
-use Rattle.c_tree.specs.Faults.{Or, after, failing}
+use Rattle.c_tree.specs.Faults.{Or, after}
 use Rattle.c_tree.specs.Objects.{Object}
-use Rattle.c_tree.specs.World.{World, Transfer, Reply, Stops, Plain}
+use Rattle.c_tree.specs.World.{World, Transfer, Stops, Plain}
 use Rattle.c_tree.specs.Builtins.{s_stop}
 use Rattle.c_tree.specs.Library.{library, stopped, stops}
 use Rattle.c_tree.specs.LibraryArguments.{length_from, text_at}
 use Rattle.item_deeds.proofs.FormLaws.{same-objects}
 use Rattle.f2c_outside.specs.Table.{Row}
 use Rattle.unit_answers.proofs.FailureLaws.{none-failed}
-use Rattle.library_calls.specs.Answers.{Answers, world_of}
-use Rattle.library_calls.specs.Arguments.{ending_text}
+use Rattle.library_calls.specs.Answers.{world_of}
 use Rattle.run_library.specs.declared.library.LibraryReply.TheVariants as reply
 use Rattle.unit_library.specs.declared.endings.RunEnding.TheVariants as ended
 use Rattle.unit_library.specs.declared.transfers.TransferInProgress.{TransferInProgress}
 use Rattle.unit_library.specs.Endings.{text_ending, ending_of}
-use Rattle.unit_library.specs.Replies.{CallResult, broken_by}
 use Rattle.unit_library.specs.Calls.{Calls}
 use Rattle.unit_library.proofs.SameCalls.{arguments-same}
 

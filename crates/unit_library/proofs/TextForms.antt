@@ -8,9 +8,9 @@ use Rattle.c_tree.specs.declared.outcome.CValue.TheVariants.{Number, Pointer, Nu
 use Rattle.c_tree.specs.declared.outcome.CFault.{CFault}
 use Rattle.c_tree.specs.declared.outcome.CFault.TheVariants.{Outside}
 use Rattle.c_tree.specs.Faults.{Or, after, failing}
-use Rattle.c_tree.specs.Objects.{Object, Bytes, Values, overlaid, with_bytes}
+use Rattle.c_tree.specs.Objects.{Object, Bytes, Values, overlaid}
 use Rattle.c_tree.specs.Declarations.{unset}
-use Rattle.c_tree.specs.World.{World, Reply, Gives, Void, Stops}
+use Rattle.c_tree.specs.World.{World, Reply, Void}
 use Rattle.c_tree.specs.Builtins.{s_copy, s_cat}
 use Rattle.c_tree.specs.Library.{library}
 use Rattle.c_tree.specs.LibraryArguments.{number_through, count_from, length_from, text_at, with_text, store_text, text_stored, fitted}

@@ -1,13 +1,12 @@
 -- Starts and ends of transfers (ANSI X3.9-1978, 12.8).
-use Rattle.std.proofs.Common.{◌≡◌, ℤ, Bool, true, false, ◌&&◌, if◌then◌else◌, List, [], ◌∷◌, Option, Some, None, refl, ap, ◌∙◌, subst, sym}
+use Rattle.std.proofs.Common.{◌≡◌, ℤ, Bool, false, ◌&&◌, if◌then◌else◌, List, [], ◌∷◌, Option, Some, None, refl, ap, ◌∙◌, subst, sym}
 use Rattle.std.specs.Prelude.{Result, Ok, Err}
 use Rattle.c_tree.specs.run_state.Units.{Units}
 use Rattle.c_tree.specs.declared.outcome.CValue.{CValue}
-use Rattle.c_tree.specs.declared.outcome.CFault.{CFault}
 use Rattle.c_tree.specs.declared.outcome.CFault.TheVariants as fault
-use Rattle.c_tree.specs.Faults.{Or, failing}
+use Rattle.c_tree.specs.Faults.{failing}
 use Rattle.c_tree.specs.Objects.{Object}
-use Rattle.c_tree.specs.World.{World, Direction, Output, Layout, Listed, Medium, Transfer, Reply}
+use Rattle.c_tree.specs.World.{World, Direction, Output, Layout, Listed, Medium, Transfer}
 use Rattle.c_tree.specs.World as media
 use Rattle.c_tree.specs.Builtins.{Builtin, Begin, Finish, TransferKind}
 use Rattle.c_tree.specs.Library.{library}

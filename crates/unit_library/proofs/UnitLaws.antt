@@ -19,7 +19,6 @@ use Rattle.unit_answers.specs.declared.ends.CallEnd.{CallEnd}
 use Rattle.unit_answers.specs.declared.ends.CallEnd.TheVariants.{Fault, Ended, Device}
 use Rattle.unit_answers.proofs.FailureLaws.{none-failed}
 use Rattle.unit_statements.specs.Statements.{AnswersStatement}
-use Rattle.run_library.specs.Replies.{StandsIn}
 use Rattle.unit_library.specs.declared.functions.UnitStatement.{UnitStatement}
 use Rattle.unit_library.specs.declared.functions.UnitStatement.TheVariants as stating
 use Rattle.unit_library.specs.declared.transfers.TransferInProgress.{TransferInProgress}

@@ -1,6 +1,6 @@
 -- What a call of a function of the library does to the objects, the transfer in progress and the rows of the units, as the meaning of
 -- C texts has it (CSTR 149, appendix on the run time library).
-use Rattle.std.specs.Prelude.{◌≡◌, ℤ, false, List, Option, Result, Ok, Err}
+use Rattle.std.specs.Prelude.{◌≡◌, false, List, Option, Ok, Err}
 use Rattle.c_tree.specs.run_state.Units.{Units}
 use Rattle.c_tree.specs.declared.outcome.CValue.{CValue}
 use Rattle.c_tree.specs.Objects.{Object}

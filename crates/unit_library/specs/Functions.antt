@@ -1,5 +1,5 @@
 -- The functions of the library by their numbers, in the table of the code (CSTR 149, appendix on the run time library).
-use Rattle.std.specs.Prelude.{ℕ, Bool, true, false, not, List, length, Option, Some, None, slice_get}
+use Rattle.std.specs.Prelude.{ℕ, Bool, true, false, not, length, Option, Some, None, slice_get}
 use Rattle.c_tree.specs.World.{Direction, Output, Input}
 use Rattle.c_tree.specs.Builtins as builtins
 use Rattle.c_tree.specs.Builtins.{Builtin, Begin, Signature, signatures, Style, ByFormat, ByList, Site, OnUnit, InMemory, TransferKind, transfer_kind}

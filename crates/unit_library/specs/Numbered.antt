@@ -17,10 +17,10 @@ use Rattle.unit_library.specs.Replies.{CallResult}
 abbrev pub AnswersNumber : ℕ → List CValue → World → (Units → Option Transfer → Type 0) → List Object → CallResult → Type 0
 AnswersNumber number values before stands objects (Ok given) =
     StandsIn stands objects (λ behind. (signature : Signature) → slice_get signatures number ≡ Some signature →
-        library signature.builtin before values ≡ Ok (reply_of (ending_of behind.objects) behind given))
+    library signature.builtin before values ≡ Ok (reply_of (ending_of behind.objects) behind given))
 AnswersNumber number values before stands objects (Err (broken.Break why)) =
     StandsIn stands objects (λ behind. (signature : Signature) → slice_get signatures number ≡ Some signature →
-        library signature.builtin before values ≡ Err (break_of why))
+    library signature.builtin before values ≡ Err (break_of why))
 AnswersNumber number values before stands objects (Err (broken.Device unit)) = Unit {0}
 AnswersNumber number values before stands objects (Err broken.NotBuilt) = Unit {0}
 

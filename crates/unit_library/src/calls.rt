@@ -7,8 +7,8 @@ ghost use Rattle.unit_library.specs.Functions.{builtin_of, argument_count};
 ghost use Rattle.unit_library.specs.Arguments.{front};
 ghost use Rattle.unit_library.specs.Calls.{Calls};
 
-use crate::copies::{assign, join};
 use crate::breaks::LibraryBreak;
+use crate::copies::{assign, join};
 use crate::endings::RunEnding;
 use crate::functions::LibraryFunction;
 use crate::listed::{begin, finish, formatted_items, listed_items};

@@ -59,7 +59,9 @@ pub(crate) fn ended(answer: Result<i32, CallEnd>) -> Result<LibraryReply<RunEndi
 }
 
 /// The start of a transfer.
-pub(crate) fn started(start: Result<Start, CallEnd>) -> Result<LibraryReply<RunEnding>, LibraryBreak>
+pub(crate) fn started(
+    start: Result<Start, CallEnd>,
+) -> Result<LibraryReply<RunEnding>, LibraryBreak>
     ensures { result ≡ started_by start }
 {
     match start {

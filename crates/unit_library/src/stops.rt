@@ -17,7 +17,10 @@ use run_bytes::RunBytes;
 use run_library::LibraryReply;
 
 /// A call of STOP.
-pub(crate) fn stop(values: &[CValue], run: &RunBytes) -> Result<LibraryReply<RunEnding>, LibraryBreak>
+pub(crate) fn stop(
+    values: &[CValue],
+    run: &RunBytes,
+) -> Result<LibraryReply<RunEnding>, LibraryBreak>
     ensures { (held : Option TransferInProgress) → (rows : List Row) → Calls builtin.s_stop (front 2 0 values.now) run.now run.now held held rows rows result }
 {
     let pointer = argument(values, 0);
@@ -35,7 +38,10 @@ pub(crate) fn stop(values: &[CValue], run: &RunBytes) -> Result<LibraryReply<Run
 }
 
 /// A call at a place outside its declared bounds.
-pub(crate) fn range(values: &[CValue], run: &RunBytes) -> Result<LibraryReply<RunEnding>, LibraryBreak>
+pub(crate) fn range(
+    values: &[CValue],
+    run: &RunBytes,
+) -> Result<LibraryReply<RunEnding>, LibraryBreak>
     ensures { (held : Option TransferInProgress) → (rows : List Row) → Calls builtin.s_rnge (front 4 0 values.now) run.now run.now held held rows rows result }
 {
     let variable = argument(values, 0);

@@ -1,4 +1,3 @@
-use Rattle.std.proofs.Common.{[], ◌∷◌}
 use Rattle.library_calls.specs.Reports.{report_shown}
 use Rattle.unit_library.proofs.ArgumentLaws.{four-given}
 use Rattle.unit_library.proofs.SameCalls.{fault-call}

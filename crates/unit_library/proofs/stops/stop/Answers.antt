@@ -1,4 +1,3 @@
-use Rattle.std.proofs.Common.{[], ◌∷◌}
 use Rattle.unit_library.proofs.ArgumentLaws.{two-given}
 use Rattle.unit_library.proofs.SameCalls.{fault-call}
 use Rattle.unit_library.proofs.StopLaws.{stops-with, stops-plainly, empty-text}
