@@ -5,7 +5,7 @@ use Rattle.c_tree.specs.run_state.Units.{Units}
 use Rattle.c_tree.specs.declared.outcome.CValue.{CValue}
 use Rattle.c_tree.specs.Faults.{Or, after}
 use Rattle.c_tree.specs.Objects.{Object}
-use Rattle.c_tree.specs.World.{World, Transfer, Stops, Plain}
+use Rattle.c_tree.specs.World.{World, Transfer, Stops}
 use Rattle.c_tree.specs.Builtins.{s_stop}
 use Rattle.c_tree.specs.Library.{library, stopped, stops}
 use Rattle.c_tree.specs.LibraryArguments.{length_from, text_at}
