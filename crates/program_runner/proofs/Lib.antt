@@ -3,5 +3,6 @@ pub mod SignatureLaws
 pub mod StepLaws
 pub mod StackLaws
 pub mod DeviceLaws
+pub mod LackLaws
 pub mod CallLaws
 pub mod RunLaws

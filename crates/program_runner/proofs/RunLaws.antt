@@ -138,16 +138,17 @@ stays-up-to program state last count steps stays is few =
     ap (λ n. run language program n state) (sym all) ∙ stays-for program state last count (steps - count) stays is
 
 -- a run that is over stays so
-pub over-for-good : {E : Type 0} (ending : E → Ending) (program : Program sorts) (state : State Ending sorts) (count steps : ℕ) (stack : CallStack) (world : World) (how : RunOutcome E) →
+pub over-for-good : {E : Type 0} (ending : List Object → E → Ending) (program : Program sorts) (state : State Ending sorts) (count steps : ℕ) (stack : CallStack) (world : World) (how : RunOutcome E) →
     Reaches ending (run language program count state) stack world how → ((how ≡ outcome.Running) → ⊥) → count ≤ steps → Reaches ending (run language program steps state) stack world how
 over-for-good ending program state count steps stack world outcome.Running reaches not few = absurd (not refl)
 over-for-good ending program state count steps stack world outcome.Returned reaches not few =
     stays-up-to program state (Over Plain [] world) count steps (over-stays program Plain [] world) reaches few
 over-for-good ending program state count steps stack world (outcome.Stopped stop) reaches not few =
-    (reaches.0, stays-up-to program state (Over (ending stop) reaches.0 world) count steps (over-stays program (ending stop) reaches.0 world) reaches.1 few)
+    (reaches.0, stays-up-to program state (Over (ending world.objects stop) reaches.0 world) count steps (over-stays program (ending world.objects stop) reaches.0 world) reaches.1 few)
 over-for-good ending program state count steps stack world (outcome.Broken why number) reaches not few =
     (reaches.0, stays-up-to program state (Broken (break_of why) (number ∷ reaches.0)) count steps (broken-stays program (break_of why) (number ∷ reaches.0)) reaches.1 few)
 over-for-good ending program state count steps stack world (outcome.Failed unit) reaches not few = reaches
+over-for-good ending program state count steps stack world (outcome.NotBuilt number) reaches not few = reaches
 
 -- EVENTS OF THE ACTIVE FUNCTION
 abbrev state_with : LinkedProgram → ℕ → View → Frames → World → State Ending sorts
@@ -182,13 +183,14 @@ pub breaks-by : (program : Program sorts) (number : ℕ) (frames : Frames) (why 
 unfolding machine_opened
 breaks-by program number frames why = refl
 
--- RUNS IN WHICH NO DEVICE FAILED
+-- RUNS IN WHICH NO DEVICE FAILED AND NO FUNCTION LACKED
 pub unless : {E : Type 0} (how : RunOutcome E) (Holds : Type 0) → Holds → UnlessFailed how Holds
 unless outcome.Running Holds is = is
 unless outcome.Returned Holds is = is
 unless (outcome.Stopped ending) Holds is = is
 unless (outcome.Broken why number) Holds is = is
 unless (outcome.Failed unit) Holds is = tt
+unless (outcome.NotBuilt number) Holds is = tt
 
 pub unless-so : {E : Type 0} (how : RunOutcome E) (First Second : Type 0) → (First → Second) → UnlessFailed how First → UnlessFailed how Second
 unless-so outcome.Running First Second makes is = makes is
@@ -196,9 +198,10 @@ unless-so outcome.Returned First Second makes is = makes is
 unless-so (outcome.Stopped ending) First Second makes is = makes is
 unless-so (outcome.Broken why number) First Second makes is = makes is
 unless-so (outcome.Failed unit) First Second makes is = tt
+unless-so (outcome.NotBuilt number) First Second makes is = tt
 
 -- the next step of a run, by what the active function does
-pub next-so : {E : Type 0} (ending : E → Ending) (program : LinkedProgram) (own : ℕ) (function : LinkedFunction) (old new : CallStack) (before : World) (stands : Units → Option Transfer → Type 0)
+pub next-so : {E : Type 0} (ending : List Object → E → Ending) (program : LinkedProgram) (own : ℕ) (function : LinkedFunction) (old new : CallStack) (before : World) (stands : Units → Option Transfer → Type 0)
     (middle objects : List Object) (values : List CValue) (event : StepEvent E) (how : RunOutcome E) → Some function ≡ slice_get program.functions old.top.number → own ≡ length program.functions →
     StandsIn stands middle (λ after. step (function_of own function) (view_of old.top.view) before ≡ event_of ending after values event) →
     ((units : Units) → (transfer : Option Transfer) → Reaches ending (act language (machine (program_of program)) (event_of ending (world_of middle units transfer) values event) old.top.number (frames_of (waiting old))) new (world_of objects units transfer) how) →
@@ -241,7 +244,7 @@ unfolding machine_opened
 answers-refused program number waits top later world given why is goes = answers-by program number waits top later world given (Refused why) is goes
 
 -- CALLS OF THE ACTIVE FUNCTION
-pub broken-so : {E : Type 0} (ending : E → Ending) (state : State Ending sorts) (stack : CallStack) (world : World) (why : RunBreak) (number : ℕ) (callers : List ℕ) (result : RunOutcome E) →
+pub broken-so : {E : Type 0} (ending : List Object → E → Ending) (state : State Ending sorts) (stack : CallStack) (world : World) (why : RunBreak) (number : ℕ) (callers : List ℕ) (result : RunOutcome E) →
     result ≡ outcome.Broken why number → state ≡ Broken (break_of why) (number ∷ callers) → Reaches ending state stack world result
 broken-so ending state stack world why number callers result is broken = subst (Reaches ending state stack world) (sym is) (callers, broken)
 
@@ -352,7 +355,7 @@ goes-further : (program : Program sorts) (count : ℕ) (first state after : Stat
     run language program (count + 1) first ≡ after
 goes-further program count first state after reached goes = one-run program count first ∙ ap (next language program) reached ∙ goes
 
-over-after : {E : Type 0} (ending : E → Ending) (program : Program sorts) (first state : State Ending sorts) (count steps : ℕ) (stack : CallStack) (world : World) (how : RunOutcome E) →
+over-after : {E : Type 0} (ending : List Object → E → Ending) (program : Program sorts) (first state : State Ending sorts) (count steps : ℕ) (stack : CallStack) (world : World) (how : RunOutcome E) →
     run language program count first ≡ state → Reaches ending (next language program state) stack world how → ((how ≡ outcome.Running) → ⊥) → count < steps →
     Reaches ending (run language program steps first) stack world how
 over-after ending program first state count steps stack world how reached reaches not few =
@@ -374,7 +377,7 @@ goes-further-by program count first stack new stands stood old objects reached g
       holds = goes-further program count first (state_of stack (world_of old reached.units reached.transfer)) (state_of new (world_of objects onward.units onward.transfer)) reached.holds onward.holds;
     }
 
-pub over-by : {E : Type 0} (ending : E → Ending) (program : Program sorts) (count steps : ℕ) (first : State Ending sorts) (stack new : CallStack) (stands stood : Units → Option Transfer → Type 0)
+pub over-by : {E : Type 0} (ending : List Object → E → Ending) (program : Program sorts) (count steps : ℕ) (first : State Ending sorts) (stack new : CallStack) (stands stood : Units → Option Transfer → Type 0)
     (old objects : List Object) (how : RunOutcome E) → StandsIn stands old (λ after. run language program count first ≡ state_of stack after) →
     ((units : Units) → (transfer : Option Transfer) → stands units transfer →
     UnlessFailed how (StandsIn stood objects (λ after. Reaches ending (next language program (state_of stack (world_of old units transfer))) new after how))) →
@@ -390,12 +393,13 @@ over-by ending program count steps first stack new stands stood old objects how 
     })
     (goes reached.units reached.transfer reached.stood)
 
-pub stands-so : {E : Type 0} (ending : E → Ending) (state : State Ending sorts) (stack : CallStack) (world : World) (how : RunOutcome E) → Reaches ending state stack world how → Stands ending state world how
+pub stands-so : {E : Type 0} (ending : List Object → E → Ending) (state : State Ending sorts) (stack : CallStack) (world : World) (how : RunOutcome E) → Reaches ending state stack world how → Stands ending state world how
 stands-so ending state stack world outcome.Running reaches = (stack.top.number, view_of stack.top.view, frames_of (waiting stack), reaches)
 stands-so ending state stack world outcome.Returned reaches = reaches
 stands-so ending state stack world (outcome.Stopped how) reaches = reaches
 stands-so ending state stack world (outcome.Broken why number) reaches = reaches
 stands-so ending state stack world (outcome.Failed unit) reaches = reaches
+stands-so ending state stack world (outcome.NotBuilt number) reaches = reaches
 
 broken-for-good : (program : Program sorts) (first : State Ending sorts) (steps : ℕ) (why : Break) → first ≡ Broken why [] → run language program steps first ≡ Broken why []
 broken-for-good program first steps why is =
@@ -409,7 +413,7 @@ run-from program units steps objects transfer are none =
     ap (λ objects. run language (machine program) steps (begun language (machine program) (main_number program) [] (world_of objects units None))) (sym are)
     ∙ ap (λ transfer. run language (machine program) steps (begun language (machine program) (main_number program) [] (world_of objects units transfer))) (sym none)
 
-whole-run : {E : Type 0} (ending : E → Ending) (program : linking.Program) (units : Units) (steps : ℕ) (old new : List Object) (transfer : Option Transfer) (stack after : CallStack) (last : World) (how : RunOutcome E) →
+whole-run : {E : Type 0} (ending : List Object → E → Ending) (program : linking.Program) (units : Units) (steps : ℕ) (old new : List Object) (transfer : Option Transfer) (stack after : CallStack) (last : World) (how : RunOutcome E) →
     old ≡ program.objects → transfer ≡ None →
     begun language (machine program) (main_number program) [] (world_of old units transfer) ≡ state_of stack (world_of new units transfer) →
     Reaches ending (run language (machine program) steps (state_of stack (world_of new units transfer))) after last how → Stands ending (run_of program units steps) last how
@@ -418,7 +422,7 @@ whole-run ending program units steps old new transfer stack after last how are n
     (sym (run-from program units steps old transfer are none ∙ ap (run language (machine program) steps) begins))
     (stands-so ending (run language (machine program) steps (state_of stack (world_of new units transfer))) after last how reaches)
 
-pub whole-run-by : {E : Type 0} (ending : E → Ending) (program : linking.Program) (units : Units) (steps : ℕ) (old middle objects : List Object) (stack new : CallStack) (stood : Units → Option Transfer → Type 0)
+pub whole-run-by : {E : Type 0} (ending : List Object → E → Ending) (program : linking.Program) (units : Units) (steps : ℕ) (old middle objects : List Object) (stack new : CallStack) (stood : Units → Option Transfer → Type 0)
     (how : RunOutcome E) → old ≡ program.objects →
     begun language (machine program) (main_number program) [] (world_of old units None) ≡ state_of stack (world_of middle units None) →
     UnlessFailed how (StandsIn stood objects (λ after. Reaches ending (run language (machine program) steps (state_of stack (world_of middle units None))) new after how)) →

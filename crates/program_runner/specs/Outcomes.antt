@@ -1,5 +1,5 @@
 -- How a run stands, as the machine of C texts has it (C89, 3.6.6.4).
-use Rattle.std.specs.Prelude.{◌≡◌, ℕ, ℤ, List, [], ◌∷◌, Some, Result, Ok, Err, slice_get}
+use Rattle.std.specs.Prelude.{◌≡◌, ℕ, ℤ, Bool, true, List, [], ◌∷◌, Some, Result, Ok, Err, slice_get}
 use Rattle.c_tree.specs.simulation.Machine as machine
 use Rattle.c_tree.specs.simulation.Machine.{State, Runs, Over}
 use Rattle.c_tree.specs.run_state.Endings.{Ending, Plain}
@@ -28,20 +28,21 @@ abbrev pub HasArgumentRoom : LinkedProgram → ℕ → Type 0
 HasArgumentRoom program room = (number : ℕ) → (function : LinkedFunction) → slice_get program.functions number ≡ Some function → HasRoom room function.code
 
 -- a run that is over: at the end of the main program, by the library, or where it cannot go on, in a function
-abbrev pub Leaves : {E : Type 0} → (E → Ending) → State Ending sorts → World → RunOutcome E → Type 0
+abbrev pub Leaves : {E : Type 0} → (List Object → E → Ending) → State Ending sorts → World → RunOutcome E → Type 0
 Leaves ending state world outcome.Running = ⊥
 Leaves ending state world outcome.Returned = state ≡ Over Plain [] world
-Leaves ending state world (outcome.Stopped how) = (frames : Frames) × (state ≡ Over (ending how) frames world)
+Leaves ending state world (outcome.Stopped how) = (frames : Frames) × (state ≡ Over (ending world.objects how) frames world)
 Leaves ending state world (outcome.Broken why number) = (callers : List ℕ) × (state ≡ machine.Broken (break_of why) (number ∷ callers))
 Leaves ending state world (outcome.Failed unit) = ⊥
+Leaves ending state world (outcome.NotBuilt number) = ⊥
 
 -- a run that goes on with these active functions, or is over
-abbrev pub Reaches : {E : Type 0} → (E → Ending) → State Ending sorts → CallStack → World → RunOutcome E → Type 0
+abbrev pub Reaches : {E : Type 0} → (List Object → E → Ending) → State Ending sorts → CallStack → World → RunOutcome E → Type 0
 Reaches ending state stack world outcome.Running = state ≡ state_of stack world
 Reaches ending state stack world over = Leaves ending state world over
 
 -- a run that goes on, or is over
-abbrev pub Stands : {E : Type 0} → (E → Ending) → State Ending sorts → World → RunOutcome E → Type 0
+abbrev pub Stands : {E : Type 0} → (List Object → E → Ending) → State Ending sorts → World → RunOutcome E → Type 0
 Stands ending state world outcome.Running = (number : ℕ) × (view : View) × (frames : Frames) × (state ≡ Runs number view frames world)
 Stands ending state world over = Leaves ending state world over
 
@@ -50,9 +51,10 @@ abbrev pub KeepsStack : {E : Type 0} → ℕ → CallStack → RunOutcome E → 
 KeepsStack functions stack outcome.Running = IsStack functions stack
 KeepsStack functions stack over = Unit {0}
 
--- what is said of a run in which no device failed
+-- what is said of a run in which no device failed, and that called no function that the library lacks
 abbrev pub UnlessFailed : {E : Type 0} → RunOutcome E → Type 0 → Type 0
 UnlessFailed (outcome.Failed unit) Holds = Unit {0}
+UnlessFailed (outcome.NotBuilt number) Holds = Unit {0}
 UnlessFailed how Holds = Holds
 
 -- no device failed in a run, or that of a unit in its last call of the library
@@ -60,16 +62,21 @@ abbrev pub ToldOfRun : {L E : Type 0} → (L → L → Type 0) → (ℤ → L �
 ToldOfRun none_failed failed_on old new (outcome.Failed unit) = FailsAtLast none_failed failed_on unit old new
 ToldOfRun none_failed failed_on old new how = NoFailure none_failed old new
 
+-- the library lacks the function that the run came to and that is not built
+abbrev pub LacksInRun : {E : Type 0} → (ℕ → Bool) → RunOutcome E → Type 0
+LacksInRun lacks (outcome.NotBuilt number) = lacks number ≡ true
+LacksInRun lacks how = Unit {0}
+
 -- the main program begins and is the only active function, or it does not begin by a fault
 abbrev pub Begins : State Ending sorts → World → Result CallStack CFault → Type 0
 Begins state world (Ok stack) = state ≡ state_of stack world
 Begins state world (Err fault) = state ≡ machine.Broken (Faults fault) []
 
-abbrev pub IsRunOf : {E : Type 0} → (E → Ending) → State Ending sorts → World → Result (RunOutcome E) CFault → Type 0
+abbrev pub IsRunOf : {E : Type 0} → (List Object → E → Ending) → State Ending sorts → World → Result (RunOutcome E) CFault → Type 0
 IsRunOf ending state world (Ok how) = Stands ending state world how
 IsRunOf ending state world (Err fault) = state ≡ machine.Broken (Faults fault) []
 
--- what is said of a whole run in which no device failed
+-- what is said of a whole run in which no device failed, and that called no function that the library lacks
 abbrev pub UnlessRunFailed : {E : Type 0} → Result (RunOutcome E) CFault → Type 0 → Type 0
 UnlessRunFailed (Ok how) Holds = UnlessFailed how Holds
 UnlessRunFailed (Err fault) Holds = Holds
@@ -78,3 +85,8 @@ UnlessRunFailed (Err fault) Holds = Holds
 abbrev pub ToldOfWholeRun : {L E : Type 0} → (L → L → Type 0) → (ℤ → L → L → Type 0) → L → L → Result (RunOutcome E) CFault → Type 0
 ToldOfWholeRun none_failed failed_on old new (Ok how) = ToldOfRun none_failed failed_on old new how
 ToldOfWholeRun none_failed failed_on old new (Err fault) = NoFailure none_failed old new
+
+-- the library lacks the function that a whole run came to and that is not built
+abbrev pub LacksInWholeRun : {E : Type 0} → (ℕ → Bool) → Result (RunOutcome E) CFault → Type 0
+LacksInWholeRun lacks (Ok how) = LacksInRun lacks how
+LacksInWholeRun lacks (Err fault) = Unit {0}

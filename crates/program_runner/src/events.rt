@@ -4,6 +4,7 @@ ghost use Rattle.std.specs.Prelude.{◌≡◌, ℕ, ◌<◌, ◌≤◌, ◌+◌,
 ghost use Rattle.c_tree.specs.run_state.Units.{Units};
 ghost use Rattle.c_tree.specs.run_state.Endings.{Ending};
 ghost use Rattle.c_tree.specs.declared.outcome.CValue.{CValue};
+ghost use Rattle.c_tree.specs.Objects.{Object};
 ghost use Rattle.c_tree.specs.World.{Transfer};
 ghost use Rattle.c_tree.specs.Builtins.{signatures};
 ghost use Rattle.c_tree.specs.Linking as linking;
@@ -13,8 +14,9 @@ ghost use Rattle.linked_programs.specs.LinkedPrograms.{function_of};
 ghost use Rattle.item_deeds.specs.Deeds.{view_of, wants_of, world_of, argument_count};
 ghost use Rattle.item_deeds.specs.Forms.{SameForms};
 ghost use Rattle.run_library.specs.Replies.{reply_of};
+ghost use Rattle.run_library.specs.Room as rooms;
 ghost use Rattle.program_runner.specs.Signatures.{Allows};
-ghost use Rattle.program_runner.specs.Events.{event_of, broken_of, StepsBy, ToldOfStep, IsCalled, HasRoom};
+ghost use Rattle.program_runner.specs.Events.{event_of, broken_of, StepsBy, ToldOfStep, LacksInStep, IsCalled, HasRoom};
 
 use crate::signatures::allowed;
 use c_tree::outcome::CValue;
@@ -53,6 +55,15 @@ pub(crate) enum StepEvent<E: Drop> {
     Breaks(RunBreak),
 }
 
+/// Why nothing is said of a step.
+#[derive(Clone, Copy, Debug, PartialEq, Eq)]
+pub(crate) enum StepFailure {
+    /// The device of this unit failed.
+    Device(i32),
+    /// The library lacks the function of this number, which is called.
+    NotBuilt(usize),
+}
+
 /// The event of a function that goes on with the answer to a call of the library.
 fn going_on<E: Drop>(
     wants: CallWants,
@@ -61,7 +72,7 @@ fn going_on<E: Drop>(
     run: &mut RunBytes,
 ) -> StepEvent<E>
     requires { view.position + 1 < 2 ^ 64 }
-    ensures meaning { (ending : E → Ending) → (units : Units) → (transfer : Option Transfer) → (values : List CValue) →
+    ensures meaning { (ending : List Object → E → Ending) → (units : Units) → (transfer : Option Transfer) → (values : List CValue) →
         steps.moving (steps.taken (wants_of wants) answer (view_of view) (world_of run.old units transfer)) ≡ event_of ending (world_of run.new units transfer) values result }
     ensures called { (position room : ℕ) → IsCalled position room result }
     ensures forms { SameForms run.old run.new }
@@ -80,7 +91,7 @@ fn replied<E: Drop>(
     run: &mut RunBytes,
 ) -> StepEvent<E>
     requires { view.position + 1 < 2 ^ 64 }
-    ensures meaning { (ending : E → Ending) → (units : Units) → (transfer : Option Transfer) → (values : List CValue) →
+    ensures meaning { (ending : List Object → E → Ending) → (units : Units) → (transfer : Option Transfer) → (values : List CValue) →
         steps.replied (view_of view) (wants_of wants) (reply_of ending (world_of run.old units transfer) reply) ≡ event_of ending (world_of run.new units transfer) values result }
     ensures called { (position room : ℕ) → IsCalled position room result }
     ensures forms { SameForms run.old run.new }
@@ -92,24 +103,25 @@ fn replied<E: Drop>(
     }
 }
 
-/// What the caller does with a call of the library that gives nothing.
+/// What the caller does with a call of the function of a number that gives nothing.
 ///
 /// # Errors
-/// The unit whose device failed.
-fn broken<E: Drop>(reason: CallBreak) -> Result<StepEvent<E>, i32>
-    ensures is { result ≡ broken_of reason }
+/// Why nothing is said of it.
+fn broken<E: Drop>(number: usize, reason: CallBreak) -> Result<StepEvent<E>, StepFailure>
+    ensures is { result ≡ broken_of number reason }
     ensures called { (position room : ℕ) → IfOk result (IsCalled position room) }
 {
     match reason {
         CallBreak::Break(reason) => Ok(StepEvent::Breaks(reason)),
-        CallBreak::Device(unit) => Err(unit),
+        CallBreak::Device(unit) => Err(StepFailure::Device(unit)),
+        CallBreak::NotBuilt => Err(StepFailure::NotBuilt(number)),
     }
 }
 
 /// A call of a function of the library that may be called so.
 ///
 /// # Errors
-/// The unit whose device failed.
+/// Why nothing is said of it.
 fn call_made<L: Library>(
     view: CallView,
     wants: CallWants,
@@ -117,25 +129,28 @@ fn call_made<L: Library>(
     values: &[CValue],
     run: &mut RunBytes,
     library: &mut L,
-) -> Result<StepEvent<L::Ending>, i32>
+) -> Result<StepEvent<L::Ending>, StepFailure>
     requires ready { view.position + 1 < 2 ^ 64 }
     requires allowed { Allows number values.now (wants_of wants) (Ok tt) }
+    requires texts { rooms.HasRoom (L.room library.old) run.old }
     ensures meaning { (units : Units) → (transfer : Option Transfer) → (given : List CValue) → L.stands library.old units transfer →
         StepsBy L.ending (steps.library_called (view_of view) (world_of run.old units transfer) (wants_of wants) values.now (slice_get signatures number)) (L.stands library.new) run.new given result }
     ensures devices { ToldOfStep L.none_failed L.failed_on library.old library.new result }
+    ensures built { LacksInStep L.lacks result }
+    ensures texts { L.room library.new ≡ L.room library.old }
     ensures called { (position room : ℕ) → IfOk result (IsCalled position room) }
     ensures forms { SameForms run.old run.new }
 {
     match library.call(number, values, run) {
         Ok(reply) => Ok(replied(view, wants, reply, run)),
-        Err(reason) => broken(reason),
+        Err(reason) => broken(number, reason),
     }
 }
 
 /// A call of a function of the library, which is one step of the caller.
 ///
 /// # Errors
-/// The unit whose device failed.
+/// Why nothing is said of it.
 fn library_called<L: Library>(
     view: CallView,
     wants: CallWants,
@@ -143,11 +158,14 @@ fn library_called<L: Library>(
     values: &[CValue],
     run: &mut RunBytes,
     library: &mut L,
-) -> Result<StepEvent<L::Ending>, i32>
-    requires { view.position + 1 < 2 ^ 64 }
+) -> Result<StepEvent<L::Ending>, StepFailure>
+    requires ready { view.position + 1 < 2 ^ 64 }
+    requires texts { rooms.HasRoom (L.room library.old) run.old }
     ensures meaning { (units : Units) → (transfer : Option Transfer) → (given : List CValue) → L.stands library.old units transfer →
         StepsBy L.ending (steps.library_called (view_of view) (world_of run.old units transfer) (wants_of wants) values.now (slice_get signatures number)) (L.stands library.new) run.new given result }
     ensures devices { ToldOfStep L.none_failed L.failed_on library.old library.new result }
+    ensures built { LacksInStep L.lacks result }
+    ensures texts { L.room library.new ≡ L.room library.old }
     ensures called { (position room : ℕ) → IfOk result (IsCalled position room) }
     ensures forms { SameForms run.old run.new }
 {
@@ -168,7 +186,7 @@ pub(crate) fn first_values(buffer: &[CValue], count: usize) -> &[CValue]
 /// What an item does, in a function that gives its caller such a value.
 ///
 /// # Errors
-/// The unit whose device failed.
+/// Why nothing is said of it.
 fn item_step<L: Library>(
     own: usize,
     gives: ResultType,
@@ -177,13 +195,16 @@ fn item_step<L: Library>(
     buffer: &mut [CValue],
     run: &mut RunBytes,
     library: &mut L,
-) -> Result<StepEvent<L::Ending>, i32>
+) -> Result<StepEvent<L::Ending>, StepFailure>
     requires ready { view.position + 1 < 2 ^ 64 }
     requires room { argument_count item.now ≤ length buffer.old }
+    requires texts { rooms.HasRoom (L.room library.old) run.old }
     ensures meaning { (function : linking.Function) → function.own ≡ own → function.result ≡ gives →
         (units : Units) → (transfer : Option Transfer) → L.stands library.old units transfer →
         StepsBy L.ending (steps.deed function (view_of view) (world_of run.old units transfer) (flat_of item.now)) (L.stands library.new) run.new buffer.new result }
     ensures devices { ToldOfStep L.none_failed L.failed_on library.old library.new result }
+    ensures built { LacksInStep L.lacks result }
+    ensures texts { L.room library.new ≡ L.room library.old }
     ensures called { IfOk result (IsCalled view.position (length buffer.new)) }
     ensures forms { SameForms run.old run.new }
 {
@@ -219,7 +240,7 @@ fn item_step<L: Library>(
 /// The next step of a function of a program that has `own` functions. The buffer has room for the arguments of each call.
 ///
 /// # Errors
-/// The unit whose device failed.
+/// Why nothing is said of it.
 pub(crate) fn step<L: Library>(
     own: usize,
     function: &LinkedFunction,
@@ -227,11 +248,14 @@ pub(crate) fn step<L: Library>(
     buffer: &mut [CValue],
     run: &mut RunBytes,
     library: &mut L,
-) -> Result<StepEvent<L::Ending>, i32>
-    requires { HasRoom (length buffer.old) function.now.code }
+) -> Result<StepEvent<L::Ending>, StepFailure>
+    requires room { HasRoom (length buffer.old) function.now.code }
+    requires texts { rooms.HasRoom (L.room library.old) run.old }
     ensures meaning { (units : Units) → (transfer : Option Transfer) → L.stands library.old units transfer →
         StepsBy L.ending (steps.step (function_of own function.now) (view_of view) (world_of run.old units transfer)) (L.stands library.new) run.new buffer.new result }
     ensures devices { ToldOfStep L.none_failed L.failed_on library.old library.new result }
+    ensures built { LacksInStep L.lacks result }
+    ensures texts { L.room library.new ≡ L.room library.old }
     ensures called { IfOk result (IsCalled view.position (length buffer.new)) }
     ensures forms { SameForms run.old run.new }
 {

@@ -1,23 +1,25 @@
 //! The next step of a run (C89, 3.3.2.2 and 3.6.6.4).
 
-ghost use Rattle.std.specs.Prelude.{◌≡◌, ℕ, ◌<◌, ◌+◌, ◌^◌, ◌∷◌, Option, length};
+ghost use Rattle.std.specs.Prelude.{◌≡◌, ℕ, ◌<◌, ◌+◌, ◌^◌, List, ◌∷◌, Option, length};
 ghost use Rattle.c_tree.specs.simulation.Machine as machine;
 ghost use Rattle.c_tree.specs.run_state.Endings.{Ending};
 ghost use Rattle.c_tree.specs.run_state.Units.{Units};
 ghost use Rattle.c_tree.specs.Meaning as meaning;
 ghost use Rattle.c_tree.specs.Steps as steps;
 ghost use Rattle.c_tree.specs.Steps.{sorts, language};
+ghost use Rattle.c_tree.specs.Objects.{Object};
 ghost use Rattle.c_tree.specs.World.{World, Transfer};
 ghost use Rattle.linked_programs.specs.LinkedPrograms.{program_of, function_of};
 ghost use Rattle.call_frames.specs.Frames.{HasFrame};
 ghost use Rattle.item_deeds.specs.Deeds.{view_of, world_of};
 ghost use Rattle.item_deeds.specs.Forms.{SameForms};
 ghost use Rattle.run_library.specs.Replies.{StandsIn};
+ghost use Rattle.run_library.specs.Room.{HasRoom};
 ghost use Rattle.program_runner.specs.Stacks.{frames_of, waiting, state_of, IsStack};
 ghost use Rattle.program_runner.specs.Events.{event_of, IsCalled};
-ghost use Rattle.program_runner.specs.Outcomes.{FramesStand, HasArgumentRoom, Reaches, KeepsStack, UnlessFailed, ToldOfRun};
+ghost use Rattle.program_runner.specs.Outcomes.{FramesStand, HasArgumentRoom, Reaches, KeepsStack, UnlessFailed, ToldOfRun, LacksInRun};
 
-use crate::events::{StepEvent, first_values, step};
+use crate::events::{StepEvent, StepFailure, first_values, step};
 use crate::runs::RunOutcome;
 use crate::stack::{CallFrame, CallStack};
 use c_tree::outcome::{CFault, CValue};
@@ -42,7 +44,7 @@ fn entered<E: Drop>(stack: &mut CallStack, view: CallView, called: CallFrame) ->
     requires stack { IsStack (length stack.old.room.items) stack.old }
     requires ready { view.position + 1 < 2 ^ 64 }
     requires below { called.number < length stack.old.room.items }
-    ensures meaning { (ending : E → Ending) → (world : World) →
+    ensures meaning { (ending : List Object → E → Ending) → (world : World) →
         Reaches ending (machine.opening language (machine.Enters (view_of called.view) world) called.number (machine.Has stack.old.top.number (view_of view) ∷ frames_of (waiting stack.old))) stack.new world result }
     ensures stack { KeepsStack (length stack.old.room.items) stack.new result }
 {
@@ -66,7 +68,7 @@ fn call_known<E: Drop>(
     requires ready { view.position + 1 < 2 ^ 64 }
     requires below { number < length stack.old.room.items }
     requires frame { HasFrame function.now run.old }
-    ensures meaning { (own : ℕ) → (ending : E → Ending) → (units : Units) → (transfer : Option Transfer) →
+    ensures meaning { (own : ℕ) → (ending : List Object → E → Ending) → (units : Units) → (transfer : Option Transfer) →
         Reaches ending
         (machine.opening language (steps.start (function_of own function.now) number values.now (world_of run.old units transfer)) number (machine.Has stack.old.top.number (view_of view) ∷ frames_of (waiting stack.old)))
         stack.new (world_of run.new units transfer) result }
@@ -97,7 +99,7 @@ fn call<E: Drop>(
     requires stack { IsStack (length program.now.functions) stack.old }
     requires ready { view.position + 1 < 2 ^ 64 }
     requires frames { FramesStand program.now run.old }
-    ensures meaning { (ending : E → Ending) → (units : Units) → (transfer : Option Transfer) →
+    ensures meaning { (ending : List Object → E → Ending) → (units : Units) → (transfer : Option Transfer) →
         Reaches ending
         (machine.calling language (meaning.machine (program_of program.now)) (meaning.numbered (program_of program.now).functions number) number values.now
         (world_of run.old units transfer) (machine.Has stack.old.top.number (view_of view) ∷ frames_of (waiting stack.old)))
@@ -114,7 +116,7 @@ fn call<E: Drop>(
 /// An answer of the active function: the one that waits for it goes on. Where there is none, the run is over.
 fn answer<E: Drop>(stack: &mut CallStack, given: Option<i32>, run: &mut RunBytes) -> RunOutcome<E>
     requires { IsStack (length stack.old.room.items) stack.old }
-    ensures meaning { (program : machine.Program sorts) → (ending : E → Ending) → (units : Units) → (transfer : Option Transfer) →
+    ensures meaning { (program : machine.Program sorts) → (ending : List Object → E → Ending) → (units : Units) → (transfer : Option Transfer) →
         Reaches ending
         (machine.answering language program stack.old.top.number (frames_of (waiting stack.old)) (world_of run.old units transfer) given)
         stack.new (world_of run.new units transfer) result }
@@ -148,7 +150,7 @@ fn happened<E: Drop>(
     requires stack { IsStack (length program.now.functions) stack.old }
     requires called { IsCalled stack.old.top.view.position (length buffer.now) event }
     requires frames { FramesStand program.now run.old }
-    ensures meaning { (ending : E → Ending) → (units : Units) → (transfer : Option Transfer) →
+    ensures meaning { (ending : List Object → E → Ending) → (units : Units) → (transfer : Option Transfer) →
         Reaches ending
         (machine.act language (meaning.machine (program_of program.now)) (event_of ending (world_of run.old units transfer) buffer.now event) stack.old.top.number (frames_of (waiting stack.old)))
         stack.new (world_of run.new units transfer) result }
@@ -192,10 +194,13 @@ pub(crate) fn next<L: Library>(
     requires stack { IsStack (length program.now.functions) stack.old }
     requires room { HasArgumentRoom program.now (length buffer.old) }
     requires frames { FramesStand program.now run.old }
+    requires texts { HasRoom (L.room library.old) run.old }
     ensures meaning { (units : Units) → (transfer : Option Transfer) → L.stands library.old units transfer →
         UnlessFailed result (StandsIn (L.stands library.new) run.new (λ after.
         Reaches L.ending (machine.next language (meaning.machine (program_of program.now)) (state_of stack.old (world_of run.old units transfer))) stack.new after result)) }
     ensures devices { ToldOfRun L.none_failed L.failed_on library.old library.new result }
+    ensures built { LacksInRun L.lacks result }
+    ensures texts { L.room library.new ≡ L.room library.old }
     ensures stack { KeepsStack (length program.now.functions) stack.new result }
     ensures forms { SameForms run.old run.new }
 {
@@ -212,6 +217,7 @@ pub(crate) fn next<L: Library>(
         library,
     ) {
         Ok(event) => happened(program, stack, event, buffer, run),
-        Err(unit) => RunOutcome::Failed(unit),
+        Err(StepFailure::Device(unit)) => RunOutcome::Failed(unit),
+        Err(StepFailure::NotBuilt(number)) => RunOutcome::NotBuilt(number),
     }
 }

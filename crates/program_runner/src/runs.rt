@@ -13,8 +13,9 @@ ghost use Rattle.item_deeds.specs.Deeds.{world_of};
 ghost use Rattle.item_deeds.specs.Forms.{SameForms};
 ghost use Rattle.call_frames.specs.Frames.{HasFrame};
 ghost use Rattle.run_library.specs.Replies.{StandsIn};
+ghost use Rattle.run_library.specs.Room.{HasRoom};
 ghost use Rattle.program_runner.specs.Stacks.{state_of, IsStack};
-ghost use Rattle.program_runner.specs.Outcomes.{FramesStand, HasArgumentRoom, Reaches, KeepsStack, UnlessFailed, ToldOfRun, Begins, IsRunOf, UnlessRunFailed, ToldOfWholeRun};
+ghost use Rattle.program_runner.specs.Outcomes.{FramesStand, HasArgumentRoom, Reaches, KeepsStack, UnlessFailed, ToldOfRun, Begins, IsRunOf, UnlessRunFailed, ToldOfWholeRun, LacksInRun, LacksInWholeRun};
 
 use crate::machine::next;
 use crate::stack::{CallFrame, CallStack};
@@ -43,6 +44,8 @@ pub enum RunOutcome<E: Drop> {
     },
     /// The device of this unit failed.
     Failed(i32),
+    /// It called the function of this number, which the library lacks.
+    NotBuilt(usize),
 }
 
 /// Whether a function is the main program.
@@ -113,7 +116,8 @@ pub fn begin(
 }
 
 /// Goes so many steps on, as long as the run is not over. The buffer has room for the arguments of each call. The run is that of the
-/// definitions for all units and each transfer in progress for which the library stands, unless the device of a unit fails.
+/// definitions for all units and each transfer in progress for which the library stands, unless the device of a unit fails or a function is
+/// called that the library lacks. No text of the objects is longer than the library can put together.
 pub fn run<L: Library>(
     program: &LinkedProgram,
     stack: &mut CallStack,
@@ -125,10 +129,13 @@ pub fn run<L: Library>(
     requires stack { IsStack (length program.now.functions) stack.old }
     requires room { HasArgumentRoom program.now (length buffer.old) }
     requires frames { FramesStand program.now run.old }
+    requires texts { HasRoom (L.room library.old) run.old }
     ensures meaning { (units : Units) → (transfer : Option Transfer) → L.stands library.old units transfer →
         UnlessFailed result (StandsIn (L.stands library.new) run.new (λ after.
         Reaches L.ending (machine.run language (meaning.machine (program_of program.now)) steps (state_of stack.old (world_of run.old units transfer))) stack.new after result)) }
     ensures devices { ToldOfRun L.none_failed L.failed_on library.old library.new result }
+    ensures built { LacksInRun L.lacks result }
+    ensures texts { L.room library.new ≡ L.room library.old }
     ensures stack { KeepsStack (length program.now.functions) stack.new result }
     ensures forms { SameForms run.old run.new }
 {
@@ -144,7 +151,8 @@ pub fn run<L: Library>(
 
 /// Runs a program from its main program on, so many steps, or until it is over. Its objects hold what they start with. The buffer has room
 /// for the arguments of each call. The run is that of the definitions for all units for which the library stands without a transfer in
-/// progress, unless the device of a unit fails. An error where memory ran out.
+/// progress, unless the device of a unit fails or a function is called that the library lacks. No text of the objects is longer than the
+/// library can put together. An error where memory ran out.
 ///
 /// # Errors
 /// Where the main program does not begin, that is where there is none or it has parameters: why.
@@ -159,9 +167,12 @@ pub fn run_program<L: Library>(
     requires frames { FramesStand program.now objects.old }
     requires room { HasArgumentRoom program.now (length buffer.old) }
     requires objects { objects.old ≡ (program_of program.now).objects }
+    requires texts { HasRoom (L.room library.old) objects.old }
     ensures meaning { IfOk result (λ ran. (units : Units) → L.stands library.old units None →
         UnlessRunFailed ran (StandsIn (L.stands library.new) objects.new (λ after. IsRunOf L.ending (meaning.run_of (program_of program.now) units steps) after ran))) }
     ensures devices { IfOk result (ToldOfWholeRun L.none_failed L.failed_on library.old library.new) }
+    ensures built { IfOk result (LacksInWholeRun L.lacks) }
+    ensures texts { L.room library.new ≡ L.room library.old }
 {
     match begin(alloc, program, objects)? {
         Ok(mut stack) => Ok(Ok(run(program, &mut stack, buffer, objects, library, steps))),

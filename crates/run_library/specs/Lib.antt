@@ -1,3 +1,4 @@
 pub mod Signatures
 pub mod Replies
 pub mod Devices
+pub mod Room

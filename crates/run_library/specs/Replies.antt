@@ -22,17 +22,17 @@ abbrev pub break_of : RunBreak → Break
 break_of (reason.Fault fault) = faults.Faults fault
 break_of reason.Meaningless = faults.NoMeaning
 
-abbrev pub reply_of : {E : Type 0} → (E → Ending) → World → LibraryReply E → Reply
+abbrev pub reply_of : {E : Type 0} → (List Object → E → Ending) → World → LibraryReply E → Reply
 reply_of ending after (reply.Gives number) = world.Gives number after
 reply_of ending after reply.Void = world.Void after
-reply_of ending after (reply.Stops how) = world.Stops (ending how) after
+reply_of ending after (reply.Stops how) = world.Stops (ending after.objects how) after
 
-abbrev pub reply_or : {E : Type 0} → (E → Ending) → World → Result (LibraryReply E) RunBreak → Or Reply
+abbrev pub reply_or : {E : Type 0} → (List Object → E → Ending) → World → Result (LibraryReply E) RunBreak → Or Reply
 reply_or ending after (Ok given) = Ok (reply_of ending after given)
 reply_or ending after (Err why) = Err (break_of why)
 
 -- the function of a number gives this reply, and leaves this world
-abbrev pub Replies : {E : Type 0} → (E → Ending) → ℕ → List CValue → World → World → Result (LibraryReply E) RunBreak → Type 0
+abbrev pub Replies : {E : Type 0} → (List Object → E → Ending) → ℕ → List CValue → World → World → Result (LibraryReply E) RunBreak → Type 0
 Replies ending number values before after result =
     (signature : Signature) → slice_get signatures number ≡ Some signature → library signature.builtin before values ≡ reply_or ending after result
 
@@ -45,7 +45,15 @@ pub record StandsIn (stands : Units → Option Transfer → Type 0) (objects : L
 
 -- a call in a world replies what its function gives, and leaves objects and a library that stands for such units and such a transfer;
 -- where a device failed nothing is said of it
-abbrev pub Answers : {E : Type 0} → (E → Ending) → ℕ → List CValue → World → (Units → Option Transfer → Type 0) → List Object → Result (LibraryReply E) CallBreak → Type 0
+abbrev pub Answers : {E : Type 0} → (List Object → E → Ending) → ℕ → List CValue → World → (Units → Option Transfer → Type 0) → List Object → Result (LibraryReply E) CallBreak → Type 0
 Answers ending number values before stands objects (Ok given) = StandsIn stands objects (λ after. Replies ending number values before after (Ok given))
 Answers ending number values before stands objects (Err (broken.Break why)) = StandsIn stands objects (λ after. Replies ending number values before after (Err why))
 Answers ending number values before stands objects (Err (broken.Device unit)) = Unit {0}
+Answers ending number values before stands objects (Err broken.NotBuilt) = Unit {0}
+
+-- what holds where the library lacks the function
+abbrev pub LacksIt : {E : Type 0} → Result (LibraryReply E) CallBreak → Type 0 → Type 0
+LacksIt (Ok given) P = Unit {0}
+LacksIt (Err (broken.Break why)) P = Unit {0}
+LacksIt (Err (broken.Device unit)) P = Unit {0}
+LacksIt (Err broken.NotBuilt) P = P

@@ -1,13 +1,15 @@
 //! The functions of the library and what they answer (CSTR 149, appendix on the run time library).
 
-ghost use Rattle.std.specs.Prelude.{ℤ, Option};
+ghost use Rattle.std.specs.Prelude.{◌≡◌, ℕ, ℤ, Bool, true, List, Option};
+ghost use Rattle.c_tree.specs.Objects.{Object};
 ghost use Rattle.c_tree.specs.run_state.Units.{Units};
 ghost use Rattle.c_tree.specs.run_state.Endings as endings;
 ghost use Rattle.c_tree.specs.World.{Transfer};
 ghost use Rattle.item_deeds.specs.Deeds.{world_of};
 ghost use Rattle.item_deeds.specs.Forms.{SameForms};
 ghost use Rattle.run_library.specs.Signatures.{IsCall};
-ghost use Rattle.run_library.specs.Replies.{Answers};
+ghost use Rattle.run_library.specs.Replies.{Answers, LacksIt};
+ghost use Rattle.run_library.specs.Room.{HasRoom};
 ghost use Rattle.run_library.specs.Devices.{ToldOfCall};
 
 use c_tree::outcome::{CFault, CValue};
@@ -40,6 +42,8 @@ pub enum CallBreak {
     Break(RunBreak),
     /// The device of this unit failed.
     Device(i32),
+    /// The library does not have this function yet.
+    NotBuilt,
 }
 
 /// The functions of the library, with the external units and the transfer in progress.
@@ -48,6 +52,9 @@ pub enum CallBreak {
 ///
 /// `none_failed` says of the library before a call and after it that no device failed in the call, and `failed_on` that the device of a
 /// unit failed and no other. A count for each unit would not do: a closed unit has no device, and an opened one has that of its file.
+///
+/// `lacks` says which functions the library does not have, and `room` how long the texts are that it can put together. An ending may name
+/// places among the objects: `ending` reads them at the end of the run.
 pub trait Library {
     /// How a call ends a run.
     type Ending: Drop;
@@ -58,22 +65,29 @@ pub trait Library {
 
     ghost failed_on: { ℤ → Self → Self → Type 0 };
 
-    ghost ending: { Self.Ending → endings.Ending };
+    ghost ending: { List Object → Self.Ending → endings.Ending };
+
+    ghost lacks: { ℕ → Bool };
+
+    ghost room: { Self → ℕ };
 
     /// Calls the function of a number with the values of its arguments, which agree with what it takes in number and kind. Objects keep
     /// their forms.
     ///
     /// # Errors
-    /// Why the run cannot go on, or the unit whose device failed.
+    /// Why the run cannot go on, the unit whose device failed, or that the library lacks the function.
     fn call(
         &mut self,
         number: usize,
         values: &[CValue],
         run: &mut RunBytes,
     ) -> Result<LibraryReply<Self::Ending>, CallBreak>
-        requires { IsCall number values.now }
+        requires call { IsCall number values.now }
+        requires room { HasRoom (room self.old) run.old }
         ensures meaning { (units : Units) → (transfer : Option Transfer) → stands self.old units transfer →
             Answers ending number values.now (world_of run.old units transfer) (stands self.new) run.new result }
+        ensures built { LacksIt result (lacks number ≡ true) }
+        ensures room { room self.new ≡ room self.old }
         ensures devices { ToldOfCall none_failed failed_on self.old self.new result }
         ensures forms { SameForms run.old run.new };
 }

@@ -5,6 +5,7 @@ use Rattle.c_tree.specs.Steps as steps
 use Rattle.item_deeds.specs.Deeds.{view_of, wants_of, world_of}
 use Rattle.run_library.specs.Devices.{no_call}
 use Rattle.program_runner.specs.Events.{StepsBy}
+use Rattle.program_runner.proofs.LackLaws.{room-kept}
 use Rattle.program_runner.proofs.events.item_step.Goals as goal
 
 pub returns-in-Goes-clause-devices : goal.returns-in-Goes-clause-devices
@@ -30,3 +31,6 @@ returns-in-Answers-clause-devices g c = no_call
 
 pub returns-in-Breaks-clause-devices : goal.returns-in-Breaks-clause-devices
 returns-in-Breaks-clause-devices g c = no_call
+
+pub library_called-requires-clause-texts : goal.library_called-requires-clause-texts
+library_called-requires-clause-texts g c = room-kept (g.L.Library.room c.args.library.now) c.args.run.now c.perform.new.run c.requires.texts c.perform.ensures.forms

@@ -21,7 +21,7 @@ pub returns-in-Stops-clause-meaning : goal.returns-in-Stops-clause-meaning
 returns-in-Stops-clause-meaning g c = λ ending units transfer. (
   machine.Has c.args.stack.now.top.number (view_of c.in-Stops.view) ∷ frames_of (waiting c.args.stack.now),
   ap (λ event. machine.act language (meaning.machine (program_of c.args.program.now)) (event_of ending (world_of c.args.run.now units transfer) c.args.buffer.now event) c.args.stack.now.top.number (frames_of (waiting c.args.stack.now))) c.in-Stops.is
-      ∙ ends-by (meaning.machine (program_of c.args.program.now)) c.args.stack.now.top.number (frames_of (waiting c.args.stack.now)) (ending c.in-Stops.ending) (view_of c.in-Stops.view) (world_of c.args.run.now units transfer),
+      ∙ ends-by (meaning.machine (program_of c.args.program.now)) c.args.stack.now.top.number (frames_of (waiting c.args.stack.now)) (ending c.args.run.now c.in-Stops.ending) (view_of c.in-Stops.view) (world_of c.args.run.now units transfer),
 )
 
 pub returns-in-Calls-clause-meaning : goal.returns-in-Calls-clause-meaning

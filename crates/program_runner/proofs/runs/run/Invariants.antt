@@ -17,6 +17,7 @@ invariant-loop-taken g l = record {
   reached : (units : Units) → (transfer : Option Transfer) → g.L.Library.stands l.initial.library units transfer →
       StandsIn (g.L.Library.stands l.library) l.run (λ after.
       machine.run language (meaning.machine (program_of l.program)) l.taken (state_of l.initial.stack (world_of l.initial.run units transfer)) ≡ state_of l.stack after);
+  texts : g.L.Library.room l.library ≡ g.L.Library.room l.initial.library;
   quiet : NoFailure g.L.Library.none_failed l.initial.library l.library;
   stack : IsStack (length l.program.functions) l.stack;
   kept : SameForms l.initial.run l.run;

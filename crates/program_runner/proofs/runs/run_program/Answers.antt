@@ -9,11 +9,15 @@ use Rattle.item_deeds.specs.Deeds.{world_of}
 use Rattle.run_library.specs.Devices.{no_call}
 use Rattle.program_runner.specs.declared.stack.CallStack.{CallStack}
 use Rattle.program_runner.specs.Outcomes.{Begins}
+use Rattle.program_runner.proofs.LackLaws.{room-kept}
 use Rattle.program_runner.proofs.RunLaws.{frames-kept, whole-run-by, whole-refused}
 use Rattle.program_runner.proofs.runs.run_program.Goals as goal
 
 pub run-requires-clause-frames : goal.run-requires-clause-frames
 run-requires-clause-frames g c = frames-kept c.args.program.now c.args.objects.now c.begin.new.run c.requires.frames c.in_ok-stack.ensures.forms
+
+pub run-requires-clause-texts : goal.run-requires-clause-texts
+run-requires-clause-texts g c = room-kept (g.L.Library.room c.args.library.now) c.args.objects.now c.begin.new.run c.requires.texts c.in_ok-stack.ensures.forms
 
 pub returns-in-Ok-clause-meaning : goal.returns-in-Ok-clause-meaning
 returns-in-Ok-clause-meaning g c = λ units stood.
