@@ -10,13 +10,15 @@ use Rattle.c_tree.specs.Builtins.{Builtin, Signature, signatures}
 use Rattle.c_tree.specs.Library.{library}
 use Rattle.item_deeds.specs.Deeds.{world_of}
 use Rattle.f2c_outside.specs.Table.{Row}
-use Rattle.unit_library.specs.declared.breaks.LibraryBreak.TheVariants as broken
+use Rattle.run_library.specs.declared.library.CallBreak.TheVariants as broken
 use Rattle.run_library.specs.Signatures.{IsCall}
+use Rattle.run_library.specs.Replies as replies
+use Rattle.run_library.specs.Replies.{LacksIt}
 use Rattle.unit_library.specs.declared.functions.LibraryFunction.{LibraryFunction}
 use Rattle.unit_library.specs.declared.transfers.TransferInProgress.{TransferInProgress}
-use Rattle.unit_library.specs.Functions.{form_of, listed_form, builtin_of, argument_count, is_built, lacking}
+use Rattle.unit_library.specs.Endings.{ending_of}
+use Rattle.unit_library.specs.Functions.{form_of, listed_form, builtin_of, argument_count, is_built, lacking, is_lacked}
 use Rattle.unit_library.specs.Arguments.{front}
-use Rattle.unit_library.specs.Numbered.{AnswersNumber, LacksNumber}
 use Rattle.unit_library.specs.Transfers.{Standing}
 use Rattle.unit_library.specs.Replies.{CallResult, broken_by}
 use Rattle.unit_library.specs.Calls.{AnswersCall, IsLacked}
@@ -30,7 +32,7 @@ same-library builtin builtin' arguments arguments' world same =
 -- a call of the function of a number answers what its signature says
 pub answered : (number : ℕ) (values : List CValue) (function : LibraryFunction) → IsCall number values → Some (form_of function) ≡ option_map listed_form (slice_get signatures number) →
     (before : World) (stands : Units → Option Transfer → Type 0) (objects : List Object) (result : CallResult) →
-    AnswersCall (builtin_of function) (front (argument_count function) 0 values) before stands objects result → AnswersNumber number values before stands objects result
+    AnswersCall (builtin_of function) (front (argument_count function) 0 values) before stands objects result → replies.Answers ending_of number values before stands objects result
 answered number values function call is before stands objects (Ok given) answers = record {
   units = answers.units;
   transfer = answers.transfer;
@@ -57,7 +59,7 @@ lacked-as number function (Some signature) is lacked =
 
 -- a function that is not built is one that the library lacks
 pub lacked : (number : ℕ) (function : LibraryFunction) → Some (form_of function) ≡ option_map listed_form (slice_get signatures number) → (result : CallResult) →
-    IsLacked (builtin_of function) result → LacksNumber number result
+    IsLacked (builtin_of function) result → LacksIt result (is_lacked number ≡ true)
 lacked number function is (Ok given) built = tt
 lacked number function is (Err (broken.Break why)) built = tt
 lacked number function is (Err (broken.Device unit)) built = tt
@@ -66,7 +68,7 @@ lacked number function is (Err broken.NotBuilt) built = lacked-as number functio
 -- there is no function of the number
 pub none-answered : (number : ℕ) (values : List CValue) (why : CFault) → None ≡ option_map listed_form (slice_get signatures number) →
     (rows : List Row) (held : Option TransferInProgress) (objects : List Object) (units : Units) (transfer : Option Transfer) → Standing rows held units transfer →
-    AnswersNumber number values (world_of objects units transfer) (Standing rows held) objects (broken_by why)
+    replies.Answers ending_of number values (world_of objects units transfer) (Standing rows held) objects (broken_by why)
 none-answered number values why is rows held objects units transfer standing = record {
   units = units;
   transfer = transfer;

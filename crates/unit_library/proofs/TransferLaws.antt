@@ -23,7 +23,7 @@ use Rattle.listed_output.specs.declared.calls.ListedOutput.{ListedOutput}
 use Rattle.listed_output.specs.declared.calls.Start.{Start}
 use Rattle.listed_output.specs.declared.calls.Start.TheVariants.{Begins, Answers}
 use Rattle.listed_output.specs.Transferring.{StandsFor, AnswersStart, AnswersEnd}
-use Rattle.unit_library.specs.declared.breaks.LibraryBreak.TheVariants as broken
+use Rattle.run_library.specs.declared.library.CallBreak.TheVariants as broken
 use Rattle.unit_library.specs.declared.functions.TransferType.{TransferType}
 use Rattle.unit_library.specs.declared.functions.TransferType.TheVariants as moved
 use Rattle.unit_library.specs.declared.transfers.TransferInProgress.{TransferInProgress}

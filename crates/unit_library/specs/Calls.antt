@@ -11,7 +11,7 @@ use Rattle.item_deeds.specs.Deeds.{world_of}
 use Rattle.item_deeds.specs.Forms.{SameForms}
 use Rattle.f2c_outside.specs.Table.{Row}
 use Rattle.unit_answers.specs.Failing.{FailedOn, NoneFailed}
-use Rattle.unit_library.specs.declared.breaks.LibraryBreak.TheVariants as broken
+use Rattle.run_library.specs.declared.library.CallBreak.TheVariants as broken
 use Rattle.run_library.specs.Replies.{StandsIn, break_of, reply_of}
 use Rattle.unit_library.specs.declared.transfers.TransferInProgress.{TransferInProgress}
 use Rattle.unit_library.specs.Endings.{ending_of}
@@ -22,7 +22,7 @@ use Rattle.unit_library.specs.Transfers.{Standing}
 -- a call in a world replies what its function gives; where a device failed nothing is said of it
 abbrev pub AnswersCall : Builtin → List CValue → World → (Units → Option Transfer → Type 0) → List Object → CallResult → Type 0
 AnswersCall builtin arguments before stands objects (Ok given) =
-    StandsIn stands objects (λ behind. library builtin before arguments ≡ Ok (reply_of (ending_of behind.objects) behind given))
+    StandsIn stands objects (λ behind. library builtin before arguments ≡ Ok (reply_of ending_of behind given))
 AnswersCall builtin arguments before stands objects (Err (broken.Break why)) =
     StandsIn stands objects (λ behind. library builtin before arguments ≡ Err (break_of why))
 AnswersCall builtin arguments before stands objects (Err (broken.Device unit)) = Unit {0}

@@ -5,4 +5,4 @@ pub mod Transfers
 pub mod Replies
 pub mod Calls
 pub mod Items
-pub mod Numbered
+pub mod Held

@@ -4,8 +4,8 @@ use Rattle.c_tree.specs.declared.outcome.CFault.{CFault}
 use Rattle.run_library.specs.declared.library.RunBreak.TheVariants as reason
 use Rattle.run_library.specs.declared.library.LibraryReply.{LibraryReply}
 use Rattle.run_library.specs.declared.library.LibraryReply.TheVariants as reply
-use Rattle.unit_library.specs.declared.breaks.LibraryBreak.{LibraryBreak}
-use Rattle.unit_library.specs.declared.breaks.LibraryBreak.TheVariants as broken
+use Rattle.run_library.specs.declared.library.CallBreak.{CallBreak}
+use Rattle.run_library.specs.declared.library.CallBreak.TheVariants as broken
 use Rattle.unit_answers.specs.declared.ends.CallEnd.{CallEnd}
 use Rattle.unit_answers.specs.declared.ends.CallEnd.TheVariants.{Fault, Ended, Device}
 use Rattle.listed_output.specs.declared.calls.Start.{Start}
@@ -16,7 +16,7 @@ use Rattle.unit_library.specs.declared.endings.RunEnding.{RunEnding}
 use Rattle.unit_library.specs.declared.endings.RunEnding.TheVariants as ending
 
 abbrev pub CallResult : Type 0
-CallResult = Result (LibraryReply RunEnding) LibraryBreak
+CallResult = Result (LibraryReply RunEnding) CallBreak
 
 abbrev pub broken_by : CFault → CallResult
 broken_by fault = Err (broken.Break (reason.Fault fault))

@@ -7,7 +7,6 @@ ghost use Rattle.unit_library.specs.Functions.{builtin_of, argument_count};
 ghost use Rattle.unit_library.specs.Arguments.{front};
 ghost use Rattle.unit_library.specs.Calls.{Calls};
 
-use crate::breaks::LibraryBreak;
 use crate::copies::{assign, join};
 use crate::endings::RunEnding;
 use crate::functions::LibraryFunction;
@@ -21,7 +20,7 @@ use c_tree::outcome::CValue;
 use f2c_outside::devices::Device;
 use f2c_outside::unit_table::UnitTable;
 use run_bytes::RunBytes;
-use run_library::LibraryReply;
+use run_library::{CallBreak, LibraryReply};
 
 /// Calls a function with as many values as it takes. The buffer is as long as the largest object.
 pub(crate) fn call_function(
@@ -31,7 +30,7 @@ pub(crate) fn call_function(
     units: &mut UnitTable,
     transfer: &mut Option<TransferInProgress>,
     buffer: &mut [u8],
-) -> Result<LibraryReply<RunEnding>, LibraryBreak>
+) -> Result<LibraryReply<RunEnding>, CallBreak>
     requires { HasRoom (length buffer.old) run.old }
     ensures { Calls (builtin_of function) (front (argument_count function) 0 values.now) run.old run.new transfer.old transfer.new (rows_of (λ b. (⟦<dyn Device as Device>⟧ b.vtable).device_state b.value) units.old) (rows_of (λ b. (⟦<dyn Device as Device>⟧ b.vtable).device_state b.value) units.new) result }
 {

@@ -9,20 +9,19 @@ ghost use Rattle.unit_library.specs.Arguments.{front};
 ghost use Rattle.unit_library.specs.Calls.{Calls};
 
 use crate::arguments::argument;
-use crate::breaks::LibraryBreak;
 use crate::endings::RunEnding;
 use crate::replies::done;
 use c_tree::outcome::CValue;
 use library_calls::{s_cat, s_copy};
 use run_bytes::RunBytes;
-use run_library::LibraryReply;
+use run_library::{CallBreak, LibraryReply};
 
 /// A call that assigns a text. The buffer is as long as the largest object.
 pub(crate) fn assign(
     values: &[CValue],
     run: &mut RunBytes,
     buffer: &mut [u8],
-) -> Result<LibraryReply<RunEnding>, LibraryBreak>
+) -> Result<LibraryReply<RunEnding>, CallBreak>
     requires { HasRoom (length buffer.old) run.old }
     ensures { (held : Option TransferInProgress) → (rows : List Row) → Calls builtin.s_copy (front 4 0 values.now) run.old run.new held held rows rows result }
 {
@@ -38,7 +37,7 @@ pub(crate) fn join(
     values: &[CValue],
     run: &mut RunBytes,
     buffer: &mut [u8],
-) -> Result<LibraryReply<RunEnding>, LibraryBreak>
+) -> Result<LibraryReply<RunEnding>, CallBreak>
     requires { HasRoom (length buffer.old) run.old }
     ensures { (held : Option TransferInProgress) → (rows : List Row) → Calls builtin.s_cat (front 5 0 values.now) run.old run.new held held rows rows result }
 {

@@ -9,7 +9,6 @@
 #![tactic(auto)]
 
 mod arguments;
-mod breaks;
 mod calls;
 mod copies;
 mod endings;
@@ -23,6 +22,5 @@ mod stops;
 mod texts;
 mod transfers;
 
-pub use breaks::LibraryBreak;
 pub use endings::RunEnding;
 pub use library::UnitLibrary;

@@ -12,7 +12,6 @@ ghost use Rattle.unit_library.specs.Calls.{Calls};
 ghost use Rattle.unit_library.specs.Items.{formatted_fault};
 
 use crate::arguments::argument;
-use crate::breaks::LibraryBreak;
 use crate::endings::RunEnding;
 use crate::functions::TransferType;
 use crate::replies::{broken, ended, passed, started};
@@ -23,7 +22,7 @@ use f2c_outside::devices::Device;
 use f2c_outside::unit_table::UnitTable;
 use listed_output::{ListedOutput, do_lio, e_wsle, s_wsle};
 use run_bytes::RunBytes;
-use run_library::LibraryReply;
+use run_library::{CallBreak, LibraryReply};
 
 /// The start of list-directed output on a unit, outside every transfer.
 fn begin_listed(
@@ -31,7 +30,7 @@ fn begin_listed(
     run: &RunBytes,
     units: &UnitTable,
     transfer: &mut Option<TransferInProgress>,
-) -> Result<LibraryReply<RunEnding>, LibraryBreak>
+) -> Result<LibraryReply<RunEnding>, CallBreak>
     requires { transfer.old ≡ None }
     ensures { Calls (builtin.Begin (kind_of TransferType.ListedOutput)) (front 1 0 values.now) run.now run.now transfer.old transfer.new (rows_of (λ b. (⟦<dyn Device as Device>⟧ b.vtable).device_state b.value) units.now) (rows_of (λ b. (⟦<dyn Device as Device>⟧ b.vtable).device_state b.value) units.now) result }
 {
@@ -48,13 +47,13 @@ fn begin_first(
     run: &RunBytes,
     units: &UnitTable,
     transfer: &mut Option<TransferInProgress>,
-) -> Result<LibraryReply<RunEnding>, LibraryBreak>
+) -> Result<LibraryReply<RunEnding>, CallBreak>
     requires { transfer.old ≡ None }
     ensures { Calls (builtin.Begin (kind_of which)) (front 1 0 values.now) run.now run.now transfer.old transfer.new (rows_of (λ b. (⟦<dyn Device as Device>⟧ b.vtable).device_state b.value) units.now) (rows_of (λ b. (⟦<dyn Device as Device>⟧ b.vtable).device_state b.value) units.now) result }
 {
     match which {
         TransferType::ListedOutput => begin_listed(values, run, units, transfer),
-        _ => Err(LibraryBreak::NotBuilt),
+        _ => Err(CallBreak::NotBuilt),
     }
 }
 
@@ -65,7 +64,7 @@ pub(crate) fn begin(
     run: &RunBytes,
     units: &UnitTable,
     transfer: &mut Option<TransferInProgress>,
-) -> Result<LibraryReply<RunEnding>, LibraryBreak>
+) -> Result<LibraryReply<RunEnding>, CallBreak>
     requires { Unit {0} }
     ensures { Calls (builtin.Begin (kind_of which)) (front 1 0 values.now) run.now run.now transfer.old transfer.new (rows_of (λ b. (⟦<dyn Device as Device>⟧ b.vtable).device_state b.value) units.now) (rows_of (λ b. (⟦<dyn Device as Device>⟧ b.vtable).device_state b.value) units.now) result }
 {
@@ -82,7 +81,7 @@ fn put_listed(
     units: &mut UnitTable,
     output: ListedOutput,
     transfer: &mut Option<TransferInProgress>,
-) -> Result<LibraryReply<RunEnding>, LibraryBreak>
+) -> Result<LibraryReply<RunEnding>, CallBreak>
     requires { transfer.old ≡ Some (TransferInProgress.ListedOutput output) }
     ensures { Calls builtin.do_lio (front 4 0 values.now) run.now run.now transfer.old transfer.new (rows_of (λ b. (⟦<dyn Device as Device>⟧ b.vtable).device_state b.value) units.old) (rows_of (λ b. (⟦<dyn Device as Device>⟧ b.vtable).device_state b.value) units.new) result }
 {
@@ -102,7 +101,7 @@ pub(crate) fn listed_items(
     run: &RunBytes,
     units: &mut UnitTable,
     transfer: &mut Option<TransferInProgress>,
-) -> Result<LibraryReply<RunEnding>, LibraryBreak>
+) -> Result<LibraryReply<RunEnding>, CallBreak>
     requires { Unit {0} }
     ensures { Calls builtin.do_lio (front 4 0 values.now) run.now run.now transfer.old transfer.new (rows_of (λ b. (⟦<dyn Device as Device>⟧ b.vtable).device_state b.value) units.old) (rows_of (λ b. (⟦<dyn Device as Device>⟧ b.vtable).device_state b.value) units.new) result }
 {
@@ -135,7 +134,7 @@ pub(crate) fn formatted_items(
     values: &[CValue],
     run: &RunBytes,
     transfer: Option<TransferInProgress>,
-) -> Result<LibraryReply<RunEnding>, LibraryBreak>
+) -> Result<LibraryReply<RunEnding>, CallBreak>
     ensures { (rows : List Row) → Calls builtin.do_fio (front 3 0 values.now) run.now run.now transfer transfer rows rows result }
 {
     let count = argument(values, 0);
@@ -151,7 +150,7 @@ fn finish_listed(
     units: &mut UnitTable,
     output: ListedOutput,
     transfer: &mut Option<TransferInProgress>,
-) -> Result<LibraryReply<RunEnding>, LibraryBreak>
+) -> Result<LibraryReply<RunEnding>, CallBreak>
     requires { transfer.old ≡ Some (TransferInProgress.ListedOutput output) }
     ensures { (objects : List Object) → Calls (builtin.Finish (kind_of TransferType.ListedOutput)) [] objects objects transfer.old transfer.new (rows_of (λ b. (⟦<dyn Device as Device>⟧ b.vtable).device_state b.value) units.old) (rows_of (λ b. (⟦<dyn Device as Device>⟧ b.vtable).device_state b.value) units.new) result }
 {
@@ -165,7 +164,7 @@ fn finish_in_listed(
     units: &mut UnitTable,
     output: ListedOutput,
     transfer: &mut Option<TransferInProgress>,
-) -> Result<LibraryReply<RunEnding>, LibraryBreak>
+) -> Result<LibraryReply<RunEnding>, CallBreak>
     requires { transfer.old ≡ Some (TransferInProgress.ListedOutput output) }
     ensures { (objects : List Object) → Calls (builtin.Finish (kind_of which)) [] objects objects transfer.old transfer.new (rows_of (λ b. (⟦<dyn Device as Device>⟧ b.vtable).device_state b.value) units.old) (rows_of (λ b. (⟦<dyn Device as Device>⟧ b.vtable).device_state b.value) units.new) result }
 {
@@ -180,7 +179,7 @@ pub(crate) fn finish(
     which: TransferType,
     units: &mut UnitTable,
     transfer: &mut Option<TransferInProgress>,
-) -> Result<LibraryReply<RunEnding>, LibraryBreak>
+) -> Result<LibraryReply<RunEnding>, CallBreak>
     requires { Unit {0} }
     ensures { (objects : List Object) → Calls (builtin.Finish (kind_of which)) [] objects objects transfer.old transfer.new (rows_of (λ b. (⟦<dyn Device as Device>⟧ b.vtable).device_state b.value) units.old) (rows_of (λ b. (⟦<dyn Device as Device>⟧ b.vtable).device_state b.value) units.new) result }
 {

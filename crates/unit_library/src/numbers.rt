@@ -11,7 +11,6 @@ ghost use Rattle.unit_library.specs.Arguments.{front};
 ghost use Rattle.unit_library.specs.Calls.{Calls};
 
 use crate::arguments::argument;
-use crate::breaks::LibraryBreak;
 use crate::endings::RunEnding;
 use crate::functions::NumberFunction;
 use crate::replies::given;
@@ -20,7 +19,7 @@ use library_calls::{
     b_clr, b_set, b_test, i_and, i_dim, i_eor, i_not, i_or, i_shft, i_sign, pow_ii,
 };
 use run_bytes::RunBytes;
-use run_library::LibraryReply;
+use run_library::{CallBreak, LibraryReply};
 
 /// The number that a function of two numbers gives.
 fn number_of(
@@ -50,7 +49,7 @@ pub(crate) fn numbers(
     function: NumberFunction,
     values: &[CValue],
     run: &RunBytes,
-) -> Result<LibraryReply<RunEnding>, LibraryBreak>
+) -> Result<LibraryReply<RunEnding>, CallBreak>
     ensures { (held : Option TransferInProgress) → (rows : List Row) → Calls (number_builtin function) (front 2 0 values.now) run.now run.now held held rows rows result }
 {
     let first = argument(values, 0);
@@ -62,7 +61,7 @@ pub(crate) fn numbers(
 pub(crate) fn complement(
     values: &[CValue],
     run: &RunBytes,
-) -> Result<LibraryReply<RunEnding>, LibraryBreak>
+) -> Result<LibraryReply<RunEnding>, CallBreak>
     ensures { (held : Option TransferInProgress) → (rows : List Row) → Calls builtin.i_not (front 1 0 values.now) run.now run.now held held rows rows result }
 {
     let number = argument(values, 0);

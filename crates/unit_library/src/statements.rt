@@ -7,7 +7,6 @@ ghost use Rattle.unit_library.specs.Arguments.{front};
 ghost use Rattle.unit_library.specs.Calls.{Calls};
 
 use crate::arguments::argument;
-use crate::breaks::LibraryBreak;
 use crate::endings::RunEnding;
 use crate::functions::UnitStatement;
 use crate::replies::{broken, ended};
@@ -16,7 +15,7 @@ use c_tree::outcome::{CFault, CValue};
 use f2c_outside::devices::Device;
 use f2c_outside::unit_table::UnitTable;
 use run_bytes::RunBytes;
-use run_library::LibraryReply;
+use run_library::{CallBreak, LibraryReply};
 use unit_answers::CallEnd;
 use unit_statements::{f_back, f_clos, f_end, f_open, f_rew};
 
@@ -46,7 +45,7 @@ pub(crate) fn statement(
     run: &RunBytes,
     units: &mut UnitTable,
     transfer: Option<TransferInProgress>,
-) -> Result<LibraryReply<RunEnding>, LibraryBreak>
+) -> Result<LibraryReply<RunEnding>, CallBreak>
     requires { Unit {0} }
     ensures { Calls (statement_builtin function) (front 1 0 values.now) run.now run.now transfer transfer (rows_of (λ b. (⟦<dyn Device as Device>⟧ b.vtable).device_state b.value) units.old) (rows_of (λ b. (⟦<dyn Device as Device>⟧ b.vtable).device_state b.value) units.new) result }
 {

@@ -8,19 +8,15 @@ ghost use Rattle.unit_library.specs.Arguments.{front};
 ghost use Rattle.unit_library.specs.Calls.{Calls};
 
 use crate::arguments::argument;
-use crate::breaks::LibraryBreak;
 use crate::endings::RunEnding;
 use crate::replies::broken;
 use c_tree::outcome::CValue;
 use library_calls::{s_rnge, s_stop};
 use run_bytes::RunBytes;
-use run_library::LibraryReply;
+use run_library::{CallBreak, LibraryReply};
 
 /// A call of STOP.
-pub(crate) fn stop(
-    values: &[CValue],
-    run: &RunBytes,
-) -> Result<LibraryReply<RunEnding>, LibraryBreak>
+pub(crate) fn stop(values: &[CValue], run: &RunBytes) -> Result<LibraryReply<RunEnding>, CallBreak>
     ensures { (held : Option TransferInProgress) → (rows : List Row) → Calls builtin.s_stop (front 2 0 values.now) run.now run.now held held rows rows result }
 {
     let pointer = argument(values, 0);
@@ -38,10 +34,7 @@ pub(crate) fn stop(
 }
 
 /// A call at a place outside its declared bounds.
-pub(crate) fn range(
-    values: &[CValue],
-    run: &RunBytes,
-) -> Result<LibraryReply<RunEnding>, LibraryBreak>
+pub(crate) fn range(values: &[CValue], run: &RunBytes) -> Result<LibraryReply<RunEnding>, CallBreak>
     ensures { (held : Option TransferInProgress) → (rows : List Row) → Calls builtin.s_rnge (front 4 0 values.now) run.now run.now held held rows rows result }
 {
     let variable = argument(values, 0);

@@ -10,14 +10,13 @@ ghost use Rattle.unit_library.specs.Arguments.{front};
 ghost use Rattle.unit_library.specs.Calls.{Calls};
 
 use crate::arguments::argument;
-use crate::breaks::LibraryBreak;
 use crate::endings::RunEnding;
 use crate::functions::TextFunction;
 use crate::replies::given;
 use c_tree::outcome::{CFault, CValue};
 use library_calls::{i_indx, l_ge, l_gt, l_le, l_lt, s_cmp};
 use run_bytes::RunBytes;
-use run_library::LibraryReply;
+use run_library::{CallBreak, LibraryReply};
 
 /// The number that a function of two texts gives.
 fn number_of_texts(
@@ -45,7 +44,7 @@ pub(crate) fn texts(
     function: TextFunction,
     values: &[CValue],
     run: &RunBytes,
-) -> Result<LibraryReply<RunEnding>, LibraryBreak>
+) -> Result<LibraryReply<RunEnding>, CallBreak>
     ensures { (held : Option TransferInProgress) → (rows : List Row) → Calls (text_builtin function) (front 4 0 values.now) run.now run.now held held rows rows result }
 {
     let first = argument(values, 0);

@@ -1,7 +1,7 @@
 use Rattle.item_deeds.proofs.FormLaws.{same-objects}
 use Rattle.unit_answers.proofs.FailureLaws.{none-failed}
 use Rattle.unit_library.proofs.ReplyLaws.{answered, lacked, none-answered}
-use Rattle.unit_library.proofs.library.UnitLibrary.call.Goals as goal
+use Rattle.unit_library.proofs.library.UnitLibraryLibrary.call.Goals as goal
 
 pub returns-in-Some-clause-meaning : goal.returns-in-Some-clause-meaning
 returns-in-Some-clause-meaning g c = λ units transfer standing.
