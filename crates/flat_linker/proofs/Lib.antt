@@ -1,0 +1,10 @@
+pub mod Completing
+pub mod StatementForms
+pub mod ReturnForms
+pub mod SizeLaws
+pub mod CaseLaws
+pub mod MarkLaws
+pub mod PutLaws
+pub mod FormLaws
+pub mod BodyLaws
+pub mod LoopLaws

@@ -1,0 +1,4 @@
+pub mod LostNames
+pub mod PutItems
+pub mod Parts
+pub mod LabelMarks
