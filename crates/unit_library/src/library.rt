@@ -1,7 +1,15 @@
 //! The functions of the library over a table of external units (CSTR 149, appendix on the run time library).
 
-ghost use Rattle.std.specs.Prelude.{◌≡◌, None, IfOk};
+ghost use Rattle.std.specs.Prelude.{◌≡◌, true, None, Option, IfOk};
+ghost use Rattle.c_tree.specs.run_state.Units.{Units};
+ghost use Rattle.c_tree.specs.World.{Transfer};
+ghost use Rattle.item_deeds.specs.Deeds.{world_of};
+ghost use Rattle.item_deeds.specs.Forms.{SameForms};
 ghost use Rattle.f2c_outside.specs.Rows.{rows_of};
+ghost use Rattle.run_library.specs.Signatures.{IsCall};
+ghost use Rattle.run_library.specs.Replies.{Answers, LacksIt};
+ghost use Rattle.run_library.specs.Room.{HasRoom};
+ghost use Rattle.unit_library.specs.Calls.{DevicesTold};
 ghost use Rattle.unit_answers.specs.Failing.{FailedOn, NoneFailed};
 ghost use Rattle.unit_library.specs.Endings.{ending_of};
 ghost use Rattle.unit_library.specs.Functions.{is_lacked};
@@ -72,12 +80,23 @@ impl Library for UnitLibrary {
 
     ghost room = { room_in };
 
+    // These are the clauses of the trait, over the devices of the units. A function with a `requires` of its own is proved whatever devices
+    // there are, and only so may a function of another crate that has one call it.
     fn call(
         &mut self,
         number: usize,
         values: &[CValue],
         run: &mut RunBytes,
-    ) -> Result<LibraryReply<RunEnding>, CallBreak> {
+    ) -> Result<LibraryReply<RunEnding>, CallBreak>
+        requires call { IsCall number values.now }
+        requires room { HasRoom (room_in self.old) run.old }
+        ensures meaning { (units : Units) → (transfer : Option Transfer) → Standing (rows_in (λ b. (⟦<dyn Device as Device>⟧ b.vtable).device_state b.value) self.old) (transfer_in self.old) units transfer →
+            Answers ending_of number values.now (world_of run.old units transfer) (Standing (rows_in (λ b. (⟦<dyn Device as Device>⟧ b.vtable).device_state b.value) self.new) (transfer_in self.new)) run.new result }
+        ensures built { LacksIt result (is_lacked number ≡ true) }
+        ensures room { room_in self.new ≡ room_in self.old }
+        ensures devices { DevicesTold (rows_in (λ b. (⟦<dyn Device as Device>⟧ b.vtable).device_state b.value) self.old) (rows_in (λ b. (⟦<dyn Device as Device>⟧ b.vtable).device_state b.value) self.new) result }
+        ensures forms { SameForms run.old run.new }
+    {
         match function_of(number) {
             Some(function) => call_function(
                 function,

@@ -1,0 +1,5 @@
+pub mod Mentioned
+pub mod Definitions
+pub mod Mains
+pub mod Missing
+pub mod Rules
