@@ -30,7 +30,10 @@ pub struct RangeReport<'a> {
 }
 
 /// The text of a STOP, by a pointer to it and its length.
-fn ending_text(run: &RunBytes, pointer: CValue, size: CValue) -> Result<&[u8], CFault>
+///
+/// # Errors
+/// `Kind` for a length that is no number and `Library` for a negative one; what `RunBytes::text` answers of the text.
+pub fn ending_text(run: &RunBytes, pointer: CValue, size: CValue) -> Result<&[u8], CFault>
     ensures { answered (λ text. text.now) result ≡ found.ending_text run.now pointer size }
 {
     let count = length_from(size)?;
@@ -110,7 +113,11 @@ fn name_at(run: &RunBytes, pointer: CValue) -> Result<&[u8], CFault>
 }
 
 /// What is reported of a place outside its declared bounds.
-fn report_of(
+///
+/// # Errors
+/// `Library` for a name without its zero byte and for what is no pointer to one, `Kind` for an object of values in its place and for
+/// what is no number.
+pub fn report_of(
     run: &RunBytes,
     variable: CValue,
     number: CValue,

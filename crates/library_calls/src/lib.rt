@@ -14,5 +14,5 @@ mod numbers;
 
 pub use comparisons::{i_indx, l_ge, l_gt, l_le, l_lt, s_cmp};
 pub use copies::{s_cat, s_copy};
-pub use endings::{RangeReport, s_rnge, s_stop};
+pub use endings::{RangeReport, ending_text, report_of, s_rnge, s_stop};
 pub use numbers::{b_clr, b_set, b_test, i_and, i_dim, i_eor, i_not, i_or, i_shft, i_sign, pow_ii};

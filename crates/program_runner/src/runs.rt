@@ -1,6 +1,6 @@
 //! Runs of linked programs (C89, 3.6.6.4 and 3.7.1).
 
-ghost use Rattle.std.specs.Prelude.{◌≡◌, ℕ, ◌<◌, [], None, List, Option, length, position, unwrap_or, bytes_eq, IfOk};
+ghost use Rattle.std.specs.Prelude.{◌≡◌, ℕ, ◌<◌, [], None, List, Option, length, position, unwrap_or, bytes_eq, IfOk, OnErr};
 ghost use Rattle.c_tree.specs.simulation.Machine as machine;
 ghost use Rattle.c_tree.specs.run_state.Units.{Units};
 ghost use Rattle.c_tree.specs.Linking.{main_name};
@@ -152,7 +152,7 @@ pub fn run<L: Library>(
 /// Runs a program from its main program on, so many steps, or until it is over. Its objects hold what they start with. The buffer has room
 /// for the arguments of each call. The run is that of the definitions for all units for which the library stands without a transfer in
 /// progress, unless the device of a unit fails or a function is called that the library lacks. No text of the objects is longer than the
-/// library can put together. An error where memory ran out.
+/// library can put together. An error where memory ran out, before the first step.
 ///
 /// # Errors
 /// Where the main program does not begin, that is where there is none or it has parameters: why.
@@ -173,6 +173,7 @@ pub fn run_program<L: Library>(
     ensures devices { IfOk result (ToldOfWholeRun L.none_failed L.failed_on library.old library.new) }
     ensures built { IfOk result (LacksInWholeRun L.lacks) }
     ensures texts { L.room library.new ≡ L.room library.old }
+    ensures unbegun { OnErr result (library.new ≡ library.old) }
 {
     match begin(alloc, program, objects)? {
         Ok(mut stack) => Ok(Ok(run(program, &mut stack, buffer, objects, library, steps))),

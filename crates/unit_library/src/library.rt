@@ -1,6 +1,6 @@
 //! The functions of the library over a table of external units (CSTR 149, appendix on the run time library).
 
-ghost use Rattle.std.specs.Prelude.{◌≡◌, true, None, Option, IfOk};
+ghost use Rattle.std.specs.Prelude.{◌≡◌, true, length, None, Option};
 ghost use Rattle.c_tree.specs.run_state.Units.{Units};
 ghost use Rattle.c_tree.specs.World.{Transfer};
 ghost use Rattle.item_deeds.specs.Deeds.{world_of};
@@ -24,7 +24,6 @@ use f2c_outside::devices::Device;
 use f2c_outside::unit_table::UnitTable;
 use run_bytes::RunBytes;
 use run_library::{CallBreak, Library, LibraryReply, RunBreak};
-use std::alloc::{AllocError, Global};
 use std::marker::PhantomData;
 
 /// The library over a table of external units, with the transfer in progress, and with room for the texts that it puts together.
@@ -40,19 +39,18 @@ pub struct UnitLibrary {
 impl UnitLibrary {
     ghost use Rattle.unit_library.specs.Held.{rows_in, transfer_in, room_in};
 
-    /// A library over these units in which no transfer is in progress, with room for texts of so many bytes. An error where memory ran
-    /// out.
-    pub fn new(alloc: Global, units: UnitTable, room: usize) -> Result<UnitLibrary, AllocError>
-        ensures units { IfOk result (λ library. rows_in (λ b. (⟦<dyn Device as Device>⟧ b.vtable).device_state b.value) library ≡ rows_of (λ b. (⟦<dyn Device as Device>⟧ b.vtable).device_state b.value) units) }
-        ensures transfer { IfOk result (λ library. transfer_in library ≡ None) }
-        ensures room { IfOk result (λ library. room_in library ≡ room) }
+    /// A library over these units in which no transfer is in progress, with room for texts as long as the buffer.
+    pub fn new(units: UnitTable, buffer: Vec<u8>) -> UnitLibrary
+        ensures units { rows_in (λ b. (⟦<dyn Device as Device>⟧ b.vtable).device_state b.value) result ≡ rows_of (λ b. (⟦<dyn Device as Device>⟧ b.vtable).device_state b.value) units }
+        ensures transfer { transfer_in result ≡ None }
+        ensures room { room_in result ≡ length buffer.items }
     {
-        Ok(UnitLibrary {
+        UnitLibrary {
             units,
             transfer: None,
-            buffer: vec![in alloc; 0u8; room]?,
+            buffer,
             devices: PhantomData,
-        })
+        }
     }
 
     /// The units.

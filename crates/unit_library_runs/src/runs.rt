@@ -1,6 +1,6 @@
 //! A run of a linked program over a table of external units.
 
-ghost use Rattle.std.specs.Prelude.{◌≡◌, None, IfOk, length};
+ghost use Rattle.std.specs.Prelude.{◌≡◌, None, IfOk, OnErr, length};
 ghost use Rattle.c_tree.specs.run_state.Units.{Units};
 ghost use Rattle.c_tree.specs.Meaning as meaning;
 ghost use Rattle.linked_programs.specs.LinkedPrograms.{program_of};
@@ -25,7 +25,7 @@ use unit_library::{RunEnding, UnitLibrary};
 /// units. Its objects hold what they start with, and no text among them is longer than the library has room for. The buffer has room for
 /// the arguments of each call. The run is that of the definitions for the units that the table stands for, where the devices tell their
 /// records and no transfer is in progress, unless the device of a unit fails or a function is called that the library lacks. An error where
-/// memory ran out.
+/// memory ran out, before the first step.
 ///
 /// # Errors
 /// Where the main program does not begin, that is where there is none or it has parameters: why.
@@ -50,6 +50,7 @@ pub fn run_on_units(
         library.old library.new) }
     ensures built { IfOk result (LacksInWholeRun is_lacked) }
     ensures texts { room_in library.new ≡ room_in library.old }
+    ensures unbegun { OnErr result (library.new ≡ library.old) }
 {
     run_program(alloc, program, buffer, objects, library, steps)
 }
