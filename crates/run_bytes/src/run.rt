@@ -98,8 +98,12 @@ impl RunBytes {
         }
     }
 
-    /// Stores a value at an offset of an object, in the form in which a place holds it.
-    fn write(
+    /// Stores a value at an offset of an object as it is: no other form is made of it, as `store` does.
+    ///
+    /// # Errors
+    /// `Outside` past the object, where there is none, and for a number at an offset that is no multiple of four; `Kind` for another type than
+    /// the object's.
+    pub fn write(
         &mut self,
         object: usize,
         offset: usize,
