@@ -1,0 +1,9 @@
+pub mod DeclarationLaws
+pub mod CountLaws
+pub mod NumberLaws
+pub mod FreshLaws
+pub mod PlaceLaws
+pub mod NameLaws
+pub mod LocalLaws
+pub mod ScopeLaws
+pub mod FunctionLaws

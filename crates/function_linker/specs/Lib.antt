@@ -1,0 +1,5 @@
+pub mod NumbersBehind
+pub mod LinkedFunctions
+pub mod NamesBehind
+pub mod FreshObjects
+pub mod FrameParts
