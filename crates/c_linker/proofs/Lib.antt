@@ -1,0 +1,6 @@
+pub mod HidingSteps
+pub mod ConstantLaws
+pub mod PartLaws
+pub mod FunctionLaws
+pub mod FileLaws
+pub mod ProgramLaws

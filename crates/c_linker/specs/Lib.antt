@@ -1,0 +1,2 @@
+pub mod LinkedFiles
+pub mod LinkedParts
