@@ -1,0 +1,3 @@
+pub mod LateLists
+pub mod StartLaws
+pub mod FieldLaws
