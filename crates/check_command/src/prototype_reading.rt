@@ -13,7 +13,7 @@ use f_tree::Text;
 use f2c_outside::shelves::{Place, Shelf};
 use plain_data::Items;
 use proto_file::{ProtoFail, Protos, read_protos};
-use source_files::read_places;
+use source_files::{MOST_BYTES, read_places};
 use std::alloc::Global;
 
 /// That what a place holds is no prototype file, for this line.
@@ -84,6 +84,6 @@ pub(crate) fn read_prototypes<H: Shelf>(
     ensures ok { IfOk result (λ shapes. ArePrototypesRead places.now shapes (H.state shelf.old) (H.state shelf.new)) }
     ensures err { IfErr result (ArePrototypesUnread places.now (H.state shelf.old) (H.state shelf.new)) }
 {
-    let texts = read_places(alloc, shelf, places)?;
+    let texts = read_places(alloc, shelf, places, MOST_BYTES)?;
     shapes_of(alloc, places, texts.as_slice())
 }

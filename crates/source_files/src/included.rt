@@ -6,7 +6,7 @@ ghost use Rattle.f2c_outside.specs.declared.shelves.Place.TheVariants as place_o
 ghost use Rattle.source_files.specs.SourceReads.{AreRead, AreUnread, IsUnreadFile};
 
 use crate::failing::SourceFail;
-use crate::places::read_front;
+use crate::places::{MOST_BYTES, read_front};
 use f_tree::Text;
 use f2c_outside::shelves::{Place, Shelf};
 use f2c_outside::texts::{Name, NameFail};
@@ -25,7 +25,7 @@ fn read_at<H: Shelf>(
     ensures ok { IfOk result (λ text. AreRead 16777217 (name.now ∷ []) (text ∷ []) (H.state shelf.old) (H.state shelf.new)) }
     ensures err { IfErr result (IsUnreadFile name.now (H.state shelf.old) (H.state shelf.new)) }
 {
-    read_front(alloc, shelf, place)
+    read_front(alloc, shelf, place, MOST_BYTES)
 }
 
 /// The front of a file that is included. No file has a name without a byte, or with more than 255.

@@ -11,6 +11,6 @@ mod sources;
 
 pub use failing::SourceFail;
 pub use names::name_of_file;
-pub use places::read_places;
+pub use places::{MOST_BYTES, read_places};
 pub use reading::read_source_from;
 pub use sources::{SourceRead, read_source};

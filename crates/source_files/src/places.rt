@@ -14,9 +14,9 @@ use plain_data::Items;
 use shelf_texts::{ReadFail, read_place};
 use std::alloc::{AllocError, Global};
 
-/// The most bytes of a file that are read: one more than a file may have, so that a longer one is told
+/// The most bytes of a file of FORTRAN cards or of prototypes that are read: one more than it may have, so that a longer one is told
 /// from it.
-const MOST_BYTES: usize = 16_777_217;
+pub const MOST_BYTES: usize = 16_777_217;
 
 /// The name of a place that is a file.
 fn file_name(alloc: Global, place: &Place) -> Result<Text, AllocError>
@@ -29,18 +29,19 @@ fn file_name(alloc: Global, place: &Place) -> Result<Text, AllocError>
     }
 }
 
-/// What a place holds, or its front where that is longer than a file may be.
+/// What a place holds, or its first bytes, so many, where it holds more.
 #[tactic(auto, using(crate::proofs::PlaceLemmas::is_file, crate::proofs::PlaceLemmas::away, crate::proofs::PlaceLemmas::failed, crate::proofs::PlaceLemmas::no_memory))]
 pub(crate) fn read_front<H: Shelf>(
     alloc: Global,
     shelf: &mut H,
     place: &Place,
+    most: usize,
 ) -> Result<Text, SourceFail>
     requires { IsSource place.now }
-    ensures ok { IfOk result (IsRead place.now 16777217 (H.state shelf.old) (H.state shelf.new)) }
+    ensures ok { IfOk result (IsRead place.now most (H.state shelf.old) (H.state shelf.new)) }
     ensures err { IfErr result (IsPlaceUnread place.now (H.state shelf.old) (H.state shelf.new)) }
 {
-    match read_place(alloc, shelf, place, MOST_BYTES) {
+    match read_place(alloc, shelf, place, most) {
         Ok(bytes) => Ok(Items::from_vec(bytes)),
         Err(ReadFail::NoMemory) => Err(SourceFail::NoMemory),
         Err(ReadFail::NotThere) => {
@@ -54,7 +55,7 @@ pub(crate) fn read_front<H: Shelf>(
     }
 }
 
-/// What places hold, or their fronts where they are longer than a file may be, in their order.
+/// What places hold, in their order, or the first bytes of one, so many, where it holds more.
 ///
 /// # Errors
 ///
@@ -64,14 +65,15 @@ pub fn read_places<H: Shelf>(
     alloc: Global,
     shelf: &mut H,
     places: &[Place],
+    most: usize,
 ) -> Result<Items<Text>, SourceFail>
     requires { All IsSource places.now }
-    ensures ok { IfOk result (λ texts. ArePlacesRead 16777217 places.now texts (H.state shelf.old) (H.state shelf.new)) }
+    ensures ok { IfOk result (λ texts. ArePlacesRead most places.now texts (H.state shelf.old) (H.state shelf.new)) }
     ensures err { IfErr result (ArePlacesUnread places.now (H.state shelf.old) (H.state shelf.new)) }
 {
     let mut texts = Items::new(alloc);
     for place in places {
-        let text = read_front(alloc, shelf, place)?;
+        let text = read_front(alloc, shelf, place, most)?;
         texts.push(text)?;
     }
     Ok(texts)

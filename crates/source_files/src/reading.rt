@@ -6,7 +6,7 @@ ghost use Rattle.f2c_outside.specs.Shelf.{IsSource};
 ghost use Rattle.source_files.specs.SourceEnds.{IsReadFrom, IsUnreadFrom};
 
 use crate::failing::SourceFail;
-use crate::places::read_places;
+use crate::places::{MOST_BYTES, read_places};
 use crate::sources::{SourceRead, read_source};
 use f_tree::names::Options;
 use f2c_outside::shelves::{Place, Shelf};
@@ -27,6 +27,6 @@ pub fn read_source_from<H: Shelf>(
     ensures ok { IfOk result (λ read. IsReadFrom options.now froms.now read (H.state shelf.old) (H.state shelf.new)) }
     ensures err { IfErr result (IsUnreadFrom options.now froms.now (H.state shelf.old) (H.state shelf.new)) }
 {
-    let files = read_places(alloc, shelf, froms)?;
+    let files = read_places(alloc, shelf, froms, MOST_BYTES)?;
     read_source(alloc, options, shelf, files)
 }

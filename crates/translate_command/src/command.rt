@@ -18,7 +18,7 @@ use f_tree::{Fail, Refusal, Text};
 use f2c_outside::shelves::{Place, Shelf};
 use plain_data::Items;
 use prototype_outputs::{FormFail, check_forms};
-use source_files::{SourceRead, name_of_file, read_places, read_source_from};
+use source_files::{MOST_BYTES, SourceRead, name_of_file, read_places, read_source_from};
 use std::alloc::Global;
 
 /// A refusal with the name of its file.
@@ -149,6 +149,6 @@ pub fn translate<H: Shelf>(
     ensures { TranslateEnded options.now job.now tos (H.state shelf.old) (H.state shelf.new) result }
 {
     let read = read_source_from(alloc, options, shelf, job.froms.as_slice())?;
-    let forms = read_places(alloc, shelf, job.forms.as_slice())?;
+    let forms = read_places(alloc, shelf, job.forms.as_slice(), MOST_BYTES)?;
     translate_source(alloc, options, shelf, job, &read, forms.as_slice(), tos)
 }

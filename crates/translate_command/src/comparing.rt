@@ -10,10 +10,8 @@ use f2c_outside::shelves::{Place, Shelf};
 use proto_file::Protos;
 use prototype_outputs::is_unchanged;
 use shelf_texts::{ReadFail, read_place};
+use source_files::MOST_BYTES;
 use std::alloc::Global;
-
-/// The most bytes of a file that are read: one more than a file may have, so that a longer one is told from it.
-const MOST_BYTES: usize = 16_777_217;
 
 /// Whether a prototype file is there and has these prototypes.
 #[tactic(auto, using(crate::proofs::FormLemmas::file_source, crate::proofs::OldLemmas::compared_away, crate::proofs::OldLemmas::failed_one, crate::proofs::OldLemmas::none_left, crate::proofs::OldLemmas::none_left_read))]
