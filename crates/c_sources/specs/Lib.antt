@@ -1,0 +1,3 @@
+pub mod Fails
+pub mod CTexts
+pub mod CFiles
