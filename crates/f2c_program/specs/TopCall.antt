@@ -1,7 +1,9 @@
 -- What the top call does: the outcome of the command that the words ask for, its message and its status.
-use Rattle.std.specs.Prelude.{◌≡◌, ℕ, ◌⊎◌, List}
+use Rattle.std.specs.Prelude.{◌≡◌, ℕ, ◌⊎◌, Bool, List}
 use Rattle.f2c_outside.specs.declared.shelves.Place.TheVariants.{Output}
 use Rattle.f2c_outside.specs.Shelf.{ShelfState, Rose}
+use Rattle.f2c_outside.specs.Texts.{word_at}
+use Rattle.run_words.specs.RunWords.{is_some_run}
 use Rattle.output_names.specs.WordPlaces.{outputs_of, files_named, prototypes_named}
 use Rattle.outcomes.specs.declared.outcome.Outcome.{Outcome}
 use Rattle.outcomes.specs.declared.outcome.Outcome.TheVariants as outcome
@@ -17,6 +19,10 @@ use Rattle.f2c_program.specs.SplitOutcomes.{SplitRan}
 use Rattle.f2c_program.specs.SplitRows.{SplitRows}
 use Rattle.f2c_program.specs.TranslateRows.{job_of, TranslateEnded, TranslateRows}
 use Rattle.f2c_program.specs.Usage.{usage}
+
+-- the words ask for a run of C files: the first is `-run`
+abbrev pub asks_for_run : List (List ℕ) → Bool
+asks_for_run words = is_some_run (word_at 1 words)
 
 -- the usage was written, or not for a fault
 abbrev pub WroteUsage : ShelfState → ShelfState → Outcome → Type 0

@@ -9,5 +9,5 @@ mod translating;
 mod usage;
 
 pub use outcomes::Outcome;
-pub use program::run;
+pub use program::{call_on_host, run};
 pub use top_call::{Ended, f2c};

@@ -1,19 +1,22 @@
 //! The program around the top call: the words of the command line, the real files and streams, and the exit status.
 
-ghost use Rattle.std.specs.Prelude.{◌≡◌, ◌++◌, drop, map, is_ok, IfOk, OnOk};
+ghost use Rattle.std.specs.Prelude.{◌≡◌, ◌++◌, drop, map, IfOk, OnOk};
 ghost use Rattle.std.specs.Process.{exit_status};
 ghost use Rattle.std.specs.String.{string_bytes};
 ghost use Rattle.f2c_program.specs.declared.program.NoWords.TheVariants as no_words;
-ghost use Rattle.f2c_program.specs.Program.{Called, StatusFor, IsStatusOfProgram};
+ghost use Rattle.f2c_program.specs.Program.{Called, untouched, IsStatusFor, IsStatusOfProgram};
 
 use crate::top_call::f2c;
+use f2c_outside::host_devices::{HostInput, HostOutput};
+use f2c_outside::host_file::HostFile;
 use f2c_outside::host_shelf::HostShelf;
 use f2c_outside::shelves::Shelf;
 use f2c_outside::texts::{NoMemory, Words};
 use f2c_outside::unit_table::UnitTable;
+use run_words::drawer_names;
 use std::alloc::{AllocGlobal, Global};
 use std::env;
-use std::io::ErrorKind;
+use std::io::{ErrorKind, Input};
 use std::process::ExitCode;
 use std::rt::{Env, HostRuntime};
 
@@ -74,35 +77,54 @@ pub(crate) fn command_words<R: Env + AllocGlobal>(rt: &R) -> Result<Words, NoWor
     }
 }
 
-/// Calls the top call on a shelf, with a table in which no unit is connected, and gives its status.
+/// Calls the top call on a shelf, and gives its status.
 fn status_of_call<H: Shelf>(alloc: Global, words: &Words, shelf: &mut H, units: UnitTable) -> u8
     ensures { Called words.now (H.state shelf.old) result }
 {
     f2c(alloc, words, shelf, units).status
 }
 
-/// The status for the words of the command line, or for why there are none, and for a table of the units, where
-/// there was memory for one.
-fn status_for(
-    rt: &HostRuntime,
-    words: Result<Words, NoWords>,
-    units: Result<UnitTable, NoMemory>,
-) -> u8
-    ensures { StatusFor words (is_ok units) result }
+/// Calls the top call with these words on the real files and streams, and gives its status: unit 5 is connected to standard input and unit 6 to standard
+/// output, and the files that the words name stand in the drawer.
+pub fn call_on_host(rt: &HostRuntime, words: &Words) -> Result<u8, NoMemory>
+    ensures { IfOk result (Called words.now untouched) }
 {
     let alloc = rt.alloc();
-    match (words, units) {
-        (Ok(words), Ok(units)) => {
-            let mut shelf = HostShelf::new(alloc, rt, rt.stderr());
-            status_of_call(alloc, &words, &mut shelf, units)
-        }
-        (Err(NoWords::NotText), _) => {
+    let mut units = UnitTable::new(alloc)?;
+    let input = Box::new(alloc, HostInput::new(alloc, rt.reader()))?;
+    units.connect(5, input).map_err(|_| NoMemory)?;
+    let output = Box::new(alloc, HostOutput::new(rt.stdout()))?;
+    units.connect(6, output).map_err(|_| NoMemory)?;
+    let names = drawer_names(alloc, words)?;
+    for name in names.as_slice() {
+        let file = Box::new(alloc, HostFile::new(alloc, *rt, name.copy(alloc)?))?;
+        units.offer(name.copy(alloc)?, file).map_err(|_| NoMemory)?;
+    }
+    let mut shelf = HostShelf::new(alloc, rt, rt.stderr());
+    Ok(status_of_call(alloc, words, &mut shelf, units))
+}
+
+/// Says that memory ran out.
+fn no_memory(rt: &HostRuntime) -> u8
+    ensures { result ≡ 5 }
+{
+    let _ = rt.eprintln("f2c: out of memory");
+    NO_MEMORY
+}
+
+/// The status for the words of the command line, or for why there are none.
+fn status_for(rt: &HostRuntime, words: Result<Words, NoWords>) -> u8
+    ensures { IsStatusFor words result }
+{
+    match words {
+        Ok(words) => match call_on_host(rt, &words) {
+            Ok(status) => status,
+            Err(_) => no_memory(rt),
+        },
+        Err(NoWords::NoMemory) => no_memory(rt),
+        Err(NoWords::NotText) => {
             let _ = rt.eprintln("f2c: a word is not UTF-8");
             BAD_WORDS
-        }
-        _ => {
-            let _ = rt.eprintln("f2c: out of memory");
-            NO_MEMORY
         }
     }
 }
@@ -113,6 +135,5 @@ pub fn run(rt: &HostRuntime) -> ExitCode
     ensures { IsStatusOfProgram (exit_status result) }
 {
     let words = command_words(rt);
-    let units = UnitTable::new(rt.alloc());
-    ExitCode::from(status_for(rt, words, units))
+    ExitCode::from(status_for(rt, words))
 }

@@ -1,8 +1,10 @@
 //! The top call: what the words ask for is done on a shelf, and a message and a status tell how it ended.
 
-ghost use Rattle.std.specs.Prelude.{◌≡◌};
+ghost use Rattle.std.specs.Prelude.{◌≡◌, true, false};
 ghost use Rattle.command_words.specs.CommandWords.{command_of};
-ghost use Rattle.f2c_program.specs.TopCall.{Ran, Concluded, Commanded};
+ghost use Rattle.f2c_outside.specs.Rows.{rows_of};
+ghost use Rattle.run_command.specs.RunRows.{RunEnded};
+ghost use Rattle.f2c_program.specs.TopCall.{Ran, Concluded, Commanded, asks_for_run};
 
 use crate::checking::check_named;
 use crate::splitting::split;
@@ -10,10 +12,13 @@ use crate::translating::translate_named;
 use crate::usage::write_usage;
 use checked_sources::laws::checked_sources_run;
 use command_words::{Command, command_of_words};
+use f2c_outside::devices::Device;
 use f2c_outside::shelves::Shelf;
 use f2c_outside::texts::Words;
 use f2c_outside::unit_table::UnitTable;
 use outcomes::{Outcome, say_outcome};
+use run_command::{RunDone, run_c_files};
+use run_words::is_run;
 use std::alloc::Global;
 
 /// How a call of `f2c` ended.
@@ -21,7 +26,7 @@ use std::alloc::Global;
 pub struct Ended {
     /// The exit status.
     pub status: u8,
-    /// The units that were handed in.
+    /// The units that were handed in, as a run left them.
     pub units: UnitTable,
 }
 
@@ -38,6 +43,27 @@ fn carry_out<H: Shelf>(alloc: Global, words: &Words, shelf: &mut H) -> Outcome
     }
 }
 
+/// Does what the words ask for that ask for no run, says how it ended, and gives the exit status.
+fn command_status<H: Shelf>(alloc: Global, words: &Words, shelf: &mut H) -> u8
+    ensures concluded { Concluded words.now (H.state shelf.old) (H.state shelf.new) result }
+    ensures commanded { Commanded words.now (command_of words.now) (H.state shelf.old) (H.state shelf.new) result }
+{
+    checked_sources_run();
+    let outcome = carry_out(alloc, words, shelf);
+    say_outcome(shelf, words, &outcome);
+    outcome.status()
+}
+
+/// Whether the words ask for a run of C files, that is whether the first is `-run`.
+pub(crate) fn asks_for_run(words: &Words) -> bool
+    ensures { result ≡ asks_for_run words.now }
+{
+    match words.get(1) {
+        Some(word) => is_run(word),
+        None => false,
+    }
+}
+
 /// Does what the words of a command line ask for, on a shelf and the units that are handed in.
 ///
 /// Words that end in `.f` name files: it reads each of them to its end, in their order, and each file that an INCLUDE statement there names, judges
@@ -48,6 +74,9 @@ fn carry_out<H: Shelf>(alloc: Global, words: &Words, shelf: &mut H) -> Outcome
 /// `-split` it writes each program unit of Input, or of the file that the next word names, to a new file of its own, and their names on Output; with
 /// `-check`, behind which stand FORTRAN files and prototype files, it reads them and lists each call that disagrees with what it calls on
 /// Output; with the one word `-h` or `--help` it writes the usage there.
+///
+/// With `-run`, behind which stand C files, it reads them, links them and runs their program over the units that are handed in: `RunEnded` tells how that ends, with the
+/// statuses of `run_command`. All other commands hand the units back as they were.
 ///
 /// The status is 0 where that was done, and then no call of the shelf failed; 1
 /// exactly where the set has a first refusal, which is that it is too long where it is split, and the line on Fault names it and its file, or where a
@@ -61,15 +90,17 @@ fn carry_out<H: Shelf>(alloc: Global, words: &Words, shelf: &mut H) -> Outcome
 /// nothing but the line on Fault was put anywhere; where writing a translation failed, the outputs before are whole, the one that failed is unchanged or
 /// holds a front of its text, and later ones are unchanged.
 pub fn f2c<H: Shelf>(alloc: Global, words: &Words, shelf: &mut H, units: UnitTable) -> Ended
-    ensures concluded { Concluded words.now (H.state shelf.old) (H.state shelf.new) result.status }
-    ensures commanded { Commanded words.now (command_of words.now) (H.state shelf.old) (H.state shelf.new) result.status }
-    ensures units { result.units ≡ units }
+    ensures concluded { asks_for_run words.now ≡ false → Concluded words.now (H.state shelf.old) (H.state shelf.new) result.status }
+    ensures commanded { asks_for_run words.now ≡ false → Commanded words.now (command_of words.now) (H.state shelf.old) (H.state shelf.new) result.status }
+    ensures units { asks_for_run words.now ≡ false → result.units ≡ units }
+    ensures ran { asks_for_run words.now ≡ true → RunEnded words.now (rows_of (λ b. (⟦<dyn Device as Device>⟧ b.vtable).device_state b.value) units) (rows_of (λ b. (⟦<dyn Device as Device>⟧ b.vtable).device_state b.value) result.units) (H.state shelf.old) (H.state shelf.new) result.status }
 {
-    checked_sources_run();
-    let outcome = carry_out(alloc, words, shelf);
-    say_outcome(shelf, words, &outcome);
+    if asks_for_run(words) {
+        let RunDone { status, units } = run_c_files(alloc, words, shelf, units);
+        return Ended { status, units };
+    }
     Ended {
-        status: outcome.status(),
+        status: command_status(alloc, words, shelf),
         units,
     }
 }

@@ -3,10 +3,8 @@
 //! `show FILE` puts a file on standard output.
 #![tactic(auto)]
 
-use f2c_outside::host_shelf::HostShelf;
 use f2c_outside::texts::{NoMemory, Words};
-use f2c_outside::unit_table::UnitTable;
-use f2c_program::{f2c, run};
+use f2c_program::{call_on_host, run};
 use std::alloc::Global;
 use std::process::ExitCode;
 use std::{fs, io};
@@ -44,10 +42,8 @@ fn words_of(alloc: Global, command: &str) -> Result<Words, NoMemory> {
 /// Runs a command, and tells its status.
 fn run_command(rt: &HostRuntime, alloc: Global, command: &str) -> Result<(), Stop> {
     let words = words_of(alloc, command)?;
-    let units = UnitTable::new(alloc)?;
-    let mut shelf = HostShelf::new(alloc, rt, rt.stderr());
-    let ended = f2c(alloc, &words, &mut shelf, units);
-    Ok(rt.println(format_args!("status {}", ended.status))?)
+    let status = call_on_host(rt, &words)?;
+    Ok(rt.println(format_args!("status {status}"))?)
 }
 
 /// Puts a file on standard output.

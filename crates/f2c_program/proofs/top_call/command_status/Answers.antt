@@ -2,7 +2,7 @@ use Rattle.std.proofs.Common.{subst, sym, ℕ}
 use Rattle.command_words.specs.CommandWords.{command_of}
 use Rattle.f2c_program.specs.TopCall.{Commanded}
 use Rattle.f2c_program.proofs.Rows.{commanded}
-use Rattle.f2c_program.proofs.top_call.f2c.Goals as goal
+use Rattle.f2c_program.proofs.top_call.command_status.Goals as goal
 
 pub returns-clause-commanded : goal.returns-clause-commanded
 returns-clause-commanded g c =

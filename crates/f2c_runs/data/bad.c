@@ -1,0 +1,7 @@
+#include "f2c.h"
+
+int MAIN__(void)
+{
+    i__2 = 1;
+    return 0;
+}
