@@ -1,0 +1,3 @@
+pub mod TextsOnShelf
+pub mod Excluded
+pub mod Endings
