@@ -9,6 +9,13 @@ pub struct Present {
     pub bytes: Vec<u8>,
 }
 
+/// An external unit that is connected to a device in memory.
+#[derive(Drop)]
+pub struct ConnectedUnit {
+    /// Its number, and behind a blank that of the call of its device that fails, if one does.
+    pub words: String,
+}
+
 /// A command with its title, and what is on the shelf.
 #[derive(Drop)]
 pub struct Case {
@@ -17,6 +24,7 @@ pub struct Case {
     present: Vec<Present>,
     prefixes: Vec<String>,
     failing: Option<String>,
+    units: Vec<ConnectedUnit>,
 }
 
 /// Adds a line to bytes.
@@ -35,6 +43,7 @@ impl Case {
             present: Vec::new(alloc),
             prefixes: Vec::new(alloc),
             failing: None,
+            units: Vec::new(alloc),
         }
     }
 
@@ -55,6 +64,9 @@ impl Case {
             self.prefixes.push(String::from_str(alloc, prefix)?)?;
         } else if let Some(number) = line.strip_prefix("!! ") {
             self.failing = Some(String::from_str(alloc, number)?);
+        } else if let Some(words) = line.strip_prefix("## ") {
+            let words = String::from_str(alloc, words)?;
+            self.units.push(ConnectedUnit { words })?;
         } else {
             self.add_card(&line)?;
         }
@@ -118,5 +130,10 @@ impl Case {
             Some(number) => Some(number.as_str()),
             None => None,
         }
+    }
+
+    /// The units that are connected.
+    pub fn units(&self) -> &[ConnectedUnit] {
+        self.units.as_slice()
     }
 }

@@ -3,13 +3,15 @@
 //! accepted. Of `=* title` each changed source is judged too: each front of Input, Input without one of its lines and with one of them twice, and with
 //! each byte changed to five others. Of `=$ WORDS` the command of these words is run; its status, the line on Fault and each file that Output names are
 //! printed. A line `-- NAME` begins a file that is there, `++ PREFIX` puts there all files with that prefix and a number, and `!! N` lets the call of
-//! the shelf with that number fail.
+//! the shelf with that number fail. A line `## U` connects unit U to a device in memory, and `## U K` to one whose call K fails; behind the command the records
+//! of the first are printed.
 #![tactic(auto)]
 
 mod cases;
 mod changes;
 mod runs;
 mod shelves;
+mod units;
 
 use cases::Case;
 use changes::judge_changes;
@@ -53,6 +55,9 @@ fn print_command(rt: &HostRuntime, case: &Case, words: &str) -> Result<(), Stop>
     rt.println(format_args!("{}", case.title()))?;
     rt.println(format_args!("status {}", run.status()))?;
     print_text(rt, run.fault())?;
+    for record in run.records() {
+        rt.println(format_args!("  > {record}"))?;
+    }
     for name in run.listing().lines() {
         rt.println(format_args!("-- {name}"))?;
         print_text(rt, run.text(rt.alloc(), name)?)?;

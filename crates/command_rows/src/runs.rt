@@ -1,36 +1,80 @@
 //! A command that is run on a shelf in memory.
 
 use crate::Stop;
-use crate::cases::Case;
+use crate::cases::{Case, ConnectedUnit};
 use crate::shelves::shelf_of;
+use crate::units::add_records;
+use f2c_outside::memory_device::MemoryDevice;
 use f2c_outside::memory_shelf::MemoryShelf;
-use f2c_outside::texts::{Name, Words};
+use f2c_outside::texts::{Name, NoMemory, Words};
 use f2c_outside::unit_table::UnitTable;
-use f2c_program::f2c;
+use f2c_program::{Ended, f2c};
 use std::alloc::Global;
 
-/// How a command ended: its status, and the shelf.
+/// How a command ended: its status, the shelf, and the records of the units.
 #[derive(Drop)]
 pub struct Run {
     status: u8,
     shelf: MemoryShelf,
+    records: Vec<String>,
+}
+
+/// The words of a command, between which stand blanks.
+fn words_of(alloc: Global, command: &str) -> Result<Words, NoMemory> {
+    let mut words = Words::new(alloc)?;
+    for word in command.split_whitespace() {
+        words.push(word.as_bytes())?;
+    }
+    Ok(words)
 }
 
 impl Run {
-    /// Runs a command on this shelf, with these words, between which stand blanks.
-    pub fn over(alloc: Global, mut shelf: MemoryShelf, command: &str) -> Result<Run, Stop> {
-        let mut words = Words::new(alloc)?;
-        for word in command.split_whitespace() {
-            words.push(word.as_bytes())?;
+    /// Runs a command on this shelf and over these units.
+    fn with_units(
+        alloc: Global,
+        mut shelf: MemoryShelf,
+        command: &str,
+        connected: &[ConnectedUnit],
+    ) -> Result<Run, Stop> {
+        let words = words_of(alloc, command)?;
+        let mut units = UnitTable::new(alloc)?;
+        for one in connected {
+            let mut device = MemoryDevice::new(alloc)?;
+            if let Some(call) = one.failing() {
+                device.fail_at(call)?;
+            }
+            let Ok(device) = Box::new(alloc, device) else {
+                return Err(Stop::NoMemory);
+            };
+            if units.connect(one.unit()?, device).is_err() {
+                return Err(Stop::NoMemory);
+            }
         }
-        let ended = f2c(alloc, &words, &mut shelf, UnitTable::new(alloc)?);
-        let status = ended.status;
-        Ok(Run { status, shelf })
+        let Ended { status, mut units } = f2c(alloc, &words, &mut shelf, units);
+        let mut records = Vec::new(alloc);
+        if let Some(first) = connected.first() {
+            add_records(alloc, &mut records, &mut units, first.unit()?)?;
+        }
+        Ok(Run {
+            status,
+            shelf,
+            records,
+        })
     }
 
-    /// Runs a command on the shelf of a case.
+    /// Runs a command on this shelf, with these words, between which stand blanks.
+    pub fn over(alloc: Global, shelf: MemoryShelf, command: &str) -> Result<Run, Stop> {
+        Run::with_units(alloc, shelf, command, &[])
+    }
+
+    /// Runs a command on the shelf of a case, and over its units.
     pub fn of(alloc: Global, case: &Case, command: &str) -> Result<Run, Stop> {
-        Run::over(alloc, shelf_of(alloc, case)?, command)
+        Run::with_units(alloc, shelf_of(alloc, case)?, command, case.units())
+    }
+
+    /// The records of the first unit of the case.
+    pub fn records(&self) -> &[String] {
+        self.records.as_slice()
     }
 
     /// The status.

@@ -1,0 +1,62 @@
+//! External units with devices in memory.
+
+use crate::Stop;
+use crate::cases::ConnectedUnit;
+use f2c_outside::devices::Got;
+use f2c_outside::unit_table::UnitTable;
+use std::alloc::Global;
+
+/// The most records of a unit that are printed.
+const MOST_RECORDS: usize = 100;
+
+/// The most bytes of a record that are printed.
+const MOST_BYTES: usize = 200;
+
+impl ConnectedUnit {
+    /// A number among the words.
+    fn number(&self, place: usize) -> Option<u64> {
+        match self.words.split(' ').nth(place) {
+            Some(word) => word.parse().ok(),
+            None => None,
+        }
+    }
+
+    /// The number of the unit.
+    pub fn unit(&self) -> Result<i32, Stop> {
+        match self.number(0) {
+            Some(number) => i32::try_from(number).map_err(|_| Stop::Failed),
+            None => Err(Stop::Failed),
+        }
+    }
+
+    /// The call of its device that fails, if one does.
+    pub fn failing(&self) -> Option<u64> {
+        self.number(1)
+    }
+}
+
+/// Adds the records of a unit to some lines.
+pub fn add_records(
+    alloc: Global,
+    lines: &mut Vec<String>,
+    units: &mut UnitTable,
+    unit: i32,
+) -> Result<(), Stop>
+    requires { Unit {0} }
+{
+    let mut line = [0; MOST_BYTES];
+    if units.rewind_unit(unit).is_err() {
+        return Ok(());
+    }
+    for _ in 0..MOST_RECORDS {
+        let Ok(Got::Line(size)) = units.read_from(unit, &mut line) else {
+            return Ok(());
+        };
+        let text = str::from_utf8(line.get(..size).unwrap_or(b"")).unwrap_or("no text");
+        let text = String::from_str(alloc, text)?;
+        if lines.push(text).is_err() {
+            return Err(Stop::NoMemory);
+        }
+    }
+    Ok(())
+}
