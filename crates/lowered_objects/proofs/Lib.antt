@@ -1,0 +1,3 @@
+pub mod ExpressionObjects
+pub mod StatementObjects
+pub mod UnitObjects
