@@ -1,0 +1,4 @@
+pub mod LinkedSizes
+pub use Rattle.main_file.specs.c_tree
+pub use Rattle.unit_sites.specs as unit_sites
+pub use Rattle.unit_sites.specs.unit_file
