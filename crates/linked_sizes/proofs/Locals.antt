@@ -16,7 +16,8 @@ use Rattle.main_file.specs.c_tree.Linking as linking
 use Rattle.unit_sites.specs.unit_file.UnitFile.{Variable, Listing, Parameter, Callee, Inventory, parameter_for, extern_for, result_local, result_count, frame_count, unit_locals, variable_for, lists_from, temporaries_from}
 use Rattle.main_file.specs.f_tree.CNames.{made_name, FunctionResult, NumberTemporary}
 use Rattle.main_file.specs.MainFile.{list_for}
-use Rattle.linked_sizes.specs.LinkedSizes.{count_bytes, variables_bytes, texts_bytes}
+use Rattle.linked_sizes.specs.LinkedSizes.{count_bytes, variables_bytes}
+use Rattle.built_strings.specs.BuiltStrings.{texts_bytes}
 
 -- ## Objects
 

@@ -8,7 +8,9 @@ use Rattle.main_file.specs.c_tree.Linking.{External, Routines, externals, extern
 use Rattle.main_file.specs.c_tree.Linking as linking
 use Rattle.unit_sites.specs.unit_file.UnitFile.{WrittenUnit, constant_for, parameter_for, unit_locals, unit_function}
 use Rattle.unit_sites.specs.UnitSites.{UnitsOfFile, file_for, files_of}
-use Rattle.linked_sizes.specs.LinkedSizes.{texts_bytes, unit_bytes, units_bytes, files_bytes, EachProgramIsSized}
+use Rattle.built_strings.specs.BuiltStrings.{texts_bytes}
+use Rattle.built_strings.specs.BuiltStrings.{texts_bytes}
+use Rattle.linked_sizes.specs.LinkedSizes.{unit_bytes, units_bytes, files_bytes, EachProgramIsSized}
 use Rattle.linked_sizes.proofs.Locals.{bytes_both, texts_within, locals_last, locals_strings, frame_within}
 
 -- ## Functions

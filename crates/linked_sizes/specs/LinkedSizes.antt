@@ -1,7 +1,8 @@
 -- The bytes of what the functions of program units have, and that the objects of their linked files have no more. C89, 3.1.2.4, 3.1.2.5, 3.1.4 and 3.5.7.
-use Rattle.std.specs.Prelude.{ℕ, suc, ◌+◌, ◌*◌, ◌≤◌, List, [], ◌∷◌, length, Option, Some, None}
+use Rattle.std.specs.Prelude.{ℕ, ◌+◌, ◌*◌, ◌≤◌, List, [], ◌∷◌, length, Option, Some, None}
 use Rattle.main_file.specs.c_tree.FlatForm.{whole_body}
 use Rattle.main_file.specs.c_tree.Linking.{program, bytes_of_objects}
+use Rattle.built_strings.specs.BuiltStrings.{texts_bytes}
 use Rattle.unit_sites.specs.unit_file.UnitFile.{Variable, WrittenUnit, frame_count}
 use Rattle.unit_sites.specs.UnitSites.{UnitsOfFile, files_of}
 
@@ -13,11 +14,6 @@ count_bytes (Some count) = 4 * count
 unfoldable pub variables_bytes : List Variable → ℕ
 variables_bytes [] = 0
 variables_bytes (v ∷ later) = count_bytes v.count + variables_bytes later
-
--- strings, each with a zero byte
-unfoldable pub texts_bytes : List (List ℕ) → ℕ
-texts_bytes [] = 0
-texts_bytes (text ∷ later) = suc (length text) + texts_bytes later
 
 -- a function: its variables and arrays, the strings of its statements, its parameters, its result and its temporaries
 unfoldable pub unit_bytes : WrittenUnit → ℕ
@@ -37,5 +33,5 @@ abbrev pub EachProgramIsSized : Type 0
 EachProgramIsSized = (fs : List UnitsOfFile) → bytes_of_objects (program (files_of fs)).objects ≤ files_bytes fs
 
 unfoldable pub linked_sizes_opened : Unit {0}
-unfolding count_bytes variables_bytes texts_bytes unit_bytes units_bytes files_bytes
+unfolding count_bytes variables_bytes unit_bytes units_bytes files_bytes
 linked_sizes_opened = tt

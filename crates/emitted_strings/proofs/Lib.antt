@@ -1,0 +1,2 @@
+pub mod PlainExpressions
+pub mod PlainItems
