@@ -1,0 +1,4 @@
+pub mod Bodies
+pub mod StopTexts
+pub mod UnitBytes
+pub mod FileBytes
