@@ -245,7 +245,7 @@ filled : (b : Bool) (x : Option (List UnitsOfFile)) (fs : List UnitsOfFile) → 
 filled true x fs h = h
 filled false x fs h = absurd (cc)
 
-enough : (options : Options) (files : List File) (bytes : ℕ) → bytes ≤ limit options (all_units files) + 48 * total_by unit_nodes (all_units files) → bytes ≤ stored_bytes options files + 1000 * (all_nodes files + all_stops files)
+enough : (options : Options) (files : List File) (bytes : ℕ) → bytes ≤ limit options (all_units files) + 48 * total_by unit_nodes (all_units files) → bytes ≤ stored_bytes options files + 1000 * all_nodes files + all_stops files
 unfolding limit stored_bytes all_nodes all_stops
 enough options files bytes h = omega (arith, h)
 

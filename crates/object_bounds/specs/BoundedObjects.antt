@@ -10,7 +10,7 @@ use Rattle.object_bytes.specs.ObjectBytes.{stored_bytes, all_nodes, all_stops}
 
 -- the C files of some FORTRAN files, if they have them
 abbrev pub HaveFewBytes : Options → List File → Type 0
-HaveFewBytes options files = (cs : List CFile) → files_of options files ≡ Some cs → bytes_of_objects (program cs).objects ≤ stored_bytes options files + 1000 * (all_nodes files + all_stops files)
+HaveFewBytes options files = (cs : List CFile) → files_of options files ≡ Some cs → bytes_of_objects (program cs).objects ≤ stored_bytes options files + 1000 * all_nodes files + all_stops files
 
 -- LAW
 abbrev pub EachTranslationHasFewBytes : Type 0

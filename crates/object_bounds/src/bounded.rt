@@ -9,8 +9,8 @@ use lowered_objects::few::lowered_texts_need_few_objects;
 use plain_units::units::plain_units_are_told;
 use read_sizes::within::units_are_read_within;
 
-/// The objects of the C files of FORTRAN files have at most the bytes of the sequences of the units, and a thousand for each tree node of these, each reference of
-/// a statement function being expanded, and for each character of the texts of their STOP statements. So what the files take is bounded by what the units have
+/// The objects of the C files of FORTRAN files have at most the bytes of the sequences of the units, a thousand for each tree node of these, each reference of a
+/// statement function being expanded, and one for each character of the texts of their STOP statements. So what the files take is bounded by what the units have
 /// (3.5, 11.12, 15.4 and 17.1; C89, 3.1.2.4 and 3.1.2.5).
 pub fn translations_have_few_bytes()
     ensures { EachTranslationHasFewBytes }
