@@ -51,12 +51,12 @@ lists_last : (k : ℕ) (ls : List Listing) → Lasts (lists_from k ls) 0
 lists_last k [] scope first before = omega arith
 lists_last k (l ∷ ls) scope first before = let more = lists_last (suc k) ls scope (first + 0) (before ++ list_for k l ∷ []) in omega (arith, more)
 
-variable_last : (v : Variable) (count : Option ℕ) (rest : List CLocal) (n : ℕ) → v.count ≡ count → Lasts rest n → Lasts (variable_for (record v { count = count }) ∷ rest) (count_bytes count + n)
+variable_last : (v : Variable) (count : Option ℕ) (rest : List CLocal) (n : ℕ) → Lasts rest n → Lasts (variable_for (record v { count = count }) ∷ rest) (count_bytes count + n)
 unfolding count_bytes
-variable_last v None rest n is h scope first before =
+variable_last v None rest n h scope first before =
     let more = h scope (first + 0) (before ++ variable_for (record v { count = None }) ∷ []) in
     omega (arith, more)
-variable_last v (Some count) rest n is h scope first before =
+variable_last v (Some count) rest n h scope first before =
     let one = filled_within (4 * count) [] (omega arith) in
     let more = h scope (first + 0) (before ++ variable_for (record v { count = Some count }) ∷ []) in
     omega (arith, one, more)
@@ -65,7 +65,7 @@ variables_last : (vs : List Variable) (rest : List CLocal) (n : ℕ) → Lasts r
 unfolding variables_bytes
 variables_last [] rest n h scope first before = let all = h scope first before in omega (arith, all)
 variables_last (v ∷ vs) rest n h scope first before =
-    let all = variable_last v v.count (map variable_for vs ++ rest) (variables_bytes vs + n) refl (variables_last vs rest n h) scope first before in
+    let all = variable_last v v.count (map variable_for vs ++ rest) (variables_bytes vs + n) (variables_last vs rest n h) scope first before in
     omega (arith, all)
 
 externs_last : (calls : List Callee) (rest : List CLocal) (n : ℕ) → Lasts rest n → Lasts (map extern_for calls ++ rest) n
