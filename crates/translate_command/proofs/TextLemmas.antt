@@ -14,6 +14,7 @@ use Rattle.source_files.specs.faithful.Signatures.{EachHasSignatures}
 use Rattle.source_files.specs.translated_files.TranslatedFiles.{files_of}
 use Rattle.kept_loops.specs.KeptFunctions.{EachTranslationKeepsLoops}
 use Rattle.step_bounds.specs.BoundedSteps.{EachTranslationIsBounded}
+use Rattle.object_bounds.specs.BoundedObjects.{EachTranslationHasFewBytes}
 use Rattle.translated_sets.specs.FaithfulSets.{translations_of, EachAcceptedSetIsFaithful, EachAcceptedSetHasSignatures}
 use Rattle.source_files.specs.source_acceptance.SourceFiles as sources
 use Rattle.source_files.specs.source_acceptance.SourceFiles.{Source, SpellFiles, files_with_parts, SpellsSource}
@@ -40,10 +41,10 @@ as_many source set spelled =
     ap length spelled.set_is ∙ (with_parts_length spelled.parts spelled.trees ∙ spelled_length 0 source.files spelled.trees spelled.files_spell)
 
 -- THE TEXTS
-texts_of : EachAcceptedSetIsFaithful → EachTranslationKeepsLoops → EachTranslationIsBounded → (options : Options) (source : Source) (set : FileSet) (made : List CFile) (texts : List (List ℕ)) → 0 < length source.files →
+texts_of : EachAcceptedSetIsFaithful → EachTranslationKeepsLoops → EachTranslationIsBounded → EachTranslationHasFewBytes → (options : Options) (source : Source) (set : FileSet) (made : List CFile) (texts : List (List ℕ)) → 0 < length source.files →
     IsAccepted options source set → files_of options set.files ≡ Some made → texts ≡ map printed made → AreTextsOf options source texts
 unfolding translations_of
-texts_of law kept bounded options source set made texts some accepted are is =
+texts_of law kept bounded few options source set made texts some accepted are is =
     let translations : translations_of options set.files ≡ Some texts = ap (λ found. option_map (map printed) found) are ∙ ap Some (sym is) in
     let count = as_many source set accepted.spelled in
     record {
@@ -53,6 +54,7 @@ texts_of law kept bounded options source set made texts some accepted are is =
       faithful = law options source set texts accepted (omega (arith, some, count)) translations;
       loops = kept options set.files;
       bounded = bounded options set.files;
+      small = few options set.files;
     }
 
 -- as many texts as files
@@ -69,23 +71,23 @@ as_many_texts options source texts made =
     as_many_spelled texts made.faithful.c_trees made.faithful.written ∙ as_many_signed options made.set.files made.faithful.c_trees made.faithful.signatures ∙ as_many source made.set made.accepted.spelled
 
 -- WHAT IS MADE of the C trees of a source is what is made for it
-made_of_source : EachAcceptedSetIsFaithful → EachTranslationKeepsLoops → EachTranslationIsBounded → EachAcceptedSetHasSignatures → EachOutputIsOfItsFile → EachListIsOfItsFile → (options : Options) (prototypes : Bool) (source : Source)
+made_of_source : EachAcceptedSetIsFaithful → EachTranslationKeepsLoops → EachTranslationIsBounded → EachTranslationHasFewBytes → EachAcceptedSetHasSignatures → EachOutputIsOfItsFile → EachListIsOfItsFile → (options : Options) (prototypes : Bool) (source : Source)
     (set : FileSet) (trees : List CFile) (made : Made) → 0 < length source.files → IsAccepted options source set → files_of options set.files ≡ Some trees →
     AreMadeOf prototypes trees made → AreOutputsOf options prototypes source (map printed trees) made.outputs made.lists
 unfolding texts_of
-made_of_source faithful_sets kept bounded signed_sets outputs_law lists_law options prototypes source set trees made some accepted are is =
+made_of_source faithful_sets kept bounded few signed_sets outputs_law lists_law options prototypes source set trees made some accepted are is =
     let count = as_many source set accepted.spelled in
     let has = signed_sets options source set trees accepted (omega (arith, some, count)) are in
     record {
-      made = texts_of faithful_sets kept bounded options source set trees (map printed trees) some accepted are refl;
+      made = texts_of faithful_sets kept bounded few options source set trees (map printed trees) some accepted are refl;
       outputs_are = is.outputs ∙ outputs_law prototypes options set.files trees has;
       lists_are = is.lists ∙ lists_law options set.files trees has;
     }
 
-pub made_for : EachAcceptedSetIsFaithful → EachTranslationKeepsLoops → EachTranslationIsBounded → EachAcceptedSetHasSignatures → EachOutputIsOfItsFile → EachListIsOfItsFile → (options : Options) (prototypes : Bool)
+pub made_for : EachAcceptedSetIsFaithful → EachTranslationKeepsLoops → EachTranslationIsBounded → EachTranslationHasFewBytes → EachAcceptedSetHasSignatures → EachOutputIsOfItsFile → EachListIsOfItsFile → (options : Options) (prototypes : Bool)
     (files names included : List (List ℕ)) (trees : List CFile) (made : Made) → 0 < length files → AreFilesOfSource options (source_of files names included) trees →
     AreMadeOf prototypes trees made → AreMadeFor options prototypes files names included made
-made_for faithful_sets kept bounded signed_sets outputs_law lists_law options prototypes files names included trees made some of is = record {
+made_for faithful_sets kept bounded few signed_sets outputs_law lists_law options prototypes files names included trees made some of is = record {
   texts = map printed trees;
-  are = made_of_source faithful_sets kept bounded signed_sets outputs_law lists_law options prototypes (source_of files names included) of.set trees made some of.accepted of.files is;
+  are = made_of_source faithful_sets kept bounded few signed_sets outputs_law lists_law options prototypes (source_of files names included) of.set trees made some of.accepted of.files is;
 }

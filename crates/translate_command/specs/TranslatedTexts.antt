@@ -9,6 +9,7 @@ use Rattle.source_files.specs.source_verdict.SourceRows as verdict
 use Rattle.source_files.specs.SourceOnShelf.{mentions, files_on, HasPlaces, AreThere, source_on}
 use Rattle.kept_loops.specs.KeptFunctions.{KeepTheirLoops}
 use Rattle.step_bounds.specs.BoundedSteps.{AreBounded}
+use Rattle.object_bounds.specs.BoundedObjects.{HaveFewBytes}
 use Rattle.translated_sets.specs.FaithfulSets.{translations_of}
 use Rattle.prototype_outputs.specs.prototypes.declared.prototype.Prototype.{Prototype}
 use Rattle.prototype_outputs.specs.Outputs.{set_outputs, set_prototypes}
@@ -16,7 +17,7 @@ use Rattle.prototype_outputs.specs.Forms.{AreFiles}
 use Rattle.translate_command.specs.declared.job.Job.{Job}
 
 -- the source is accepted, and the texts are the translations of the trees that it spells, in their order, faithful to them and with their loops, and their
--- step factor is bounded by the trees
+-- step factor is bounded by the trees, and the bytes of their objects by these and by the storage of the units
 pub record AreTextsOf (options : Options) (source : Source) (texts : List (List ℕ)) : Type 0 where
   pub set : FileSet
   pub accepted : verdict.IsAccepted options source set
@@ -24,6 +25,7 @@ pub record AreTextsOf (options : Options) (source : Source) (texts : List (List 
   pub faithful : Faithful options set.files texts
   pub loops : KeepTheirLoops options set.files
   pub bounded : AreBounded options set.files
+  pub small : HaveFewBytes options set.files
 
 -- the source is accepted, these texts are its translation, these its outputs, in which the prototypes of each file stand behind its text where they are
 -- asked for, and these the prototypes of each file

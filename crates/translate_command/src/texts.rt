@@ -8,6 +8,7 @@ use c_tree::file::CFile;
 use f_tree::names::Options;
 use f_tree::{Fail, Text};
 use kept_loops::kept::translations_keep_loops;
+use object_bounds::bounded::translations_have_few_bytes;
 use plain_data::Items;
 use proto_file::Protos;
 use prototype_outputs::{lists_of, outputs_are_of_their_files, outputs_of};
@@ -35,7 +36,7 @@ fn made_of(alloc: Global, files: &[CFile], prototypes: bool) -> Result<Made, All
     Ok(Made { outputs, lists })
 }
 
-/// The outputs of a source, whose C texts are faithful to it, keep its loops and have bounded step factors, or its first refusal.
+/// The outputs of a source, whose C texts are faithful to it, keep its loops and have bounded step factors and objects, or its first refusal.
 pub(crate) fn translations(
     alloc: Global,
     options: &Options,
@@ -53,6 +54,7 @@ pub(crate) fn translations(
             accepted_sets_are_faithful();
             translations_keep_loops();
             translations_are_bounded();
+            translations_have_few_bytes();
             accepted_sets_have_signatures();
             outputs_are_of_their_files();
             Ok(made)
