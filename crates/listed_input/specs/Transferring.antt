@@ -1,0 +1,92 @@
+-- A list-directed input on a unit as the transfer in progress of the meaning of C texts, and what its calls answer
+-- (ANSI X3.9-1978, 12.8 and 13.6.1).
+use Rattle.std.specs.Prelude.{◌≡◌, ℕ, ℤ, pos, false, List, [], ◌∷◌, take, Some, None, Result, Ok, Err}
+use Rattle.c_tree.specs.run_state.Units.{Units}
+use Rattle.c_tree.specs.declared.outcome.CValue.{CValue}
+use Rattle.c_tree.specs.Faults.{Or, failing}
+use Rattle.c_tree.specs.Objects.{Object}
+use Rattle.c_tree.specs.World.{Input, Listed, Transfer, Reply, Gives, Stops, Io}
+use Rattle.c_tree.specs.World as media
+use Rattle.c_tree.specs.Transfers.{Control, new_transfer}
+use Rattle.c_tree.specs.TransferStarts.{reading}
+use Rattle.c_tree.specs.Builtins.{ByList, OnUnit, TransferKind, transfer_kind, Begin, Finish}
+use Rattle.c_tree.specs.Library.{library}
+use Rattle.edit_rules.specs.edit_meaning.ListInput.{Place}
+use Rattle.edit_rules.specs.Reader.{place_in}
+use Rattle.f2c_outside.specs.Table.{Row}
+use Rattle.f2c_outside.specs.Meaning.{Tells, units_of}
+use Rattle.unit_answers.specs.declared.ends.CallEnd.{CallEnd}
+use Rattle.unit_answers.specs.declared.ends.CallEnd.TheVariants.{Fault, Ended, Device}
+use Rattle.unit_answers.specs.Failing.{FailedOn, NoneFailed}
+use Rattle.unit_answers.specs.Answers.{world_with}
+use Rattle.control_lists.specs.declared.controls.UnitControl.{UnitControl}
+use Rattle.control_lists.specs.Controls.{unit_shown}
+use Rattle.listed_input.specs.declared.records.RecordInReading.{RecordInReading}
+use Rattle.listed_input.specs.declared.calls.ListedInput.{ListedInput}
+use Rattle.listed_input.specs.declared.calls.Start.{Start}
+use Rattle.listed_input.specs.declared.calls.Start.TheVariants.{Begins, Answers}
+
+-- list-directed input on a unit
+abbrev pub listed_kind : TransferKind
+listed_kind = transfer_kind Input ByList OnUnit
+
+-- the place in the record that is being read
+abbrev pub place_of : RecordInReading → Place
+place_of reading = place_in (take reading.used reading.line) reading.reader
+
+-- an input stands for a transfer: both are at one place of a record, or behind a slash
+pub record StandsFor (input : ListedInput) (transfer : Transfer) : Type 0 where
+  pub direction : transfer.direction ≡ Input
+  pub layout : transfer.layout ≡ Listed
+  pub medium : transfer.medium ≡ media.Unit input.unit
+  pub on_error : transfer.on_error ≡ input.on_error
+  pub on_end : transfer.on_end ≡ input.on_end
+  pub slashed : transfer.slashed ≡ input.slashed
+  pub place : input.slashed ≡ false → transfer.place ≡ place_of input.reading
+
+-- a transfer begins or goes on, for which an input stands
+pub record Stands (meaning : Or Reply) (objects : List Object) (units : Units) (input : ListedInput) : Type 0 where
+  pub transfer : Transfer
+  pub stands : StandsFor input transfer
+  pub replies : meaning ≡ Ok (Gives (pos 0) (world_with objects (Some transfer) units))
+
+-- `s_rsle`
+abbrev pub StartReplies : Or Reply → List Object → Units → Result Start CallEnd → Type 0
+StartReplies meaning objects units (Ok (Begins input)) = Stands meaning objects units input
+StartReplies meaning objects units (Ok (Answers number)) = meaning ≡ Ok (Gives number (world_with objects None units))
+StartReplies meaning objects units (Err (Fault fault)) = meaning ≡ failing fault
+StartReplies meaning objects units (Err (Ended number)) = meaning ≡ Ok (Stops (Io number) (world_with objects None units))
+StartReplies meaning objects units (Err (Device unit)) = Unit {0}
+
+abbrev pub StartDevice : List Row → List Row → Result Start CallEnd → Type 0
+StartDevice old new (Ok start) = NoneFailed old new
+StartDevice old new (Err (Fault fault)) = new ≡ old
+StartDevice old new (Err (Ended number)) = NoneFailed old new
+StartDevice old new (Err (Device unit)) = FailedOn unit old new
+
+-- where the devices tell their records, the call replies what its meaning gives over the units that the rows mean; a device fails where
+-- it is answered, and nowhere else; at a fault the rows stay as they were
+pub record AnswersStart (objects : List Object) (pointer : CValue) (old new : List Row) (result : Result Start CallEnd) : Type 0 where
+  pub tells : Tells old → Tells new
+  pub replies : Tells old →
+      StartReplies (library (Begin listed_kind) (world_with objects None (units_of old)) (pointer ∷ [])) objects (units_of new) result
+  pub devices : StartDevice old new result
+
+-- `e_rsle`: for every transfer for which the input stood
+abbrev pub AnswersEnd : ListedInput → ℤ → Type 0
+AnswersEnd input number =
+    (objects : List Object) → (units : Units) → (transfer : Transfer) → StandsFor input transfer →
+    library (Finish listed_kind) (world_with objects (Some transfer) units) [] ≡ Ok (Gives number (world_with objects None units))
+
+-- the rest of a start whose unit is connected
+abbrev pub begins : List Object → Units → Control → Or Reply
+begins objects units control = reading (new_transfer Input Listed control) (world_with objects None units)
+
+pub record AnswersReading (control : UnitControl) (objects : List Object) (old new : List Row) (result : Result Start CallEnd) : Type 0 where
+  pub tells : Tells old → Tells new
+  pub replies : Tells old → StartReplies (begins objects (units_of old) (unit_shown control)) objects (units_of new) result
+  pub devices : StartDevice old new result
+
+abbrev pub start_of : Result ℤ CallEnd → Result Start CallEnd
+start_of (Ok number) = Ok (Answers number)
+start_of (Err end) = Err end

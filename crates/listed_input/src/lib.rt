@@ -1,0 +1,14 @@
+//! List-directed input on a unit as calls of the library, over the objects of a run and its external units (ANSI X3.9-1978, 12.8 and
+//! 13.6.1; CSTR 149, appendix on the run time library): `s_rsle` begins a transfer and reads its first record, and `e_rsle` ends it.
+//!
+//! No call takes memory: the record that is being read stands in the transfer. A record of more than 1,024 bytes cannot be read, and is
+//! error 5.
+//!
+//! Each function that changes a unit table has a `requires` that always holds: a function with one is proved whatever devices there are,
+//! and one without where those that its callees may make are among them.
+#![tactic(auto)]
+
+mod calls;
+mod records;
+
+pub use calls::{ListedInput, Start, e_rsle, s_rsle};
