@@ -9,34 +9,34 @@ use Rattle.c_tree.specs.Faults.{Or, failing}
 use Rattle.c_tree.specs.Objects.{Object}
 use Rattle.c_tree.specs.World.{Direction, Input, Layout, Listed, Medium, Transfer, World, Reply, Gives, Stops, Io}
 use Rattle.c_tree.specs.World as media
-use Rattle.c_tree.specs.Transfers.{Control, Upcoming, asked, numbered, unit_control, new_transfer, nothing_but, read_on}
+use Rattle.c_tree.specs.Transfers.{Upcoming, asked, numbered, unit_control, new_transfer, nothing_but, read_on}
 use Rattle.c_tree.specs.TransferStarts.{starts, first_read}
 use Rattle.c_tree.specs.TransferCalls.{ends}
 use Rattle.c_tree.specs.Builtins.{Begin, Finish}
 use Rattle.c_tree.specs.Library.{library}
-use Rattle.edit_rules.specs.edit_meaning.ListInput.{Place, Between}
+use Rattle.edit_rules.specs.edit_meaning.ListInput.{Between}
 use Rattle.edit_rules.specs.declared.list_reader.Doing.{Doing}
 use Rattle.edit_rules.specs.declared.list_reader.Doing.TheVariants as doing
 use Rattle.edit_rules.specs.declared.list_reader.ListReader.{ListReader}
 use Rattle.edit_rules.specs.Reader.{place_by, place_in, StandsIn, ConstantWithin}
 use Rattle.f2c_outside.specs.Table.{Row}
-use Rattle.f2c_outside.specs.Meaning.{Tells, units_of}
+use Rattle.f2c_outside.specs.Meaning.{units_of}
 use Rattle.control_lists.specs.declared.controls.UnitControl.{UnitControl}
 use Rattle.control_lists.specs.Controls.{unit_shown}
 use Rattle.unit_answers.specs.declared.ends.CallEnd.{CallEnd}
-use Rattle.unit_answers.specs.declared.ends.CallEnd.TheVariants.{Fault, Ended, Device}
-use Rattle.unit_answers.specs.Failing.{FailedOn, NoneFailed}
+use Rattle.unit_answers.specs.declared.ends.CallEnd.TheVariants.{Fault, Ended}
+use Rattle.unit_answers.specs.Failing.{NoneFailed}
 use Rattle.unit_answers.specs.Answers.{world_with, numbered_answer}
 use Rattle.unit_answers.proofs.OrLemmas.{known, faulty}
 use Rattle.unit_answers.proofs.FailureLaws.{none-failed}
 use Rattle.listed_output.proofs.RowLaws.{stays-quietly}
-use Rattle.listed_input.specs.declared.records.NextRecord.{NextRecord}
-use Rattle.listed_input.specs.declared.records.NextRecord.TheVariants.{Record, Nothing, Failed}
+use Rattle.listed_input.specs.declared.records.NextRecord.TheVariants.{Record, Nothing}
 use Rattle.listed_input.specs.declared.calls.ListedInput.{ListedInput}
 use Rattle.listed_input.specs.declared.calls.Start.{Start}
-use Rattle.listed_input.specs.declared.calls.Start.TheVariants.{Begins, Answers}
+use Rattle.listed_input.specs.declared.calls.Start.TheVariants.{Begins}
 use Rattle.listed_input.specs.Fetching.{coming, before_others, Fetches, constant_of}
-use Rattle.listed_input.specs.Transferring.{listed_kind, place_of, StandsFor, Stands, StartReplies, StartDevice, AnswersStart, AnswersEnd, AnswersReading, begins, start_of}
+use Rattle.listed_input.specs.Reading.{place_of}
+use Rattle.listed_input.specs.Transferring.{listed_kind, StandsFor, StartReplies, StartDevice, AnswersStart, AnswersEnd, AnswersReading, begins, start_of}
 
 -- ## The place at the start
 

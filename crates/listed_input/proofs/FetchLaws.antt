@@ -1,5 +1,5 @@
 -- What reading a record leaves of the records that come next.
-use Rattle.std.proofs.Common.{◌≡◌, ℕ, zero, suc, ◌+◌, ◌≤◌, ◌<◌, ℤ, pos, negsuc, Bool, true, false, List, [], ◌∷◌, ◌++◌, length, take, drop, Option, Some, None, refl, ap, sym, ◌∙◌, subst, arith, length-append}
+use Rattle.std.proofs.Common.{◌≡◌, ℕ, zero, suc, ◌+◌, ◌≤◌, ◌<◌, ℤ, pos, negsuc, Bool, true, false, List, [], ◌∷◌, ◌++◌, length, take, drop, Option, Some, None, refl, ap, sym, ◌∙◌, subst, arith}
 use Rattle.std.specs.Prelude.{Result, Ok, Err, IsErrOf, slice_get, nat_le, if◌then◌else◌}
 use Rattle.std.specs.Ordering.{int_eq}
 use Rattle.std.proofs.lemmas.Bool.Decides.{Decides-int_eq, nat_tests}
@@ -10,16 +10,14 @@ use Rattle.run_state.specs.declared.refusals.UnitRefusal.{UnitRefusal}
 use Rattle.run_state.specs.declared.refusals.UnitRefusal.TheVariants as refusal
 use Rattle.f2c_outside.specs.declared.devices.Got.{Got}
 use Rattle.f2c_outside.specs.declared.devices.Got.TheVariants as got
-use Rattle.f2c_outside.specs.Device.{DeviceState}
 use Rattle.f2c_outside.specs.Table.{Row, Connects, AtUnit, OnUnit, ReadFrom}
 use Rattle.f2c_outside.specs.Finishing.{OnDevice}
 use Rattle.f2c_outside.specs.Meaning.{Tells, units_of, MeansReading}
-use Rattle.unit_answers.specs.Failing.{FailedOn, Quiet, NoneFailed}
+use Rattle.unit_answers.specs.Failing.{Quiet, NoneFailed}
 use Rattle.unit_answers.proofs.FailureLaws.{each-on, on-there, quiet-same, not-raised, failed-on}
 use Rattle.listed_output.specs.Writing.{StaysAt, StayedOn}
 use Rattle.listed_output.proofs.RowLaws.{stays-there}
 use Rattle.listed_input.specs.declared.records.NextRecord.{NextRecord}
-use Rattle.listed_input.specs.declared.records.NextRecord.TheVariants.{Record, Nothing, Failed}
 use Rattle.listed_input.specs.Fetching.{coming, before_others, FetchesAs, FetchesFrom, IsWithin, fetched_by, Fetches}
 
 drop-next : (xs : List (List ℕ)) (i : ℕ) (x : List ℕ) → slice_get xs i ≡ Some x → drop i xs ≡ x ∷ drop (suc i) xs

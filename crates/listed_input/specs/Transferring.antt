@@ -1,6 +1,6 @@
 -- A list-directed input on a unit as the transfer in progress of the meaning of C texts, and what its calls answer
 -- (ANSI X3.9-1978, 12.8 and 13.6.1).
-use Rattle.std.specs.Prelude.{◌≡◌, ℕ, ℤ, pos, false, List, [], ◌∷◌, take, Some, None, Result, Ok, Err}
+use Rattle.std.specs.Prelude.{◌≡◌, ℤ, pos, false, List, [], ◌∷◌, Some, None, Result, Ok, Err}
 use Rattle.c_tree.specs.run_state.Units.{Units}
 use Rattle.c_tree.specs.declared.outcome.CValue.{CValue}
 use Rattle.c_tree.specs.Faults.{Or, failing}
@@ -9,10 +9,8 @@ use Rattle.c_tree.specs.World.{Input, Listed, Transfer, Reply, Gives, Stops, Io}
 use Rattle.c_tree.specs.World as media
 use Rattle.c_tree.specs.Transfers.{Control, new_transfer}
 use Rattle.c_tree.specs.TransferStarts.{reading}
-use Rattle.c_tree.specs.Builtins.{ByList, OnUnit, TransferKind, transfer_kind, Begin, Finish}
+use Rattle.c_tree.specs.Builtins.{ByList, OnUnit, TransferKind, transfer_kind, Begin, Finish, do_lio}
 use Rattle.c_tree.specs.Library.{library}
-use Rattle.edit_rules.specs.edit_meaning.ListInput.{Place}
-use Rattle.edit_rules.specs.Reader.{place_in}
 use Rattle.f2c_outside.specs.Table.{Row}
 use Rattle.f2c_outside.specs.Meaning.{Tells, units_of}
 use Rattle.unit_answers.specs.declared.ends.CallEnd.{CallEnd}
@@ -21,7 +19,12 @@ use Rattle.unit_answers.specs.Failing.{FailedOn, NoneFailed}
 use Rattle.unit_answers.specs.Answers.{world_with}
 use Rattle.control_lists.specs.declared.controls.UnitControl.{UnitControl}
 use Rattle.control_lists.specs.Controls.{unit_shown}
-use Rattle.listed_input.specs.declared.records.RecordInReading.{RecordInReading}
+use Rattle.listed_input.specs.Reading.{place_of}
+use Rattle.item_deeds.specs.Forms.{SameForms}
+use Rattle.listed_output.specs.declared.calls.Passage.{Passage}
+use Rattle.listed_output.specs.declared.calls.Passage.TheVariants.{GoesOn, Over}
+use Rattle.listed_input.specs.declared.ends.InputEnd.{InputEnd}
+use Rattle.listed_input.specs.declared.ends.InputEnd.TheVariants.{Call, Uncounted}
 use Rattle.listed_input.specs.declared.calls.ListedInput.{ListedInput}
 use Rattle.listed_input.specs.declared.calls.Start.{Start}
 use Rattle.listed_input.specs.declared.calls.Start.TheVariants.{Begins, Answers}
@@ -29,10 +32,6 @@ use Rattle.listed_input.specs.declared.calls.Start.TheVariants.{Begins, Answers}
 -- list-directed input on a unit
 abbrev pub listed_kind : TransferKind
 listed_kind = transfer_kind Input ByList OnUnit
-
--- the place in the record that is being read
-abbrev pub place_of : RecordInReading → Place
-place_of reading = place_in (take reading.used reading.line) reading.reader
 
 -- an input stands for a transfer: both are at one place of a record, or behind a slash
 pub record StandsFor (input : ListedInput) (transfer : Transfer) : Type 0 where
@@ -77,6 +76,31 @@ abbrev pub AnswersEnd : ListedInput → ℤ → Type 0
 AnswersEnd input number =
     (objects : List Object) → (units : Units) → (transfer : Transfer) → StandsFor input transfer →
     library (Finish listed_kind) (world_with objects (Some transfer) units) [] ≡ Ok (Gives number (world_with objects None units))
+
+-- `do_lio`
+abbrev pub ItemsReply : Or Reply → List Object → Units → ListedInput → Result Passage InputEnd → Type 0
+ItemsReply meaning objects units input (Ok GoesOn) = Stands meaning objects units input
+ItemsReply meaning objects units input (Ok (Over number)) = meaning ≡ Ok (Gives number (world_with objects None units))
+ItemsReply meaning objects units input (Err (Call (Fault fault))) = meaning ≡ failing fault
+ItemsReply meaning objects units input (Err (Call (Ended number))) = meaning ≡ Ok (Stops (Io number) (world_with objects None units))
+ItemsReply meaning objects units input (Err (Call (Device unit))) = Unit {0}
+ItemsReply meaning objects units input (Err Uncounted) = Unit {0}
+
+abbrev pub ItemsDevice : ListedInput → List Row → List Row → Result Passage InputEnd → Type 0
+ItemsDevice input old new (Ok passage) = NoneFailed old new
+ItemsDevice input old new (Err (Call (Fault fault))) = NoneFailed old new
+ItemsDevice input old new (Err (Call (Ended number))) = NoneFailed old new
+ItemsDevice input old new (Err (Call (Device unit))) = (unit ≡ input.unit) × FailedOn unit old new
+ItemsDevice input old new (Err Uncounted) = NoneFailed old new
+
+-- for every transfer for which the input stood, the call replies what its meaning gives; the device of its unit fails where it is
+-- answered, and nowhere else; the objects keep their forms
+pub record AnswersItems (objects objects' : List Object) (arguments : List CValue) (input input' : ListedInput) (old new : List Row) (result : Result Passage InputEnd) : Type 0 where
+  pub tells : Tells old → Tells new
+  pub replies : Tells old → (transfer : Transfer) → StandsFor input transfer →
+      ItemsReply (library do_lio (world_with objects (Some transfer) (units_of old)) arguments) objects' (units_of new) input' result
+  pub devices : ItemsDevice input old new result
+  pub forms : SameForms objects objects'
 
 -- the rest of a start whose unit is connected
 abbrev pub begins : List Object → Units → Control → Or Reply

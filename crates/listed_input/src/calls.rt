@@ -1,16 +1,25 @@
 //! The calls of list-directed input on a unit (ANSI X3.9-1978, 12.8 and 13.6.1).
 
-ghost use Rattle.std.specs.Prelude.{◌≡◌, List};
+ghost use Rattle.std.specs.Prelude.{◌≡◌, List, [], ◌∷◌};
 ghost use Rattle.c_tree.specs.Objects.{Object};
 ghost use Rattle.f2c_outside.specs.Rows.{rows_of};
-ghost use Rattle.listed_input.specs.Transferring.{AnswersStart, AnswersEnd, AnswersReading, start_of};
+ghost use Rattle.item_deeds.specs.Forms.{SameForms};
+ghost use Rattle.listed_input.specs.Transferring.{AnswersStart, AnswersItems, AnswersEnd, AnswersReading, start_of};
+ghost use Rattle.listed_input.specs.Giving.{GivesItem, GivesItems};
 
-use crate::records::{LONGEST, NextRecord, RecordInReading, fetch};
+use crate::ends::{InputEnd, ItemEnd, ItemRead, ended};
+use crate::items::read_item;
+use crate::kinds::{Item, ItemList};
+use crate::lists::item_list;
+use crate::reading::{LONGEST, RecordInReading};
+use crate::records::{NextRecord, fetch};
+use crate::texts::place_behind;
 use c_tree::outcome::CValue;
 use control_lists::{UnitControl, unit_control};
 use edit_rules::ListReader;
 use f2c_outside::devices::Device;
 use f2c_outside::unit_table::UnitTable;
+use listed_output::Passage;
 use run_bytes::RunBytes;
 use unit_answers::{CallEnd, numbered};
 
@@ -87,6 +96,87 @@ pub fn s_rsle(run: &RunBytes, units: &mut UnitTable, pointer: CValue) -> Result<
             }
         }
         Err(fault) => Err(CallEnd::Fault(fault)),
+    }
+}
+
+/// Gives one item its value. Behind a slash it keeps its own.
+fn give_item(
+    input: &mut ListedInput,
+    units: &mut UnitTable,
+    run: &mut RunBytes,
+    item: Item,
+) -> Result<(), ItemEnd>
+    requires { Unit {0} }
+    ensures gives { GivesItem item input.old input.new run.old run.new (rows_of (λ b. (⟦<dyn Device as Device>⟧ b.vtable).device_state b.value) units.old) (rows_of (λ b. (⟦<dyn Device as Device>⟧ b.vtable).device_state b.value) units.new) result }
+    ensures forms { SameForms run.old run.new }
+{
+    if input.slashed {
+        return Ok(());
+    }
+    match read_item(&mut input.reading, units, input.unit, run, item) {
+        Ok(ItemRead::Given) => Ok(()),
+        Ok(ItemRead::Slashed) => {
+            input.slashed = true;
+            Ok(())
+        }
+        Err(end) => Err(end),
+    }
+}
+
+/// Gives items their values, which stand one behind the other.
+fn give_items(
+    input: &mut ListedInput,
+    units: &mut UnitTable,
+    run: &mut RunBytes,
+    list: ItemList,
+    first: CValue,
+) -> Result<(), ItemEnd>
+    requires { Unit {0} }
+    ensures gives { GivesItems list first input.old input.new run.old run.new (rows_of (λ b. (⟦<dyn Device as Device>⟧ b.vtable).device_state b.value) units.old) (rows_of (λ b. (⟦<dyn Device as Device>⟧ b.vtable).device_state b.value) units.new) result }
+    ensures forms { SameForms run.old run.new }
+{
+    let mut pointer = first;
+    for _ in 0..list.count {
+        let item = Item {
+            kind: list.kind,
+            pointer,
+            size: list.size,
+        };
+        match give_item(input, units, run, item) {
+            Ok(()) => match place_behind(pointer, list.size) {
+                Some(place) => pointer = place,
+                None => return Err(ItemEnd::Uncounted),
+            },
+            Err(end) => return Err(end),
+        }
+    }
+    Ok(())
+}
+
+/// Gives so many items of a kind (3 integers, 8 logicals, 9 texts) their values, which stand one behind the other; each is read before
+/// the next (12.8.2). An item that a null or a slash leaves keeps its value.
+///
+/// # Errors
+/// The first fault of the arguments or of an item; the end of the run by the number of an error or of the end of the file, where the list
+/// of the start does not ask for it; the unit where its device failed; `Uncounted` where 64 bits do not tell what is to be counted.
+pub fn do_lio(
+    input: &mut ListedInput,
+    units: &mut UnitTable,
+    run: &mut RunBytes,
+    kind: CValue,
+    count: CValue,
+    first: CValue,
+    size: CValue,
+) -> Result<Passage, InputEnd>
+    requires { Unit {0} }
+    ensures { AnswersItems run.old run.new (kind ∷ count ∷ first ∷ size ∷ []) input.old input.new (rows_of (λ b. (⟦<dyn Device as Device>⟧ b.vtable).device_state b.value) units.old) (rows_of (λ b. (⟦<dyn Device as Device>⟧ b.vtable).device_state b.value) units.new) result }
+{
+    match item_list(run, kind, count, size) {
+        Ok(list) => match give_items(input, units, run, list, first) {
+            Ok(()) => Ok(Passage::GoesOn),
+            Err(end) => ended(input.unit, input.on_error, input.on_end, end),
+        },
+        Err(fault) => Err(InputEnd::Call(CallEnd::Fault(fault))),
     }
 }
 

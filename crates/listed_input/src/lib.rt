@@ -1,5 +1,6 @@
 //! List-directed input on a unit as calls of the library, over the objects of a run and its external units (ANSI X3.9-1978, 12.8 and
-//! 13.6.1; CSTR 149, appendix on the run time library): `s_rsle` begins a transfer and reads its first record, and `e_rsle` ends it.
+//! 13.6.1; CSTR 149, appendix on the run time library): `s_rsle` begins a transfer and reads its first record, `do_lio` gives items
+//! their values, and `e_rsle` ends it.
 //!
 //! No call takes memory: the record that is being read stands in the transfer. A record of more than 1,024 bytes cannot be read, and is
 //! error 5.
@@ -9,6 +10,13 @@
 #![tactic(auto)]
 
 mod calls;
+mod ends;
+mod items;
+mod kinds;
+mod lists;
+mod reading;
 mod records;
+mod texts;
 
-pub use calls::{ListedInput, Start, e_rsle, s_rsle};
+pub use calls::{ListedInput, Start, do_lio, e_rsle, s_rsle};
+pub use ends::InputEnd;

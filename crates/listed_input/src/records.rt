@@ -1,16 +1,17 @@
 //! The records of a unit, as an input reads them (ANSI X3.9-1978, 12.9.5.1 and 13.6.1).
 
-ghost use Rattle.std.specs.Prelude.{◌≡◌, ◌≤◌, length};
+ghost use Rattle.std.specs.Prelude.{◌≡◌, ℕ, List};
 ghost use Rattle.f2c_outside.specs.Rows.{rows_of};
-ghost use Rattle.listed_input.specs.Fetching.{Fetches, fetched_by, constant_of};
+ghost use Rattle.edit_rules.specs.Reader.{kind_of, StandsIn};
+ghost use Rattle.listed_input.specs.Fetching.{Fetches, fetched_by};
+ghost use Rattle.listed_input.specs.Reading.{Gives, ReadsNext};
 
-use edit_rules::ListReader;
+use crate::ends::ItemEnd;
+use crate::reading::{LONGEST, RecordInReading};
+use edit_rules::{ItemKind, ListItem};
 use f2c_outside::devices::{Device, Got};
 use f2c_outside::unit_table::UnitTable;
 use run_state::UnitRefusal;
-
-/// The bytes that a record may have.
-pub(crate) const LONGEST: usize = 1024;
 
 /// What came of reading the next record of a unit.
 #[derive(Clone, Copy)]
@@ -21,17 +22,6 @@ pub(crate) enum NextRecord {
     Nothing(i32),
     /// The device failed.
     Failed,
-}
-
-/// The record that is being read, which is the front of a line, and the place in it.
-#[derive(Clone, Copy)]
-pub(crate) struct RecordInReading {
-    pub(crate) reader: ListReader,
-    pub(crate) line: [u8; LONGEST],
-    pub(crate) used: usize,
-    ghost within: { used ≤ length line },
-    ghost placed: { reader.place ≤ used },
-    ghost begun: { constant_of reader.doing ≤ used },
 }
 
 /// What an answer of the unit table comes to. A unit that is not connected has no record.
@@ -55,4 +45,44 @@ pub(crate) fn fetch(units: &mut UnitTable, unit: i32, line: &mut [u8; LONGEST]) 
 {
     let answer = units.read_from(unit, line);
     fetched(answer)
+}
+
+impl RecordInReading {
+    /// What the next item of this kind is given by the record.
+    pub(crate) fn next(&mut self, kind: ItemKind) -> ListItem
+        ensures { Gives (kind_of kind) self.old self.new result }
+    {
+        let mut reader = self.reader;
+        let item = reader.next(&self.line[..self.used], kind);
+        *self = RecordInReading {
+            reader,
+            line: self.line,
+            used: self.used,
+        };
+        item
+    }
+}
+
+/// Reads the next record of a unit in place of the one that is being read. It stays where there is none.
+pub(crate) fn next_record(
+    reading: &mut RecordInReading,
+    units: &mut UnitTable,
+    unit: i32,
+) -> Result<(), ItemEnd>
+    requires { (line : List ℕ) → StandsIn reading.old.reader line }
+    ensures { ReadsNext unit reading.old reading.new (rows_of (λ b. (⟦<dyn Device as Device>⟧ b.vtable).device_state b.value) units.old) (rows_of (λ b. (⟦<dyn Device as Device>⟧ b.vtable).device_state b.value) units.new) result }
+{
+    let mut line = [b' '; LONGEST];
+    match fetch(units, unit, &mut line) {
+        NextRecord::Record(used) => {
+            *reading = RecordInReading {
+                reader: reading.reader,
+                line,
+                used,
+            };
+            Ok(())
+        }
+        NextRecord::Nothing(number) => Err(ItemEnd::Number(number)),
+        NextRecord::Failed => Err(ItemEnd::Device),
+    }
 }

@@ -1,7 +1,7 @@
 use Rattle.std.proofs.Common.{rules, take, w32, to_z, of_z, refl}
 use Rattle.std.proofs.Math.Facts.{to_z-of_z}
 use mir.Val.{SFits}
-use Rattle.listed_input.proofs.CallLaws.{SameControl, start-place, first-placed, reading-begins, reading-ends}
+use Rattle.listed_input.proofs.CallLaws.{start-place, first-placed, reading-begins, reading-ends}
 use Rattle.listed_input.proofs.calls.begin_reading.Goals as goal
 
 pub invariant_of-result : goal.invariant_of-result

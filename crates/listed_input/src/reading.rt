@@ -1,0 +1,20 @@
+//! The record that is being read (ANSI X3.9-1978, 13.6.1).
+
+ghost use Rattle.std.specs.Prelude.{◌≤◌, length};
+ghost use Rattle.listed_input.specs.Fetching.{constant_of};
+
+use edit_rules::ListReader;
+
+/// The bytes that a record may have.
+pub(crate) const LONGEST: usize = 1024;
+
+/// The record that is being read, which is the front of a line, and the place in it.
+#[derive(Clone, Copy)]
+pub(crate) struct RecordInReading {
+    pub(crate) reader: ListReader,
+    pub(crate) line: [u8; LONGEST],
+    pub(crate) used: usize,
+    ghost within: { used ≤ length line },
+    ghost placed: { reader.place ≤ used },
+    ghost begun: { constant_of reader.doing ≤ used },
+}
