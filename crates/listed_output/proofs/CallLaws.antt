@@ -65,7 +65,7 @@ is-shown output transfer stands =
     ∙ ap (λ (number : ℤ). record transfer { direction = Output; layout = Listed; medium = media.Unit output.unit; on_error = output.on_error; on_end = number }) stands.on_end
 
 -- the lines behind those that are written
-behind-written : (written : ℕ) (complete lines : List (List ℕ)) → written ≡ length complete → drop written (complete ++ lines) ≡ lines
+pub behind-written : (written : ℕ) (complete lines : List (List ℕ)) → written ≡ length complete → drop written (complete ++ lines) ≡ lines
 behind-written written complete lines is = ap (λ (n : ℕ). drop n (complete ++ lines)) is ∙ by complete
   where
     by : (front : List (List ℕ)) → drop (length front) (front ++ lines) ≡ lines
@@ -79,7 +79,7 @@ listing-is output transfer stands = ap (λ (making : List ℕ). record { complet
 
 -- ## The start
 
-listing-none : listing [] ≡ record { complete = []; making = 32 ∷ [] }
+pub listing-none : listing [] ≡ record { complete = []; making = 32 ∷ [] }
 unfolding listing listing_from begun
 listing-none = refl
 

@@ -100,7 +100,7 @@ number-read bytes offset true typed read = four-read bytes offset (bytes_at offs
 number-read bytes offset false typed read = absurd (cc)
 
 -- no object of values holds numbers of bytes
-no-number : (type : Access) → holds type ToNumber ≡ false
+pub no-number : (type : Access) → holds type ToNumber ≡ false
 no-number ToNumber = refl
 no-number ToChar = refl
 no-number ToByte = refl
@@ -160,7 +160,7 @@ text-item : (objects : List Object) (pointer : CValue) (size : ℕ) (found : Or 
 text-item objects pointer size (Ok text) rest value is read = text-there objects pointer size text is
 text-item objects pointer size (Err reason) rest value is read = absurd (cc)
 
-has-four : (size : ℕ) → nat_eq size 4 ≡ true → 4 ≡ size
+pub has-four : (size : ℕ) → nat_eq size 4 ≡ true → 4 ≡ size
 has-four size is = grind (arith, nat_tests)
 
 -- an item that is read stands within its object

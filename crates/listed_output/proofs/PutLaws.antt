@@ -46,7 +46,7 @@ putting-goes_on unit item writer line writer' line' writer'' line'' used x y z b
 }
 
 -- the complete records of an output are those before a text and those that it makes
-leftover : (out : Listing) (text : List ℕ) → (followed_by out text).complete ≡ out.complete ++ (followed_by (only out.making) text).complete
+pub leftover : (out : Listing) (text : List ℕ) → (followed_by out text).complete ≡ out.complete ++ (followed_by (only out.making) text).complete
 leftover out text = ap (λ (after : Listing). after.complete) (followed_by-record out.complete out.making text)
 
 pub putting-refused :
@@ -101,7 +101,7 @@ pub record PuttingItems (unit : ℤ) (read : List ListedValue) (writer : ListWri
       listing (values ++ read) ≡ record { complete = complete ++ lines; making = making_of writer' line' }
   pub whole : done_by writer' ≡ 0
 
-listing-of : (complete complete' : List (List ℕ)) (making : List ℕ) → complete ≡ complete' → (let out : Listing = record { complete = complete; making = making } in out) ≡ record { complete = complete'; making = making }
+pub listing-of : (complete complete' : List (List ℕ)) (making : List ℕ) → complete ≡ complete' → (let out : Listing = record { complete = complete; making = making } in out) ≡ record { complete = complete'; making = making }
 listing-of complete complete' making same = ap (λ (lines : List (List ℕ)). record { complete = lines; making = making }) same
 
 pub items-start :

@@ -44,7 +44,11 @@ fn item_size(kind: ItemType, size: usize) -> Result<usize, CFault>
 }
 
 /// What a call says of its items: pointers to the number of their kind and to their count, and the length of one.
-pub(crate) fn item_list(
+///
+/// # Errors
+/// The fault of an access, `Library` for another kind, a negative count or length, and a length of a number other than four, `Kind` for a
+/// length that is no number.
+pub fn item_list(
     run: &RunBytes,
     kind: CValue,
     count: CValue,
@@ -62,7 +66,10 @@ pub(crate) fn item_list(
 }
 
 /// The value of the item that a pointer points to.
-pub(crate) fn item_at(
+///
+/// # Errors
+/// The fault of the access.
+pub fn item_at(
     run: &RunBytes,
     kind: ItemType,
     pointer: CValue,
@@ -87,7 +94,7 @@ pub(crate) fn item_at(
 }
 
 /// A pointer behind an item that is there. An empty text may stand anywhere.
-pub(crate) fn behind(run: &RunBytes, pointer: CValue, size: usize) -> CValue
+pub fn behind(run: &RunBytes, pointer: CValue, size: usize) -> CValue
     requires { StandsThere size run.now pointer }
     ensures { result ≡ arguments.shifted size pointer }
 {

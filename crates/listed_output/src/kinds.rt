@@ -5,7 +5,7 @@ ghost use Rattle.listed_output.specs.Kinds.{kind_shown, has_size};
 
 /// What the items of a call are.
 #[derive(Clone, Copy)]
-pub(crate) enum ItemType {
+pub enum ItemType {
     /// Integers, of four bytes each.
     Integer,
     /// Logicals, of four bytes each.
@@ -16,9 +16,12 @@ pub(crate) enum ItemType {
 
 /// The kind of the items of a call, their number, and the bytes of one.
 #[derive(Clone, Copy)]
-pub(crate) struct ItemList {
-    pub(crate) kind: ItemType,
-    pub(crate) count: usize,
-    pub(crate) size: usize,
+pub struct ItemList {
+    /// What they are.
+    pub kind: ItemType,
+    /// How many there are.
+    pub count: usize,
+    /// The bytes of one, which are four unless it is a text.
+    pub size: usize,
     ghost has: { has_size (kind_shown kind) size ≡ true },
 }

@@ -4,6 +4,8 @@
 //! No call takes memory: the record in the making stands in the transfer, and the items are fetched twice, once to see that all of them
 //! are there before one is put.
 //!
+//! The items of a call and the record in the making are public for list-directed output on an internal file.
+//!
 //! Each function that changes a unit table has a `requires` that always holds: a function with one is proved whatever devices there are,
 //! and one without where those that its callees may make are among them.
 #![tactic(auto)]
@@ -15,3 +17,6 @@ mod making;
 mod records;
 
 pub use calls::{ListedOutput, Passage, Start, do_lio, e_wsle, s_wsle};
+pub use items::{behind, item_at, item_list};
+pub use kinds::{ItemList, ItemType};
+pub use making::{COLUMNS, RecordInMaking};

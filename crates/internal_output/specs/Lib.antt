@@ -1,0 +1,4 @@
+pub mod Files
+pub mod Items
+pub mod Putting
+pub mod Transferring
