@@ -22,7 +22,7 @@ use Rattle.item_deeds.proofs.FormLaws.{same-objects}
 use Rattle.control_lists.specs.declared.controls.InternalControl.{InternalControl}
 use Rattle.control_lists.specs.Controls.{internal_shown}
 use Rattle.unit_answers.specs.declared.ends.CallEnd.{CallEnd}
-use Rattle.unit_answers.specs.declared.ends.CallEnd.TheVariants.{Fault, Ended}
+use Rattle.unit_answers.specs.declared.ends.CallEnd.TheVariants.{Fault, Ended, Device}
 use Rattle.unit_answers.specs.Answers.{world_with, numbered_answer, Replies, IfDevice}
 use Rattle.unit_answers.proofs.OrLemmas.{known, faulty, behind, same-rest}
 use Rattle.unit_answers.proofs.AnswerLaws.{numbered-replies}
@@ -40,7 +40,7 @@ use Rattle.internal_output.specs.declared.files.RecordRefusal.{RecordRefusal}
 use Rattle.internal_output.specs.declared.files.RecordRefusal.TheVariants.{UsedUp, TooLong, Faulty}
 use Rattle.internal_output.specs.Files.{file_of, filling_by, Fills, refusal_answer}
 use Rattle.internal_output.specs.Putting.{Makes, PutsItems}
-use Rattle.internal_output.specs.Transferring.{internal_kind, making_in, StandsFor, AnswersStart, ItemsReply, AnswersItems, AnswersEnd, IsBegun}
+use Rattle.internal_output.specs.Transferring.{internal_kind, making_in, StandsFor, AnswersStart, ItemsReply, NoDevice, AnswersItems, AnswersEnd, IsBegun}
 use Rattle.internal_output.proofs.FileLaws.{fills-refused}
 
 -- ## A transfer for which an output stands
@@ -224,6 +224,22 @@ puts-reply objects objects' units output output' transfer values lines (Err refu
     (fills-refused lines made.0 output.file objects output'.file objects' refusal stored.fills)))
     (refusal-reply objects objects' units output output' transfer values refusal)
 
+-- no refusal is that of a device
+refusal-device : (refusal : RecordRefusal) (on_error on_end : ℤ) → IfDevice (refusal_answer refusal on_error on_end) (λ unit. ⊥) (Unit {0})
+refusal-device UsedUp on_error on_end = numbered-device (negsuc 0) on_error on_end (λ unit. ⊥) (Unit {0}) tt
+refusal-device TooLong on_error on_end = numbered-device (pos 5) on_error on_end (λ unit. ⊥) (Unit {0}) tt
+refusal-device (Faulty fault) on_error on_end = tt
+
+over-device : (answer : Result ℤ CallEnd) → IfDevice answer (λ unit. ⊥) (Unit {0}) → NoDevice (over_by answer)
+over-device (Ok number) none = tt
+over-device (Err (Fault fault)) none = tt
+over-device (Err (Ended number)) none = tt
+over-device (Err (Device unit)) none = none
+
+items-device : (output : InternalOutput) (done : Result (Unit {0}) RecordRefusal) → NoDevice (items_answer output done)
+items-device output (Ok done) = tt
+items-device output (Err refusal) = over-device (refusal_answer refusal output.on_error output.on_end) (refusal-device refusal output.on_error output.on_end)
+
 pub items-answered :
     (objects objects' : List Object) (kind count first size : CValue) (list : ItemList) (values : List ListedValue) (output output' : InternalOutput) (done : Result (Unit {0}) RecordRefusal)
     (result : Result Passage CallEnd) → result ≡ items_answer output done → items_given objects kind count size ≡ Ok (list_shown list) →
@@ -239,6 +255,7 @@ items-answered objects objects' kind count first size list values output output'
           (puts-reply objects objects' units output output' transfer values puts.lines done stands same
           (puts.makes transfer.values (listing transfer.values).complete (listing-is output transfer stands)) puts.stores);
       forms = puts.stores.forms;
+      no_device = items-device output done;
     })
 
 pub items-faulty :
@@ -248,6 +265,7 @@ pub items-faulty :
 items-faulty objects kind count first size output fault is = record {
   replies = λ units transfer stands. items-fault objects units output transfer kind count first size fault stands is;
   forms = same-objects objects;
+  no_device = tt;
 }
 
 -- a refusal by the same numbers
@@ -297,9 +315,7 @@ ends-reply objects objects' units output file' transfer (Err (Faulty fault)) = r
 
 no-device : (output : InternalOutput) (done : Result (Unit {0}) RecordRefusal) → IfDevice (end_answer output done) (λ unit. ⊥) (Unit {0})
 no-device output (Ok done) = tt
-no-device output (Err UsedUp) = numbered-device (negsuc 0) output.on_error output.on_end (λ unit. ⊥) (Unit {0}) tt
-no-device output (Err TooLong) = numbered-device (pos 5) output.on_error output.on_end (λ unit. ⊥) (Unit {0}) tt
-no-device output (Err (Faulty fault)) = tt
+no-device output (Err refusal) = refusal-device refusal output.on_error output.on_end
 
 pub end-answered :
     (output : InternalOutput) (file' : FileRecords) (used : ℕ) (old new : List Object) (done : Result (Unit {0}) RecordRefusal) (result : Result ℤ CallEnd) → result ≡ end_answer output done →

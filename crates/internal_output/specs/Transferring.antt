@@ -64,11 +64,18 @@ ItemsReply meaning objects units output (Err (Fault fault)) = meaning ≡ failin
 ItemsReply meaning objects units output (Err (Ended number)) = meaning ≡ Ok (Stops (Io number) (world_with objects None units))
 ItemsReply meaning objects units output (Err (Device unit)) = ⊥
 
--- for every transfer for which the output stood, the call replies what its meaning gives; objects keep their forms
+abbrev pub NoDevice : Result Passage CallEnd → Type 0
+NoDevice (Ok passage) = Unit {0}
+NoDevice (Err (Fault fault)) = Unit {0}
+NoDevice (Err (Ended number)) = Unit {0}
+NoDevice (Err (Device unit)) = ⊥
+
+-- for every transfer for which the output stood, the call replies what its meaning gives; objects keep their forms, and no device fails
 pub record AnswersItems (arguments : List CValue) (output output' : InternalOutput) (old new : List Object) (result : Result Passage CallEnd) : Type 0 where
   pub replies : (units : Units) → (transfer : Transfer) → StandsFor output transfer →
       ItemsReply (library do_lio (world_with old (Some transfer) units) arguments) new units output' result
   pub forms : SameForms old new
+  pub no_device : NoDevice result
 
 -- `e_wsli`
 pub record AnswersEnd (output : InternalOutput) (old new : List Object) (result : Result ℤ CallEnd) : Type 0 where

@@ -7,7 +7,7 @@ use Rattle.c_tree.specs.declared.outcome.CFault.{CFault}
 use Rattle.c_tree.specs.declared.outcome.CFault.TheVariants as fault
 use Rattle.c_tree.specs.Faults.{Break, Faults, Or, after, failing}
 use Rattle.c_tree.specs.Objects.{Object}
-use Rattle.c_tree.specs.World.{Layout, Transfer, Reply}
+use Rattle.c_tree.specs.World.{Layout, Listed, Transfer, Reply}
 use Rattle.c_tree.specs.Builtins.{do_lio, do_fio}
 use Rattle.c_tree.specs.Library.{library}
 use Rattle.c_tree.specs.LibraryArguments.{number_through, count_from, length_from}
@@ -23,15 +23,15 @@ use Rattle.unit_answers.proofs.FailureLaws.{none-failed}
 use Rattle.listed_output.specs.declared.calls.ListedOutput.{ListedOutput}
 use Rattle.listed_output.specs.declared.calls.Passage.{Passage}
 use Rattle.listed_output.specs.declared.calls.Passage.TheVariants.{GoesOn, Over}
-use Rattle.listed_output.specs.Transferring.{StandsFor, AnswersItems}
+use Rattle.listed_output.specs.Transferring.{AnswersItems}
 use Rattle.unit_library.specs.declared.transfers.TransferInProgress.{TransferInProgress}
 use Rattle.unit_library.specs.declared.transfers.TransferInProgress.TheVariants as going
-use Rattle.unit_library.specs.Transfers.{Standing, behind_items}
+use Rattle.unit_library.specs.Transfers.{InProgress, Standing, behind_items}
 use Rattle.unit_library.specs.Items.{formatted_fault}
 use Rattle.unit_library.specs.Replies.{CallResult, broken_by, passed_by}
 use Rattle.unit_library.specs.Calls.{Calls, AnswersCall}
 use Rattle.unit_library.proofs.SameCalls.{arguments-same}
-use Rattle.unit_library.proofs.UnitLaws.{outside}
+use Rattle.unit_library.proofs.UnitLaws.{never-none, outside}
 
 -- LIST-DIRECTED ITEMS
 listed-outside : (objects : List Object) (kind count first size : CValue) (units : Units) →
@@ -47,7 +47,7 @@ items-outside arguments' objects kind count first size rows result same is =
 
 items-meaning : (objects : List Object) (arguments : List CValue) (output output' : ListedOutput) (old new : List Row) (passage : Result Passage CallEnd) →
     AnswersItems objects arguments output output' old new passage → (units : Units) (transfer : Option Transfer) → Standing old (Some (going.ListedOutput output)) units transfer →
-    AnswersCall do_lio arguments (world_of objects units transfer) (Standing new (behind_items passage output output')) objects (passed_by passage)
+    AnswersCall do_lio arguments (world_of objects units transfer) (Standing new (behind_items passage (going.ListedOutput output) (going.ListedOutput output'))) objects (passed_by passage)
 items-meaning objects arguments output output' old new passage on units None standing = absurd standing.in_progress
 items-meaning objects arguments output output' old new (Ok GoesOn) on units (Some transfer) standing =
     let goes = on.replies standing.tells transfer standing.in_progress in
@@ -85,7 +85,7 @@ same-rows old new same = subst (λ (rows : List Row). NoneFailed old rows) (sym 
 
 items-called : (objects : List Object) (arguments : List CValue) (output output' : ListedOutput) (old new : List Row) (passage : Result Passage CallEnd) →
     AnswersItems objects arguments output output' old new passage →
-    Calls do_lio arguments objects objects (Some (going.ListedOutput output)) (behind_items passage output output') old new (passed_by passage)
+    Calls do_lio arguments objects objects (Some (going.ListedOutput output)) (behind_items passage (going.ListedOutput output) (going.ListedOutput output')) old new (passed_by passage)
 items-called objects arguments output output' old new (Ok GoesOn) on = record {
   meaning = items-meaning objects arguments output output' old new (Ok GoesOn) on;
   built = tt;
@@ -118,12 +118,12 @@ items-called objects arguments output output' old new (Err (Device unit)) on = r
 }
 
 pub items-put : (arguments arguments' : List CValue) (objects : List Object) (output output' : ListedOutput) (old new : List Row) (passage : Result Passage CallEnd)
-    (held held' : Option TransferInProgress) (result : CallResult) → arguments ≡ arguments' → held ≡ Some (going.ListedOutput output) → held' ≡ behind_items passage output output' →
+    (held held' : Option TransferInProgress) (result : CallResult) → arguments ≡ arguments' → held ≡ Some (going.ListedOutput output) → held' ≡ behind_items passage (going.ListedOutput output) (going.ListedOutput output') →
     result ≡ passed_by passage → AnswersItems objects arguments output output' old new passage → Calls do_lio arguments' objects objects held held' old new result
 items-put arguments arguments' objects output output' old new passage held held' result same holds behind is on =
     subst (λ (h : Option TransferInProgress). Calls do_lio arguments' objects objects h held' old new result) (sym holds)
     (subst (λ (h : Option TransferInProgress). Calls do_lio arguments' objects objects (Some (going.ListedOutput output)) h old new result) (sym behind)
-    (arguments-same do_lio arguments arguments' objects objects (Some (going.ListedOutput output)) (behind_items passage output output') old new (passed_by passage) result same is
+    (arguments-same do_lio arguments arguments' objects objects (Some (going.ListedOutput output)) (behind_items passage (going.ListedOutput output) (going.ListedOutput output')) old new (passed_by passage) result same is
     (items-called objects arguments output output' old new passage on)))
 
 -- ITEMS UNDER A FORMAT
@@ -158,31 +158,35 @@ failing-at (Ok number) many length rest why fails is = counted (many number) len
     counted (Ok count) (Err reason) is = same-fault (Unit {0}) Reply reason why is
     counted (Ok count) (Ok size) is = fails count size ∙ same-fault (Unit {0}) Reply (Faults fault.Library) why is
 
-formatted-listed : (objects : List Object) (count first size : CValue) (why : CFault) (units : Units) (output : ListedOutput) (transfer : Transfer) → StandsFor output transfer →
+listed-layout : (held : TransferInProgress) (transfer : Transfer) → InProgress (Some held) (Some transfer) → transfer.layout ≡ Listed
+listed-layout (going.ListedOutput output) transfer stands = stands.layout
+listed-layout (going.InternalOutput output) transfer stands = stands.layout
+
+formatted-listed : (objects : List Object) (count first size : CValue) (why : CFault) (units : Units) (transfer : Transfer) → transfer.layout ≡ Listed →
     formatted_fault objects count size ≡ failing why → library do_fio (world_of objects units (Some transfer)) (count ∷ first ∷ size ∷ []) ≡ failing why
 unfolding library formatted_items
-formatted-listed objects count first size why units output transfer stands is =
+formatted-listed objects count first size why units transfer listed is =
     failing-at (number_through objects count) count_from (length_from size) (λ many length. formatted_by transfer.layout length many first transfer (world_of objects units (Some transfer))) why
-    (λ many length. ap (λ (layout : Layout). formatted_by layout length many first transfer (world_of objects units (Some transfer))) stands.layout) is
+    (λ many length. ap (λ (layout : Layout). formatted_by layout length many first transfer (world_of objects units (Some transfer))) listed) is
 
-format-meaning : (objects : List Object) (count first size : CValue) (why : CFault) (output : ListedOutput) (rows : List Row) → formatted_fault objects count size ≡ failing why →
-    (units : Units) (transfer : Option Transfer) → Standing rows (Some (going.ListedOutput output)) units transfer →
-    AnswersCall do_fio (count ∷ first ∷ size ∷ []) (world_of objects units transfer) (Standing rows (Some (going.ListedOutput output))) objects (broken_by why)
-format-meaning objects count first size why output rows is units (Some transfer) standing = record {
+format-meaning : (objects : List Object) (count first size : CValue) (why : CFault) (held : TransferInProgress) (rows : List Row) → formatted_fault objects count size ≡ failing why →
+    (units : Units) (transfer : Option Transfer) → Standing rows (Some held) units transfer →
+    AnswersCall do_fio (count ∷ first ∷ size ∷ []) (world_of objects units transfer) (Standing rows (Some held)) objects (broken_by why)
+format-meaning objects count first size why held rows is units (Some transfer) standing = record {
   units = units;
   transfer = Some transfer;
   stood = standing;
-  holds = formatted-listed objects count first size why units output transfer standing.in_progress is;
+  holds = formatted-listed objects count first size why units transfer (listed-layout held transfer standing.in_progress) is;
 }
-format-meaning objects count first size why output rows is units None standing = absurd standing.in_progress
+format-meaning objects count first size why held rows is units None standing = absurd (never-none held standing.in_progress)
 
 pub format-inside : (arguments' : List CValue) (objects : List Object) (count first size : CValue) (why : CFault) (held : TransferInProgress) (result : CallResult) →
     count ∷ first ∷ size ∷ [] ≡ arguments' → result ≡ broken_by why → formatted_fault objects count size ≡ failing why → (rows : List Row) →
     Calls do_fio arguments' objects objects (Some held) (Some held) rows rows result
-format-inside arguments' objects count first size why (going.ListedOutput output) result same is faulty rows =
-    arguments-same do_fio (count ∷ first ∷ size ∷ []) arguments' objects objects (Some (going.ListedOutput output)) (Some (going.ListedOutput output)) rows rows (broken_by why) result same is
+format-inside arguments' objects count first size why held result same is faulty rows =
+    arguments-same do_fio (count ∷ first ∷ size ∷ []) arguments' objects objects (Some held) (Some held) rows rows (broken_by why) result same is
     (record {
-      meaning = format-meaning objects count first size why output rows faulty;
+      meaning = format-meaning objects count first size why held rows faulty;
       built = tt;
       devices = none-failed rows;
       forms = same-objects objects;

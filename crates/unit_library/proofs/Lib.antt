@@ -7,4 +7,5 @@ pub mod PlaceLaws
 pub mod UnitLaws
 pub mod TransferLaws
 pub mod ItemLaws
+pub mod InternalLaws
 pub mod ReplyLaws

@@ -24,7 +24,7 @@ use Rattle.unit_library.specs.declared.functions.UnitStatement.TheVariants as st
 use Rattle.unit_library.specs.declared.transfers.TransferInProgress.{TransferInProgress}
 use Rattle.unit_library.specs.declared.transfers.TransferInProgress.TheVariants as going
 use Rattle.unit_library.specs.Functions.{statement_builtin}
-use Rattle.unit_library.specs.Transfers.{Standing}
+use Rattle.unit_library.specs.Transfers.{InProgress, Standing}
 use Rattle.unit_library.specs.Replies.{CallResult, broken_by, ended_by}
 use Rattle.unit_library.specs.Calls.{Calls, AnswersCall}
 use Rattle.unit_library.proofs.SameCalls.{arguments-same}
@@ -35,13 +35,18 @@ pub at-none : (objects : List Object) (units : Units) (transfer : Option Transfe
 at-none objects units transfer rows standing =
     ap (λ (u : Units). world_of objects u transfer) standing.means ∙ ap (λ (t : Option Transfer). world_of objects (units_of rows) t) standing.in_progress
 
+-- what is held of a transfer stands for one
+pub never-none : (held : TransferInProgress) → InProgress (Some held) None → ⊥
+never-none (going.ListedOutput output) stands = stands
+never-none (going.InternalOutput output) stands = stands
+
 inside-meaning : (builtin : Builtin) (arguments : List CValue) (objects : List Object) (held : TransferInProgress) (rows : List Row) (why : CFault) →
     ((units : Units) → (transfer : Transfer) → library builtin (world_of objects units (Some transfer)) arguments ≡ failing why) →
     (units : Units) → (transfer : Option Transfer) → Standing rows (Some held) units transfer →
     AnswersCall builtin arguments (world_of objects units transfer) (Standing rows (Some held)) objects (broken_by why)
 inside-meaning builtin arguments objects held rows why fails units (Some transfer) standing =
     record { units = units; transfer = Some transfer; stood = standing; holds = fails units transfer }
-inside-meaning builtin arguments objects (going.ListedOutput output) rows why fails units None standing = absurd standing.in_progress
+inside-meaning builtin arguments objects held rows why fails units None standing = absurd (never-none held standing.in_progress)
 
 -- a call that has a fault in each transfer
 pub inside : (builtin : Builtin) (arguments : List CValue) (objects : List Object) (held : TransferInProgress) (rows : List Row) (why : CFault) →

@@ -6,12 +6,12 @@ use Rattle.f2c_outside.specs.Table.{Row}
 use Rattle.f2c_outside.specs.Meaning.{Tells, units_of}
 use Rattle.unit_answers.specs.declared.ends.CallEnd.{CallEnd}
 use Rattle.unit_answers.specs.declared.ends.CallEnd.TheVariants.{Fault, Ended, Device}
-use Rattle.listed_output.specs.declared.calls.ListedOutput.{ListedOutput}
 use Rattle.listed_output.specs.declared.calls.Start.{Start}
 use Rattle.listed_output.specs.declared.calls.Start.TheVariants.{Begins, Answers}
 use Rattle.listed_output.specs.declared.calls.Passage.{Passage}
 use Rattle.listed_output.specs.declared.calls.Passage.TheVariants.{GoesOn, Over}
-use Rattle.listed_output.specs.Transferring.{StandsFor}
+use Rattle.listed_output.specs.Transferring as on_unit
+use Rattle.internal_output.specs.Transferring as in_file
 use Rattle.unit_library.specs.declared.transfers.TransferInProgress.{TransferInProgress}
 use Rattle.unit_library.specs.declared.transfers.TransferInProgress.TheVariants as going
 
@@ -19,7 +19,9 @@ use Rattle.unit_library.specs.declared.transfers.TransferInProgress.TheVariants 
 abbrev pub InProgress : Option TransferInProgress → Option Transfer → Type 0
 InProgress None transfer = transfer ≡ None
 InProgress (Some (going.ListedOutput output)) None = ⊥
-InProgress (Some (going.ListedOutput output)) (Some transfer) = StandsFor output transfer
+InProgress (Some (going.ListedOutput output)) (Some transfer) = on_unit.StandsFor output transfer
+InProgress (Some (going.InternalOutput output)) None = ⊥
+InProgress (Some (going.InternalOutput output)) (Some transfer) = in_file.StandsFor output transfer
 
 -- rows whose devices all tell their records, and a transfer, stand for these units and this transfer
 pub record Standing (rows : List Row) (held : Option TransferInProgress) (units : Units) (transfer : Option Transfer) : Type 0 where
@@ -32,9 +34,9 @@ behind_start (Ok (Begins output)) = Some (going.ListedOutput output)
 behind_start (Ok (Answers number)) = None
 behind_start (Err reason) = None
 
-abbrev pub behind_items : Result Passage CallEnd → ListedOutput → ListedOutput → Option TransferInProgress
-behind_items (Ok GoesOn) before after = Some (going.ListedOutput after)
+abbrev pub behind_items : Result Passage CallEnd → TransferInProgress → TransferInProgress → Option TransferInProgress
+behind_items (Ok GoesOn) before after = Some after
 behind_items (Ok (Over number)) before after = None
-behind_items (Err (Fault fault)) before after = Some (going.ListedOutput before)
+behind_items (Err (Fault fault)) before after = Some before
 behind_items (Err (Ended number)) before after = None
 behind_items (Err (Device unit)) before after = None

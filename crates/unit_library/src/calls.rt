@@ -43,9 +43,9 @@ pub(crate) fn call_function(
         LibraryFunction::Stop => stop(values, run),
         LibraryFunction::Range => range(values, run),
         LibraryFunction::Begin(which) => begin(which, values, run, units, transfer),
-        LibraryFunction::Finish(which) => finish(which, units, transfer),
+        LibraryFunction::Finish(which) => finish(which, run, units, transfer),
         LibraryFunction::FormattedItems => formatted_items(values, run, *transfer),
-        LibraryFunction::ListedItems => listed_items(values, run, units, transfer),
+        LibraryFunction::ListedItems => listed_items(values, run, units, transfer, buffer),
         LibraryFunction::Statement(which) => statement(which, values, run, units, *transfer),
     }
 }

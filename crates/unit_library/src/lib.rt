@@ -1,5 +1,6 @@
 //! The functions of the library over a table of external units (CSTR 149, appendix on the run time library): texts and numbers, STOP and
-//! the report of a place outside its bounds, OPEN, CLOSE, BACKSPACE, REWIND and ENDFILE, and list-directed output on a unit.
+//! the report of a place outside its bounds, OPEN, CLOSE, BACKSPACE, REWIND and ENDFILE, and list-directed output on a unit and on an
+//! internal file.
 //!
 //! A call takes no memory. Of the transfers the others cannot begin yet; what their items and their ends answer where none is in progress,
 //! or one of another kind, is answered as it is.
@@ -13,6 +14,7 @@ mod calls;
 mod copies;
 mod endings;
 mod functions;
+mod internal;
 mod library;
 mod listed;
 mod numbers;

@@ -1,11 +1,12 @@
 //! The calls of transfers (ANSI X3.9-1978, 12.8 and 13.6.2).
 
-ghost use Rattle.std.specs.Prelude.{◌≡◌, List, []};
+ghost use Rattle.std.specs.Prelude.{◌≡◌, List, [], length};
 ghost use Rattle.c_tree.specs.Faults.{failing};
 ghost use Rattle.c_tree.specs.Objects.{Object};
 ghost use Rattle.c_tree.specs.Builtins as builtin;
 ghost use Rattle.f2c_outside.specs.Table.{Row};
 ghost use Rattle.f2c_outside.specs.Rows.{rows_of};
+ghost use Rattle.library_calls.specs.Room.{HasRoom};
 ghost use Rattle.unit_library.specs.Functions.{kind_of};
 ghost use Rattle.unit_library.specs.Arguments.{front};
 ghost use Rattle.unit_library.specs.Calls.{Calls};
@@ -14,6 +15,7 @@ ghost use Rattle.unit_library.specs.Items.{formatted_fault};
 use crate::arguments::argument;
 use crate::endings::RunEnding;
 use crate::functions::TransferType;
+use crate::internal::{begin_internal, finish_in_internal, put_internal};
 use crate::replies::{broken, ended, passed, started};
 use crate::transfers::{TransferInProgress, behind_items, behind_start};
 use c_tree::outcome::{CFault, CValue};
@@ -53,6 +55,7 @@ fn begin_first(
 {
     match which {
         TransferType::ListedOutput => begin_listed(values, run, units, transfer),
+        TransferType::InternalListedOutput => begin_internal(values, run, transfer),
         _ => Err(CallBreak::NotBuilt),
     }
 }
@@ -91,24 +94,32 @@ fn put_listed(
     let size = argument(values, 3);
     let mut going = output;
     let passage = do_lio(&mut going, units, run, kind, count, first, size);
-    *transfer = behind_items(passage, output, going);
+    *transfer = behind_items(
+        passage,
+        TransferInProgress::ListedOutput(output),
+        TransferInProgress::ListedOutput(going),
+    );
     passed(passage)
 }
 
-/// List-directed items. Outside every transfer they are the fault `Library`.
+/// List-directed items. Outside every transfer they are the fault `Library`. The buffer is as long as the largest object.
 pub(crate) fn listed_items(
     values: &[CValue],
-    run: &RunBytes,
+    run: &mut RunBytes,
     units: &mut UnitTable,
     transfer: &mut Option<TransferInProgress>,
+    buffer: &mut [u8],
 ) -> Result<LibraryReply<RunEnding>, CallBreak>
-    requires { Unit {0} }
-    ensures { Calls builtin.do_lio (front 4 0 values.now) run.now run.now transfer.old transfer.new (rows_of (λ b. (⟦<dyn Device as Device>⟧ b.vtable).device_state b.value) units.old) (rows_of (λ b. (⟦<dyn Device as Device>⟧ b.vtable).device_state b.value) units.new) result }
+    requires { HasRoom (length buffer.old) run.old }
+    ensures { Calls builtin.do_lio (front 4 0 values.now) run.old run.new transfer.old transfer.new (rows_of (λ b. (⟦<dyn Device as Device>⟧ b.vtable).device_state b.value) units.old) (rows_of (λ b. (⟦<dyn Device as Device>⟧ b.vtable).device_state b.value) units.new) result }
 {
     match *transfer {
         None => broken(CFault::Library),
         Some(TransferInProgress::ListedOutput(output)) => {
             put_listed(values, run, units, output, transfer)
+        }
+        Some(TransferInProgress::InternalOutput(output)) => {
+            put_internal(values, run, buffer, output, transfer)
         }
     }
 }
@@ -177,16 +188,20 @@ fn finish_in_listed(
 /// The end of a transfer. Where none is in progress it is the fault `Library`.
 pub(crate) fn finish(
     which: TransferType,
+    run: &mut RunBytes,
     units: &mut UnitTable,
     transfer: &mut Option<TransferInProgress>,
 ) -> Result<LibraryReply<RunEnding>, CallBreak>
     requires { Unit {0} }
-    ensures { (objects : List Object) → Calls (builtin.Finish (kind_of which)) [] objects objects transfer.old transfer.new (rows_of (λ b. (⟦<dyn Device as Device>⟧ b.vtable).device_state b.value) units.old) (rows_of (λ b. (⟦<dyn Device as Device>⟧ b.vtable).device_state b.value) units.new) result }
+    ensures { Calls (builtin.Finish (kind_of which)) [] run.old run.new transfer.old transfer.new (rows_of (λ b. (⟦<dyn Device as Device>⟧ b.vtable).device_state b.value) units.old) (rows_of (λ b. (⟦<dyn Device as Device>⟧ b.vtable).device_state b.value) units.new) result }
 {
     match *transfer {
         None => broken(CFault::Library),
         Some(TransferInProgress::ListedOutput(output)) => {
             finish_in_listed(which, units, output, transfer)
+        }
+        Some(TransferInProgress::InternalOutput(output)) => {
+            finish_in_internal(which, run, output, transfer)
         }
     }
 }

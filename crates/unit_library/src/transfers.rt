@@ -3,6 +3,7 @@
 ghost use Rattle.std.specs.Prelude.{◌≡◌};
 ghost use Rattle.unit_library.specs.Transfers.{behind_items, behind_start};
 
+use internal_output::InternalOutput;
 use listed_output::{ListedOutput, Passage, Start};
 use unit_answers::CallEnd;
 
@@ -11,6 +12,8 @@ use unit_answers::CallEnd;
 pub(crate) enum TransferInProgress {
     /// List-directed output on a unit.
     ListedOutput(ListedOutput),
+    /// List-directed output on an internal file.
+    InternalOutput(InternalOutput),
 }
 
 /// The transfer in progress behind a start.
@@ -26,14 +29,14 @@ pub(crate) fn behind_start(start: Result<Start, CallEnd>) -> Option<TransferInPr
 /// The transfer in progress behind items. It stays as it was where these have a fault.
 pub(crate) fn behind_items(
     passage: Result<Passage, CallEnd>,
-    before: ListedOutput,
-    after: ListedOutput,
+    before: TransferInProgress,
+    after: TransferInProgress,
 ) -> Option<TransferInProgress>
     ensures { result ≡ behind_items passage before after }
 {
     match passage {
-        Ok(Passage::GoesOn) => Some(TransferInProgress::ListedOutput(after)),
-        Err(CallEnd::Fault(_)) => Some(TransferInProgress::ListedOutput(before)),
+        Ok(Passage::GoesOn) => Some(after),
+        Err(CallEnd::Fault(_)) => Some(before),
         _ => None,
     }
 }

@@ -27,7 +27,7 @@ pub returns-in-Begin : goal.returns-in-Begin
 returns-in-Begin g c = function-as c.args.function (named.Begin c.in-Begin.which) c.args.values.now _ _ _ _ _ _ _ c.in-Begin.is c.begin.ensures
 
 pub returns-in-Finish : goal.returns-in-Finish
-returns-in-Finish g c = function-as c.args.function (named.Finish c.in-Finish.which) c.args.values.now _ _ _ _ _ _ _ c.in-Finish.is (c.finish.ensures c.args.run.now)
+returns-in-Finish g c = function-as c.args.function (named.Finish c.in-Finish.which) c.args.values.now _ _ _ _ _ _ _ c.in-Finish.is c.finish.ensures
 
 pub returns-in-FormattedItems : goal.returns-in-FormattedItems
 returns-in-FormattedItems g c = function-as c.args.function named.FormattedItems c.args.values.now _ _ _ _ _ _ _ c.in-FormattedItems.is (c.formatted_items.ensures _)

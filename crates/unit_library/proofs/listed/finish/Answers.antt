@@ -4,5 +4,11 @@ use Rattle.unit_library.proofs.TransferLaws.{finish-outside}
 use Rattle.unit_library.proofs.listed.finish.Goals as goal
 
 pub returns-in-None : goal.returns-in-None
-returns-in-None g c objects =
-    held-as _ _ objects objects c.args.transfer.now None _ _ c.broken.result c.in-None.is (finish-outside c.args.which _ c.broken.result c.broken.ensures objects)
+returns-in-None g c =
+    held-as _ _ c.args.run.now c.args.run.now c.args.transfer.now None _ _ c.broken.result c.in-None.is (finish-outside c.args.which _ c.broken.result c.broken.ensures c.args.run.now)
+
+pub returns-in-Some-ListedOutput : goal.returns-in-Some-ListedOutput
+returns-in-Some-ListedOutput g c = c.finish_in_listed.ensures c.args.run.now
+
+pub returns-in-Some-InternalOutput : goal.returns-in-Some-InternalOutput
+returns-in-Some-InternalOutput g c = c.finish_in_internal.ensures _

@@ -9,3 +9,6 @@ returns-in-None g c =
     held-as _ _ c.args.run.now c.args.run.now c.args.transfer.now None _ _ c.broken.result c.in-None.is
     (items-outside _ c.args.run.now (argument c.args.values.now 0) (argument c.args.values.now 1) (argument c.args.values.now 2) (argument c.args.values.now 3) _ c.broken.result refl
     c.broken.ensures)
+
+pub returns-in-Some-InternalOutput : goal.returns-in-Some-InternalOutput
+returns-in-Some-InternalOutput g c = c.put_internal.ensures _
