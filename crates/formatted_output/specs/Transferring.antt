@@ -1,0 +1,85 @@
+-- A formatted output on a unit as the transfer in progress of the meaning of C texts, and what its calls answer
+-- (ANSI X3.9-1978, 12.8, 12.9.5.2 and 13).
+use Rattle.std.specs.Prelude.{◌≡◌, ℕ, ℤ, pos, false, List, [], ◌∷◌, length, Option, Some, None, Result, Ok, Err}
+use Rattle.c_tree.specs.run_state.Units.{Units}
+use Rattle.c_tree.specs.declared.outcome.CValue.{CValue}
+use Rattle.c_tree.specs.Faults.{Or, failing}
+use Rattle.c_tree.specs.Objects.{Object}
+use Rattle.c_tree.specs.World.{Output, Formatted, Transfer, Reply, Gives, Stops, Io}
+use Rattle.c_tree.specs.World as media
+use Rattle.c_tree.specs.Builtins.{ByFormat, OnUnit, TransferKind, transfer_kind, Begin}
+use Rattle.c_tree.specs.Library.{library}
+use Rattle.edit_rules.specs.edit_meaning.Formats.{Format, pass, reverted, edits_for}
+use Rattle.edit_rules.specs.edit_meaning.EditedRecords.{unit_sheet, made_on}
+use Rattle.edit_rules.specs.edit_meaning.FormatGrammar.{SpellsFormat}
+use Rattle.edit_rules.specs.Walks.{Stands}
+use Rattle.f2c_outside.specs.Table.{Row}
+use Rattle.f2c_outside.specs.Meaning.{units_of}
+use Rattle.unit_answers.specs.declared.ends.CallEnd.{CallEnd}
+use Rattle.unit_answers.specs.declared.ends.CallEnd.TheVariants.{Fault, Ended, Device}
+use Rattle.unit_answers.specs.Answers.{world_with, numbered_answer}
+use Rattle.control_lists.specs.declared.controls.UnitControl.{UnitControl}
+use Rattle.formatted_records.specs.Sheets.{StandsOn, Begins, shown}
+use Rattle.formatted_output.specs.declared.calls.FormattedOutput.{FormattedOutput}
+use Rattle.formatted_output.specs.declared.calls.Start.{Start}
+use Rattle.formatted_output.specs.declared.calls.Start.TheVariants as start
+
+-- formatted output on a unit
+abbrev pub formatted_kind : TransferKind
+formatted_kind = transfer_kind Output ByFormat OnUnit
+
+-- an output stands for a transfer: its walk stands in the text of the format, behind the edits that the values so far got; each of
+-- these got one, and they made what its sheet has, behind complete records that are written
+pub record StandsFor (text : List ℕ) (output : FormattedOutput) (transfer : Transfer) : Type 0 where
+  pub direction : transfer.direction ≡ Output
+  pub format : Format
+  pub layout : transfer.layout ≡ Formatted format
+  pub medium : transfer.medium ≡ media.Unit output.unit
+  pub on_error : transfer.on_error ≡ output.on_error
+  pub on_end : transfer.on_end ≡ output.on_end
+  pub served : (edits_for format (length transfer.values)).unserved ≡ 0
+  pub walks : Stands text (pass (reverted format)) output.walk (edits_for format (length transfer.values)).left
+  pub complete : List (List ℕ)
+  pub on : StandsOn unit_sheet complete output.sheet
+  pub made : made_on unit_sheet format transfer.values false ≡ shown output.sheet complete
+  pub written : transfer.written ≡ length complete
+
+-- a transfer begins or goes on, for which an output stands
+pub record StandsIn (meaning : Or Reply) (objects : List Object) (units : Units) (text : List ℕ) (output : FormattedOutput) : Type 0 where
+  pub transfer : Transfer
+  pub stands : StandsFor text output transfer
+  pub replies : meaning ≡ Ok (Gives (pos 0) (world_with objects (Some transfer) units))
+
+-- `s_wsfe`
+abbrev pub StartReplies : Or Reply → List Object → Units → List ℕ → Result Start CallEnd → Type 0
+StartReplies meaning objects units text (Ok (start.Begins output)) = StandsIn meaning objects units text output
+StartReplies meaning objects units text (Ok (start.Answers number)) = meaning ≡ Ok (Gives number (world_with objects None units))
+StartReplies meaning objects units text (Err (Fault fault)) = meaning ≡ failing fault
+StartReplies meaning objects units text (Err (Ended number)) = meaning ≡ Ok (Stops (Io number) (world_with objects None units))
+StartReplies meaning objects units text (Err (Device unit)) = ⊥
+
+abbrev pub AnswersStart : List Object → CValue → List Row → List ℕ → Result Start CallEnd → Type 0
+AnswersStart objects pointer rows text result =
+    StartReplies (library (Begin formatted_kind) (world_with objects None (units_of rows)) (pointer ∷ [])) objects (units_of rows) text result
+
+-- an output as it begins, in the text of a format
+pub record IsBegun (control : UnitControl) (text : List ℕ) (output : FormattedOutput) : Type 0 where
+  pub unit : output.unit ≡ control.unit
+  pub on_error : output.on_error ≡ control.on_error
+  pub on_end : output.on_end ≡ control.on_end
+  pub walks : (format : Format) → (after : List ℕ) → SpellsFormat format text after → Stands text (pass (reverted format)) output.walk (pass format)
+  pub sheet : Begins unit_sheet output.sheet
+
+-- the rest of a start where its unit is connected, once the format is read
+abbrev pub FormatStarts : Or (Option Format) → UnitControl → List ℕ → Result Start CallEnd → Type 0
+FormatStarts meaning control text (Ok (start.Begins output)) =
+    (format : Format) × ((after : List ℕ) × (meaning ≡ Ok (Some format)) × SpellsFormat format text after × IsBegun control text output)
+FormatStarts meaning control text (Ok (start.Answers number)) = (meaning ≡ Ok None) × (numbered_answer (pos 10) control.on_error control.on_end ≡ Ok number)
+FormatStarts meaning control text (Err (Fault fault)) = meaning ≡ failing fault
+FormatStarts meaning control text (Err (Ended number)) =
+    (meaning ≡ Ok None) × (numbered_answer (pos 10) control.on_error control.on_end ≡ Err (Ended number))
+FormatStarts meaning control text (Err (Device unit)) = ⊥
+
+abbrev pub start_of : Result ℤ CallEnd → Result Start CallEnd
+start_of (Ok number) = Ok (start.Answers number)
+start_of (Err end) = Err end

@@ -1,0 +1,106 @@
+//! The calls of a formatted output on a unit (ANSI X3.9-1978, 12.8 and 13).
+
+ghost use Rattle.std.specs.Prelude.{◌≡◌, ◌≤◌, length};
+ghost use Rattle.f2c_outside.specs.Rows.{rows_of};
+ghost use Rattle.c_tree.specs.FormatsGiven.{format_at};
+ghost use Rattle.formatted_output.specs.Transferring.{AnswersStart, FormatStarts, IsBegun, start_of};
+
+use crate::formats::read_format;
+use c_tree::outcome::CValue;
+use control_lists::{UnitControl, unit_control, unit_format};
+use edit_rules::FormatWalk;
+use f2c_outside::devices::Device;
+use f2c_outside::unit_table::UnitTable;
+use formatted_records::RecordSheet;
+use run_bytes::RunBytes;
+use unit_answers::{CallEnd, numbered};
+
+/// A formatted output on a unit that is in progress.
+#[derive(Clone, Copy)]
+pub struct FormattedOutput {
+    unit: i32,
+    on_error: i32,
+    on_end: i32,
+    walk: FormatWalk,
+    sheet: RecordSheet,
+}
+
+/// What a start does that meets no fault.
+#[derive(Clone, Copy)]
+pub enum Start {
+    /// A transfer begins, and the call answers 0.
+    Begins(FormattedOutput),
+    /// The call answers this number of an error, and no transfer begins.
+    Answers(i32),
+}
+
+/// The output that a control list begins, under the format that begins a text.
+fn begun(control: UnitControl, format: &[u8]) -> FormattedOutput
+    ensures { IsBegun control format.now result }
+{
+    FormattedOutput {
+        unit: control.unit,
+        on_error: control.on_error,
+        on_end: control.on_end,
+        walk: FormatWalk::start(format),
+        sheet: RecordSheet::on_unit(),
+    }
+}
+
+/// A start by a number that its caller gets, with which no transfer begins.
+fn not_begun(answer: Result<i32, CallEnd>) -> Result<Start, CallEnd>
+    ensures { result ≡ start_of answer }
+{
+    match answer {
+        Ok(number) => Ok(Start::Answers(number)),
+        Err(end) => Err(end),
+    }
+}
+
+/// The rest of a start, where the unit is connected: the format is read.
+fn start_under(
+    run: &RunBytes,
+    control: UnitControl,
+    given: CValue,
+    format: &mut [u8],
+) -> Result<Start, CallEnd>
+    requires { 2048 ≤ length format.old }
+    ensures { FormatStarts (format_at run.now given) control format.new result }
+{
+    match read_format(run, given, format) {
+        Ok(true) => Ok(Start::Begins(begun(control, format))),
+        Ok(false) => not_begun(numbered(10, control.on_error, control.on_end)),
+        Err(fault) => Err(CallEnd::Fault(fault)),
+    }
+}
+
+/// Begins a formatted output on the unit of a control list (12.8.1). Outside a transfer alone: in one it is the fault `Library`, which is the
+/// caller's to answer. The format is copied to the front of a buffer of 2,048 bytes, which stays as it is as long as the transfer is in
+/// progress.
+///
+/// # Errors
+/// The first fault of the list or of the format; the end of the run by number 6, where the unit is not connected, and by number 10, where the
+/// format is none or has more than 2,048 bytes, and the list does not ask for errors.
+pub fn s_wsfe(
+    run: &RunBytes,
+    units: &UnitTable,
+    pointer: CValue,
+    format: &mut [u8],
+) -> Result<Start, CallEnd>
+    requires { 2048 ≤ length format.old }
+    ensures { AnswersStart run.now pointer (rows_of (λ b. (⟦<dyn Device as Device>⟧ b.vtable).device_state b.value) units.now) format.new result }
+{
+    match unit_control(run, pointer) {
+        Ok(control) => match unit_format(run, pointer) {
+            Ok(given) => {
+                if units.is_connected(control.unit) {
+                    start_under(run, control, given, format)
+                } else {
+                    not_begun(numbered(6, control.on_error, control.on_end))
+                }
+            }
+            Err(fault) => Err(CallEnd::Fault(fault)),
+        },
+        Err(fault) => Err(CallEnd::Fault(fault)),
+    }
+}
