@@ -1,2 +1,4 @@
 pub mod Fronts
+pub mod Acting
+pub mod Closing
 pub mod Transferring

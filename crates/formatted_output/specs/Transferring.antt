@@ -7,22 +7,25 @@ use Rattle.c_tree.specs.Faults.{Or, failing}
 use Rattle.c_tree.specs.Objects.{Object}
 use Rattle.c_tree.specs.World.{Output, Formatted, Transfer, Reply, Gives, Stops, Io}
 use Rattle.c_tree.specs.World as media
-use Rattle.c_tree.specs.Builtins.{ByFormat, OnUnit, TransferKind, transfer_kind, Begin}
+use Rattle.c_tree.specs.Builtins.{ByFormat, OnUnit, TransferKind, transfer_kind, Begin, Finish}
 use Rattle.c_tree.specs.Library.{library}
 use Rattle.edit_rules.specs.edit_meaning.Formats.{Format, pass, reverted, edits_for}
 use Rattle.edit_rules.specs.edit_meaning.EditedRecords.{unit_sheet, made_on}
 use Rattle.edit_rules.specs.edit_meaning.FormatGrammar.{SpellsFormat}
 use Rattle.edit_rules.specs.Walks.{Stands}
 use Rattle.f2c_outside.specs.Table.{Row}
-use Rattle.f2c_outside.specs.Meaning.{units_of}
+use Rattle.f2c_outside.specs.Meaning.{Tells, units_of}
 use Rattle.unit_answers.specs.declared.ends.CallEnd.{CallEnd}
 use Rattle.unit_answers.specs.declared.ends.CallEnd.TheVariants.{Fault, Ended, Device}
-use Rattle.unit_answers.specs.Answers.{world_with, numbered_answer}
+use Rattle.unit_answers.specs.Failing.{FailedOn, NoneFailed}
+use Rattle.unit_answers.specs.Answers.{world_with, numbered_answer, refused_answer, Replies, IfDevice}
 use Rattle.control_lists.specs.declared.controls.UnitControl.{UnitControl}
 use Rattle.formatted_records.specs.Sheets.{StandsOn, Begins, shown}
 use Rattle.formatted_output.specs.declared.calls.FormattedOutput.{FormattedOutput}
 use Rattle.formatted_output.specs.declared.calls.Start.{Start}
 use Rattle.formatted_output.specs.declared.calls.Start.TheVariants as start
+use Rattle.formatted_output.specs.declared.acts.Stop.{Stop}
+use Rattle.formatted_output.specs.declared.acts.Stop.TheVariants as stop
 
 -- formatted output on a unit
 abbrev pub formatted_kind : TransferKind
@@ -83,3 +86,21 @@ FormatStarts meaning control text (Err (Device unit)) = ⊥
 abbrev pub start_of : Result ℤ CallEnd → Result Start CallEnd
 start_of (Ok number) = Ok (start.Answers number)
 start_of (Err end) = Err end
+
+-- `e_wsfe`: for every transfer for which the output stood, the call replies what its meaning gives; the device of its unit fails where it
+-- is answered, and nowhere else
+pub record AnswersEnd (text : List ℕ) (output : FormattedOutput) (old new : List Row) (result : Result ℤ CallEnd) : Type 0 where
+  pub tells : Tells old → Tells new
+  pub replies : Tells old → (objects : List Object) → (transfer : Transfer) → StandsFor text output transfer →
+      Replies (library (Finish formatted_kind) (world_with objects (Some transfer) (units_of old)) []) (world_with objects None (units_of new)) result
+  pub devices : IfDevice result (λ unit. (unit ≡ output.unit) × FailedOn unit old new) (NoneFailed old new)
+
+-- what a call answers where an output goes no further
+abbrev pub stop_answer : ℤ → ℤ → ℤ → Stop → Result ℤ CallEnd
+stop_answer unit on_error on_end (stop.Number number) = numbered_answer number on_error on_end
+stop_answer unit on_error on_end (stop.Refused refusal) = refused_answer unit refusal on_error on_end
+stop_answer unit on_error on_end (stop.Fault fault) = Err (Fault fault)
+
+abbrev pub end_answer : FormattedOutput → Result (Unit {0}) Stop → Result ℤ CallEnd
+end_answer output (Ok done) = Ok (pos 0)
+end_answer output (Err why) = stop_answer output.unit output.on_error output.on_end why

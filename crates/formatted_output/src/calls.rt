@@ -3,8 +3,11 @@
 ghost use Rattle.std.specs.Prelude.{◌≡◌, ◌≤◌, length};
 ghost use Rattle.f2c_outside.specs.Rows.{rows_of};
 ghost use Rattle.c_tree.specs.FormatsGiven.{format_at};
-ghost use Rattle.formatted_output.specs.Transferring.{AnswersStart, FormatStarts, IsBegun, start_of};
+ghost use Rattle.edit_rules.specs.Walks.{StandsIn};
+ghost use Rattle.formatted_output.specs.Transferring.{AnswersStart, AnswersEnd, FormatStarts, IsBegun, start_of, stop_answer};
 
+use crate::acts::Stop;
+use crate::endings::finish;
 use crate::formats::read_format;
 use c_tree::outcome::CValue;
 use control_lists::{UnitControl, unit_control, unit_format};
@@ -13,7 +16,7 @@ use f2c_outside::devices::Device;
 use f2c_outside::unit_table::UnitTable;
 use formatted_records::RecordSheet;
 use run_bytes::RunBytes;
-use unit_answers::{CallEnd, numbered};
+use unit_answers::{CallEnd, numbered, refused};
 
 /// A formatted output on a unit that is in progress.
 #[derive(Clone, Copy)]
@@ -102,5 +105,33 @@ pub fn s_wsfe(
             Err(fault) => Err(CallEnd::Fault(fault)),
         },
         Err(fault) => Err(CallEnd::Fault(fault)),
+    }
+}
+
+/// What a call answers where an output goes no further.
+fn stopped(unit: i32, on_error: i32, on_end: i32, stop: Stop) -> Result<i32, CallEnd>
+    ensures { result ≡ stop_answer unit on_error on_end stop }
+{
+    match stop {
+        Stop::Number(number) => numbered(number, on_error, on_end),
+        Stop::Refused(refusal) => refused(unit, refusal, on_error, on_end),
+        Stop::Fault(fault) => Err(CallEnd::Fault(fault)),
+    }
+}
+
+/// Ends an output: what its format gives behind the last item is done, its last record is written, and the call answers 0 or the number of
+/// the error (12.9.5.2). The buffer is that of its start, and the output stands in the format there.
+///
+/// # Errors
+/// The end of the run by that number, where the list of the start does not ask for it; the unit where its device failed.
+pub fn e_wsfe(output: FormattedOutput, units: &mut UnitTable, format: &[u8]) -> Result<i32, CallEnd>
+    requires { StandsIn output.walk format.now }
+    ensures { AnswersEnd format.now output (rows_of (λ b. (⟦<dyn Device as Device>⟧ b.vtable).device_state b.value) units.old) (rows_of (λ b. (⟦<dyn Device as Device>⟧ b.vtable).device_state b.value) units.new) result }
+{
+    let mut walk = output.walk;
+    let mut sheet = output.sheet;
+    match finish(&mut walk, &mut sheet, units, output.unit, format) {
+        Ok(()) => Ok(0),
+        Err(stop) => stopped(output.unit, output.on_error, output.on_end, stop),
     }
 }

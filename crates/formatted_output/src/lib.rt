@@ -1,11 +1,16 @@
 //! Formatted output on a unit as calls of the library, over the objects of a run and its external units (ANSI X3.9-1978, 12.8, 12.9.5.2 and
-//! 13; CSTR 149, appendix on the run time library): `s_wsfe` begins a transfer.
+//! 13; CSTR 149, appendix on the run time library): `s_wsfe` begins a transfer, and `e_wsfe` ends it.
 //!
 //! No call takes memory: the record in the making stands in the transfer, and the format is copied into a buffer of the caller when the
 //! transfer begins, since the program may change its text later.
+//!
+//! Each function that changes a unit table has a `requires`: a function with one is proved whatever devices there are, and one without where
+//! those that its callees may make are among them.
 #![tactic(auto)]
 
+mod acts;
 mod calls;
+mod endings;
 mod formats;
 
-pub use calls::{FormattedOutput, Start, s_wsfe};
+pub use calls::{FormattedOutput, Start, e_wsfe, s_wsfe};
