@@ -5,3 +5,6 @@ mod PlaceLaws
 mod ActLaws
 mod CloseLaws
 mod EndLaws
+mod ReachLaws
+mod ServedLaws
+mod ItemLaws

@@ -1,4 +1,6 @@
 pub mod Fronts
 pub mod Acting
 pub mod Closing
+pub mod Reaching
+pub mod Putting
 pub mod Transferring

@@ -21,11 +21,11 @@ use unit_answers::{CallEnd, numbered, refused};
 /// A formatted output on a unit that is in progress.
 #[derive(Clone, Copy)]
 pub struct FormattedOutput {
-    unit: i32,
-    on_error: i32,
-    on_end: i32,
-    walk: FormatWalk,
-    sheet: RecordSheet,
+    pub(crate) unit: i32,
+    pub(crate) on_error: i32,
+    pub(crate) on_end: i32,
+    pub(crate) walk: FormatWalk,
+    pub(crate) sheet: RecordSheet,
 }
 
 /// What a start does that meets no fault.

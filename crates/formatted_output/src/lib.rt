@@ -12,5 +12,6 @@ mod acts;
 mod calls;
 mod endings;
 mod formats;
+mod items;
 
 pub use calls::{FormattedOutput, Start, e_wsfe, s_wsfe};
