@@ -1,6 +1,6 @@
 -- What an item of a formatted output means.
 use Rattle.std.proofs.Common.{◌≡◌, ℕ, ℤ, pos, suc, false, List, [], ◌∷◌, ◌++◌, length, drop, Option, Some, None, refl, ap, sym, ◌∙◌, subst, append-nil, append_assoc}
-use Rattle.std.specs.Prelude.{Result, Ok, Err}
+use Rattle.std.specs.Prelude.{Bool, true, Result, Ok, Err, nat_eq, if◌then◌else◌}
 use Rattle.c_tree.specs.run_state.Units.{Units}
 use Rattle.run_state.specs.declared.refusals.UnitRefusal.{UnitRefusal}
 use Rattle.run_state.specs.declared.refusals.UnitRefusal.TheVariants.{NotConnected, NotOffered, Taken, PastEnd, Failed}
@@ -11,10 +11,10 @@ use Rattle.c_tree.specs.Objects.{Object}
 use Rattle.c_tree.specs.World.{Output as Writing, Formatted, Transfer, World}
 use Rattle.c_tree.specs.World as media
 use Rattle.c_tree.specs.Transfers.{Passage, GoesOn, Answers, numbered}
-use Rattle.c_tree.specs.TransferOutput.{Made, put_on_unit, put_further, put_unless, write_all, halt_number, descriptor_in, next_descriptor, item_under, led_on, value_put, put_values, formatted_put}
-use Rattle.edit_rules.specs.edit_meaning.Formats.{Descriptor, Format, Edit, Item, pass, reverted, edits_for}
+use Rattle.c_tree.specs.TransferOutput.{Made, ItemKind, IntegerItem, LogicalItem, TextItem, item_at, if_four, put_on_unit, put_further, put_unless, write_all, halt_number, descriptor_in, next_descriptor, item_under, led_on, value_put, put_values, formatted_put}
+use Rattle.edit_rules.specs.edit_meaning.Formats.{Descriptor, IntIn, LogicalIn, Format, Edit, Item, pass, reverted, edits_for}
 use Rattle.edit_rules.specs.edit_meaning.Halts as halts
-use Rattle.edit_rules.specs.edit_meaning.Listed.{ListedValue}
+use Rattle.edit_rules.specs.edit_meaning.Listed.{ListedValue, Text}
 use Rattle.edit_rules.specs.edit_meaning.EditedRecords.{Output, unit_sheet, field_of, with_field, made_on, made_ahead}
 use Rattle.edit_rules.specs.edit_meaning.EditedRecords as records
 use Rattle.edit_rules.specs.edit_meaning.Transfers.{edited, unserved_by, for_next}
@@ -25,9 +25,13 @@ use Rattle.f2c_outside.specs.Meaning.{units_of}
 use Rattle.unit_answers.specs.Answers.{world_with}
 use Rattle.unit_answers.proofs.OrLemmas.{known, faulty}
 use Rattle.listed_output.specs.Writing.{WritesAs}
+use Rattle.listed_output.specs.Items.{StandsThere}
+use Rattle.listed_output.specs.Kinds.{has_size}
+use Rattle.listed_output.proofs.ItemLaws.{item-there}
 use Rattle.listed_output.proofs.WriteLaws.{write-both, then_write}
 use Rattle.formatted_records.specs.declared.halt.Halt.{Halt}
 use Rattle.formatted_records.specs.declared.fields.Field.{Field}
+use Rattle.formatted_records.specs.declared.fields.Field.TheVariants as fields
 use Rattle.formatted_records.specs.declared.sheet.RecordSheet.{RecordSheet}
 use Rattle.formatted_records.specs.Sheets.{StandsOn, ActsBy, Acts, shown, halt_of, descriptor_of}
 use Rattle.formatted_output.specs.declared.calls.FormattedOutput.{FormattedOutput}
@@ -83,7 +87,7 @@ refused-item :
     (refusal : UnitRefusal) (number : ℤ) (objects : List Object) (going : Option Transfer) (before after_it : Units) (text : List ℕ) (output : FormattedOutput) (transfer : Transfer) (size : ℕ) (pointer : CValue)
     (lines later : List (List ℕ)) →
     ((format : Format) → (one : Transfer) → (world : World) → (written : List (List ℕ)) → (halted : Option halts.Halt) →
-        item_reply output.unit format size pointer one world written halted (Err refusal) ≡ Ok (Answers (numbered number one.on_error one.on_end world))) →
+    item_reply output.unit format size pointer one world written halted (Err refusal) ≡ Ok (Answers (numbered number one.on_error one.on_end world))) →
     (stands : StandsFor text output transfer) → (ahead stands.format transfer).complete ≡ (stands.complete ++ lines) ++ later →
     (write_all output.unit lines before ≡ Err refusal) × (after_it ≡ before) →
     Answered (formatted_put stands.format size pointer transfer (world_with objects going before)) objects going after_it output number
@@ -100,7 +104,7 @@ stopped-means :
     (objects : List Object) (going : Option Transfer) (before after_it : Units) (text : List ℕ) (output output' : FormattedOutput) (transfer : Transfer) (size : ℕ) (pointer : CValue) (lines : List (List ℕ))
     (why : Stop) → (stands : StandsFor text output transfer) → StopsBy (ahead stands.format transfer) (stands.complete ++ lines) why →
     WritesAs output.unit lines before after_it (let r : Result (Unit {0}) Stop = Err why in writing r) →
-    ItemMeans (formatted_put stands.format size pointer transfer (world_with objects going before)) objects going after_it text stands.format output output' (Err why)
+    ItemMeans (formatted_put stands.format size pointer transfer (world_with objects going before)) pointer size objects going after_it text stands.format output output' (Err why)
 stopped-means objects going before after_it text output output' transfer size pointer lines (stop.Number number) stands stops wrote =
     let one : Transfer = shown_by output stands.format transfer in
     item-known objects going before text output transfer size pointer lines (Some stops.1.0) stands stops.0 stops.1.1
@@ -254,6 +258,29 @@ at-unit text output walk' own sheet rows rows' field same reaches = subst (λ (n
 abbrev pub FieldActs : Field → ListedValue → RecordSheet → RecordSheet → Result (Unit {0}) Halt → Type 0
 FieldActs field value sheet sheet' done = Acts unit_sheet (λ out. with_field unit_sheet (field_of (descriptor_of field) value out.plus) out) sheet sheet' done
 
+-- an item that is put is there
+four-there : (kind : ItemKind) (other : Descriptor) (value : ListedValue) (objects : List Object) (pointer : CValue) (size : ℕ) (plus : Bool) (out : Output) (new : RecordSheet) (complete : List (List ℕ)) →
+    has_size kind size ≡ nat_eq size 4 → (field_of other (Text []) plus ≡ None) → Ok value ≡ if_four size (item_at kind objects pointer size) →
+    with_field unit_sheet (field_of other value plus) out ≡ shown new complete → StandsThere size objects pointer
+four-there kind other value objects pointer size plus out new complete has refuses given put = by (nat_eq size 4) refl given
+  where
+    by : (four : Bool) → nat_eq size 4 ≡ four → Ok value ≡ (if four then item_at kind objects pointer size else Ok (Text [])) → StandsThere size objects pointer
+    by true is there = item-there kind objects pointer size value (has ∙ is) there
+    by false is there =
+        let empty : value ≡ Text [] = cc in
+        let halted : (let h : Option halts.Halt = Some halts.OtherType in h) ≡ None =
+        sym (ap (λ (o : Output). o.halted) (ap (λ (field : Option (List ℕ)). with_field unit_sheet field out) (ap (λ (v : ListedValue). field_of other v plus) empty ∙ refuses))) ∙ ap (λ (o : Output). o.halted) put in
+        absurd (cc)
+
+there-by : (field : Field) (value : ListedValue) (objects : List Object) (pointer : CValue) (size : ℕ) (sheet new : RecordSheet) (complete : List (List ℕ)) →
+    Ok value ≡ item_under (Some (descriptor_of field)) objects pointer size → with_field unit_sheet (field_of (descriptor_of field) value sheet.plus) (shown sheet complete) ≡ shown new complete →
+    StandsThere size objects pointer
+there-by (fields.Int width least) value objects pointer size sheet new complete given put =
+    four-there IntegerItem (IntIn width least) value objects pointer size sheet.plus (shown sheet complete) new complete refl refl given put
+there-by (fields.Logical width) value objects pointer size sheet new complete given put =
+    four-there LogicalItem (LogicalIn width) value objects pointer size sheet.plus (shown sheet complete) new complete refl refl given put
+there-by (fields.Text width) value objects pointer size sheet new complete given put = item-there TextItem objects pointer size value refl given
+
 pub item-put :
     (text : List ℕ) (output output' : FormattedOutput) (own : ℤ) (objects : List Object) (pointer : CValue) (size : ℕ) (rows rows' : List Row) (sheet : RecordSheet) (field : Field) (value : ListedValue) →
     own ≡ output.unit → SameOutput output output' → Reaches text output.walk output'.walk own output.sheet sheet rows rows' (Ok field) →
@@ -271,6 +298,7 @@ item-put text output output' own objects pointer size rows rows' sheet field val
             transfer = with_item output.unit (shown_by output stands.format transfer) (stands.complete ++ reaches.lines) value;
             stands = stands-with text output output' transfer (stands.complete ++ reaches.lines) sheet field value same stands at done.0 done.1;
             same = refl;
+            there = there-by field value objects pointer size sheet output'.sheet (stands.complete ++ reaches.lines) given done.1;
             means = put-means objects going (units_of rows) (units_of rows') text output transfer size pointer reaches.lines output'.walk sheet field value
                 (shown output'.sheet (stands.complete ++ reaches.lines)) stands at (reaches.writes.means tells) given done.1 refl;
           };

@@ -8,3 +8,5 @@ mod EndLaws
 mod ReachLaws
 mod ServedLaws
 mod ItemLaws
+mod PutLaws
+mod CallLaws

@@ -7,11 +7,12 @@ use Rattle.c_tree.specs.Faults.{Or, failing}
 use Rattle.c_tree.specs.Objects.{Object}
 use Rattle.c_tree.specs.World.{Output, Formatted, Transfer, Reply, Gives, Stops, Io}
 use Rattle.c_tree.specs.World as media
-use Rattle.c_tree.specs.Builtins.{ByFormat, OnUnit, TransferKind, transfer_kind, Begin, Finish}
+use Rattle.c_tree.specs.Builtins.{ByFormat, OnUnit, TransferKind, transfer_kind, Begin, Finish, do_fio}
 use Rattle.c_tree.specs.Library.{library}
 use Rattle.edit_rules.specs.edit_meaning.Formats.{Format, pass, reverted, edits_for}
 use Rattle.edit_rules.specs.edit_meaning.EditedRecords.{unit_sheet, made_on}
 use Rattle.edit_rules.specs.edit_meaning.FormatGrammar.{SpellsFormat}
+use Rattle.edit_rules.specs.Walks as walks
 use Rattle.edit_rules.specs.Walks.{Stands}
 use Rattle.f2c_outside.specs.Table.{Row}
 use Rattle.f2c_outside.specs.Meaning.{Tells, units_of}
@@ -24,6 +25,8 @@ use Rattle.formatted_records.specs.Sheets.{StandsOn, Begins, shown}
 use Rattle.formatted_output.specs.declared.calls.FormattedOutput.{FormattedOutput}
 use Rattle.formatted_output.specs.declared.calls.Start.{Start}
 use Rattle.formatted_output.specs.declared.calls.Start.TheVariants as start
+use Rattle.formatted_output.specs.declared.calls.Passage.{Passage}
+use Rattle.formatted_output.specs.declared.calls.Passage.TheVariants.{GoesOn, Over}
 use Rattle.formatted_output.specs.declared.acts.Stop.{Stop}
 use Rattle.formatted_output.specs.declared.acts.Stop.TheVariants as stop
 
@@ -104,3 +107,30 @@ stop_answer unit on_error on_end (stop.Fault fault) = Err (Fault fault)
 abbrev pub end_answer : FormattedOutput → Result (Unit {0}) Stop → Result ℤ CallEnd
 end_answer output (Ok done) = Ok (pos 0)
 end_answer output (Err why) = stop_answer output.unit output.on_error output.on_end why
+
+-- `do_fio`
+abbrev pub ItemsReply : Or Reply → List Object → Units → List ℕ → FormattedOutput → Result Passage CallEnd → Type 0
+ItemsReply meaning objects units text output (Ok GoesOn) = StandsIn meaning objects units text output
+ItemsReply meaning objects units text output (Ok (Over number)) = meaning ≡ Ok (Gives number (world_with objects None units))
+ItemsReply meaning objects units text output (Err (Fault fault)) = meaning ≡ failing fault
+ItemsReply meaning objects units text output (Err (Ended number)) = meaning ≡ Ok (Stops (Io number) (world_with objects None units))
+ItemsReply meaning objects units text output (Err (Device unit)) = Unit {0}
+
+abbrev pub ItemsDevice : FormattedOutput → List Row → List Row → Result Passage CallEnd → Type 0
+ItemsDevice output old new (Ok passage) = NoneFailed old new
+ItemsDevice output old new (Err (Fault fault)) = NoneFailed old new
+ItemsDevice output old new (Err (Ended number)) = NoneFailed old new
+ItemsDevice output old new (Err (Device unit)) = (unit ≡ output.unit) × FailedOn unit old new
+
+-- for every transfer for which the output stood, the call replies what its meaning gives; the device of its unit fails where it is
+-- answered, and nowhere else; and the output goes on standing in the text of its format
+pub record AnswersItems (text : List ℕ) (objects : List Object) (arguments : List CValue) (output output' : FormattedOutput) (old new : List Row) (result : Result Passage CallEnd) : Type 0 where
+  pub inside : walks.StandsIn output'.walk text
+  pub tells : Tells old → Tells new
+  pub replies : Tells old → (transfer : Transfer) → StandsFor text output transfer →
+      ItemsReply (library do_fio (world_with objects (Some transfer) (units_of old)) arguments) objects (units_of new) text output' result
+  pub devices : ItemsDevice output old new result
+
+abbrev pub over_by : Result ℤ CallEnd → Result Passage CallEnd
+over_by (Ok number) = Ok (Over number)
+over_by (Err end) = Err end

@@ -1,14 +1,15 @@
 //! The calls of a formatted output on a unit (ANSI X3.9-1978, 12.8 and 13).
 
-ghost use Rattle.std.specs.Prelude.{◌≡◌, ◌≤◌, length};
+ghost use Rattle.std.specs.Prelude.{◌≡◌, ◌≤◌, [], ◌∷◌, length};
 ghost use Rattle.f2c_outside.specs.Rows.{rows_of};
 ghost use Rattle.c_tree.specs.FormatsGiven.{format_at};
 ghost use Rattle.edit_rules.specs.Walks.{StandsIn};
-ghost use Rattle.formatted_output.specs.Transferring.{AnswersStart, AnswersEnd, FormatStarts, IsBegun, start_of, stop_answer};
+ghost use Rattle.formatted_output.specs.Transferring.{AnswersStart, AnswersItems, AnswersEnd, FormatStarts, IsBegun, over_by, start_of, stop_answer};
 
 use crate::acts::Stop;
 use crate::endings::finish;
 use crate::formats::read_format;
+use crate::items::{item_list, put_items};
 use c_tree::outcome::CValue;
 use control_lists::{UnitControl, unit_control, unit_format};
 use edit_rules::FormatWalk;
@@ -35,6 +36,15 @@ pub enum Start {
     Begins(FormattedOutput),
     /// The call answers this number of an error, and no transfer begins.
     Answers(i32),
+}
+
+/// Where a transfer stands behind a call.
+#[derive(Clone, Copy, Debug, PartialEq, Eq)]
+pub enum Passage {
+    /// It goes on, and the call answers 0.
+    GoesOn,
+    /// It is over by this number, which the call answers.
+    Over(i32),
 }
 
 /// The output that a control list begins, under the format that begins a text.
@@ -116,6 +126,43 @@ fn stopped(unit: i32, on_error: i32, on_end: i32, stop: Stop) -> Result<i32, Cal
         Stop::Number(number) => numbered(number, on_error, on_end),
         Stop::Refused(refusal) => refused(unit, refusal, on_error, on_end),
         Stop::Fault(fault) => Err(CallEnd::Fault(fault)),
+    }
+}
+
+/// The end of an output by a number that its caller gets.
+fn over(answer: Result<i32, CallEnd>) -> Result<Passage, CallEnd>
+    ensures { result ≡ over_by answer }
+{
+    match answer {
+        Ok(number) => Ok(Passage::Over(number)),
+        Err(end) => Err(end),
+    }
+}
+
+/// Puts so many items of a length, which stand one behind the other (12.8.2). Each is fetched when its descriptor is come to. The buffer is
+/// that of the start, and the output stands in the format there.
+///
+/// # Errors
+/// The first fault of the arguments or of an item; the end of the run by the number of an error, where the list of the start does not ask for
+/// it; the unit where its device failed.
+pub fn do_fio(
+    output: &mut FormattedOutput,
+    units: &mut UnitTable,
+    run: &RunBytes,
+    count: CValue,
+    first: CValue,
+    size: CValue,
+    format: &[u8],
+) -> Result<Passage, CallEnd>
+    requires { StandsIn output.old.walk format.now }
+    ensures { AnswersItems format.now run.now (count ∷ first ∷ size ∷ []) output.old output.new (rows_of (λ b. (⟦<dyn Device as Device>⟧ b.vtable).device_state b.value) units.old) (rows_of (λ b. (⟦<dyn Device as Device>⟧ b.vtable).device_state b.value) units.new) result }
+{
+    match item_list(run, count, size) {
+        Ok(list) => match put_items(output, units, format, run, list, first) {
+            Ok(()) => Ok(Passage::GoesOn),
+            Err(stop) => over(stopped(output.unit, output.on_error, output.on_end, stop)),
+        },
+        Err(fault) => Err(CallEnd::Fault(fault)),
     }
 }
 

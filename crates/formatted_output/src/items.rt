@@ -9,12 +9,14 @@ ghost use Rattle.edit_rules.specs.Writer.{value_of};
 ghost use Rattle.run_bytes.specs.Answers.{answered};
 ghost use Rattle.formatted_records.specs.Sheets.{descriptor_of};
 ghost use Rattle.formatted_output.specs.Reaching.{Reaches};
-ghost use Rattle.formatted_output.specs.Putting.{PutsItem};
+ghost use Rattle.c_tree.specs.LibraryArguments as arguments;
+ghost use Rattle.listed_output.specs.Items.{StandsThere};
+ghost use Rattle.formatted_output.specs.Putting.{PutsItem, PutsItems, items_given, list_shown};
 
 use crate::acts::{Stop, Turn, act, stop_by, turn_of};
 use crate::calls::FormattedOutput;
 use c_tree::outcome::{CFault, CValue};
-use control_lists::number_through;
+use control_lists::{count_from, length_from, number_through};
 use edit_rules::{FormatWalk, ListValue};
 use f2c_outside::devices::Device;
 use f2c_outside::unit_table::UnitTable;
@@ -103,7 +105,13 @@ pub(crate) fn put_item(
     requires { StandsIn output.old.walk format.now }
     ensures { PutsItem format.now output.old output.new run.now pointer size (rows_of (λ b. (⟦<dyn Device as Device>⟧ b.vtable).device_state b.value) units.old) (rows_of (λ b. (⟦<dyn Device as Device>⟧ b.vtable).device_state b.value) units.new) result }
 {
-    match next_field(&mut output.walk, &mut output.sheet, units, output.unit, format) {
+    match next_field(
+        &mut output.walk,
+        &mut output.sheet,
+        units,
+        output.unit,
+        format,
+    ) {
         Ok(field) => match value_under(run, field, pointer, size) {
             Ok(value) => match output.sheet.field(field, value) {
                 Ok(()) => Ok(()),
@@ -113,4 +121,59 @@ pub(crate) fn put_item(
         },
         Err(stop) => Err(stop),
     }
+}
+
+/// The number of the items of a call, and the bytes of one.
+#[derive(Clone, Copy)]
+pub(crate) struct ItemList {
+    pub(crate) count: usize,
+    pub(crate) size: usize,
+}
+
+/// What a call says of its items: a pointer to their count, and the length of one.
+pub(crate) fn item_list(run: &RunBytes, count: CValue, size: CValue) -> Result<ItemList, CFault>
+    ensures { answered list_shown result ≡ items_given run.now count size }
+{
+    let number = number_through(run, count)?;
+    let count = count_from(number)?;
+    let size = length_from(size)?;
+    Ok(ItemList { count, size })
+}
+
+/// A pointer behind an item that is there. An empty text may stand anywhere.
+fn behind(run: &RunBytes, pointer: CValue, size: usize) -> CValue
+    ensures { StandsThere size run.now pointer → result ≡ arguments.shifted size pointer }
+{
+    match pointer {
+        CValue::Pointer { object, offset } => match run.extent(object) {
+            Some(extent) if offset < extent && size <= extent - offset => CValue::Pointer {
+                object,
+                offset: offset + size,
+            },
+            _ => pointer,
+        },
+        other => other,
+    }
+}
+
+/// Puts so many items that stand one behind the other, each before the next.
+pub(crate) fn put_items(
+    output: &mut FormattedOutput,
+    units: &mut UnitTable,
+    format: &[u8],
+    run: &RunBytes,
+    list: ItemList,
+    first: CValue,
+) -> Result<(), Stop>
+    requires { StandsIn output.old.walk format.now }
+    ensures { PutsItems format.now output.old output.new run.now list.count list.size first (rows_of (λ b. (⟦<dyn Device as Device>⟧ b.vtable).device_state b.value) units.old) (rows_of (λ b. (⟦<dyn Device as Device>⟧ b.vtable).device_state b.value) units.new) result }
+{
+    let mut pointer = first;
+    'items: for _ in 0..list.count {
+        match put_item(output, units, format, run, pointer, list.size) {
+            Ok(()) => pointer = behind(run, pointer, list.size),
+            Err(stop) => return Err(stop),
+        }
+    }
+    Ok(())
 }

@@ -1,5 +1,5 @@
 //! Formatted output on a unit as calls of the library, over the objects of a run and its external units (ANSI X3.9-1978, 12.8, 12.9.5.2 and
-//! 13; CSTR 149, appendix on the run time library): `s_wsfe` begins a transfer, and `e_wsfe` ends it.
+//! 13; CSTR 149, appendix on the run time library): `s_wsfe` begins a transfer, `do_fio` puts items, and `e_wsfe` ends it.
 //!
 //! No call takes memory: the record in the making stands in the transfer, and the format is copied into a buffer of the caller when the
 //! transfer begins, since the program may change its text later.
@@ -14,4 +14,4 @@ mod endings;
 mod formats;
 mod items;
 
-pub use calls::{FormattedOutput, Start, e_wsfe, s_wsfe};
+pub use calls::{FormattedOutput, Passage, Start, do_fio, e_wsfe, s_wsfe};
