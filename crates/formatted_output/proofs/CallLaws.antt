@@ -1,5 +1,5 @@
 -- What a call with items of a formatted output replies.
-use Rattle.std.proofs.Common.{◌≡◌, ℕ, ℤ, pos, Bool, true, false, List, [], ◌∷◌, length, Option, Some, None, refl, ap, sym, ◌∙◌, subst}
+use Rattle.std.proofs.Common.{◌≡◌, ℕ, ℤ, pos, Bool, true, false, List, [], ◌∷◌, Some, None, refl, ap, sym, ◌∙◌, subst}
 use Rattle.std.specs.Prelude.{Result, Ok, Err, if◌then◌else◌}
 use Rattle.std.specs.Ordering.{int_eq}
 use Rattle.c_tree.specs.run_state.Units.{Units}
@@ -10,7 +10,7 @@ use Rattle.c_tree.specs.Faults.{Or, after, failing}
 use Rattle.c_tree.specs.Objects.{Object}
 use Rattle.c_tree.specs.World.{Transfer, Reply, Gives, Stops, Io}
 use Rattle.c_tree.specs.LibraryArguments.{number_through, count_from, length_from}
-use Rattle.c_tree.specs.Transfers.{asked, numbered}
+use Rattle.c_tree.specs.Transfers.{asked}
 use Rattle.c_tree.specs.TransferOutput.{formatted_put}
 use Rattle.c_tree.specs.TransferCalls.{each_item, formatted_items}
 use Rattle.c_tree.specs.Builtins.{do_fio}
@@ -21,7 +21,6 @@ use Rattle.f2c_outside.specs.Table.{Row}
 use Rattle.f2c_outside.specs.Meaning.{units_of}
 use Rattle.unit_answers.specs.declared.ends.CallEnd.{CallEnd}
 use Rattle.unit_answers.specs.declared.ends.CallEnd.TheVariants.{Fault, Ended}
-use Rattle.unit_answers.specs.Failing.{NoneFailed}
 use Rattle.unit_answers.specs.Answers.{world_with, numbered_answer}
 use Rattle.unit_answers.proofs.OrLemmas.{known, faulty, behind, same-rest}
 use Rattle.listed_output.specs.Writing.{StayedOn, FailsOn}
@@ -33,7 +32,7 @@ use Rattle.formatted_output.specs.declared.items.ItemList.{ItemList}
 use Rattle.formatted_output.specs.declared.acts.Stop.{Stop}
 use Rattle.formatted_output.specs.declared.acts.Stop.TheVariants as stop
 use Rattle.formatted_output.specs.Acting.{writing}
-use Rattle.formatted_output.specs.Putting.{SameOutput, Numbered, ItemsMean, PutsItems, Given, list_shown, items_given}
+use Rattle.formatted_output.specs.Putting.{SameOutput, Numbered, ItemsMean, PutsItems, list_shown, items_given}
 use Rattle.formatted_output.specs.Transferring.{StandsFor, ItemsReply, ItemsDevice, AnswersItems, stop_answer, over_by}
 use Rattle.formatted_output.proofs.EndLaws.{shown_by, is-shown}
 

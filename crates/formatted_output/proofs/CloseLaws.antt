@@ -1,12 +1,12 @@
 -- The edits behind the last item, one by one, and the last record.
-use Rattle.std.proofs.Common.{◌≡◌, ℕ, ℤ, zero, suc, ◌+◌, ◌-◌, ◌<◌, false, List, [], ◌∷◌, ◌++◌, length, Option, Some, None, refl, sym, ap, ◌∙◌, subst, append-nil, append_assoc, arith, nat_le}
+use Rattle.std.proofs.Common.{◌≡◌, ℕ, ℤ, suc, ◌+◌, ◌-◌, ◌<◌, false, List, [], ◌∷◌, ◌++◌, length, Option, Some, None, refl, sym, ap, ◌∙◌, subst, append-nil, append_assoc, arith, nat_le}
 use Rattle.std.specs.Prelude.{Bool, true, Result, Ok, Err, if◌then◌else◌}
 use Rattle.run_state.specs.declared.refusals.UnitRefusal.{UnitRefusal}
 use Rattle.edit_rules.specs.edit_meaning.Formats as formats
 use Rattle.edit_rules.specs.edit_meaning.Formats.{Descriptor, Item, Act, Stop as Colon, Control, Literal, ToColumn, LeftBy, RightBy, NextRecord, PlusSigns, ZeroBlanks, closing}
 use Rattle.edit_rules.specs.edit_meaning.Halts.{Halt, Number}
 use Rattle.edit_rules.specs.edit_meaning.Listed.{ListedValue}
-use Rattle.edit_rules.specs.edit_meaning.EditedRecords.{Sheet, Output, unit_sheet, output, written_at, with_text, moved_to, with_control, field_of, with_field, output_closed, ended}
+use Rattle.edit_rules.specs.edit_meaning.EditedRecords.{Output, unit_sheet, output, written_at, with_text, moved_to, with_control, field_of, with_field, output_closed, ended}
 use Rattle.edit_rules.specs.edit_meaning.Transfers.{edited}
 use Rattle.edit_rules.specs.PartPlaces.{edit_in}
 use Rattle.edit_rules.specs.Walks.{Stands, StandsIn, Given, GivenNone}
@@ -21,8 +21,8 @@ use Rattle.formatted_output.specs.declared.acts.Stop.{Stop}
 use Rattle.formatted_output.specs.declared.acts.Stop.TheVariants as stop
 use Rattle.formatted_output.specs.declared.acts.Turn.{Turn}
 use Rattle.formatted_output.specs.declared.acts.Turn.TheVariants as turn
-use Rattle.formatted_output.specs.Acting.{TurnOf, writing, IsHaltedBy, StopsBy, Comes, Does}
-use Rattle.formatted_output.specs.Closing.{Closes, Finished, Finishes}
+use Rattle.formatted_output.specs.Acting.{TurnOf, writing, StopsBy, Does}
+use Rattle.formatted_output.specs.Closing.{Closes, Finishes}
 use Rattle.formatted_output.proofs.PlaceLaws.{edits_behind, behind-is}
 
 -- ## Complete records stay

@@ -1,15 +1,15 @@
 -- What the end of a formatted output replies.
-use Rattle.std.proofs.Common.{◌≡◌, ℕ, ℤ, pos, Bool, true, false, List, [], ◌∷◌, ◌++◌, length, drop, Option, Some, None, refl, ap, sym, ◌∙◌, subst, append_assoc}
+use Rattle.std.proofs.Common.{◌≡◌, ℕ, ℤ, pos, true, List, [], ◌∷◌, ◌++◌, length, drop, Option, Some, None, refl, ap, sym, ◌∙◌, subst, append_assoc}
 use Rattle.std.specs.Prelude.{Result, Ok, Err}
 use Rattle.c_tree.specs.run_state.Units.{Units}
 use Rattle.run_state.specs.declared.refusals.UnitRefusal.{UnitRefusal}
 use Rattle.run_state.specs.declared.refusals.UnitRefusal.TheVariants.{NotConnected, NotOffered, Taken, PastEnd, Failed}
-use Rattle.c_tree.specs.Faults.{Or, after, failing}
+use Rattle.c_tree.specs.Faults.{Or, after}
 use Rattle.c_tree.specs.Objects.{Object}
 use Rattle.c_tree.specs.World.{Direction, Output as Writing, Layout, Formatted, Medium, Transfer, World, Reply, Gives, Stops, Io}
 use Rattle.c_tree.specs.World as media
 use Rattle.c_tree.specs.Transfers.{numbered}
-use Rattle.c_tree.specs.TransferOutput.{put_on_unit, put_last, write_all, halt_number}
+use Rattle.c_tree.specs.TransferOutput.{put_on_unit, put_last, write_all}
 use Rattle.c_tree.specs.TransferCalls.{ends}
 use Rattle.c_tree.specs.Builtins.{Finish}
 use Rattle.c_tree.specs.Library.{library}
@@ -20,7 +20,7 @@ use Rattle.f2c_outside.specs.Table.{Row}
 use Rattle.f2c_outside.specs.Meaning.{units_of}
 use Rattle.unit_answers.specs.declared.ends.CallEnd.{CallEnd}
 use Rattle.unit_answers.specs.Failing.{FailedOn, NoneFailed}
-use Rattle.unit_answers.specs.Answers.{world_with, numbered_answer, refused_answer, Replies, IfDevice}
+use Rattle.unit_answers.specs.Answers.{world_with, numbered_answer, Replies, IfDevice}
 use Rattle.unit_answers.proofs.AnswerLaws.{numbered-replies}
 use Rattle.unit_answers.proofs.CallLaws.{numbered-device}
 use Rattle.listed_output.specs.Writing.{StayedOn, FailsOn, WritesAs}
@@ -30,7 +30,7 @@ use Rattle.formatted_records.specs.Sheets.{shown}
 use Rattle.formatted_output.specs.declared.calls.FormattedOutput.{FormattedOutput}
 use Rattle.formatted_output.specs.declared.acts.Stop.{Stop}
 use Rattle.formatted_output.specs.declared.acts.Stop.TheVariants as stop
-use Rattle.formatted_output.specs.Acting.{writing, StopsBy}
+use Rattle.formatted_output.specs.Acting.{writing}
 use Rattle.formatted_output.specs.Closing.{Finished, Finishes}
 use Rattle.formatted_output.specs.Transferring.{formatted_kind, StandsFor, AnswersEnd, stop_answer, end_answer}
 

@@ -1,6 +1,6 @@
 -- The set bytes from a place on, one by one.
-use Rattle.std.proofs.Common.{◌≡◌, ℕ, zero, suc, ◌+◌, ◌-◌, ◌≤◌, ◌<◌, Bool, true, false, List, [], ◌∷◌, length, take, drop, Option, Some, None, refl, ap, sym, ◌∙◌, subst, arith, length-drop}
-use Rattle.std.specs.Prelude.{Ok, Err, nat_eq, nat_le, slice_get, if◌then◌else◌}
+use Rattle.std.proofs.Common.{◌≡◌, ℕ, zero, suc, ◌+◌, ◌-◌, ◌≤◌, Bool, true, false, List, [], ◌∷◌, length, take, drop, Option, Some, None, refl, ap, sym, ◌∙◌, subst, arith, length-drop}
+use Rattle.std.specs.Prelude.{Ok, nat_eq, nat_le, slice_get, if◌then◌else◌}
 use Rattle.std.proofs.lemmas.List.{drop-drop}
 use Rattle.std.proofs.lemmas.Bool.Decides.{nat_tests}
 use Rattle.c_tree.specs.declared.outcome.CValue.{CValue}
@@ -10,7 +10,7 @@ use Rattle.c_tree.specs.declared.outcome.CFault.TheVariants.{Unset, Outside, Kin
 use Rattle.c_tree.specs.Faults.{Or, after, failing}
 use Rattle.c_tree.specs.Objects.{Object, Bytes, Values, all_set, bytes_at, extent}
 use Rattle.c_tree.specs.LibraryArguments.{text_in, text_at}
-use Rattle.formatted_output.specs.Fronts.{set_bytes, fault_behind, Front, front_of, front_at}
+use Rattle.formatted_output.specs.Fronts.{set_bytes, fault_behind, front_of, front_at}
 
 abbrev pub extent_of : Option Object → ℕ
 extent_of None = 0

@@ -1,5 +1,5 @@
 -- What an item of a formatted output means.
-use Rattle.std.proofs.Common.{◌≡◌, ℕ, ℤ, pos, suc, false, List, [], ◌∷◌, ◌++◌, length, drop, Option, Some, None, refl, ap, sym, ◌∙◌, subst, append-nil, append_assoc}
+use Rattle.std.proofs.Common.{◌≡◌, ℕ, ℤ, pos, false, List, [], ◌∷◌, ◌++◌, length, drop, Option, Some, None, refl, ap, sym, ◌∙◌, subst, append_assoc}
 use Rattle.std.specs.Prelude.{Bool, true, Result, Ok, Err, nat_eq, if◌then◌else◌}
 use Rattle.c_tree.specs.run_state.Units.{Units}
 use Rattle.run_state.specs.declared.refusals.UnitRefusal.{UnitRefusal}
@@ -10,14 +10,14 @@ use Rattle.c_tree.specs.Faults.{Or, after, failing}
 use Rattle.c_tree.specs.Objects.{Object}
 use Rattle.c_tree.specs.World.{Output as Writing, Formatted, Transfer, World}
 use Rattle.c_tree.specs.World as media
-use Rattle.c_tree.specs.Transfers.{Passage, GoesOn, Answers, numbered}
-use Rattle.c_tree.specs.TransferOutput.{Made, ItemKind, IntegerItem, LogicalItem, TextItem, item_at, if_four, put_on_unit, put_further, put_unless, write_all, halt_number, descriptor_in, next_descriptor, item_under, led_on, value_put, put_values, formatted_put}
-use Rattle.edit_rules.specs.edit_meaning.Formats.{Descriptor, IntIn, LogicalIn, Format, Edit, Item, pass, reverted, edits_for}
+use Rattle.c_tree.specs.Transfers.{Passage, Answers, numbered}
+use Rattle.c_tree.specs.TransferOutput.{ItemKind, IntegerItem, LogicalItem, TextItem, item_at, if_four, put_on_unit, put_further, put_unless, write_all, halt_number, item_under, led_on, value_put, put_values, formatted_put}
+use Rattle.edit_rules.specs.edit_meaning.Formats.{Descriptor, IntIn, LogicalIn, Format, Edit, pass, reverted, edits_for}
 use Rattle.edit_rules.specs.edit_meaning.Halts as halts
 use Rattle.edit_rules.specs.edit_meaning.Listed.{ListedValue, Text}
 use Rattle.edit_rules.specs.edit_meaning.EditedRecords.{Output, unit_sheet, field_of, with_field, made_on, made_ahead}
 use Rattle.edit_rules.specs.edit_meaning.EditedRecords as records
-use Rattle.edit_rules.specs.edit_meaning.Transfers.{edited, unserved_by, for_next}
+use Rattle.edit_rules.specs.edit_meaning.Transfers.{edited, unserved_by}
 use Rattle.edit_rules.specs.Walks.{Stands}
 use Rattle.edit_rules.specs.declared.format_walk.FormatWalk.{FormatWalk}
 use Rattle.f2c_outside.specs.Table.{Row}
@@ -33,13 +33,13 @@ use Rattle.formatted_records.specs.declared.halt.Halt.{Halt}
 use Rattle.formatted_records.specs.declared.fields.Field.{Field}
 use Rattle.formatted_records.specs.declared.fields.Field.TheVariants as fields
 use Rattle.formatted_records.specs.declared.sheet.RecordSheet.{RecordSheet}
-use Rattle.formatted_records.specs.Sheets.{StandsOn, ActsBy, Acts, shown, halt_of, descriptor_of}
+use Rattle.formatted_records.specs.Sheets.{StandsOn, Acts, shown, halt_of, descriptor_of}
 use Rattle.formatted_output.specs.declared.calls.FormattedOutput.{FormattedOutput}
 use Rattle.formatted_output.specs.declared.acts.Stop.{Stop}
 use Rattle.formatted_output.specs.declared.acts.Stop.TheVariants as stop
 use Rattle.formatted_output.specs.Acting.{writing, StopsBy}
-use Rattle.formatted_output.specs.Reaching.{over_next, with_next, AtField, Reached, Reaches}
-use Rattle.formatted_output.specs.Putting.{SameOutput, PutsOn, Answered, ItemMeans, PutsItem}
+use Rattle.formatted_output.specs.Reaching.{over_next, with_next, AtField, Reaches}
+use Rattle.formatted_output.specs.Putting.{SameOutput, Answered, ItemMeans, PutsItem}
 use Rattle.formatted_output.specs.Transferring.{StandsFor}
 use Rattle.formatted_output.proofs.EndLaws.{shown_by, is-shown, behind-written}
 use Rattle.formatted_output.proofs.ServedLaws.{longer-by, next-left, next-unserved, ahead-of, made-with}

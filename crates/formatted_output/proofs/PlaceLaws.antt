@@ -1,10 +1,10 @@
 -- What is to come of a format where a walk stands in its text: its place and its counts tell it, and so how many edits come before the
 -- next item, and behind the last one.
-use Rattle.std.proofs.Common.{◌≡◌, ℕ, zero, suc, ◌+◌, ◌-◌, ◌≤◌, ◌<◌, Bool, true, false, Option, Some, None, List, [], ◌∷◌, ◌++◌, length, drop, refl, sym, ap, ◌∙◌, subst, arith}
+use Rattle.std.proofs.Common.{◌≡◌, ℕ, zero, suc, ◌≤◌, List, [], ◌∷◌, ◌++◌, length, drop, refl, sym, ap, ◌∙◌, arith}
 use Rattle.std.specs.Prelude.{unwrap_or, IsTrue}
 use Rattle.edit_rules.specs.edit_meaning.Formats as formats
 use Rattle.edit_rules.specs.edit_meaning.Formats.{Format, Empty, Stop, Item, Act, Served, led_by, copies, pass, last_group, closing}
-use Rattle.edit_rules.specs.edit_meaning.FormatGrammar.{Joint, Opened, Wanted, Free, Behind, may_close, takes_comma, takes_item, SpellsList, right_parenthesis, comma, descriptor, control, group, slash, slashes, colon, scale}
+use Rattle.edit_rules.specs.edit_meaning.FormatGrammar.{Joint, Free, may_close, takes_comma, takes_item, SpellsList, right_parenthesis, comma, descriptor, control, group, slash, slashes, colon, scale}
 use Rattle.edit_rules.specs.edit_meaning.FormatTexts.{Going, Outside, At, fresh, Found, Nothing, Front, found}
 use Rattle.edit_rules.specs.edit_meaning.Transfers.{for_next}
 use Rattle.edit_rules.specs.FormatParts as parts

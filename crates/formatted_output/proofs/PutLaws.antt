@@ -1,5 +1,5 @@
 -- The items of a call, one by one.
-use Rattle.std.proofs.Common.{◌≡◌, ℕ, ℤ, zero, suc, pos, List, Option, Some, None, refl, ap, sym, ◌∙◌, subst}
+use Rattle.std.proofs.Common.{◌≡◌, ℕ, ℤ, suc, pos, List, Option, None, refl, ap, sym, ◌∙◌, subst}
 use Rattle.std.specs.Prelude.{Result, Ok, Err}
 use Rattle.c_tree.specs.run_state.Units.{Units}
 use Rattle.run_state.specs.declared.refusals.UnitRefusal.TheVariants.{NotConnected, NotOffered, Taken, PastEnd, Failed}
@@ -8,7 +8,7 @@ use Rattle.c_tree.specs.Faults.{Or, after, failing}
 use Rattle.c_tree.specs.Objects.{Object}
 use Rattle.c_tree.specs.World.{Transfer, World, Reply}
 use Rattle.c_tree.specs.LibraryArguments.{shifted}
-use Rattle.c_tree.specs.Transfers.{Passage, GoesOn, Answers, numbered}
+use Rattle.c_tree.specs.Transfers.{Passage, numbered}
 use Rattle.c_tree.specs.TransferOutput.{formatted_put}
 use Rattle.c_tree.specs.TransferCalls.{each_item, then_later}
 use Rattle.edit_rules.specs.edit_meaning.Formats.{Format}

@@ -1,5 +1,5 @@
 -- The edits before the next item, one by one.
-use Rattle.std.proofs.Common.{◌≡◌, ℕ, ℤ, zero, suc, ◌<◌, true, List, [], ◌∷◌, ◌++◌, length, Option, Some, None, refl, sym, ap, ◌∙◌, subst, append-nil, append_assoc, arith}
+use Rattle.std.proofs.Common.{◌≡◌, ℕ, ℤ, zero, suc, ◌<◌, true, List, [], ◌++◌, length, Option, Some, None, refl, sym, ap, ◌∙◌, subst, append-nil, append_assoc, arith}
 use Rattle.std.specs.Prelude.{pos, Result, Ok, Err}
 use Rattle.c_tree.specs.TransferOutput.{descriptor_in}
 use Rattle.edit_rules.specs.edit_meaning.Formats as formats
@@ -21,7 +21,7 @@ use Rattle.formatted_records.specs.Sheets.{StandsOn, shown, descriptor_of}
 use Rattle.formatted_output.specs.declared.acts.Stop.{Stop}
 use Rattle.formatted_output.specs.declared.acts.Stop.TheVariants as stop
 use Rattle.formatted_output.specs.Acting.{writing, StopsBy, Does}
-use Rattle.formatted_output.specs.Reaching.{over_next, with_next, AtField, Reached, Reaches}
+use Rattle.formatted_output.specs.Reaching.{over_next, with_next, Reaches}
 use Rattle.formatted_output.proofs.PlaceLaws.{edits_ahead, ahead-is}
 use Rattle.formatted_output.proofs.CloseLaws.{stops-edited}
 

@@ -1,22 +1,21 @@
 -- The format that set bytes begin with.
-use Rattle.std.proofs.Common.{◌≡◌, ℕ, zero, suc, ◌+◌, ◌-◌, ◌≤◌, ◌<◌, Bool, true, false, List, [], ◌∷◌, ◌++◌, length, take, drop, Option, Some, None, refl, ap, sym, ◌∙◌, subst, arith, length-drop}
-use Rattle.std.specs.Prelude.{Result, Ok, Err, nat_le, slice_get, if◌then◌else◌}
+use Rattle.std.proofs.Common.{◌≡◌, ℕ, zero, suc, ◌+◌, ◌≤◌, ◌<◌, Bool, true, false, List, [], ◌∷◌, ◌++◌, length, take, drop, Option, Some, None, refl, ap, sym, ◌∙◌, subst, arith, length-drop}
+use Rattle.std.specs.Prelude.{Ok, nat_le, slice_get, if◌then◌else◌}
 use Rattle.std.proofs.lemmas.Bool.Decides.{nat_tests}
 use Rattle.c_tree.specs.declared.outcome.CValue.{CValue}
 use Rattle.c_tree.specs.declared.outcome.CValue.TheVariants.{Number, Pointer, Null, Function}
 use Rattle.c_tree.specs.declared.outcome.CFault.{CFault}
-use Rattle.c_tree.specs.declared.outcome.CFault.TheVariants.{Unset, Outside, Kind}
-use Rattle.c_tree.specs.Faults.{Or, failing}
+use Rattle.c_tree.specs.Faults.{failing}
 use Rattle.c_tree.specs.Objects.{Object, Bytes, Values}
-use Rattle.c_tree.specs.FormatsGiven.{FormatRead, Begins, NoFormat, NotSet, EndsEarly, read_on, format_from, format_read, format_in, format_at}
+use Rattle.c_tree.specs.FormatsGiven.{Begins, NoFormat, read_on, format_from, format_read, format_in, format_at}
 use Rattle.edit_rules.specs.edit_meaning.Formats.{Format}
 use Rattle.edit_rules.specs.edit_meaning.FormatGrammar.{SpellsFormat, IsFormat}
-use Rattle.edit_rules.specs.edit_meaning.FormatTexts.{Mode, Made, Frame, State, Going, Done, Found, Nothing, Front, from_state, found, starting, next_state}
+use Rattle.edit_rules.specs.edit_meaning.FormatTexts.{Mode, Made, Frame, State, Going, Done, Front, from_state, found, starting, next_state}
 use Rattle.edit_rules.specs.FormatChecks.{IsFront, IsRefusedAt, IsCompletable}
 use Rattle.edit_rules.proofs.FormatSpelled.{format_run}
 use Rattle.edit_rules.proofs.FormatLaws.{spelled_front, longer}
 use Rattle.edit_rules.proofs.FormatViable.{then_reach, reach, completable, not_completable, front_reached}
-use Rattle.formatted_output.specs.Fronts.{set_bytes, fault_behind, Front as Held, front_of, front_at}
+use Rattle.formatted_output.specs.Fronts.{set_bytes, fault_behind, front_of, front_at}
 
 -- ## A format that is found
 

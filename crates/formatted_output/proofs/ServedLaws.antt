@@ -1,5 +1,5 @@
 -- One item more of a formatted output: what the format makes before its descriptor, and with it.
-use Rattle.std.proofs.Common.{◌≡◌, ℕ, zero, suc, ◌+◌, ◌≤◌, Bool, true, false, Option, Some, None, List, [], ◌∷◌, ◌++◌, length, refl, sym, ap, ◌∙◌, subst, length-append, append-nil, arith}
+use Rattle.std.proofs.Common.{◌≡◌, ℕ, zero, suc, ◌+◌, Bool, true, false, Option, Some, None, List, [], ◌∷◌, ◌++◌, length, refl, sym, ap, ◌∙◌, subst, length-append, append-nil, arith}
 use Rattle.edit_rules.specs.edit_meaning.Formats.{Format, Edit, Item, Act, Stop, Served, NextRecord, served, has_item, pass, reverted, before_more, edits_for}
 use Rattle.edit_rules.specs.edit_meaning.Halts.{Halt}
 use Rattle.edit_rules.specs.edit_meaning.Listed.{ListedValue}

@@ -1,5 +1,5 @@
 -- What the start of a formatted output replies.
-use Rattle.std.proofs.Common.{◌≡◌, ℕ, ℤ, pos, Bool, true, false, List, [], ◌∷◌, length, Option, Some, None, refl, ap, sym, ◌∙◌, subst}
+use Rattle.std.proofs.Common.{◌≡◌, ℕ, ℤ, pos, Bool, true, false, List, [], ◌∷◌, Option, Some, None, refl, ap, sym, ◌∙◌, subst}
 use Rattle.std.specs.Prelude.{Result, Ok, Err, codes, if◌then◌else◌}
 use Rattle.std.specs.Ordering.{int_eq}
 use Rattle.c_tree.specs.run_state.Units.{Units, is_connected}
@@ -15,7 +15,7 @@ use Rattle.c_tree.specs.Transfers.{asked, numbered, unit_control, format_field, 
 use Rattle.c_tree.specs.TransferStarts.{starts}
 use Rattle.c_tree.specs.Builtins.{Begin}
 use Rattle.c_tree.specs.Library.{library}
-use Rattle.edit_rules.specs.edit_meaning.Formats.{Format, Edit, Served, pass, reverted, edits_for}
+use Rattle.edit_rules.specs.edit_meaning.Formats.{Format, Edit, Served, pass, reverted}
 use Rattle.edit_rules.specs.edit_meaning.FormatGrammar.{SpellsFormat}
 use Rattle.edit_rules.specs.edit_meaning.EditedRecords.{output, output_start, unit_sheet, made_on}
 use Rattle.edit_rules.specs.edit_meaning.Transfers.{served_over}
@@ -30,7 +30,7 @@ use Rattle.unit_answers.proofs.OrLemmas.{known, faulty}
 use Rattle.formatted_output.specs.declared.calls.FormattedOutput.{FormattedOutput}
 use Rattle.formatted_output.specs.declared.calls.Start.{Start}
 use Rattle.formatted_output.specs.declared.calls.Start.TheVariants as start
-use Rattle.formatted_output.specs.Transferring.{formatted_kind, StandsFor, StandsIn, StartReplies, IsBegun, FormatStarts, start_of}
+use Rattle.formatted_output.specs.Transferring.{formatted_kind, StandsFor, StartReplies, IsBegun, FormatStarts, start_of}
 
 -- ## A number that a start answers
 

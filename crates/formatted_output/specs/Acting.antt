@@ -1,22 +1,17 @@
 -- What the edits of a format do to the record in the making and to the unit: the records that they complete are written
 -- (ANSI X3.9-1978, 12.9.5.2 and 13).
-use Rattle.std.specs.Prelude.{◌≡◌, ℕ, ◌≤◌, ◌<◌, ℤ, Bool, List, [], ◌∷◌, ◌++◌, length, take, Option, Some, None, Result, Ok, Err}
+use Rattle.std.specs.Prelude.{◌≡◌, ℕ, ◌≤◌, ◌<◌, ℤ, List, ◌++◌, length, take, Option, Some, None, Result, Ok, Err}
 use Rattle.run_state.specs.declared.refusals.UnitRefusal.{UnitRefusal}
-use Rattle.c_tree.specs.TransferOutput.{halt_number, descriptor_in}
+use Rattle.c_tree.specs.TransferOutput.{halt_number}
 use Rattle.edit_rules.specs.edit_meaning.Formats as formats
 use Rattle.edit_rules.specs.edit_meaning.Formats.{Item, Act, Control, closing}
 use Rattle.edit_rules.specs.edit_meaning.Halts.{Halt}
-use Rattle.edit_rules.specs.edit_meaning.Listed.{ListedValue}
-use Rattle.edit_rules.specs.edit_meaning.EditedRecords.{Output, unit_sheet, output, with_control}
-use Rattle.edit_rules.specs.edit_meaning.Transfers.{edited, unserved_by, for_next}
+use Rattle.edit_rules.specs.edit_meaning.EditedRecords.{Output, unit_sheet}
 use Rattle.edit_rules.specs.declared.edits.Edit.{Edit}
 use Rattle.edit_rules.specs.declared.edits.Edit.TheVariants as edit
-use Rattle.edit_rules.specs.declared.format_walk.FormatWalk.{FormatWalk}
-use Rattle.edit_rules.specs.Walks.{Stands}
 use Rattle.f2c_outside.specs.Table.{Row}
 use Rattle.listed_output.specs.Writing.{Writes}
 use Rattle.formatted_records.specs.declared.sheet.RecordSheet.{RecordSheet}
-use Rattle.formatted_records.specs.declared.fields.Field.{Field}
 use Rattle.formatted_records.specs.Sheets.{StandsOn, shown, descriptor_of}
 use Rattle.formatted_output.specs.declared.acts.Stop.{Stop}
 use Rattle.formatted_output.specs.declared.acts.Stop.TheVariants as stop

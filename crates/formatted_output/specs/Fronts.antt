@@ -1,5 +1,5 @@
 -- The bytes from a place on that are set, and the format that begins them (ANSI X3.9-1978, 13.1).
-use Rattle.std.specs.Prelude.{◌≡◌, ℕ, ◌≤◌, List, [], ◌∷◌, length, drop, Option, Some, None, Bool, true, false, Result, Ok, Err, slice_get}
+use Rattle.std.specs.Prelude.{◌≡◌, ℕ, List, [], ◌∷◌, length, drop, Option, Some, None, Bool, true, false, Result, Ok, Err, slice_get}
 use Rattle.c_tree.specs.declared.outcome.CValue.{CValue}
 use Rattle.c_tree.specs.declared.outcome.CValue.TheVariants.{Pointer, Null}
 use Rattle.c_tree.specs.declared.outcome.CFault.{CFault}

@@ -1,6 +1,5 @@
 -- An item of a formatted output as the meaning of C texts has it (ANSI X3.9-1978, 12.8.2, 12.9.5.2 and 13).
 use Rattle.std.specs.Prelude.{◌≡◌, ℕ, ℤ, pos, List, Option, None, Result, Ok, Err}
-use Rattle.run_state.specs.declared.refusals.UnitRefusal.{UnitRefusal}
 use Rattle.run_state.specs.declared.refusals.UnitRefusal.TheVariants.{NotConnected, NotOffered, Taken, PastEnd, Failed}
 use Rattle.c_tree.specs.run_state.Units.{Units}
 use Rattle.c_tree.specs.declared.outcome.CValue.{CValue}

@@ -1,5 +1,5 @@
 -- A text that is written into a line.
-use Rattle.std.proofs.Common.{◌≡◌, ℕ, suc, ◌+◌, ◌≤◌, ◌<◌, List, [], ◌∷◌, ◌++◌, length, take, drop, max, ap, ◌∙◌, rules, arith}
+use Rattle.std.proofs.Common.{◌≡◌, ℕ, ◌+◌, ◌≤◌, ◌<◌, List, [], ◌∷◌, ◌++◌, length, take, drop, max, ap, ◌∙◌, rules, arith}
 use Rattle.std.proofs.lemmas.List.{same_lists, places}
 use Rattle.edit_rules.specs.edit_meaning.EditedRecords.{written_at}
 

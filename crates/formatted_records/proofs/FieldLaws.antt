@@ -1,6 +1,6 @@
 -- Fields that do not fit, and the columns of a field.
-use Rattle.std.proofs.Common.{◌≡◌, ℕ, ℤ, suc, ◌+◌, ◌-◌, ◌≤◌, ◌<◌, Bool, true, false, List, [], ◌∷◌, ◌++◌, length, take, drop, max, replicate, Option, None, Some, refl, ap, sym, ◌∙◌, subst, rules, arith, length-append, length-take}
-use Rattle.std.specs.Prelude.{Result, Ok, Err, nat_le, if◌then◌else◌}
+use Rattle.std.proofs.Common.{◌≡◌, ℕ, ℤ, ◌+◌, ◌-◌, ◌≤◌, ◌<◌, Bool, true, false, List, [], ◌∷◌, ◌++◌, length, take, max, replicate, Option, Some, refl, ap, subst, rules, arith, length-append, length-take}
+use Rattle.std.specs.Prelude.{Result, Err, nat_le, if◌then◌else◌}
 use Rattle.std.proofs.lemmas.Bool.Decides.{nat_tests}
 use Rattle.std.proofs.lemmas.List.{same_lists, places, length-replicate}
 use Rattle.edit_rules.specs.edit_meaning.EditedFields.{right_in, int_text, int_field, logical_field, text_field}

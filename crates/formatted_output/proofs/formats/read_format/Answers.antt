@@ -1,4 +1,4 @@
-use Rattle.std.proofs.Common.{◌≡◌, ℕ, List, ◌++◌, take, drop, ◌≤◌, ap, sym, ◌∙◌, subst}
+use Rattle.std.proofs.Common.{ℕ, List, ◌++◌, drop, sym, subst}
 use Rattle.edit_rules.specs.edit_meaning.FormatGrammar.{SpellsFormat}
 use Rattle.formatted_output.proofs.FrontLaws.{front-is, front-clear}
 use Rattle.formatted_output.proofs.ReadLaws.{reads-short, reads-long, reads-refused, reads-early, read-into}

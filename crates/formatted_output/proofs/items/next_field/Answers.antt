@@ -1,4 +1,4 @@
-use Rattle.std.proofs.Common.{refl, rules, w32, to_z, of_z}
+use Rattle.std.proofs.Common.{rules, w32, to_z, of_z}
 use Rattle.std.proofs.Math.Facts.{to_z-of_z}
 use mir.Val.{SFits}
 use Rattle.formatted_output.proofs.ReachLaws.{going-starts, going-goes_on, going-smaller, going-stops, going-takes, going-ends, reaches-at}

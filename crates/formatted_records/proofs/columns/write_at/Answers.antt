@@ -1,5 +1,5 @@
-use Rattle.std.proofs.Common.{◌<◌, length, rules, arith}
-use Rattle.formatted_records.proofs.ColumnLaws.{written-within, is-longer}
+use Rattle.std.proofs.Common.{rules}
+use Rattle.formatted_records.proofs.ColumnLaws.{is-longer}
 use Rattle.formatted_records.proofs.columns.write_at.Goals as goal
 
 pub returns-else-used-before-clause-written : goal.returns-else-used-before-clause-written
