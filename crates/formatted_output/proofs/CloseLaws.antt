@@ -222,9 +222,6 @@ closed-out : (old new : RecordSheet) (complete lines : List (List ℕ)) (rest : 
     output_closed unit_sheet rest (shown old complete) ≡ record (shown new (complete ++ lines)) { complete = (complete ++ lines) ++ making_in new ∷ [] }
 closed-out old new complete lines rest is = ap (λ (last : Output). ended last.halted last) is
 
-finished-writing : (refusal : UnitRefusal) → writing {T = Unit {0}} (Err (stop.Refused refusal)) ≡ Err refusal
-finished-writing refusal = refl
-
 pub finishes-well :
     (text : List ℕ) (walk : FormatWalk) (own unit : ℤ) (old new : RecordSheet) (last : List ℕ) (rows rows' rows'' : List Row) → own ≡ unit → last ≡ making_in new →
     Closes text walk own old new rows rows' (Ok tt) → Writes own (last ∷ []) rows' rows'' (Ok tt) → Finishes text walk unit old rows rows'' (Ok tt)

@@ -1,12 +1,12 @@
 -- The set bytes from a place on, one by one.
-use Rattle.std.proofs.Common.{◌≡◌, ℕ, zero, suc, ◌+◌, ◌-◌, ◌≤◌, Bool, true, false, List, [], ◌∷◌, length, take, drop, Option, Some, None, refl, ap, sym, ◌∙◌, subst, arith, length-drop}
+use Rattle.std.proofs.Common.{◌≡◌, ℕ, suc, ◌+◌, ◌-◌, ◌≤◌, Bool, true, false, List, [], ◌∷◌, length, take, drop, Option, Some, None, refl, ap, sym, ◌∙◌, subst, arith, length-drop}
 use Rattle.std.specs.Prelude.{Ok, nat_eq, nat_le, slice_get, if◌then◌else◌}
 use Rattle.std.proofs.lemmas.List.{drop-drop}
 use Rattle.std.proofs.lemmas.Bool.Decides.{nat_tests}
 use Rattle.c_tree.specs.declared.outcome.CValue.{CValue}
 use Rattle.c_tree.specs.declared.outcome.CValue.TheVariants.{Number, Pointer, Null, Function}
 use Rattle.c_tree.specs.declared.outcome.CFault.{CFault}
-use Rattle.c_tree.specs.declared.outcome.CFault.TheVariants.{Unset, Outside, Kind}
+use Rattle.c_tree.specs.declared.outcome.CFault.TheVariants.{Unset, Outside}
 use Rattle.c_tree.specs.Faults.{Or, after, failing}
 use Rattle.c_tree.specs.Objects.{Object, Bytes, Values, all_set, bytes_at, extent}
 use Rattle.c_tree.specs.LibraryArguments.{text_in, text_at}
@@ -71,25 +71,6 @@ next-set None place text read = absurd (cc)
 next-set (Some (Bytes bytes)) place text read = next-in bytes place text (drop place bytes) refl read
 next-set (Some (Values held)) place text read = absurd (cc)
 
-ends-in : (bytes : List (Option ℕ)) (place : ℕ) (fault : CFault) (xs : List (Option ℕ)) → drop place bytes ≡ xs → failing fault ≡ bytes_at place 1 bytes →
-    (length (set_bytes (drop place bytes)) ≡ 0) × (fault_behind (drop place bytes) ≡ fault)
-ends-in bytes place fault [] is read =
-    let same : (let found : Or (List ℕ) = failing fault in found) ≡ failing Outside = read ∙ no-byte bytes place is in
-    let one : Outside ≡ fault = cc in
-    (ap (λ (xs : List (Option ℕ)). length (set_bytes xs)) is, ap fault_behind is ∙ one)
-ends-in bytes place fault (None ∷ later) is read =
-    let same : (let found : Or (List ℕ) = failing fault in found) ≡ failing Unset = read ∙ one-byte bytes place None later is in
-    let one : Unset ≡ fault = cc in
-    (ap (λ (xs : List (Option ℕ)). length (set_bytes xs)) is, ap fault_behind is ∙ one)
-ends-in bytes place fault (Some byte ∷ later) is read =
-    let clash : (let found : Or (List ℕ) = failing fault in found) ≡ Ok (byte ∷ []) = read ∙ one-byte bytes place (Some byte) later is in absurd (cc)
-
-ends-at : (object : Option Object) (place : ℕ) (fault : CFault) → failing fault ≡ text_in object place 1 →
-    (length (front_of object place).text ≡ 0) × ((front_of object place).fault ≡ fault)
-ends-at None place fault read = let one : Outside ≡ fault = cc in (refl, one)
-ends-at (Some (Bytes bytes)) place fault read = ends-in bytes place fault (drop place bytes) refl read
-ends-at (Some (Values held)) place fault read = let one : Kind ≡ fault = cc in (refl, one)
-
 pub along-more : (object : Option Object) (offset size : ℕ) (text : List ℕ) → Ok text ≡ text_in object (offset + size) 1 → Along object offset size → Along object offset (size + 1)
 along-more object offset size text read before =
     let next : Next object (offset + size) = next-set object (offset + size) text read in
@@ -100,43 +81,6 @@ along-more object offset size text read before =
       text = before.text ∙ (let e : size + length (front_of object (offset + size)).text ≡ size + 1 + length (front_of object (offset + (size + 1))).text = omega arith in e);
       fault = before.fault ∙ next.fault ∙ ap (λ (n : ℕ). (front_of object n).fault) same;
     }
-
-pub along-ends : (object : Option Object) (offset size : ℕ) (fault : CFault) → failing fault ≡ text_in object (offset + size) 1 → Along object offset size →
-    (size ≡ length (front_of object offset).text) × (fault ≡ (front_of object offset).fault)
-along-ends object offset size fault read before =
-    let ends : (length (front_of object (offset + size)).text ≡ 0) × ((front_of object (offset + size)).fault ≡ fault) = ends-at object (offset + size) fault read in
-    let none : length (front_of object (offset + size)).text ≡ 0 = ends.0 in
-    let all : length (front_of object offset).text ≡ size + length (front_of object (offset + size)).text = before.text in
-    let e : size ≡ length (front_of object offset).text = omega arith in
-    (e, sym (before.fault ∙ ends.1))
-
-drop-past : (xs : List (Option ℕ)) (n : ℕ) → length xs ≤ n → drop n xs ≡ []
-drop-past [] zero h = refl
-drop-past [] (suc n) h = refl
-drop-past (x ∷ xs) zero h = absurd (omega arith)
-drop-past (x ∷ xs) (suc n) h = drop-past xs n (omega arith)
-
--- the fault behind all bytes of an object
-abbrev pub fault_past : Option Object → CFault
-fault_past None = Outside
-fault_past (Some (Bytes bytes)) = Outside
-fault_past (Some (Values held)) = Kind
-
-past-end : (object : Option Object) (place : ℕ) → extent_of object ≤ place → (length (front_of object place).text ≡ 0) × ((front_of object place).fault ≡ fault_past object)
-past-end None place h = (refl, refl)
-past-end (Some (Bytes bytes)) place h =
-    (ap (λ (xs : List (Option ℕ)). length (set_bytes xs)) (drop-past bytes place h), ap fault_behind (drop-past bytes place h))
-past-end (Some (Values held)) place h = (refl, refl)
-
-pub along-all : (object : Option Object) (offset size : ℕ) → size ≡ extent_of object - offset → Along object offset size →
-    (size ≡ length (front_of object offset).text) × (fault_past object ≡ (front_of object offset).fault)
-along-all object offset size is before =
-    let reached : extent_of object ≤ offset + size = omega arith in
-    let ends : (length (front_of object (offset + size)).text ≡ 0) × ((front_of object (offset + size)).fault ≡ fault_past object) = past-end object (offset + size) reached in
-    let none : length (front_of object (offset + size)).text ≡ 0 = ends.0 in
-    let all : length (front_of object offset).text ≡ size + length (front_of object (offset + size)).text = before.text in
-    let e : size ≡ length (front_of object offset).text = omega arith in
-    (e, sym (before.fault ∙ ends.1))
 
 -- the text of the set bytes can be read
 all-read : (xs : List (Option ℕ)) → all_set (take (length (set_bytes xs)) xs) ≡ Ok (set_bytes xs)

@@ -173,9 +173,9 @@ going-takes text first walk walk' unit old sheet rows rows' given field inside g
 }
 
 -- the next item gets no descriptor
-none-left : (again rest left : List formats.Edit) (out start : Output) (complete : List (List ℕ)) → out.halted ≡ None → out.complete ≡ complete →
+none-left : (again rest : List formats.Edit) (out start : Output) (complete : List (List ℕ)) → out.halted ≡ None → out.complete ≡ complete →
     (for_next again rest).unserved ≡ 1 → over_next again rest [] start ≡ out → StopsBy (with_next again rest [] start) complete (stop.Number (pos 4))
-none-left again rest left out start complete runs lines one over =
+none-left again rest out start complete runs lines one over =
     let whole : with_next again rest [] start ≡ record out { halted = Some (Number 4) } =
     ap (λ (o : Output). unserved_by (output unit_sheet) (for_next again rest).unserved o.halted o) over
     ∙ ap (λ (n : ℕ). unserved_by (output unit_sheet) n out.halted out) one
@@ -193,7 +193,7 @@ going-ends text first walk walk' unit old sheet rows rows' given inside gives is
   comes = λ again rest stands complete on.
       let gone : Gone text again rest walk complete before.lines old sheet = before.comes again rest stands complete on in
       let known = given-as text again gone.left walk' given None is (gives again gone.left gone.stands) in
-      none-left again rest gone.left (shown sheet (complete ++ before.lines)) (shown old complete) (complete ++ before.lines) refl refl (gone.unserved ∙ known.3)
+      none-left again rest (shown sheet (complete ++ before.lines)) (shown old complete) (complete ++ before.lines) refl refl (gone.unserved ∙ known.3)
       (gone.edits [] ∙ ap (λ (edits : List formats.Edit). edited (output unit_sheet) None edits [] (shown sheet (complete ++ before.lines))) known.2);
 }
 
