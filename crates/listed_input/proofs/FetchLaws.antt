@@ -18,7 +18,7 @@ use Rattle.unit_answers.proofs.FailureLaws.{each-on, on-there, quiet-same, not-r
 use Rattle.listed_output.specs.Writing.{StaysAt, StayedOn}
 use Rattle.listed_output.proofs.RowLaws.{stays-there}
 use Rattle.listed_input.specs.declared.records.NextRecord.{NextRecord}
-use Rattle.listed_input.specs.Fetching.{coming, before_others, FetchesAs, FetchesFrom, IsWithin, fetched_by, Fetches}
+use Rattle.listed_input.specs.Fetching.{coming, before_others, position_of, FetchesAs, FetchesFrom, IsWithin, fetched_by, Fetches}
 
 drop-next : (xs : List (List ℕ)) (i : ℕ) (x : List ℕ) → slice_get xs i ≡ Some x → drop i xs ≡ x ∷ drop (suc i) xs
 drop-next [] i x is = absurd (cc)
@@ -54,6 +54,25 @@ line-left unit units after line (Some state) is =
     drop-there state.records state.position line there
     ∙ ap (λ (rest : List (List ℕ)). line ∷ rest) (sym (left-behind unit units state line (slice_get state.records state.position) there))
     ∙ ap (λ (r : Reading). line ∷ records_left (r.after.connected unit)) same
+
+-- the unit stands one record further
+position-by : (unit : ℤ) (units after : Units) (line : List ℕ) (found : Option UnitState) → units.connected unit ≡ found →
+    read_at unit found units ≡ Ok (record { found = Some line; after = after }) → position_of unit after ≡ suc (position_of unit units)
+position-by unit units after line None there is = absurd (cc)
+position-by unit units after line (Some state) there is =
+    let same : (let r : Reading = record { found = slice_get state.records state.position; after = with_unit unit (Some (states.behind (slice_get state.records state.position) state)) units } in r)
+    ≡ record { found = Some line; after = after } = cc in
+    let at_line : slice_get state.records state.position ≡ Some line = ap (λ (r : Reading). r.found) same in
+    sym (ap (λ (r : Reading). position_of unit r.after) same)
+    ∙ ap (λ (b : Bool). elim (if b then Some (states.behind (slice_get state.records state.position) state) else units.connected unit) [ None ↦ 0 | Some one ↦ one.position ]) (same_number unit)
+    ∙ ap (λ (one : Option (List ℕ)). (states.behind one state).position) at_line
+    ∙ (let next : state.position + 1 ≡ suc state.position = omega arith in next)
+    ∙ sym (ap (λ (one : Option UnitState). suc (elim one [ None ↦ 0 | Some s ↦ s.position ])) there)
+
+position-next : (unit : ℤ) (units after : Units) (line : List ℕ) → read_unit unit units ≡ Ok (record { found = Some line; after = after }) →
+    position_of unit after ≡ suc (position_of unit units)
+unfolding read_unit
+position-next unit units after line is = position-by unit units after line (units.connected unit) refl is
 
 none-left : (unit : ℤ) (units after : Units) (found : Option UnitState) → read_at unit found units ≡ Ok (record { found = None; after = after }) → records_left found ≡ []
 none-left unit units after None is = absurd (cc)
@@ -117,6 +136,7 @@ means-fetched unit b a old new (Ok (got.Line used)) size size' within on means =
           ∙ ap (λ (line : List ℕ). before_others line (coming unit (units_of a)))
           (sym (ap (take used) reads.holds.1 ∙ front reads.line (drop used old) used reads.holds.0)),
       read-on unit (units_of b) (record { found = Some reads.line; after = units_of a }) reads.is,
+      position-next unit (units_of b) (units_of a) reads.line reads.is,
     )
 means-fetched unit b a old new (Ok (got.Long size)) size_old size' within on means =
     let reads = means.done in

@@ -1,5 +1,5 @@
 -- The items of a call, one after the other.
-use Rattle.std.proofs.Common.{◌≡◌, ℕ, suc, ℤ, pos, Bool, true, false, List, [], ◌∷◌, Option, Some, None, refl, ap, sym, ◌∙◌, subst}
+use Rattle.std.proofs.Common.{◌≡◌, ℕ, suc, ℤ, pos, Bool, true, false, List, [], ◌∷◌, Option, Some, None, refl, ap, sym, ◌∙◌, subst, ◌^◌, ◌≤◌, ◌⊎◌, inl, inr}
 use Rattle.std.specs.Prelude.{Result, Ok, Err, if◌then◌else◌}
 use Rattle.std.specs.Ordering.{int_eq}
 use Rattle.c_tree.specs.run_state.Units.{Units}
@@ -41,9 +41,11 @@ use Rattle.listed_input.specs.declared.kinds.Item as items
 use Rattle.listed_input.specs.declared.kinds.ItemList.{ItemList}
 use Rattle.listed_input.specs.declared.calls.ListedInput.{ListedInput}
 use Rattle.listed_input.specs.Kinds.{kind_shown, list_shown}
-use Rattle.listed_input.specs.Reading.{place_of, IsBehind, ItemGoesOn, taken_at, ReadsItem}
+use Rattle.listed_input.specs.Reading.{place_of, IsBehind, ItemGoesOn, taken_at, ReadsItem, IsBeyond, ArePast, AreBeyond}
+use Rattle.listed_input.specs.Fetching.{position_of}
+use Rattle.listed_input.specs.Texts.{IsFar}
 use Rattle.listed_input.specs.Endings.{passage_of, end_of}
-use Rattle.listed_input.specs.Transferring.{StandsFor, Stands, ItemsReply, ItemsDevice, AnswersItems}
+use Rattle.listed_input.specs.Transferring.{StandsFor, Stands, ItemsReply, ItemsDevice, AnswersItems, CallBeyond}
 use Rattle.listed_input.specs.Giving.{SameNumbers, GoesBehind, GivesItem, items_meant, GivesItems}
 use Rattle.listed_input.proofs.CallLaws.{shown_by, is-shown}
 use Rattle.listed_input.proofs.StepLaws.{stays-quiet}
@@ -156,8 +158,12 @@ stopped item input input' objects objects' old new place (ends.Number number) sa
 }
 stopped item input input' objects objects' old new place ends.Device same none reads_it =
     record { tells = reads_it.tells; replies = λ tells transfer stands stale. tt; devices = reads_it.devices; numbers = same }
-stopped item input input' objects objects' old new place ends.Uncounted same none reads_it =
-    record { tells = reads_it.tells; replies = λ tells transfer stands stale. tt; devices = reads_it.devices; numbers = same }
+stopped item input input' objects objects' old new place ends.Uncounted same none reads_it = record {
+  tells = reads_it.tells;
+  replies = λ tells transfer stands stale. reads_it.replies tells transfer stale stands.medium (stands.place none) (stands.slashed ∙ none);
+  devices = reads_it.devices;
+  numbers = same;
+}
 
 pub given-stops : (own : ℤ) (item : items.Item) (input input' : ListedInput) (objects objects' : List Object) (old new : List Row) (place : Place) (end : ItemEnd) → own ≡ input.unit →
     SameNumbers input input' → input.slashed ≡ false → ReadsItem own item (place_of input.reading) place objects objects' old new (Err end) →
@@ -184,6 +190,7 @@ pub record Giving (list : ItemList) (first : CValue) (input input' : ListedInput
   pub tells : Tells old → Tells new
   pub stays : StayedOn input.unit old new
   pub numbers : SameNumbers input input'
+  pub past : ArePast list.size left pointer → ArePast list.size list.count first
   pub goes : Tells old → (transfer : Transfer) → StandsFor input transfer → (stale : Option Transfer) →
       GoesFrom list input' objects' (units_of new) pointer left stale (items_meant list list.count first transfer objects stale (units_of old))
 
@@ -193,6 +200,7 @@ giving-starts list first input objects rows left all = record {
   tells = λ tells. tells;
   stays = stays-same input.unit rows;
   numbers = record { unit_is = refl; error_is = refl; end_is = refl };
+  past = λ are_past. subst (λ (n : ℕ). ArePast list.size n first) all are_past;
   goes = λ tells transfer stands stale. record {
     transfer = transfer;
     stands = stands;
@@ -221,6 +229,8 @@ giving-goes_on list first input middle input' objects between objects' old rows 
   tells = λ tells. gives.tells (giving.tells tells);
   stays = stays-stays input.unit old rows new giving.stays (subst (λ (n : ℤ). StayedOn n rows new) giving.numbers.unit_is gives.devices);
   numbers = same-both input middle input' giving.numbers gives.numbers;
+  past = λ are_past.
+      giving.past (subst (λ (n : ℕ). ArePast list.size n pointer) (sym more) (inr (subst (ArePast list.size less) moved are_past)));
   goes = λ tells transfer stands stale.
       let so_far : GoesFrom list middle between (units_of rows) pointer left stale (items_meant list list.count first transfer objects stale (units_of old)) = giving.goes tells transfer stands stale in
       let gone : GoesBehind (item_meant (item_in list pointer) so_far.transfer between stale (units_of rows)) input' objects' stale (units_of new) =
@@ -249,12 +259,25 @@ giving-ends list first input input' objects objects' old new pointer left none g
   numbers = giving.numbers;
 }
 
-pub giving-uncounted : (list : ItemList) (first : CValue) (input middle input' : ListedInput) (objects between objects' : List Object) (old rows new : List Row) (pointer : CValue) (left : ℕ) →
+past-far : (list : ItemList) (first : CValue) (input middle : ListedInput) (objects between : List Object) (old rows : List Row) (pointer : CValue) (left less : ℕ) → left ≡ suc less →
+    IsFar list.size pointer → Giving list first input middle objects between old rows pointer left → ArePast list.size list.count first
+past-far list first input middle objects between old rows pointer left less more far giving =
+    giving.past (subst (λ (n : ℕ). ArePast list.size n pointer) (sym more) (inl far))
+
+beyond-all : (list : ItemList) (first : CValue) (input middle : ListedInput) (objects between : List Object) (old rows : List Row) (units : Units) (pointer : CValue) (left less : ℕ) → left ≡ suc less →
+    Giving list first input middle objects between old rows pointer left → IsBeyond list.size pointer middle.unit units → AreBeyond list.size list.count first input.unit units
+beyond-all list first input middle objects between old rows units pointer left less more giving (inl far) =
+    inl (past-far list first input middle objects between old rows pointer left less more far giving)
+beyond-all list first input middle objects between old rows units pointer left less more giving (inr deep) =
+    inr (subst (λ (n : ℤ). 2 ^ 53 ≤ position_of n units) giving.numbers.unit_is deep)
+
+pub giving-uncounted : (list : ItemList) (first : CValue) (input middle input' : ListedInput) (objects between objects' : List Object) (old rows new : List Row) (pointer : CValue) (left less : ℕ) →
+    left ≡ suc less → IsFar list.size pointer →
     Giving list first input middle objects between old rows pointer left → GivesItem (item_in list pointer) middle input' between objects' rows new (Ok tt) →
     GivesItems list first input input' objects objects' old new (Err ends.Uncounted)
-giving-uncounted list first input middle input' objects between objects' old rows new pointer left giving gives = record {
+giving-uncounted list first input middle input' objects between objects' old rows new pointer left less more far giving gives = record {
   tells = λ tells. gives.tells (giving.tells tells);
-  replies = λ tells transfer stands stale. tt;
+  replies = λ tells transfer stands stale. inl (past-far list first input middle objects between old rows pointer left less more far giving);
   devices = stays-quietly input.unit old new (stays-stays input.unit old rows new giving.stays (subst (λ (n : ℤ). StayedOn n rows new) giving.numbers.unit_is gives.devices));
   numbers = same-both input middle input' giving.numbers gives.numbers;
 }
@@ -290,7 +313,10 @@ giving-stops list first input middle input' objects between objects' old rows ne
 }
 giving-stops list first input middle input' objects between objects' old rows new pointer left less ends.Uncounted more giving gives = record {
   tells = λ tells. gives.tells (giving.tells tells);
-  replies = λ tells transfer stands stale. tt;
+  replies = λ tells transfer stands stale.
+      let so_far : GoesFrom list middle between (units_of rows) pointer left stale (items_meant list list.count first transfer objects stale (units_of old)) = giving.goes tells transfer stands stale in
+      beyond-all list first input middle objects between old rows (units_of new) pointer left less more giving
+      (gives.replies (giving.tells tells) so_far.transfer so_far.stands stale);
   devices = stays-quiet input.unit old rows new giving.stays gives.devices;
   numbers = same-both input middle input' giving.numbers gives.numbers;
 }
@@ -342,12 +368,12 @@ call-goes kind count first size list input input' objects objects' old new is sa
   forms = same;
 }
 
-number-reply : (number on_error on_end : ℤ) (objects : List Object) (units : Units) (input : ListedInput) →
-    ItemsReply (Ok (numbered number on_error on_end (world_with objects None units))) objects units input (passage_of (numbered_answer number on_error on_end))
-number-reply number on_error on_end objects units input = by (int_eq (asked number on_error on_end) (pos 0))
+number-reply : (beyond : Type 0) (number on_error on_end : ℤ) (objects : List Object) (units : Units) (input : ListedInput) →
+    ItemsReply beyond (Ok (numbered number on_error on_end (world_with objects None units))) objects units input (passage_of (numbered_answer number on_error on_end))
+number-reply beyond number on_error on_end objects units input = by (int_eq (asked number on_error on_end) (pos 0))
   where
     by : (over : Bool) →
-        ItemsReply (Ok (if over then Stops (Io number) (world_with objects None units) else Gives number (world_with objects None units))) objects units input
+        ItemsReply beyond (Ok (if over then Stops (Io number) (world_with objects None units) else Gives number (world_with objects None units))) objects units input
         (passage_of (if over then Err (calls.Ended number) else Ok number))
     by true = refl
     by false = refl
@@ -372,16 +398,20 @@ ends-call kind count first size list input input' objects objects' old new (ends
 ends-call kind count first size list input input' objects objects' old new (ends.Number number) is same gives = record {
   tells = gives.tells;
   replies = λ tells transfer stands.
-      subst (λ (meaning : Or Reply). ItemsReply meaning objects' (units_of new) input' (passage_of (numbered_answer number input.on_error input.on_end)))
+      subst (λ (meaning : Or Reply). ItemsReply (CallBeyond objects (kind ∷ count ∷ first ∷ size ∷ []) input.unit (units_of new)) meaning objects' (units_of new) input' (passage_of (numbered_answer number input.on_error input.on_end)))
       (sym (called-list objects (units_of old) input transfer kind count first size list stands is ∙ gives.replies tells transfer stands (Some transfer)))
-      (number-reply number input.on_error input.on_end objects' (units_of new) input');
+      (number-reply (CallBeyond objects (kind ∷ count ∷ first ∷ size ∷ []) input.unit (units_of new)) number input.on_error input.on_end objects' (units_of new) input');
   devices = number-device number input.on_error input.on_end input old new gives.devices;
   forms = same;
 }
 ends-call kind count first size list input input' objects objects' old new ends.Device is same gives =
     record { tells = gives.tells; replies = λ tells transfer stands. tt; devices = (refl, gives.devices); forms = same }
-ends-call kind count first size list input input' objects objects' old new ends.Uncounted is same gives =
-    record { tells = gives.tells; replies = λ tells transfer stands. tt; devices = gives.devices; forms = same }
+ends-call kind count first size list input input' objects objects' old new ends.Uncounted is same gives = record {
+  tells = gives.tells;
+  replies = λ tells transfer stands. record { list = list_shown list; given_is = sym is; beyond = gives.replies tells transfer stands (Some transfer) };
+  devices = gives.devices;
+  forms = same;
+}
 
 pub call-ends : (kind count first size : CValue) (list : ItemList) (input input' : ListedInput) (objects objects' : List Object) (old new : List Row) (end : ItemEnd) (unit on_error on_end : ℤ)
     (result : Result told.Passage InputEnd) → unit ≡ input'.unit → on_error ≡ input'.on_error → on_end ≡ input'.on_end → result ≡ end_of unit on_error on_end end →

@@ -1,10 +1,10 @@
 -- What one item of a list takes, from what it is given.
-use Rattle.std.proofs.Common.{◌≡◌, ℕ, ℤ, zero, suc, ◌+◌, ◌-◌, ◌==◌, nat_lt, Bool, true, false, not, if◌then◌else◌, Option, None, Some, Result, Ok, Err, List, [], ◌∷◌, ◌++◌, take, drop, refl, sym, ap, ◌∙◌, subst, one-add, append_assoc, append-nil}
+use Rattle.std.proofs.Common.{◌≡◌, ℕ, ℤ, zero, suc, ◌+◌, ◌-◌, ◌≤◌, ◌==◌, ◌||◌, ◌&&◌, nat_lt, Bool, true, false, not, if◌then◌else◌, Option, None, Some, Result, Ok, Err, List, [], ◌∷◌, ◌++◌, length, take, drop, arith, refl, sym, ap, ◌∙◌, subst, one-add, append_assoc, append-nil}
 use Rattle.std.specs.Bool.{⊤}
 use Rattle.std.proofs.lemmas.Bool.{eqb-true}
 use Rattle.edit_rules.specs.edit_meaning.ListInput.{is_separator, Kind, IntItem, LogicalItem, TextItem, Place, Between, Repeated, Nulls, Inside, Given, Number, Truth, Piece, Null, Slash, NeedRecord, Wrong, Sought, AtEnd, AtNull, AtSlash, AtValue, sought, Ending, Open, Well, Badly, ending, run_length, word_length, behind_constant, piece_before, piece_by, piece, text_constant, int_word, logical_word, given_number, given_truth, constant_as, nulls, repeated_as, counted_as, count_before, digit_count, given_behind, inside, given}
 use Rattle.edit_rules.specs.edit_meaning.ListItems.{Value, IntValue, LogicalValue, TextValue, Kept, Outcome, Filled, Slashed, Failed, EndOfRecords, Item, Takes, Stops, characters, behind_text, begun_with, begun_with_value, begun_with_outcome, text_item, text_over, item_by, renewed, in_record, item_over}
-use Rattle.listed_input.specs.Searching.{IsOutside}
+use Rattle.listed_input.specs.Searching.{IsOutside, rest_size}
 
 -- the item where its record is used up
 abbrev pub InNext : Place → List (List ℕ) → Kind → Item → Type 0
@@ -496,3 +496,144 @@ inside-item text (Between valued rest) later kind goes = absurd goes
 inside-item text (Repeated more rest) later kind goes = absurd goes
 inside-item text (Nulls more rest) later kind goes = absurd goes
 inside-item text (Inside more constant rest) later kind goes = subst IsTextItem (sym (item_over-inside more constant rest later kind)) (over-text more constant rest later)
+
+-- ## A piece of a text uses up bytes of its record
+
+Shrinks : ℕ → Given → Type 0
+Shrinks n (Piece text true place) = rest_size place + 1 ≤ n
+Shrinks n (Piece text false place) = ⊤
+Shrinks n (Number number place) = ⊤
+Shrinks n (Truth truth place) = ⊤
+Shrinks n (Null place) = ⊤
+Shrinks n Slash = ⊤
+Shrinks n (Wrong number) = ⊤
+Shrinks n (NeedRecord place) = ⊤
+
+dropped-less : (n : ℕ) (xs : List ℕ) → length (drop n xs) ≤ length xs
+dropped-less zero xs = omega arith
+dropped-less (suc n) [] = omega arith
+dropped-less (suc n) (x ∷ xs) = let rest : length (drop n xs) ≤ length xs = dropped-less n xs in omega (arith, rest)
+
+shrinks-more : (m n : ℕ) (g : Given) → m ≤ n → Shrinks m g → Shrinks n g
+unfolding Shrinks
+shrinks-more m n (Piece text true place) below is = let less : rest_size place + 1 ≤ m = is in omega (arith, below, less)
+shrinks-more m n (Piece text false place) below is = tt
+shrinks-more m n (Number number place) below is = tt
+shrinks-more m n (Truth truth place) below is = tt
+shrinks-more m n (Null place) below is = tt
+shrinks-more m n Slash below is = tt
+shrinks-more m n (Wrong number) below is = tt
+shrinks-more m n (NeedRecord place) below is = tt
+
+before_shrinks : (n more : ℕ) (constant run rest : List ℕ) → 1 ≤ n → length rest ≤ n → Shrinks n (piece_before more constant run rest)
+unfolding Shrinks
+before_shrinks n more constant run [] some within = omega (arith, some)
+before_shrinks n more constant run (q ∷ []) some within = tt
+before_shrinks n more constant run (q ∷ c ∷ cs) some within = by_quote (c == 39) (omega (arith, within))
+  where
+    by_quote : (b : Bool) → length cs + 1 ≤ n →
+        Shrinks n (if b then Piece (run ++ q ∷ []) true (Inside more constant cs) else Piece run false (behind_constant more constant (c ∷ cs)))
+    by_quote true less = less
+    by_quote false less = tt
+
+piece_shrinks : (n : ℕ) (e : Ending) (more : ℕ) (constant text : List ℕ) → 1 ≤ n → length text ≤ n → Shrinks n (piece_by e more constant text)
+unfolding Shrinks
+piece_shrinks n Badly more constant text some within = tt
+piece_shrinks n Well more constant text some within =
+    before_shrinks n more constant (take (run_length text) text) (drop (run_length text) text) some (omega (arith, within, dropped-less (run_length text) text))
+piece_shrinks n Open zero constant text some within =
+    before_shrinks n zero constant (take (run_length text) text) (drop (run_length text) text) some (omega (arith, within, dropped-less (run_length text) text))
+piece_shrinks n Open (suc more) constant text some within = tt
+
+text_shrinks : (more : ℕ) (constant rest : List ℕ) → Shrinks (length rest) (text_constant more constant rest)
+unfolding Shrinks
+text_shrinks more constant [] = tt
+text_shrinks more constant (c ∷ cs) = by_quote (c == 39) (piece_shrinks (length (c ∷ cs)) (ending false cs) more constant cs (omega arith) (omega arith))
+  where
+    by_quote : (b : Bool) → Shrinks (length (c ∷ cs)) (piece more constant cs) →
+        Shrinks (length (c ∷ cs)) (if b then piece more constant cs else Piece (take (word_length (c ∷ cs)) (c ∷ cs)) false (behind_constant more constant (drop (word_length (c ∷ cs)) (c ∷ cs))))
+    by_quote true is = is
+    by_quote false is = tt
+
+number_shrinks : (n : ℕ) (r : Result ℤ ℕ) (place : Place) → Shrinks n (given_number r place)
+unfolding Shrinks
+number_shrinks n (Ok number) place = tt
+number_shrinks n (Err error) place = tt
+
+truth_shrinks : (n : ℕ) (r : Result Bool ℕ) (place : Place) → Shrinks n (given_truth r place)
+unfolding Shrinks
+truth_shrinks n (Ok truth) place = tt
+truth_shrinks n (Err error) place = tt
+
+constant_shrinks : (kind : Kind) (more : ℕ) (rest : List ℕ) → Shrinks (length rest) (constant_as kind more rest)
+constant_shrinks IntItem more rest = number_shrinks (length rest) (int_word (take (word_length rest) rest)) (behind_constant more rest (drop (word_length rest) rest))
+constant_shrinks LogicalItem more rest = truth_shrinks (length rest) (logical_word (take (word_length rest) rest)) (behind_constant more rest (drop (word_length rest) rest))
+constant_shrinks TextItem more rest = text_shrinks more rest rest
+
+nulls_shrink : (n more : ℕ) (rest : List ℕ) → Shrinks n (nulls more rest)
+unfolding Shrinks
+nulls_shrink n zero rest = tt
+nulls_shrink n (suc more) rest = tt
+
+repeated_shrinks : (kind : Kind) (more : ℕ) (rest : List ℕ) → Shrinks (length rest) (repeated_as kind more rest)
+repeated_shrinks kind more rest = by_word (nat_lt 0 (word_length rest))
+  where
+    by_word : (b : Bool) → Shrinks (length rest) (if b then constant_as kind more rest else nulls more rest)
+    by_word true = constant_shrinks kind more rest
+    by_word false = nulls_shrink (length rest) more rest
+
+counted_shrinks : (kind : Kind) (count : Option ℕ) (rest : List ℕ) → Shrinks (length rest) (counted_as kind count rest)
+counted_shrinks kind None rest = constant_shrinks kind 0 rest
+counted_shrinks kind (Some count) rest =
+    shrinks-more (length (drop 1 (drop (digit_count rest) rest))) (length rest) _
+    (omega (arith, dropped-less 1 (drop (digit_count rest) rest), dropped-less (digit_count rest) rest))
+    (repeated_shrinks kind (count - 1) (drop 1 (drop (digit_count rest) rest)))
+
+Within : ℕ → Sought → Type 0
+Within n (AtValue rest) = length rest ≤ n
+Within n (AtEnd valued) = ⊤
+Within n (AtNull rest) = ⊤
+Within n AtSlash = ⊤
+
+within-more : (m n : ℕ) (s : Sought) → m ≤ n → Within m s → Within n s
+unfolding Within
+within-more m n (AtValue rest) below is = let less : length rest ≤ m = is in omega (arith, below, less)
+within-more m n (AtEnd valued) below is = tt
+within-more m n (AtNull rest) below is = tt
+within-more m n AtSlash below is = tt
+
+chosen-within : (passes comma slash : Bool) (n c : ℕ) (cs : List ℕ) (next : Sought) → length (c ∷ cs) ≤ n → Within n next →
+    Within n (if passes then next else (if comma then AtNull cs else (if slash then AtSlash else AtValue (c ∷ cs))))
+unfolding Within
+chosen-within true comma slash n c cs next within is = is
+chosen-within false true slash n c cs next within is = tt
+chosen-within false false true n c cs next within is = tt
+chosen-within false false false n c cs next within is = within
+
+sought-within : (valued : Bool) (rest : List ℕ) → Within (length rest) (sought valued rest)
+unfolding Within
+sought-within valued [] = tt
+sought-within valued (c ∷ cs) =
+    chosen-within (c == 32 || (c == 44 && valued)) (c == 44) (c == 47) (length (c ∷ cs)) c cs (sought (valued && c == 32) cs) (omega arith)
+    (within-more (length cs) (length (c ∷ cs)) (sought (valued && c == 32) cs) (omega arith) (sought-within (valued && c == 32) cs))
+
+behind_shrinks : (n : ℕ) (kind : Kind) (s : Sought) → Within n s → Shrinks n (given_behind kind s)
+unfolding Shrinks Within
+behind_shrinks n kind (AtEnd valued) within = tt
+behind_shrinks n kind (AtNull rest) within = tt
+behind_shrinks n kind AtSlash within = tt
+behind_shrinks n kind (AtValue rest) within = shrinks-more (length rest) n (counted_as kind (count_before rest) rest) within (counted_shrinks kind (count_before rest) rest)
+
+given-shrinks : (place : Place) (kind : Kind) → Shrinks (rest_size place) (given place kind)
+unfolding given Shrinks
+given-shrinks (Between valued rest) kind = behind_shrinks (length rest) kind (sought valued rest) (sought-within valued rest)
+given-shrinks (Repeated more rest) kind = constant_shrinks kind more rest
+given-shrinks (Nulls more rest) kind = nulls_shrink (length rest) more rest
+given-shrinks (Inside zero constant []) kind = tt
+given-shrinks (Inside (suc more) constant []) kind = tt
+given-shrinks (Inside zero constant (c ∷ cs)) kind = piece_shrinks (length (c ∷ cs)) (ending false (c ∷ cs)) zero constant (c ∷ cs) (omega arith) (omega arith)
+given-shrinks (Inside (suc more) constant (c ∷ cs)) kind = piece_shrinks (length (c ∷ cs)) (ending false (c ∷ cs)) (suc more) constant (c ∷ cs) (omega arith) (omega arith)
+
+pub piece-shrinks : (place next : Place) (kind : Kind) (text : List ℕ) → Piece text true next ≡ given place kind → rest_size next + 1 ≤ rest_size place
+unfolding Shrinks
+piece-shrinks place next kind text is = subst (Shrinks (rest_size place)) (sym is) (given-shrinks place kind)

@@ -1,5 +1,5 @@
 -- The search for the value of an item, record by record.
-use Rattle.std.proofs.Common.{◌≡◌, ℕ, zero, suc, ◌-◌, ◌≤◌, ◌<◌, ℤ, true, List, [], ◌∷◌, ◌++◌, length, take, drop, refl, ap, sym, ◌∙◌, subst, arith, append_assoc, append-nil, length-append, ◌⊎◌, inl, inr}
+use Rattle.std.proofs.Common.{◌≡◌, ℕ, ◌+◌, zero, suc, ◌-◌, ◌≤◌, ◌<◌, ℤ, true, List, [], ◌∷◌, ◌++◌, length, take, drop, refl, ap, sym, ◌∙◌, subst, arith, append_assoc, append-nil, length-append, ◌⊎◌, inl, inr}
 use Rattle.std.specs.Prelude.{Result, Ok, Err}
 use Rattle.std.proofs.lemmas.Bool.{cases_lt}
 use Rattle.c_tree.specs.run_state.Units.{Units, Reading, read_unit}
@@ -20,11 +20,11 @@ use Rattle.listed_output.proofs.RowLaws.{stays-same, stays-stays}
 use Rattle.listed_input.specs.declared.ends.ItemEnd.TheVariants as ends
 use Rattle.listed_input.specs.declared.reading.RecordInReading.{RecordInReading}
 use Rattle.listed_input.specs.declared.records.NextRecord.TheVariants.{Record, Failed}
-use Rattle.listed_input.specs.Fetching.{coming, before_others, Fetches}
+use Rattle.listed_input.specs.Fetching.{coming, before_others, position_of, Fetches}
 use Rattle.listed_input.specs.Texts.{PutsPiece}
 use Rattle.listed_input.specs.Reading.{line_of, place_of, Gives, ReadsNext}
-use Rattle.listed_input.specs.Searching.{Search, kind_in, all_before, Seeking, IsOutside}
-use Rattle.listed_input.proofs.ItemLaws.{IsItem, given-item, GoesInside, goes-inside, no-piece-outside, needs-outside, any-constant, begun-twice, begun-none}
+use Rattle.listed_input.specs.Searching.{Search, kind_in, all_before, one_more, rest_size, Seeking, IsOutside}
+use Rattle.listed_input.proofs.ItemLaws.{IsItem, given-item, GoesInside, goes-inside, no-piece-outside, piece-shrinks, needs-outside, any-constant, begun-twice, begun-none}
 use Rattle.listed_input.proofs.StoreLaws.{take-none}
 
 -- ## The next record
@@ -38,6 +38,7 @@ reads-record unit own reading reading' line used old new same is reader fetched 
       means = λ tells. (
         (fetches.means tells).0 ∙ ap (λ (one : List ℕ). before_others one (coming unit (units_of new))) (sym is),
         (fetches.means tells).1,
+        (fetches.means tells).2,
       );
       devices = fetches.devices;
       reader = reader;
@@ -68,8 +69,32 @@ on-last (suc count) unit units = last-by count unit units (λ later. on-last cou
 
 -- ## The search
 
-pub seeking-starts : (from : Search) (reading : RecordInReading) → from.place ≡ place_of reading → Seeking from reading from.objects from.rows 0
-seeking-starts from reading is = record {
+length-dropped : (n : ℕ) (xs : List ℕ) → length (drop n xs) ≤ length xs
+length-dropped zero xs = omega arith
+length-dropped (suc n) [] = omega arith
+length-dropped (suc n) (x ∷ xs) = let rest : length (drop n xs) ≤ length xs = length-dropped n xs in omega (arith, rest)
+
+length-short : (n : ℕ) (xs : List ℕ) → length (take n xs) ≤ n
+length-short zero xs = omega arith
+length-short (suc n) [] = omega arith
+length-short (suc n) (x ∷ xs) = let rest : length (take n xs) ≤ n = length-short n xs in omega (arith, rest)
+
+rest-by : (doing : Doing) (place : ℕ) (line : List ℕ) → rest_size (place_by doing place line) ≤ length line
+rest-by (doing.Between valued) place line = length-dropped place line
+rest-by (doing.Repeated more) place line = length-dropped place line
+rest-by (doing.Nulls more) place line = length-dropped place line
+rest-by (doing.Inside more constant) place line = length-dropped place line
+
+-- a record has so many bytes at most
+rest-short : (reading : RecordInReading) → rest_size (place_of reading) ≤ 1024
+rest-short reading =
+    let rest : rest_size (place_of reading) ≤ length (line_of reading) = rest-by reading.reader.doing reading.reader.place (line_of reading) in
+    let line : length (line_of reading) ≤ reading.used = length-short reading.used reading.line in
+    let used : reading.used ≤ 1024 = reading.short in
+    omega (arith, rest, line, used)
+
+pub seeking-starts : (from : Search) (reading : RecordInReading) → from.place ≡ place_of reading → from.steps ≡ 0 → Seeking from reading from.objects from.rows 0
+seeking-starts from reading is none = record {
   text = [];
   front = [];
   tells = λ tells. tells;
@@ -82,6 +107,8 @@ seeking-starts from reading is = record {
     stored = ap (text_stored from.objects from.item.pointer) (take-none from.item.size);
     done_is = sym (ap length (take-none {A = ℕ} from.item.size));
   };
+  counted = let short : rest_size (place_of reading) ≤ 1024 = rest-short reading in omega (arith, none, short);
+  deep = λ tells. omega arith;
   fresh = λ outside. refl;
 }
 
@@ -100,7 +127,7 @@ piece_of line start end = take (end - start) (drop start line)
 pub seeking-piece : (from : Search) (reading reading' : RecordInReading) (objects objects' : List Object) (rows : List Row) (done done' start end : ℕ) →
     Gives (kind_in from) reading reading' (item.Text start end true) →
     PutsPiece from.item.pointer from.item.size done (piece_of (line_of reading) start end) objects objects' (Ok done') →
-    Seeking from reading objects rows done → Seeking from reading' objects' rows done'
+    Seeking from reading objects rows done → Seeking (one_more from) reading' objects' rows done'
 seeking-piece from reading reading' objects objects' rows done done' start end gives puts seeking =
     let piece : List ℕ = piece_of (line_of reading) start end in
     let is : Piece piece true (place_of reading') ≡ given (place_of reading) (kind_in from) =
@@ -118,6 +145,10 @@ seeking-piece from reading reading' objects objects' rows done done' start end g
           ∙ begun-twice seeking.text piece (item_over (place_of reading') later (kind_in from));
       out = seeking.out;
       written = puts from.objects seeking.text seeking.written;
+      counted =
+          let less : rest_size (place_of reading') + 1 ≤ rest_size (place_of reading) = piece-shrinks (place_of reading) (place_of reading') (kind_in from) piece is in
+          omega (arith, less, seeking.counted);
+      deep = seeking.deep;
       fresh = λ outside. absurd (no-piece-outside piece (place_of reading') goes outside);
     }
 
@@ -152,7 +183,7 @@ take-less (suc j) (first ∷ later) line less = ap (λ (rest : List (List ℕ)).
 
 pub seeking-record : (from : Search) (reading between reading' : RecordInReading) (objects : List Object) (rows rows' : List Row) (done : ℕ) →
     Gives (kind_in from) reading between item.NeedLine → ReadsNext from.unit between reading' rows rows' (Ok tt) →
-    Seeking from reading objects rows done → Seeking from reading' objects rows' done
+    Seeking from reading objects rows done → Seeking (one_more from) reading' objects rows' done
 seeking-record from reading between reading' objects rows rows' done gives reads seeking =
     let line : List ℕ = line_of reading' in
     let need : Place = place_in [] between.reader in
@@ -188,6 +219,12 @@ seeking-record from reading between reading' objects rows rows' done gives reads
           ap (λ (lines : List (List ℕ)). item_over from.place lines (kind_in from)) (append_assoc seeking.front (line ∷ []) later) ∙ item_is later;
       out = λ j before. by j before used_up (cases_lt j (length seeking.front));
       written = seeking.written;
+      counted =
+          let short : rest_size (place_of reading') ≤ 1024 = rest-short reading' in
+          omega (arith, short, seeking.counted, length-append seeking.front (line ∷ []));
+      deep = λ tells.
+          let next : position_of from.unit (units_of rows') ≡ suc (position_of from.unit (units_of rows)) = (reads.means (seeking.tells tells)).2 in
+          omega (arith, next, seeking.deep tells, length-append seeking.front (line ∷ []));
       fresh = λ outside.
           seeking.fresh (needs-outside (place_of reading) need (kind_in from) is
           (outside-next between.reader.doing between.reader.place line (subst IsOutside (sym there) outside)));

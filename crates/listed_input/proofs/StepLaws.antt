@@ -1,5 +1,5 @@
 -- The steps of the search for the value of an item.
-use Rattle.std.proofs.Common.{◌≡◌, ℕ, zero, suc, ◌≤◌, ℤ, pos, Bool, true, false, List, [], ◌∷◌, length, take, refl, ap, sym, ◌∙◌, subst, arith}
+use Rattle.std.proofs.Common.{◌≡◌, ◌^◌, ◌+◌, ◌⊎◌, inl, inr, ℕ, zero, suc, ◌≤◌, ℤ, pos, Bool, true, false, List, [], ◌∷◌, length, take, refl, ap, sym, ◌∙◌, subst, arith}
 use Rattle.std.specs.Prelude.{Result, Ok, Err, IfSome, if◌then◌else◌}
 use Rattle.c_tree.specs.declared.outcome.CValue.TheVariants as values
 use Rattle.c_tree.specs.Access.{ToNumber}
@@ -29,8 +29,10 @@ use Rattle.listed_input.specs.declared.ends.Step.TheVariants as steps
 use Rattle.listed_input.specs.declared.kinds.Item as items
 use Rattle.listed_input.specs.declared.reading.RecordInReading.{RecordInReading}
 use Rattle.listed_input.specs.Reading.{line_of, place_of, Gives, ReadsNext, ReadsItem}
+use Rattle.listed_input.specs.Fetching.{position_of}
+use Rattle.listed_input.specs.Texts.{IsFar}
 use Rattle.listed_input.specs.Steps.{StepsNumber, StepsPiece, StepsLast, StepsText, StepsRecord}
-use Rattle.listed_input.specs.Searching.{Search, kind_in, Seeking, Steps, GoesAnywhere}
+use Rattle.listed_input.specs.Searching.{Search, kind_in, one_more, Seeking, Steps, GoesAnywhere}
 use Rattle.listed_input.proofs.ItemLaws.{IsOfText, GoesInside, goes-inside, outside-by, inside-item, begun-twice}
 use Rattle.listed_input.proofs.SeekLaws.{item-given, place-behind, piece_of, seeking-starts, seeking-piece, seeking-record}
 use Rattle.listed_input.proofs.TakeLaws.{IsAt, takes-on, takes-faulty, fresh-objects, slash-on, wrong-ends, records-end, text-faulty}
@@ -146,10 +148,10 @@ bad-step from before reading objects rows done number gives seeking = record {
   devices = stays-quietly from.unit from.rows rows seeking.stays;
 }
 
-uncounted : (from : Search) (before reading : RecordInReading) (objects objects' : List Object) (rows : List Row) (done : ℕ) → Seeking from before objects rows done →
-    Steps from reading objects' rows (Err ends.Uncounted)
-uncounted from before reading objects objects' rows done seeking =
-    record { tells = seeking.tells; replies = λ tells transfer stale medium place slashed. tt; devices = stays-quietly from.unit from.rows rows seeking.stays }
+far : (from : Search) (before reading : RecordInReading) (objects objects' : List Object) (rows : List Row) (done : ℕ) → Seeking from before objects rows done →
+    IsFar from.item.size from.item.pointer → Steps from reading objects' rows (Err ends.Uncounted)
+far from before reading objects objects' rows done seeking is =
+    record { tells = seeking.tells; replies = λ tells transfer stale medium place slashed. inl is; devices = stays-quietly from.unit from.rows rows seeking.stays }
 
 -- ## A text
 
@@ -174,7 +176,7 @@ piece-step from before reading objects objects' rows done start end (Err (ends.F
     }
 piece-step from before reading objects objects' rows done start end (Err (ends.Number number)) gives seeking puts = absurd puts
 piece-step from before reading objects objects' rows done start end (Err ends.Device) gives seeking puts = absurd puts
-piece-step from before reading objects objects' rows done start end (Err ends.Uncounted) gives seeking puts = uncounted from before reading objects objects' rows done seeking
+piece-step from before reading objects objects' rows done start end (Err ends.Uncounted) gives seeking puts = far from before reading objects objects' rows done seeking puts
 
 last-step : (from : Search) (before reading : RecordInReading) (objects objects' : List Object) (rows : List Row) (done start end : ℕ) (result : Result Step ItemEnd) →
     Gives (kind_in from) before reading (item.Text start end false) → Seeking from before objects rows done →
@@ -203,7 +205,7 @@ last-step from before reading objects objects' rows done start end (Err (ends.Fa
     }
 last-step from before reading objects objects' rows done start end (Err (ends.Number number)) gives seeking puts = absurd puts
 last-step from before reading objects objects' rows done start end (Err ends.Device) gives seeking puts = absurd puts
-last-step from before reading objects objects' rows done start end (Err ends.Uncounted) gives seeking puts = uncounted from before reading objects objects' rows done seeking
+last-step from before reading objects objects' rows done start end (Err ends.Uncounted) gives seeking puts = far from before reading objects objects' rows done seeking puts
 
 pub text-step : (from : Search) (before reading : RecordInReading) (objects objects' : List Object) (rows : List Row) (done start end : ℕ) (more : Bool) (line : List ℕ) (result : Result Step ItemEnd) →
     line ≡ line_of reading → Gives (kind_in from) before reading (item.Text start end more) → Seeking from before objects rows done →
@@ -222,7 +224,7 @@ pub record-step : (from : Search) (before between reading : RecordInReading) (ob
     StepsRecord from.unit done between reading rows rows' result → Steps from reading objects rows' result
 record-step from before between reading objects rows rows' done (Ok (steps.Read read)) gives seeking reads = absurd reads
 record-step from before between reading objects rows rows' done (Ok (steps.GoesOn done')) gives seeking reads =
-    subst (λ (n : ℕ). Seeking from reading objects rows' n) (sym reads.0) (seeking-record from before between reading objects rows rows' done gives reads.1 seeking)
+    subst (λ (n : ℕ). Seeking (one_more from) reading objects rows' n) (sym reads.0) (seeking-record from before between reading objects rows rows' done gives reads.1 seeking)
 record-step from before between reading objects rows rows' done (Err (ends.Fault fault)) gives seeking reads = absurd (reads.devices)
 record-step from before between reading objects rows rows' done (Err (ends.Number number)) gives seeking reads = record {
   tells = λ tells. reads.tells (seeking.tells tells);
@@ -258,9 +260,15 @@ taken-less (suc n) (x ∷ xs) = let rest : length (take n xs) ≤ n = taken-less
 pub done-within : (from : Search) (reading : RecordInReading) (objects : List Object) (rows : List Row) (done : ℕ) → Seeking from reading objects rows done → done ≤ from.item.size
 done-within from reading objects rows done seeking = omega (arith, seeking.written.done_is, taken-less from.item.size seeking.text)
 
-pub search-uncounted : (from : Search) (reading : RecordInReading) (objects : List Object) (rows : List Row) (done : ℕ) → Seeking from reading objects rows done →
+search-uncounted : (from : Search) (reading : RecordInReading) (objects : List Object) (rows : List Row) (done : ℕ) → 18446744073709551615 ≤ from.steps →
+    Seeking from reading objects rows done →
     ReadsItem from.unit from.item from.place (place_of reading) from.objects objects from.rows rows (Err ends.Uncounted)
-search-uncounted from reading objects rows done seeking = uncounted from reading reading objects objects rows done seeking
+search-uncounted from reading objects rows done many seeking = record {
+  tells = seeking.tells;
+  replies = λ tells transfer stale medium place slashed.
+      inr (let deep : 2 ^ 53 ≤ position_of from.unit (units_of rows) = omega (arith, many, seeking.counted, seeking.deep tells) in deep);
+  devices = stays-quietly from.unit from.rows rows seeking.stays;
+}
 
 -- ## The steps as the code has them
 
@@ -321,60 +329,60 @@ anywhere-needed is reader found anywhere = subst (λ (one : ListItem). GoesAnywh
 -- ## The loop
 
 -- where an item begins, as the code has it
-abbrev pub search_at : ℤ → items.Item → Place → List Object → List Row → Search
-search_at unit mine place first before = record { unit = unit; item = mine; place = place; objects = first; rows = before }
+abbrev pub search_at : ℤ → items.Item → Place → List Object → List Row → ℕ → Search
+search_at unit mine place first before count = record { unit = unit; item = mine; place = place; objects = first; rows = before; steps = count }
 
-stepped : (own : ℤ) (mine : items.Item) (place : Place) (first : List Object) (before : List Row) (reading between reading' : RecordInReading) (objects objects' : List Object) (rows rows' : List Row)
+stepped : (own : ℤ) (mine : items.Item) (place : Place) (first : List Object) (before : List Row) (count : ℕ) (reading between reading' : RecordInReading) (objects objects' : List Object) (rows rows' : List Row)
     (done : ℕ) (is : ListItem) (kind : Kind) (result last : Result Step ItemEnd) → kind ≡ kind_of (kind_shown mine.kind) → Gives kind reading between is →
-    Seeking (search_at own mine place first before) reading objects rows done →
+    Seeking (search_at own mine place first before count) reading objects rows done →
     ((from : Search) → (before : RecordInReading) → from.unit ≡ own → from.item ≡ mine → Gives (kind_in from) before between is →
     Seeking from before objects rows done → Steps from reading' objects' rows' result) → result ≡ last →
-    Steps (search_at own mine place first before) reading' objects' rows' last
-stepped own mine place first before reading between reading' objects objects' rows rows' done is kind result last same gives seeking steps_to found =
-    subst (Steps (search_at own mine place first before) reading' objects' rows') found
-    (steps_to (search_at own mine place first before) reading refl refl (subst (λ (one : Kind). Gives one reading between is) same gives) seeking)
+    Steps (search_at own mine place first before count) reading' objects' rows' last
+stepped own mine place first before count reading between reading' objects objects' rows rows' done is kind result last same gives seeking steps_to found =
+    subst (Steps (search_at own mine place first before count) reading' objects' rows') found
+    (steps_to (search_at own mine place first before count) reading refl refl (subst (λ (one : Kind). Gives one reading between is) same gives) seeking)
 
-pub loop-goes : (own : ℤ) (mine : items.Item) (place : Place) (first : List Object) (before : List Row) (reading between reading' : RecordInReading) (objects objects' : List Object) (rows rows' : List Row)
+pub loop-goes : (own : ℤ) (mine : items.Item) (place : Place) (first : List Object) (before : List Row) (count : ℕ) (reading between reading' : RecordInReading) (objects objects' : List Object) (rows rows' : List Row)
     (done done' : ℕ) (is : ListItem) (kind : Kind) (result : Result Step ItemEnd) → kind ≡ kind_of (kind_shown mine.kind) → Gives kind reading between is →
-    Seeking (search_at own mine place first before) reading objects rows done →
+    Seeking (search_at own mine place first before count) reading objects rows done →
     ((from : Search) → (before : RecordInReading) → from.unit ≡ own → from.item ≡ mine → Gives (kind_in from) before between is →
     Seeking from before objects rows done → Steps from reading' objects' rows' result) → result ≡ Ok (steps.GoesOn done') →
-    Seeking (search_at own mine place first before) reading' objects' rows' done'
-loop-goes own mine place first before reading between reading' objects objects' rows rows' done done' is kind result same gives seeking steps_to found =
-    stepped own mine place first before reading between reading' objects objects' rows rows' done is kind result (Ok (steps.GoesOn done')) same gives seeking steps_to found
+    Seeking (search_at own mine place first before (count + 1)) reading' objects' rows' done'
+loop-goes own mine place first before count reading between reading' objects objects' rows rows' done done' is kind result same gives seeking steps_to found =
+    stepped own mine place first before count reading between reading' objects objects' rows rows' done is kind result (Ok (steps.GoesOn done')) same gives seeking steps_to found
 
 reads-at : (unit own : ℤ) (mine : items.Item) (place place' : Place) (first objects : List Object) (before rows : List Row) (result : Result ItemRead ItemEnd) → own ≡ unit →
     ReadsItem own mine place place' first objects before rows result → ReadsItem unit mine place place' first objects before rows result
 reads-at unit own mine place place' first objects before rows result same reads =
     subst (λ (n : ℤ). ReadsItem n mine place place' first objects before rows result) same reads
 
-pub loop-reads : (unit own : ℤ) (mine : items.Item) (place : Place) (first : List Object) (before : List Row) (reading between reading' : RecordInReading) (objects objects' : List Object) (rows rows' : List Row)
+pub loop-reads : (unit own : ℤ) (mine : items.Item) (place : Place) (first : List Object) (before : List Row) (count : ℕ) (reading between reading' : RecordInReading) (objects objects' : List Object) (rows rows' : List Row)
     (done : ℕ) (is : ListItem) (kind : Kind) (result : Result Step ItemEnd) (read : ItemRead) → own ≡ unit → kind ≡ kind_of (kind_shown mine.kind) → Gives kind reading between is →
-    Seeking (search_at own mine place first before) reading objects rows done →
+    Seeking (search_at own mine place first before count) reading objects rows done →
     ((from : Search) → (before : RecordInReading) → from.unit ≡ own → from.item ≡ mine → Gives (kind_in from) before between is →
     Seeking from before objects rows done → Steps from reading' objects' rows' result) → result ≡ Ok (steps.Read read) →
     ReadsItem unit mine place (place_of reading') first objects' before rows' (Ok read)
-loop-reads unit own mine place first before reading between reading' objects objects' rows rows' done is kind result read at same gives seeking steps_to found =
+loop-reads unit own mine place first before count reading between reading' objects objects' rows rows' done is kind result read at same gives seeking steps_to found =
     reads-at unit own mine place (place_of reading') first objects' before rows' (Ok read) at
-    (stepped own mine place first before reading between reading' objects objects' rows rows' done is kind result (Ok (steps.Read read)) same gives seeking steps_to found)
+    (stepped own mine place first before count reading between reading' objects objects' rows rows' done is kind result (Ok (steps.Read read)) same gives seeking steps_to found)
 
-pub loop-ends : (unit own : ℤ) (mine : items.Item) (place : Place) (first : List Object) (before : List Row) (reading between reading' : RecordInReading) (objects objects' : List Object) (rows rows' : List Row)
+pub loop-ends : (unit own : ℤ) (mine : items.Item) (place : Place) (first : List Object) (before : List Row) (count : ℕ) (reading between reading' : RecordInReading) (objects objects' : List Object) (rows rows' : List Row)
     (done : ℕ) (is : ListItem) (kind : Kind) (result : Result Step ItemEnd) (end : ItemEnd) → own ≡ unit → kind ≡ kind_of (kind_shown mine.kind) → Gives kind reading between is →
-    Seeking (search_at own mine place first before) reading objects rows done →
+    Seeking (search_at own mine place first before count) reading objects rows done →
     ((from : Search) → (before : RecordInReading) → from.unit ≡ own → from.item ≡ mine → Gives (kind_in from) before between is →
     Seeking from before objects rows done → Steps from reading' objects' rows' result) → result ≡ Err end →
     ReadsItem unit mine place (place_of reading') first objects' before rows' (Err end)
-loop-ends unit own mine place first before reading between reading' objects objects' rows rows' done is kind result end at same gives seeking steps_to found =
+loop-ends unit own mine place first before count reading between reading' objects objects' rows rows' done is kind result end at same gives seeking steps_to found =
     reads-at unit own mine place (place_of reading') first objects' before rows' (Err end) at
-    (stepped own mine place first before reading between reading' objects objects' rows rows' done is kind result (Err end) same gives seeking steps_to found)
+    (stepped own mine place first before count reading between reading' objects objects' rows rows' done is kind result (Err end) same gives seeking steps_to found)
 
-pub loop-uncounted : (unit own : ℤ) (mine : items.Item) (place : Place) (first : List Object) (before : List Row) (reading : RecordInReading) (objects : List Object) (rows : List Row) (done : ℕ) →
-    own ≡ unit → Seeking (search_at own mine place first before) reading objects rows done →
+pub loop-uncounted : (unit own : ℤ) (mine : items.Item) (place : Place) (first : List Object) (before : List Row) (count : ℕ) (reading : RecordInReading) (objects : List Object) (rows : List Row) (done : ℕ) →
+    18446744073709551615 ≤ count → own ≡ unit → Seeking (search_at own mine place first before count) reading objects rows done →
     ReadsItem unit mine place (place_of reading) first objects before rows (Err ends.Uncounted)
-loop-uncounted unit own mine place first before reading objects rows done at seeking =
+loop-uncounted unit own mine place first before count reading objects rows done many at seeking =
     reads-at unit own mine place (place_of reading) first objects before rows (Err ends.Uncounted) at
-    (search-uncounted (search_at own mine place first before) reading objects rows done seeking)
+    (search-uncounted (search_at own mine place first before count) reading objects rows done many seeking)
 
 pub loop-starts : (own : ℤ) (mine : items.Item) (reading : RecordInReading) (objects : List Object) (rows : List Row) →
-    Seeking (search_at own mine (place_of reading) objects rows) reading objects rows 0
-loop-starts own mine reading objects rows = seeking-starts (search_at own mine (place_of reading) objects rows) reading refl
+    Seeking (search_at own mine (place_of reading) objects rows 0) reading objects rows 0
+loop-starts own mine reading objects rows = seeking-starts (search_at own mine (place_of reading) objects rows 0) reading refl refl

@@ -15,7 +15,7 @@ use Rattle.item_deeds.specs.Forms.{forms, SameForms}
 use Rattle.item_deeds.proofs.FormLaws.{one-replaced, unchanged-forms}
 use Rattle.listed_input.specs.declared.ends.ItemEnd.{ItemEnd}
 use Rattle.listed_input.specs.declared.ends.ItemEnd.TheVariants as ends
-use Rattle.listed_input.specs.Texts.{Written, PutsPiece, Pads}
+use Rattle.listed_input.specs.Texts.{IsFar, Written, PutsPiece, Pads}
 use Rattle.c_tree.specs.LibraryArguments.{with_text, store_text, text_stored, shifted, fitted}
 
 -- ## Two texts, one behind the other, over the bytes of an object
@@ -320,7 +320,7 @@ pad-refused pointer size done filled blank first old new (ends.Fault fault) is p
     λ objects text written. padding-faulty objects pointer size text blank old filled fault is puts (so_far objects text written)
 pad-refused pointer size done filled blank first old new (ends.Number number) is puts so_far = puts
 pad-refused pointer size done filled blank first old new ends.Device is puts so_far = puts
-pad-refused pointer size done filled blank first old new ends.Uncounted is puts so_far = tt
+pad-refused pointer size done filled blank first old new ends.Uncounted is puts so_far = puts
 
 -- ## Forms
 
@@ -363,3 +363,10 @@ text-forms at text old new (Err fault) stores = unchanged-forms old new stores.1
 
 pub forms-then : (old middle new : List Object) → SameForms old middle → SameForms middle new → SameForms old new
 forms-then old middle new first second = record { same = second.same ∙ first.same }
+
+-- an offset that is too far stays so for a longer distance
+pub far-more : (pointer : CValue) (less more : ℕ) → less ≤ more → IsFar less pointer → IsFar more pointer
+far-more (Pointer object offset) less more below far = omega (arith, below, far)
+far-more (Number number) less more below far = far
+far-more Null less more below far = far
+far-more (Function number) less more below far = far

@@ -1,5 +1,5 @@
 -- The next record of a unit, as an input reads it (ANSI X3.9-1978, 12.9.5.1).
-use Rattle.std.specs.Prelude.{◌≡◌, ◌≤◌, ℕ, ℤ, pos, negsuc, List, ◌∷◌, length, take, Result, Ok, Err}
+use Rattle.std.specs.Prelude.{◌≡◌, ◌≤◌, ℕ, suc, Some, None, ℤ, pos, negsuc, List, ◌∷◌, length, take, Result, Ok, Err}
 use Rattle.c_tree.specs.run_state.Units.{Units}
 use Rattle.c_tree.specs.Transfers.{Upcoming, records_upcoming, records_left, nothing_but, read_on}
 use Rattle.edit_rules.specs.declared.list_reader.Doing.{Doing}
@@ -19,6 +19,10 @@ use Rattle.listed_input.specs.declared.records.NextRecord.TheVariants.{Record, N
 abbrev pub coming : ℤ → Units → Upcoming
 coming unit units = records_upcoming (records_left (units.connected unit))
 
+-- how many records of a unit are behind
+abbrev pub position_of : ℤ → Units → ℕ
+position_of unit units = elim (units.connected unit) [ None ↦ 0 | Some state ↦ state.position ]
+
 -- a record that comes before others
 abbrev pub before_others : List ℕ → Upcoming → Upcoming
 before_others line later = record later { lines = line ∷ later.lines }
@@ -27,6 +31,7 @@ before_others line later = record later { lines = line ∷ later.lines }
 abbrev pub FetchesAs : ℤ → List ℕ → Units → Units → NextRecord → Type 0
 FetchesAs unit line before after (Record used) =
     (coming unit before ≡ before_others (take used line) (coming unit after)) × (after ≡ read_on 1 unit before)
+    × (position_of unit after ≡ suc (position_of unit before))
 FetchesAs unit line before after (Nothing number) = (coming unit before ≡ nothing_but (Ok number)) × (after ≡ read_on 1 unit before)
 FetchesAs unit line before after Failed = Unit {0}
 

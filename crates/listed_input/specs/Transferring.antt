@@ -19,7 +19,8 @@ use Rattle.unit_answers.specs.Failing.{FailedOn, NoneFailed}
 use Rattle.unit_answers.specs.Answers.{world_with}
 use Rattle.control_lists.specs.declared.controls.UnitControl.{UnitControl}
 use Rattle.control_lists.specs.Controls.{unit_shown}
-use Rattle.listed_input.specs.Reading.{place_of}
+use Rattle.listed_output.specs.Items.{Given, items_given}
+use Rattle.listed_input.specs.Reading.{place_of, AreBeyond}
 use Rattle.item_deeds.specs.Forms.{SameForms}
 use Rattle.listed_output.specs.declared.calls.Passage.{Passage}
 use Rattle.listed_output.specs.declared.calls.Passage.TheVariants.{GoesOn, Over}
@@ -77,14 +78,24 @@ AnswersEnd input number =
     (objects : List Object) → (units : Units) → (transfer : Transfer) → StandsFor input transfer →
     library (Finish listed_kind) (world_with objects (Some transfer) units) [] ≡ Ok (Gives number (world_with objects None units))
 
+-- what is to be counted for the items of a call is more than 64 bits tell
+pub record ListBeyond (objects : List Object) (kind count first size : CValue) (unit : ℤ) (units : Units) : Type 0 where
+  pub list : Given
+  pub given_is : items_given objects kind count size ≡ Ok list
+  pub beyond : AreBeyond list.size list.count first unit units
+
+abbrev pub CallBeyond : List Object → List CValue → ℤ → Units → Type 0
+CallBeyond objects (kind ∷ count ∷ first ∷ size ∷ []) unit units = ListBeyond objects kind count first size unit units
+CallBeyond objects other unit units = ⊥
+
 -- `do_lio`
-abbrev pub ItemsReply : Or Reply → List Object → Units → ListedInput → Result Passage InputEnd → Type 0
-ItemsReply meaning objects units input (Ok GoesOn) = Stands meaning objects units input
-ItemsReply meaning objects units input (Ok (Over number)) = meaning ≡ Ok (Gives number (world_with objects None units))
-ItemsReply meaning objects units input (Err (Call (Fault fault))) = meaning ≡ failing fault
-ItemsReply meaning objects units input (Err (Call (Ended number))) = meaning ≡ Ok (Stops (Io number) (world_with objects None units))
-ItemsReply meaning objects units input (Err (Call (Device unit))) = Unit {0}
-ItemsReply meaning objects units input (Err Uncounted) = Unit {0}
+abbrev pub ItemsReply : Type 0 → Or Reply → List Object → Units → ListedInput → Result Passage InputEnd → Type 0
+ItemsReply beyond meaning objects units input (Ok GoesOn) = Stands meaning objects units input
+ItemsReply beyond meaning objects units input (Ok (Over number)) = meaning ≡ Ok (Gives number (world_with objects None units))
+ItemsReply beyond meaning objects units input (Err (Call (Fault fault))) = meaning ≡ failing fault
+ItemsReply beyond meaning objects units input (Err (Call (Ended number))) = meaning ≡ Ok (Stops (Io number) (world_with objects None units))
+ItemsReply beyond meaning objects units input (Err (Call (Device unit))) = Unit {0}
+ItemsReply beyond meaning objects units input (Err Uncounted) = beyond
 
 abbrev pub ItemsDevice : ListedInput → List Row → List Row → Result Passage InputEnd → Type 0
 ItemsDevice input old new (Ok passage) = NoneFailed old new
@@ -98,7 +109,7 @@ ItemsDevice input old new (Err Uncounted) = NoneFailed old new
 pub record AnswersItems (objects objects' : List Object) (arguments : List CValue) (input input' : ListedInput) (old new : List Row) (result : Result Passage InputEnd) : Type 0 where
   pub tells : Tells old → Tells new
   pub replies : Tells old → (transfer : Transfer) → StandsFor input transfer →
-      ItemsReply (library do_lio (world_with objects (Some transfer) (units_of old)) arguments) objects' (units_of new) input' result
+      ItemsReply (CallBeyond objects arguments input.unit (units_of new)) (library do_lio (world_with objects (Some transfer) (units_of old)) arguments) objects' (units_of new) input' result
   pub devices : ItemsDevice input old new result
   pub forms : SameForms objects objects'
 

@@ -15,6 +15,7 @@ pub(crate) struct RecordInReading {
     pub(crate) line: [u8; LONGEST],
     pub(crate) used: usize,
     ghost within: { used ≤ length line },
+    ghost short: { used ≤ 1024 },
     ghost placed: { reader.place ≤ used },
     ghost begun: { constant_of reader.doing ≤ used },
 }

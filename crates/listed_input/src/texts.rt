@@ -1,9 +1,8 @@
 //! Texts that come in pieces (ANSI X3.9-1978, 13.6.1).
 
-ghost use Rattle.std.specs.Prelude.{◌≡◌, ◌+◌, ◌-◌, ◌≤◌, min, length, IfOk, IfSome};
-ghost use Rattle.c_tree.specs.LibraryArguments as arguments;
+ghost use Rattle.std.specs.Prelude.{◌≡◌, ◌+◌, ◌-◌, ◌≤◌, min, length, IfOk};
 ghost use Rattle.item_deeds.specs.Forms.{SameForms};
-ghost use Rattle.listed_input.specs.Texts.{PutsPiece, Pads};
+ghost use Rattle.listed_input.specs.Texts.{IsPlaceBehind, PutsPiece, Pads};
 
 use crate::ends::ItemEnd;
 use c_tree::outcome::CValue;
@@ -11,7 +10,7 @@ use run_bytes::RunBytes;
 
 /// A pointer to what stands so many bytes behind, where 64 bits tell its offset.
 pub(crate) fn place_behind(pointer: CValue, distance: usize) -> Option<CValue>
-    ensures { IfSome result (λ place. place ≡ arguments.shifted distance pointer) }
+    ensures { IsPlaceBehind distance pointer result }
 {
     match pointer {
         CValue::Pointer { object, offset } => match offset.checked_add(distance) {

@@ -1,4 +1,4 @@
-use Rattle.std.proofs.Common.{rules, take, w32, to_z, of_z, refl}
+use Rattle.std.proofs.Common.{rules, arith, take, w32, to_z, of_z, refl}
 use Rattle.std.proofs.Math.Facts.{to_z-of_z}
 use mir.Val.{SFits}
 use Rattle.listed_input.proofs.CallLaws.{start-place, first-placed, reading-begins, reading-ends}
@@ -7,6 +7,7 @@ use Rattle.listed_input.proofs.calls.begin_reading.Goals as goal
 pub invariant_of-result : goal.invariant_of-result
 invariant_of-result g c = record {
   within = c.in-Record.ensures.within;
+  short = omega (arith, c.in-Record.ensures.within, c.fetch.array_long);
   placed = (first-placed c.start.result c.in-Record.used c.start.ensures.stands).0;
   begun = (first-placed c.start.result c.in-Record.used c.start.ensures.stands).1;
 }

@@ -20,7 +20,7 @@ loop-preserved g c = (
 pub returns-in-None-clause-gives : goal.returns-in-None-clause-gives
 returns-in-None-clause-gives g c =
     giving-uncounted c.args.list c.args.first c.args.input.now c.loop.input c.give_item.new.input c.args.run.now c.loop.run c.give_item.new.run _ _ _ c.loop.pointer
-    (c.args.list.count - c.loop.counter) c.loop.invariant.1 c.in-Ok.ensures.gives
+    (c.args.list.count - c.loop.counter) (c.args.list.count - (c.loop.counter + 1)) (omega arith) c.in-None.ensures c.loop.invariant.1 c.in-Ok.ensures.gives
 
 pub returns-in-None-clause-forms : goal.returns-in-None-clause-forms
 returns-in-None-clause-forms g c = forms-then c.args.run.now c.loop.run c.give_item.new.run c.loop.invariant.0 c.give_item.ensures.forms

@@ -17,7 +17,7 @@ loop-init g c = (
 
 pub loop-preserved : goal.loop-preserved
 loop-preserved g c =
-    let seeking = loop-goes (to_z w32 (of_z w32 c.args.unit)) c.args.item (place_of c.args.reading.now) c.args.run.now _ c.loop.reading c.next-given.new.self
+    let seeking = loop-goes (to_z w32 (of_z w32 c.args.unit)) c.args.item (place_of c.args.reading.now) c.args.run.now _ c.loop.counter c.loop.reading c.next-given.new.self
     c.take_item.new.reading c.loop.run c.take_item.new.run _ _ c.loop.done c.in-Ok-GoesOn.behind c.next-given.result _ c.take_item.result c.kind_read-kind.ensures c.next-given.ensures
     c.loop.invariant.2 c.take_item.ensures.steps (c.in-Ok-GoesOn.is ∙ ap Ok c.in-Ok-GoesOn.field-0-is) in (
       done-within _ c.take_item.new.reading c.take_item.new.run _ c.in-Ok-GoesOn.behind seeking,
@@ -28,19 +28,19 @@ loop-preserved g c =
 pub returns-in-Ok-Read-clause-reads : goal.returns-in-Ok-Read-clause-reads
 returns-in-Ok-Read-clause-reads g c =
     let unit : SFits w32 c.args.unit = search rules in
-    loop-reads c.args.unit (to_z w32 (of_z w32 c.args.unit)) c.args.item (place_of c.args.reading.now) c.args.run.now _ c.loop.reading c.next-given.new.self
+    loop-reads c.args.unit (to_z w32 (of_z w32 c.args.unit)) c.args.item (place_of c.args.reading.now) c.args.run.now _ c.loop.counter c.loop.reading c.next-given.new.self
     c.take_item.new.reading c.loop.run c.take_item.new.run _ _ c.loop.done c.next-given.result _ c.take_item.result c.in-Ok-Read.read (to_z-of_z unit) c.kind_read-kind.ensures
     c.next-given.ensures c.loop.invariant.2 c.take_item.ensures.steps (c.in-Ok-Read.is ∙ ap Ok c.in-Ok-Read.field-0-is)
 
 pub returns-in-Err-clause-reads : goal.returns-in-Err-clause-reads
 returns-in-Err-clause-reads g c =
     let unit : SFits w32 c.args.unit = search rules in
-    loop-ends c.args.unit (to_z w32 (of_z w32 c.args.unit)) c.args.item (place_of c.args.reading.now) c.args.run.now _ c.loop.reading c.next-given.new.self
+    loop-ends c.args.unit (to_z w32 (of_z w32 c.args.unit)) c.args.item (place_of c.args.reading.now) c.args.run.now _ c.loop.counter c.loop.reading c.next-given.new.self
     c.take_item.new.reading c.loop.run c.take_item.new.run _ _ c.loop.done c.next-given.result _ c.take_item.result c.in-Err.end (to_z-of_z unit) c.kind_read-kind.ensures
     c.next-given.ensures c.loop.invariant.2 c.take_item.ensures.steps c.in-Err.is
 
 pub returns-clause-reads : goal.returns-clause-reads
 returns-clause-reads g c =
     let unit : SFits w32 c.args.unit = search rules in
-    loop-uncounted c.args.unit (to_z w32 (of_z w32 c.args.unit)) c.args.item (place_of c.args.reading.now) c.args.run.now _ c.loop.reading c.loop.run _ c.loop.done (to_z-of_z unit)
+    loop-uncounted c.args.unit (to_z w32 (of_z w32 c.args.unit)) c.args.item (place_of c.args.reading.now) c.args.run.now _ c.loop.counter c.loop.reading c.loop.run _ c.loop.done (omega (arith, c.loop-test.false)) (to_z-of_z unit)
     c.loop.invariant.2

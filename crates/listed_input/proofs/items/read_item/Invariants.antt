@@ -15,4 +15,5 @@ invariant-loop g l =
       place = place_of l.fn.reading;
       objects = l.fn.run;
       rows = rows_of (λ b. (goal.Device-dyn g (b.vtable, b.value)).device_state b.value) l.fn.units;
+      steps = l.counter;
     }) l.reading l.run (rows_of (λ b. (goal.Device-dyn g (b.vtable, b.value)).device_state b.value) l.units) l.done

@@ -1,4 +1,4 @@
-use Rattle.std.proofs.Common.{rules, refl, w32, to_z, of_z}
+use Rattle.std.proofs.Common.{rules, arith, refl, w32, to_z, of_z}
 use Rattle.std.proofs.Math.Facts.{to_z-of_z}
 use mir.Val.{SFits}
 use Rattle.listed_input.proofs.CallLaws.{first-placed}
@@ -8,6 +8,7 @@ use Rattle.listed_input.proofs.records.next_record.Goals as goal
 pub invariant_of-reading : goal.invariant_of-reading
 invariant_of-reading g c = record {
   within = c.in-Record.ensures.within;
+  short = omega (arith, c.in-Record.ensures.within, c.fetch.array_long);
   placed = (first-placed c.args.reading.now.reader c.in-Record.used c.requires).0;
   begun = (first-placed c.args.reading.now.reader c.in-Record.used c.requires).1;
 }
