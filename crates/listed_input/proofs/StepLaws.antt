@@ -1,5 +1,5 @@
 -- The steps of the search for the value of an item.
-use Rattle.std.proofs.Common.{◌≡◌, ◌^◌, ◌+◌, ◌⊎◌, inl, inr, ℕ, zero, suc, ◌≤◌, ℤ, pos, Bool, true, false, List, [], ◌∷◌, length, take, refl, ap, sym, ◌∙◌, subst, arith}
+use Rattle.std.proofs.Common.{◌≡◌, ◌^◌, ◌+◌, inl, inr, ℕ, zero, suc, ◌≤◌, ℤ, pos, Bool, true, false, List, [], ◌∷◌, length, take, refl, ap, sym, ◌∙◌, subst, arith}
 use Rattle.std.specs.Prelude.{Result, Ok, Err, IfSome, if◌then◌else◌}
 use Rattle.c_tree.specs.declared.outcome.CValue.TheVariants as values
 use Rattle.c_tree.specs.Access.{ToNumber}
