@@ -38,9 +38,10 @@ use Rattle.listed_input.specs.declared.ends.ItemRead.TheVariants as reads
 use Rattle.listed_input.specs.declared.ends.InputEnd.{InputEnd}
 use Rattle.listed_input.specs.declared.ends.InputEnd.TheVariants as inputs
 use Rattle.listed_input.specs.declared.kinds.Item as items
-use Rattle.listed_input.specs.declared.kinds.ItemList.{ItemList}
+use Rattle.listed_output.specs.declared.kinds.ItemList.{ItemList}
 use Rattle.listed_input.specs.declared.calls.ListedInput.{ListedInput}
-use Rattle.listed_input.specs.Kinds.{kind_shown, list_shown}
+use Rattle.listed_output.specs.Kinds.{kind_shown}
+use Rattle.listed_output.specs.Items.{list_shown}
 use Rattle.listed_input.specs.Reading.{place_of, IsBehind, ItemGoesOn, taken_at, ReadsItem, IsBeyond, ArePast, AreBeyond}
 use Rattle.listed_input.specs.Fetching.{position_of}
 use Rattle.listed_input.specs.Texts.{IsFar}

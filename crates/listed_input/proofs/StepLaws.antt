@@ -7,7 +7,7 @@ use Rattle.c_tree.specs.Objects.{Object, stored}
 use Rattle.c_tree.specs.World.{Transfer}
 use Rattle.c_tree.specs.World as media
 use Rattle.c_tree.specs.TransferInput.{kind_of, value_taken}
-use Rattle.listed_input.specs.Kinds.{kind_shown}
+use Rattle.listed_output.specs.Kinds.{kind_shown}
 use Rattle.edit_rules.specs.edit_meaning.ListInput.{Kind, Place, Given, Number, Truth, Piece, Null, Slash, NeedRecord, Wrong, given}
 use Rattle.edit_rules.specs.edit_meaning.ListItems.{Value, IntValue, LogicalValue, TextValue, Kept, Takes, begun_with_value, item_over}
 use Rattle.edit_rules.specs.declared.list_reader.ListItem.TheVariants as item

@@ -16,9 +16,9 @@ use Rattle.listed_output.specs.Writing.{StayedOn}
 use Rattle.listed_input.specs.declared.ends.ItemEnd.{ItemEnd}
 use Rattle.listed_input.specs.declared.ends.ItemEnd.TheVariants.{Fault, Number, Device, Uncounted}
 use Rattle.listed_input.specs.declared.kinds.Item.{Item}
-use Rattle.listed_input.specs.declared.kinds.ItemList.{ItemList}
+use Rattle.listed_output.specs.declared.kinds.ItemList.{ItemList}
 use Rattle.listed_input.specs.declared.calls.ListedInput.{ListedInput}
-use Rattle.listed_input.specs.Kinds.{kind_shown}
+use Rattle.listed_output.specs.Kinds.{kind_shown}
 use Rattle.listed_input.specs.Reading.{IsBeyond, AreBeyond}
 use Rattle.listed_input.specs.Transferring.{StandsFor, Stands}
 

@@ -1,4 +1,3 @@
-pub mod Kinds
 pub mod Fetching
 pub mod Texts
 pub mod Reading

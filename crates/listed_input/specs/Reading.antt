@@ -25,7 +25,7 @@ use Rattle.listed_input.specs.declared.ends.ItemRead.TheVariants.{Given, Slashed
 use Rattle.listed_input.specs.declared.kinds.Item.{Item}
 use Rattle.listed_input.specs.declared.reading.RecordInReading.{RecordInReading}
 use Rattle.listed_input.specs.Fetching.{coming, before_others, position_of}
-use Rattle.listed_input.specs.Kinds.{kind_shown}
+use Rattle.listed_output.specs.Kinds.{kind_shown}
 use Rattle.listed_input.specs.Texts.{IsFar}
 
 -- the record that is being read, and the place in it

@@ -19,7 +19,7 @@ use Rattle.listed_input.specs.declared.ends.Step.TheVariants.{Read, GoesOn}
 use Rattle.listed_input.specs.declared.kinds.Item.{Item}
 use Rattle.listed_input.specs.declared.reading.RecordInReading.{RecordInReading}
 use Rattle.listed_input.specs.Fetching.{coming, position_of}
-use Rattle.listed_input.specs.Kinds.{kind_shown}
+use Rattle.listed_output.specs.Kinds.{kind_shown}
 use Rattle.listed_input.specs.Texts.{Written}
 use Rattle.listed_input.specs.Reading.{place_of, ReadsItem}
 

@@ -9,8 +9,7 @@ ghost use Rattle.listed_input.specs.Giving.{GivesItem, GivesItems};
 
 use crate::ends::{InputEnd, ItemEnd, ItemRead, ended};
 use crate::items::read_item;
-use crate::kinds::{Item, ItemList};
-use crate::lists::item_list;
+use crate::kinds::Item;
 use crate::reading::{LONGEST, RecordInReading};
 use crate::records::{NextRecord, fetch};
 use crate::texts::place_behind;
@@ -19,7 +18,7 @@ use control_lists::{UnitControl, unit_control};
 use edit_rules::ListReader;
 use f2c_outside::devices::Device;
 use f2c_outside::unit_table::UnitTable;
-use listed_output::Passage;
+use listed_output::{ItemList, Passage, item_list};
 use run_bytes::RunBytes;
 use unit_answers::{CallEnd, numbered};
 

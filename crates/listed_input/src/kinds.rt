@@ -1,31 +1,13 @@
-//! What the items of a call are (ANSI X3.9-1978, 12.8.2).
+//! One item of a call (ANSI X3.9-1978, 12.8.2).
 
 ghost use Rattle.std.specs.Prelude.{◌≡◌};
 ghost use Rattle.c_tree.specs.TransferInput as transfers;
 ghost use Rattle.edit_rules.specs.Reader as reader;
-ghost use Rattle.listed_input.specs.Kinds.{kind_shown};
+ghost use Rattle.listed_output.specs.Kinds.{kind_shown};
 
 use c_tree::outcome::CValue;
 use edit_rules::ItemKind;
-
-/// What the items of a call are.
-#[derive(Clone, Copy)]
-pub(crate) enum ItemType {
-    /// Integers, of four bytes each.
-    Integer,
-    /// Logicals, of four bytes each.
-    Logical,
-    /// Texts.
-    Text,
-}
-
-/// The kind of the items of a call, their number, and the bytes of one.
-#[derive(Clone, Copy)]
-pub(crate) struct ItemList {
-    pub(crate) kind: ItemType,
-    pub(crate) count: usize,
-    pub(crate) size: usize,
-}
+use listed_output::ItemType;
 
 /// One item: its kind, a pointer to it, and how many bytes it has.
 #[derive(Clone, Copy)]

@@ -3,7 +3,7 @@
 //! their values, and `e_rsle` ends it.
 //!
 //! No call takes memory: the record that is being read stands in the transfer. A record of more than 1,024 bytes cannot be read, and is
-//! error 5.
+//! error 5. An item may need any number of records, so that its steps are counted: a call ends where 64 bits do not tell how many there are.
 //!
 //! Each function that changes a unit table has a `requires` that always holds: a function with one is proved whatever devices there are,
 //! and one without where those that its callees may make are among them.
@@ -13,7 +13,6 @@ mod calls;
 mod ends;
 mod items;
 mod kinds;
-mod lists;
 mod reading;
 mod records;
 mod texts;
