@@ -14,6 +14,8 @@ pub struct Present {
 pub struct ConnectedUnit {
     /// Its number, and behind a blank that of the call of its device that fails, if one does.
     pub words: String,
+    /// The records of its file.
+    pub records: Vec<String>,
 }
 
 /// A command with its title, and what is on the shelf.
@@ -66,9 +68,20 @@ impl Case {
             self.failing = Some(String::from_str(alloc, number)?);
         } else if let Some(words) = line.strip_prefix("## ") {
             let words = String::from_str(alloc, words)?;
-            self.units.push(ConnectedUnit { words })?;
+            let records = Vec::new(alloc);
+            self.units.push(ConnectedUnit { words, records })?;
+        } else if let Some(record) = line.strip_prefix("#> ") {
+            self.add_record(String::from_str(alloc, record)?)?;
         } else {
             self.add_card(&line)?;
+        }
+        Ok(())
+    }
+
+    /// Adds a record to the file of the unit that was connected last.
+    fn add_record(&mut self, record: String) -> Result<(), AllocError> {
+        if let Some(connected) = self.units.last_mut() {
+            connected.records.push(record)?;
         }
         Ok(())
     }

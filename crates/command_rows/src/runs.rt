@@ -4,7 +4,6 @@ use crate::Stop;
 use crate::cases::{Case, ConnectedUnit};
 use crate::shelves::shelf_of;
 use crate::units::add_records;
-use f2c_outside::memory_device::MemoryDevice;
 use f2c_outside::memory_shelf::MemoryShelf;
 use f2c_outside::texts::{Name, NoMemory, Words};
 use f2c_outside::unit_table::UnitTable;
@@ -39,11 +38,7 @@ impl Run {
         let words = words_of(alloc, command)?;
         let mut units = UnitTable::new(alloc)?;
         for one in connected {
-            let mut device = MemoryDevice::new(alloc)?;
-            if let Some(call) = one.failing() {
-                device.fail_at(call)?;
-            }
-            let Ok(device) = Box::new(alloc, device) else {
+            let Ok(device) = Box::new(alloc, one.device(alloc)?) else {
                 return Err(Stop::NoMemory);
             };
             if units.connect(one.unit()?, device).is_err() {

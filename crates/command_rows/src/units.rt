@@ -3,6 +3,8 @@
 use crate::Stop;
 use crate::cases::ConnectedUnit;
 use f2c_outside::devices::Got;
+use f2c_outside::memory_device::MemoryDevice;
+use f2c_outside::texts::NoMemory;
 use f2c_outside::unit_table::UnitTable;
 use std::alloc::Global;
 
@@ -29,9 +31,16 @@ impl ConnectedUnit {
         }
     }
 
-    /// The call of its device that fails, if one does.
-    pub fn failing(&self) -> Option<u64> {
-        self.number(1)
+    /// Its device, which holds its records.
+    pub fn device(&self, alloc: Global) -> Result<MemoryDevice, NoMemory> {
+        let mut device = MemoryDevice::new(alloc)?;
+        for record in &self.records {
+            device.add(record.as_bytes())?;
+        }
+        if let Some(call) = self.number(1) {
+            device.fail_at(call)?;
+        }
+        Ok(device)
     }
 }
 

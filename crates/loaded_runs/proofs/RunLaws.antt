@@ -72,6 +72,7 @@ ends state rows held objects (Ok (ran.Broken (reason.Fault fault) number)) meant
 ends state rows held objects (Ok (ran.Broken reason.Meaningless number)) meant stands = meant (by-nothing state (number ∷ stands.holds.0) stands.holds.1)
 ends state rows held objects (Ok (ran.Failed unit)) meant stands = tt
 ends state rows held objects (Ok (ran.NotBuilt number)) meant stands = tt
+ends state rows held objects (Ok ran.Uncounted) meant stands = tt
 ends state rows held objects (Err fault) meant stands = meant (at-first state fault stands.holds)
 
 -- A RUN OF FILES
@@ -107,6 +108,7 @@ devices shown (Ok (ran.Stopped ended)) first last told = none-in shown NoneFaile
 devices shown (Ok (ran.Broken why number)) first last told = none-in shown NoneFailed first last told
 devices shown (Ok (ran.Failed unit)) first last told = failed-in shown NoneFailed FailedOn unit first last told
 devices shown (Ok (ran.NotBuilt number)) first last told = none-in shown NoneFailed first last told
+devices shown (Ok ran.Uncounted) first last told = none-in shown NoneFailed first last told
 devices shown (Err fault) first last told = none-in shown NoneFailed first last told
 
 -- FUNCTIONS THAT THE LIBRARY LACKS
@@ -117,6 +119,7 @@ lacks (Ok (ran.Stopped ended)) built = tt
 lacks (Ok (ran.Broken why number)) built = tt
 lacks (Ok (ran.Failed unit)) built = tt
 lacks (Ok (ran.NotBuilt number)) built = built
+lacks (Ok ran.Uncounted) built = tt
 lacks (Err fault) built = tt
 
 -- FINISHING
@@ -137,6 +140,7 @@ in-run rows rows' (how.Broken why number) other none = none
 in-run rows rows' (how.Unbegun fault) other none = none
 in-run rows rows' (how.Failed unit) other fails = absurd (other unit refl)
 in-run rows rows' (how.NotBuilt number) other none = none
+in-run rows rows' how.Uncounted other none = none
 
 whole : (rows rows' : List Row) (ended : RunEnd) → ((unit : ℤ) → ended ≡ how.Failed unit → ⊥) → NoDeviceFailed rows rows' → DevicesOf rows rows' ended
 whole rows rows' how.Running other none = none
@@ -145,6 +149,7 @@ whole rows rows' (how.Broken why number) other none = none
 whole rows rows' (how.Unbegun fault) other none = none
 whole rows rows' (how.Failed unit) other none = absurd (other unit refl)
 whole rows rows' (how.NotBuilt number) other none = none
+whole rows rows' how.Uncounted other none = none
 
 pub finished-devices : (first rows rows' : List Row) (before after : RunEnd) → Finishes rows rows' before after → DevicesInRun first rows before → DevicesOf first rows' after
 finished-devices first rows rows' before after (failed_before unit was same) told =

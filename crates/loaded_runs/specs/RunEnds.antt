@@ -24,7 +24,7 @@ use Rattle.unit_library.specs.declared.endings.RunEnding.TheVariants as ending
 use Rattle.unit_library.specs.Endings.{ending_of}
 use Rattle.unit_library.specs.Functions.{is_lacked}
 use Rattle.loaded_runs.specs.declared.ends.RunEnd.{RunEnd}
-use Rattle.loaded_runs.specs.declared.ends.RunEnd.TheVariants.{Running, Ended, Broken as BrokenBy, Unbegun, Failed, NotBuilt}
+use Rattle.loaded_runs.specs.declared.ends.RunEnd.TheVariants.{Running, Ended, Broken as BrokenBy, Unbegun, Failed, NotBuilt, Uncounted}
 
 abbrev pub end_of : Result (RunOutcome RunEnding) CFault → RunEnd
 end_of (Ok ran.Running) = Running
@@ -33,6 +33,7 @@ end_of (Ok (ran.Stopped how)) = Ended how
 end_of (Ok (ran.Broken reason function)) = BrokenBy reason function
 end_of (Ok (ran.Failed unit)) = Failed unit
 end_of (Ok (ran.NotBuilt number)) = NotBuilt number
+end_of (Ok ran.Uncounted) = Uncounted
 end_of (Err fault) = Unbegun fault
 
 -- ## What the meaning of C texts has
@@ -43,8 +44,8 @@ units_in (Runs number view frames world) = Some world.units
 units_in (Over ending frames world) = Some world.units
 units_in (Broken why numbers) = None
 
--- a run of the definitions that ends so, and leaves these units and objects; where a device failed, or a function was called that the library
--- lacks, nothing is said of it
+-- a run of the definitions that ends so, and leaves these units and objects; where a device failed, a function was called that the library
+-- lacks, or a call was to count more than 64 bits tell, nothing is said of it
 abbrev pub EndsBy : State Ending sorts → Units → List Object → RunEnd → Type 0
 EndsBy state units objects Running = (meaning.outcome state ≡ meaning.Running) × (units_in state ≡ Some units)
 EndsBy state units objects (Ended how) = (meaning.outcome state ≡ meaning.Ended (ending_of objects how)) × (units_in state ≡ Some units)
@@ -53,6 +54,7 @@ EndsBy state units objects (BrokenBy reason.Meaningless number) = ⊥
 EndsBy state units objects (Unbegun fault) = ⊥
 EndsBy state units objects (Failed unit) = Unit {0}
 EndsBy state units objects (NotBuilt number) = Unit {0}
+EndsBy state units objects Uncounted = Unit {0}
 
 -- ## Devices
 

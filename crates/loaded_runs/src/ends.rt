@@ -28,6 +28,8 @@ pub enum RunEnd {
     Failed(i32),
     /// It called the function of this number, which the library lacks.
     NotBuilt(usize),
+    /// A call of the library was to count more than 64 bits tell.
+    Uncounted,
 }
 
 /// How a run ended, by how it stands.
@@ -41,6 +43,7 @@ pub(crate) fn end_of(ran: Result<RunOutcome<RunEnding>, CFault>) -> RunEnd
         Ok(RunOutcome::Broken { reason, function }) => RunEnd::Broken { reason, function },
         Ok(RunOutcome::Failed(unit)) => RunEnd::Failed(unit),
         Ok(RunOutcome::NotBuilt(number)) => RunEnd::NotBuilt(number),
+        Ok(RunOutcome::Uncounted) => RunEnd::Uncounted,
         Err(fault) => RunEnd::Unbegun(fault),
     }
 }

@@ -71,8 +71,8 @@ fn run_with(
 }
 
 /// Runs a program that was loaded from files, so many steps, or until it is over, with no transfer in progress at first, and finishes the
-/// devices of the units. For units whose devices tell their records the run is that of the definitions, unless a device fails or a function
-/// is called that the library lacks.
+/// devices of the units. For units whose devices tell their records the run is that of the definitions, unless a device fails, a function is
+/// called that the library lacks, or a call is to count more than 64 bits tell.
 ///
 /// # Errors
 /// The units as they were, where there was no memory to begin.

@@ -30,6 +30,7 @@ broken-steps ending number values view before wants stands objects given (broken
 }
 broken-steps ending number values view before wants stands objects given (broken.Device unit) call gives answers = tt
 broken-steps ending number values view before wants stands objects given broken.NotBuilt call gives answers = tt
+broken-steps ending number values view before wants stands objects given broken.Uncounted call gives answers = tt
 
 pub call-broken : {E : Type 0} (ending : List Object → E → Ending) (number : ℕ) (values : List CValue) (view : View) (before : World) (wants : Wants) (stands : Units → Option Transfer → Type 0) (objects : List Object)
     (given : List CValue) (why : CallBreak) (result : Result (StepEvent E) StepFailure) → result ≡ broken_of number why → (call : IsCall number values) → may_give call.signature.gives wants ≡ true →
@@ -43,6 +44,7 @@ broken-told : {L : Type 0} (E : Type 0) (none_failed : L → L → Type 0) (fail
 broken-told E none_failed failed_on old new number (broken.Break why) told = one-call told
 broken-told E none_failed failed_on old new number (broken.Device unit) told = record { before = old; none = no_call; failed = told }
 broken-told E none_failed failed_on old new number broken.NotBuilt told = one-call told
+broken-told E none_failed failed_on old new number broken.Uncounted told = one-call told
 
 pub told-broken : {L E : Type 0} (none_failed : L → L → Type 0) (failed_on : ℤ → L → L → Type 0) (old new : L) (number : ℕ) (why : CallBreak) (result : Result (StepEvent E) StepFailure) → result ≡ broken_of number why →
     ToldOfCall {E = E} none_failed failed_on old new (Err why) → ToldOfStep none_failed failed_on old new result

@@ -27,6 +27,7 @@ broken-lacks : (E : Type 0) (lacks : ℕ → Bool) (number : ℕ) (why : CallBre
 broken-lacks E lacks number (broken.Break why) is = tt
 broken-lacks E lacks number (broken.Device unit) is = tt
 broken-lacks E lacks number broken.NotBuilt is = is
+broken-lacks E lacks number broken.Uncounted is = tt
 
 pub lacks-broken : {E : Type 0} (lacks : ℕ → Bool) (number : ℕ) (why : CallBreak) (result : Result (StepEvent E) StepFailure) → result ≡ broken_of number why →
     LacksIt {E = E} (Err why) (lacks number ≡ true) → LacksInStep lacks result
@@ -41,6 +42,7 @@ lacks-none lacks ending state stack world (outcome.Stopped how) reaches = tt
 lacks-none lacks ending state stack world (outcome.Broken why number) reaches = tt
 lacks-none lacks ending state stack world (outcome.Failed unit) reaches = tt
 lacks-none lacks ending state stack world (outcome.NotBuilt number) reaches = absurd reaches
+lacks-none lacks ending state stack world outcome.Uncounted reaches = tt
 
 -- ROOM FOR TEXTS
 unset-extent : (object : Object) → extent (unset_object object) ≡ extent object

@@ -149,6 +149,7 @@ over-for-good ending program state count steps stack world (outcome.Broken why n
     (reaches.0, stays-up-to program state (Broken (break_of why) (number ∷ reaches.0)) count steps (broken-stays program (break_of why) (number ∷ reaches.0)) reaches.1 few)
 over-for-good ending program state count steps stack world (outcome.Failed unit) reaches not few = reaches
 over-for-good ending program state count steps stack world (outcome.NotBuilt number) reaches not few = reaches
+over-for-good ending program state count steps stack world outcome.Uncounted reaches not few = reaches
 
 -- EVENTS OF THE ACTIVE FUNCTION
 abbrev state_with : LinkedProgram → ℕ → View → Frames → World → State Ending sorts
@@ -191,6 +192,7 @@ unless (outcome.Stopped ending) Holds is = is
 unless (outcome.Broken why number) Holds is = is
 unless (outcome.Failed unit) Holds is = tt
 unless (outcome.NotBuilt number) Holds is = tt
+unless outcome.Uncounted Holds is = tt
 
 pub unless-so : {E : Type 0} (how : RunOutcome E) (First Second : Type 0) → (First → Second) → UnlessFailed how First → UnlessFailed how Second
 unless-so outcome.Running First Second makes is = makes is
@@ -199,6 +201,7 @@ unless-so (outcome.Stopped ending) First Second makes is = makes is
 unless-so (outcome.Broken why number) First Second makes is = makes is
 unless-so (outcome.Failed unit) First Second makes is = tt
 unless-so (outcome.NotBuilt number) First Second makes is = tt
+unless-so outcome.Uncounted First Second makes is = tt
 
 -- the next step of a run, by what the active function does
 pub next-so : {E : Type 0} (ending : List Object → E → Ending) (program : LinkedProgram) (own : ℕ) (function : LinkedFunction) (old new : CallStack) (before : World) (stands : Units → Option Transfer → Type 0)
@@ -400,6 +403,7 @@ stands-so ending state stack world (outcome.Stopped how) reaches = reaches
 stands-so ending state stack world (outcome.Broken why number) reaches = reaches
 stands-so ending state stack world (outcome.Failed unit) reaches = reaches
 stands-so ending state stack world (outcome.NotBuilt number) reaches = reaches
+stands-so ending state stack world outcome.Uncounted reaches = reaches
 
 broken-for-good : (program : Program sorts) (first : State Ending sorts) (steps : ℕ) (why : Break) → first ≡ Broken why [] → run language program steps first ≡ Broken why []
 broken-for-good program first steps why is =

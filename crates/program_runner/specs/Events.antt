@@ -31,9 +31,10 @@ abbrev pub broken_of : {E : Type 0} → ℕ → CallBreak → Result (StepEvent 
 broken_of number (broken.Break why) = Ok (event.Breaks why)
 broken_of number (broken.Device unit) = Err (failure.Device unit)
 broken_of number broken.NotBuilt = Err (failure.NotBuilt number)
+broken_of number broken.Uncounted = Err failure.Uncounted
 
 -- a step does this, and leaves objects and a library that stands for the units and the transfer of the world after it; where a device
--- failed, or the library lacks the function that is called, nothing is said of it
+-- failed, the library lacks the function that is called, or its call was to count more than 64 bits tell, nothing is said of it
 abbrev pub StepsBy : {E : Type 0} → (List Object → E → Ending) → Happening → (Units → Option Transfer → Type 0) → List Object → List CValue → Result (StepEvent E) StepFailure → Type 0
 StepsBy ending happens stands objects values (Ok done) = StandsIn stands objects (λ after. happens ≡ event_of ending after values done)
 StepsBy ending happens stands objects values (Err why) = Unit {0}
@@ -43,12 +44,14 @@ abbrev pub ToldOfStep : {L E : Type 0} → (L → L → Type 0) → (ℤ → L �
 ToldOfStep none_failed failed_on old new (Ok done) = NoFailure none_failed old new
 ToldOfStep none_failed failed_on old new (Err (failure.Device unit)) = FailsAtLast none_failed failed_on unit old new
 ToldOfStep none_failed failed_on old new (Err (failure.NotBuilt number)) = NoFailure none_failed old new
+ToldOfStep none_failed failed_on old new (Err failure.Uncounted) = NoFailure none_failed old new
 
 -- the library lacks the function whose call it has not built
 abbrev pub LacksInStep : {E : Type 0} → (ℕ → Bool) → Result (StepEvent E) StepFailure → Type 0
 LacksInStep lacks (Ok done) = Unit {0}
 LacksInStep lacks (Err (failure.Device unit)) = Unit {0}
 LacksInStep lacks (Err (failure.NotBuilt number)) = lacks number ≡ true
+LacksInStep lacks (Err failure.Uncounted) = Unit {0}
 
 -- a call of a function stands at a position with one behind it, and its arguments have room
 abbrev pub IsCalled : {E : Type 0} → ℕ → ℕ → StepEvent E → Type 0

@@ -35,6 +35,7 @@ Leaves ending state world (outcome.Stopped how) = (frames : Frames) × (state �
 Leaves ending state world (outcome.Broken why number) = (callers : List ℕ) × (state ≡ machine.Broken (break_of why) (number ∷ callers))
 Leaves ending state world (outcome.Failed unit) = ⊥
 Leaves ending state world (outcome.NotBuilt number) = ⊥
+Leaves ending state world outcome.Uncounted = ⊥
 
 -- a run that goes on with these active functions, or is over
 abbrev pub Reaches : {E : Type 0} → (List Object → E → Ending) → State Ending sorts → CallStack → World → RunOutcome E → Type 0
@@ -51,10 +52,12 @@ abbrev pub KeepsStack : {E : Type 0} → ℕ → CallStack → RunOutcome E → 
 KeepsStack functions stack outcome.Running = IsStack functions stack
 KeepsStack functions stack over = Unit {0}
 
--- what is said of a run in which no device failed, and that called no function that the library lacks
+-- what is said of a run in which no device failed, that called no function that the library lacks, and none of whose calls was to count more
+-- than 64 bits tell
 abbrev pub UnlessFailed : {E : Type 0} → RunOutcome E → Type 0 → Type 0
 UnlessFailed (outcome.Failed unit) Holds = Unit {0}
 UnlessFailed (outcome.NotBuilt number) Holds = Unit {0}
+UnlessFailed outcome.Uncounted Holds = Unit {0}
 UnlessFailed how Holds = Holds
 
 -- no device failed in a run, or that of a unit in its last call of the library
@@ -76,7 +79,8 @@ abbrev pub IsRunOf : {E : Type 0} → (List Object → E → Ending) → State E
 IsRunOf ending state world (Ok how) = Stands ending state world how
 IsRunOf ending state world (Err fault) = state ≡ machine.Broken (Faults fault) []
 
--- what is said of a whole run in which no device failed, and that called no function that the library lacks
+-- what is said of a whole run in which no device failed, that called no function that the library lacks, and none of whose calls was to count
+-- more than 64 bits tell
 abbrev pub UnlessRunFailed : {E : Type 0} → Result (RunOutcome E) CFault → Type 0 → Type 0
 UnlessRunFailed (Ok how) Holds = UnlessFailed how Holds
 UnlessRunFailed (Err fault) Holds = Holds

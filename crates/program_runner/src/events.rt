@@ -62,6 +62,8 @@ pub(crate) enum StepFailure {
     Device(i32),
     /// The library lacks the function of this number, which is called.
     NotBuilt(usize),
+    /// A call of the library was to count more than 64 bits tell.
+    Uncounted,
 }
 
 /// The event of a function that goes on with the answer to a call of the library.
@@ -115,6 +117,7 @@ fn broken<E: Drop>(number: usize, reason: CallBreak) -> Result<StepEvent<E>, Ste
         CallBreak::Break(reason) => Ok(StepEvent::Breaks(reason)),
         CallBreak::Device(unit) => Err(StepFailure::Device(unit)),
         CallBreak::NotBuilt => Err(StepFailure::NotBuilt(number)),
+        CallBreak::Uncounted => Err(StepFailure::Uncounted),
     }
 }
 

@@ -219,5 +219,6 @@ pub(crate) fn next<L: Library>(
         Ok(event) => happened(program, stack, event, buffer, run),
         Err(StepFailure::Device(unit)) => RunOutcome::Failed(unit),
         Err(StepFailure::NotBuilt(number)) => RunOutcome::NotBuilt(number),
+        Err(StepFailure::Uncounted) => RunOutcome::Uncounted,
     }
 }

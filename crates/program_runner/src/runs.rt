@@ -46,6 +46,8 @@ pub enum RunOutcome<E: Drop> {
     Failed(i32),
     /// It called the function of this number, which the library lacks.
     NotBuilt(usize),
+    /// A call of the library was to count more than 64 bits tell.
+    Uncounted,
 }
 
 /// Whether a function is the main program.
@@ -116,8 +118,9 @@ pub fn begin(
 }
 
 /// Goes so many steps on, as long as the run is not over. The buffer has room for the arguments of each call. The run is that of the
-/// definitions for all units and each transfer in progress for which the library stands, unless the device of a unit fails or a function is
-/// called that the library lacks. No text of the objects is longer than the library can put together.
+/// definitions for all units and each transfer in progress for which the library stands, unless the device of a unit fails, a function is
+/// called that the library lacks, or a call is to count more than 64 bits tell. No text of the objects is longer than the library can put
+/// together.
 pub fn run<L: Library>(
     program: &LinkedProgram,
     stack: &mut CallStack,
@@ -151,8 +154,8 @@ pub fn run<L: Library>(
 
 /// Runs a program from its main program on, so many steps, or until it is over. Its objects hold what they start with. The buffer has room
 /// for the arguments of each call. The run is that of the definitions for all units for which the library stands without a transfer in
-/// progress, unless the device of a unit fails or a function is called that the library lacks. No text of the objects is longer than the
-/// library can put together. An error where memory ran out, before the first step.
+/// progress, unless the device of a unit fails, a function is called that the library lacks, or a call is to count more than 64 bits tell. No
+/// text of the objects is longer than the library can put together. An error where memory ran out, before the first step.
 ///
 /// # Errors
 /// Where the main program does not begin, that is where there is none or it has parameters: why.

@@ -18,7 +18,7 @@ use Rattle.c_tree.specs.Linking.{first_broken_rule}
 use Rattle.c_tree.specs.Meaning as meaning
 use Rattle.c_tree.specs.Meaning.{function_name}
 use Rattle.outcomes.specs.Lines.{bad_word_line, not_there_line, shelf_fault_line, no_memory_line}
-use Rattle.run_messages.specs.RunLines.{not_c_line, link_line, fault_line, out_of_steps_line, device_line, not_built_line}
+use Rattle.run_messages.specs.RunLines.{not_c_line, link_line, fault_line, out_of_steps_line, device_line, not_built_line, uncounted_line}
 use Rattle.run_reports.specs.Reports.{SaysEnding, ending_status, name_shown}
 use Rattle.run_words.specs.declared.request.RunRequest.{RunRequest}
 use Rattle.run_words.specs.RunWords.{run_of}
@@ -86,3 +86,6 @@ pub data RunEnded (words : List (List ℕ)) (rows rows' : List Row) (b a : Shelf
   not_built : (request : RunRequest) (files : List CFile) (number : ℕ) (middle : ShelfState) → Runs words request files b middle
       → is_lacked number ≡ true → NoDeviceFailed rows rows' → Said (not_built_line (name_shown (slice_get builtin_names number))) middle a
       → RunEnded words rows rows' b a 14
+  -- 15: a call of the library was to count more than 64 bits tell; nothing is said of such a run
+  uncounted : (request : RunRequest) (files : List CFile) (middle : ShelfState) → Runs words request files b middle
+      → NoDeviceFailed rows rows' → Said uncounted_line middle a → RunEnded words rows rows' b a 15

@@ -10,6 +10,7 @@ ToldOfCall none_failed failed_on old new (Ok given) = none_failed old new
 ToldOfCall none_failed failed_on old new (Err (broken.Break why)) = none_failed old new
 ToldOfCall none_failed failed_on old new (Err (broken.Device unit)) = failed_on unit old new
 ToldOfCall none_failed failed_on old new (Err broken.NotBuilt) = none_failed old new
+ToldOfCall none_failed failed_on old new (Err broken.Uncounted) = none_failed old new
 
 -- calls one after the other, in none of which a device failed
 pub data NoFailure {L : Type 0} (none_failed : L → L → Type 0) (first : L) : L → Type 0 where

@@ -44,12 +44,13 @@ pub record StandsIn (stands : Units → Option Transfer → Type 0) (objects : L
   pub holds : Holds (world_of objects units transfer)
 
 -- a call in a world replies what its function gives, and leaves objects and a library that stands for such units and such a transfer;
--- where a device failed nothing is said of it
+-- where a device failed, or 64 bits do not tell what is to be counted, nothing is said of it
 abbrev pub Answers : {E : Type 0} → (List Object → E → Ending) → ℕ → List CValue → World → (Units → Option Transfer → Type 0) → List Object → Result (LibraryReply E) CallBreak → Type 0
 Answers ending number values before stands objects (Ok given) = StandsIn stands objects (λ after. Replies ending number values before after (Ok given))
 Answers ending number values before stands objects (Err (broken.Break why)) = StandsIn stands objects (λ after. Replies ending number values before after (Err why))
 Answers ending number values before stands objects (Err (broken.Device unit)) = Unit {0}
 Answers ending number values before stands objects (Err broken.NotBuilt) = Unit {0}
+Answers ending number values before stands objects (Err broken.Uncounted) = Unit {0}
 
 -- what holds where the library lacks the function
 abbrev pub LacksIt : {E : Type 0} → Result (LibraryReply E) CallBreak → Type 0 → Type 0
@@ -57,3 +58,4 @@ LacksIt (Ok given) P = Unit {0}
 LacksIt (Err (broken.Break why)) P = Unit {0}
 LacksIt (Err (broken.Device unit)) P = Unit {0}
 LacksIt (Err broken.NotBuilt) P = P
+LacksIt (Err broken.Uncounted) P = Unit {0}

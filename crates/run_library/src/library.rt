@@ -44,6 +44,8 @@ pub enum CallBreak {
     Device(i32),
     /// The library does not have this function yet.
     NotBuilt,
+    /// More is to be counted than 64 bits tell. Nothing is said of such a call.
+    Uncounted,
 }
 
 /// The functions of the library, with the external units and the transfer in progress.
@@ -75,7 +77,8 @@ pub trait Library {
     /// their forms.
     ///
     /// # Errors
-    /// Why the run cannot go on, the unit whose device failed, or that the library lacks the function.
+    /// Why the run cannot go on, the unit whose device failed, that the library lacks the function, or that more is to be counted than 64 bits
+    /// tell.
     fn call(
         &mut self,
         number: usize,

@@ -10,7 +10,7 @@ use f2c_outside::shelves::Shelf;
 use linked_programs::LinkedProgram;
 use loaded_runs::RunEnd;
 use run_bytes::RunBytes;
-use run_messages::{say_device_fault, say_fault, say_not_built, say_out_of_steps};
+use run_messages::{say_device_fault, say_fault, say_not_built, say_out_of_steps, say_uncounted};
 
 /// Says on Fault how a run of a program ended whose objects are left so, where there is anything to say, and gives the exit status.
 pub fn say_run<H: Shelf>(
@@ -43,6 +43,10 @@ pub fn say_run<H: Shelf>(
         RunEnd::NotBuilt(number) => {
             say_not_built(shelf, library_name(number));
             14
+        }
+        RunEnd::Uncounted => {
+            say_uncounted(shelf);
+            15
         }
     }
 }

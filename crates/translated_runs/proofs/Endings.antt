@@ -32,7 +32,7 @@ use Rattle.run_words.specs.declared.request.RunRequest.{RunRequest}
 use Rattle.run_words.specs.RunWords.{run_of}
 use Rattle.loaded_runs.specs.RunEnds as run_ends
 use Rattle.loaded_runs.specs.RunEnds.{NoDeviceFailed}
-use Rattle.run_messages.specs.RunLines.{link_line, io_line, range_line, stop_line, device_line, not_built_line}
+use Rattle.run_messages.specs.RunLines.{link_line, io_line, range_line, stop_line, device_line, not_built_line, uncounted_line}
 use Rattle.run_reports.specs.Reports.{SaysEnding, ending_status, name_shown}
 use Rattle.run_command.specs.RunRows as rows_of_runs
 use Rattle.run_command.specs.RunRows.{c_places, Runs, StandsAt, RunEnded, bad_word, not_there, unread, not_c, not_linked, ended, faulty, out_of_steps}
@@ -180,6 +180,11 @@ module _ {words : List (List â„•)} {request : RunRequest} {texts : List (List â„
     line = not_built_line (name_shown (slice_get builtin_names number));
     ends = law.not_built number lacked devices;
     said = line_said (not_built_line (name_shown (slice_get builtin_names number))) contents b m a given.told given.quiet runs.trees.kept said;
+  }
+  ends _ (rows_of_runs.uncounted other files m runs devices said) = record {
+    line = uncounted_line;
+    ends = law.uncounted devices;
+    said = line_said uncounted_line contents b m a given.told given.quiet runs.trees.kept said;
   }
 
 -- ## The law

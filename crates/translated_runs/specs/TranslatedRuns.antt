@@ -24,7 +24,7 @@ use Rattle.f2c_outside.specs.Meaning.{Tells, units_of}
 use Rattle.source_files.specs.SourceOnShelf.{files_on, HasPlaces}
 use Rattle.c_sources.specs.CTexts.{most_bytes}
 use Rattle.outcomes.specs.Lines.{no_memory_line}
-use Rattle.run_messages.specs.RunLines.{link_line, io_line, range_line, stop_line, device_line, not_built_line}
+use Rattle.run_messages.specs.RunLines.{link_line, io_line, range_line, stop_line, device_line, not_built_line, uncounted_line}
 use Rattle.run_words.specs.declared.request.RunRequest.{RunRequest}
 use Rattle.run_words.specs.RunWords.{run_of}
 use Rattle.unit_library.specs.Functions.{is_lacked}
@@ -71,6 +71,8 @@ pub data EndsWith (trees : List CFile) (ending : Ending) (left : Units) (rows ro
   -- a function of the library was called that is not built
   not_built : (number : ℕ) → is_lacked number ≡ true → NoDeviceFailed rows rows'
       → EndsWith trees ending left rows rows' (not_built_line (name_shown (slice_get builtin_names number))) 14
+  -- a call of the library was to count more than 64 bits tell
+  uncounted : NoDeviceFailed rows rows' → EndsWith trees ending left rows rows' uncounted_line 15
 
 -- it ended so, and the shelf holds what it held, with what was said on Fault besides
 pub record RunEndsAlike (trees : List CFile) (ending : Ending) (left : Units) (rows rows' : List Row) (contents : Contents) (after : ShelfState) (status : ℕ)

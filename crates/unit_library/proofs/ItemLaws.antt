@@ -80,7 +80,8 @@ items-meaning objects arguments output output' old new (Err (Ended number)) on u
 }
 items-meaning objects arguments output output' old new (Err (Device unit)) on units (Some transfer) standing = tt
 
-same-rows : (old new : List Row) → new ≡ old → NoneFailed old new
+-- no device fails where the rows stay
+pub same-rows : (old new : List Row) → new ≡ old → NoneFailed old new
 same-rows old new same = subst (λ (rows : List Row). NoneFailed old rows) (sym same) (none-failed old)
 
 items-called : (objects : List Object) (arguments : List CValue) (output output' : ListedOutput) (old new : List Row) (passage : Result Passage CallEnd) →
@@ -160,6 +161,7 @@ failing-at (Ok number) many length rest why fails is = counted (many number) len
 
 listed-layout : (held : TransferInProgress) (transfer : Transfer) → InProgress (Some held) (Some transfer) → transfer.layout ≡ Listed
 listed-layout (going.ListedOutput output) transfer stands = stands.layout
+listed-layout (going.ListedInput input) transfer stands = stands.layout
 listed-layout (going.InternalOutput output) transfer stands = stands.layout
 
 formatted-listed : (objects : List Object) (count first size : CValue) (why : CFault) (units : Units) (transfer : Transfer) → transfer.layout ≡ Listed →

@@ -8,4 +8,5 @@ pub mod UnitLaws
 pub mod TransferLaws
 pub mod ItemLaws
 pub mod InternalLaws
+pub mod InputLaws
 pub mod ReplyLaws

@@ -49,6 +49,7 @@ answered number values function call is before stands objects (Err (broken.Break
 }
 answered number values function call is before stands objects (Err (broken.Device unit)) answers = tt
 answered number values function call is before stands objects (Err broken.NotBuilt) answers = tt
+answered number values function call is before stands objects (Err broken.Uncounted) answers = tt
 
 lacked-as : (number : ℕ) (function : LibraryFunction) (signature : Option Signature) → Some (form_of function) ≡ option_map listed_form signature → is_built (builtin_of function) ≡ false →
     lacking signature ≡ true
@@ -64,6 +65,7 @@ lacked number function is (Ok given) built = tt
 lacked number function is (Err (broken.Break why)) built = tt
 lacked number function is (Err (broken.Device unit)) built = tt
 lacked number function is (Err broken.NotBuilt) built = lacked-as number function (slice_get signatures number) is built
+lacked number function is (Err broken.Uncounted) built = tt
 
 -- there is no function of the number
 pub none-answered : (number : ℕ) (values : List CValue) (why : CFault) → None ≡ option_map listed_form (slice_get signatures number) →

@@ -38,6 +38,7 @@ at-none objects units transfer rows standing =
 -- what is held of a transfer stands for one
 pub never-none : (held : TransferInProgress) → InProgress (Some held) None → ⊥
 never-none (going.ListedOutput output) stands = stands
+never-none (going.ListedInput input) stands = stands
 never-none (going.InternalOutput output) stands = stands
 
 inside-meaning : (builtin : Builtin) (arguments : List CValue) (objects : List Object) (held : TransferInProgress) (rows : List Row) (why : CFault) →

@@ -19,7 +19,8 @@ use Rattle.unit_library.specs.Functions.{is_built}
 use Rattle.unit_library.specs.Replies.{CallResult}
 use Rattle.unit_library.specs.Transfers.{Standing}
 
--- a call in a world replies what its function gives; where a device failed nothing is said of it
+-- a call in a world replies what its function gives; where a device failed, or 64 bits do not tell what is to be counted, nothing is said
+-- of it
 abbrev pub AnswersCall : Builtin → List CValue → World → (Units → Option Transfer → Type 0) → List Object → CallResult → Type 0
 AnswersCall builtin arguments before stands objects (Ok given) =
     StandsIn stands objects (λ behind. library builtin before arguments ≡ Ok (reply_of ending_of behind given))
@@ -27,6 +28,7 @@ AnswersCall builtin arguments before stands objects (Err (broken.Break why)) =
     StandsIn stands objects (λ behind. library builtin before arguments ≡ Err (break_of why))
 AnswersCall builtin arguments before stands objects (Err (broken.Device unit)) = Unit {0}
 AnswersCall builtin arguments before stands objects (Err broken.NotBuilt) = Unit {0}
+AnswersCall builtin arguments before stands objects (Err broken.Uncounted) = Unit {0}
 
 -- a function that the library lacks is not answered, and no other
 abbrev pub IsLacked : Builtin → CallResult → Type 0
@@ -34,6 +36,7 @@ IsLacked builtin (Ok given) = Unit {0}
 IsLacked builtin (Err (broken.Break why)) = Unit {0}
 IsLacked builtin (Err (broken.Device unit)) = Unit {0}
 IsLacked builtin (Err broken.NotBuilt) = is_built builtin ≡ false
+IsLacked builtin (Err broken.Uncounted) = Unit {0}
 
 -- the device of a unit failed, and no other, or none did
 abbrev pub DevicesTold : List Row → List Row → CallResult → Type 0
@@ -41,6 +44,7 @@ DevicesTold old new (Ok given) = NoneFailed old new
 DevicesTold old new (Err (broken.Break why)) = NoneFailed old new
 DevicesTold old new (Err (broken.Device unit)) = FailedOn unit old new
 DevicesTold old new (Err broken.NotBuilt) = NoneFailed old new
+DevicesTold old new (Err broken.Uncounted) = NoneFailed old new
 
 -- a call of a function: for all units and transfers for which the library stood it replies what its meaning gives; a device fails where
 -- it is answered, and nowhere else; and the objects keep their forms

@@ -3,6 +3,7 @@ pub mod Arguments
 pub mod Endings
 pub mod Transfers
 pub mod Replies
+pub mod Inputs
 pub mod Calls
 pub mod Items
 pub mod Held

@@ -11,6 +11,7 @@ use Rattle.listed_output.specs.declared.calls.Start.TheVariants.{Begins, Answers
 use Rattle.listed_output.specs.declared.calls.Passage.{Passage}
 use Rattle.listed_output.specs.declared.calls.Passage.TheVariants.{GoesOn, Over}
 use Rattle.listed_output.specs.Transferring as on_unit
+use Rattle.listed_input.specs.Transferring as from_unit
 use Rattle.internal_output.specs.Transferring as in_file
 use Rattle.unit_library.specs.declared.transfers.TransferInProgress.{TransferInProgress}
 use Rattle.unit_library.specs.declared.transfers.TransferInProgress.TheVariants as going
@@ -20,6 +21,8 @@ abbrev pub InProgress : Option TransferInProgress → Option Transfer → Type 0
 InProgress None transfer = transfer ≡ None
 InProgress (Some (going.ListedOutput output)) None = ⊥
 InProgress (Some (going.ListedOutput output)) (Some transfer) = on_unit.StandsFor output transfer
+InProgress (Some (going.ListedInput input)) None = ⊥
+InProgress (Some (going.ListedInput input)) (Some transfer) = from_unit.StandsFor input transfer
 InProgress (Some (going.InternalOutput output)) None = ⊥
 InProgress (Some (going.InternalOutput output)) (Some transfer) = in_file.StandsFor output transfer
 

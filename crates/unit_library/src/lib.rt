@@ -1,6 +1,6 @@
 //! The functions of the library over a table of external units (CSTR 149, appendix on the run time library): texts and numbers, STOP and
-//! the report of a place outside its bounds, OPEN, CLOSE, BACKSPACE, REWIND and ENDFILE, and list-directed output on a unit and on an
-//! internal file.
+//! the report of a place outside its bounds, OPEN, CLOSE, BACKSPACE, REWIND and ENDFILE, list-directed input and output on a unit, and
+//! list-directed output on an internal file.
 //!
 //! A call takes no memory. Of the transfers the others cannot begin yet; what their items and their ends answer where none is in progress,
 //! or one of another kind, is answered as it is.
@@ -14,6 +14,7 @@ mod calls;
 mod copies;
 mod endings;
 mod functions;
+mod input;
 mod internal;
 mod library;
 mod listed;

@@ -1,4 +1,4 @@
-//! The calls of transfers (ANSI X3.9-1978, 12.8 and 13.6.2).
+//! The calls of transfers (ANSI X3.9-1978, 12.8 and 13.6).
 
 ghost use Rattle.std.specs.Prelude.{◌≡◌, List, [], length};
 ghost use Rattle.c_tree.specs.Faults.{failing};
@@ -15,6 +15,7 @@ ghost use Rattle.unit_library.specs.Items.{formatted_fault};
 use crate::arguments::argument;
 use crate::endings::RunEnding;
 use crate::functions::TransferType;
+use crate::input::{begin_input, finish_in_input, read_listed};
 use crate::internal::{begin_internal, finish_in_internal, put_internal};
 use crate::replies::{broken, ended, passed, started};
 use crate::transfers::{TransferInProgress, behind_items, behind_start};
@@ -47,14 +48,15 @@ fn begin_first(
     which: TransferType,
     values: &[CValue],
     run: &RunBytes,
-    units: &UnitTable,
+    units: &mut UnitTable,
     transfer: &mut Option<TransferInProgress>,
 ) -> Result<LibraryReply<RunEnding>, CallBreak>
     requires { transfer.old ≡ None }
-    ensures { Calls (builtin.Begin (kind_of which)) (front 1 0 values.now) run.now run.now transfer.old transfer.new (rows_of (λ b. (⟦<dyn Device as Device>⟧ b.vtable).device_state b.value) units.now) (rows_of (λ b. (⟦<dyn Device as Device>⟧ b.vtable).device_state b.value) units.now) result }
+    ensures { Calls (builtin.Begin (kind_of which)) (front 1 0 values.now) run.now run.now transfer.old transfer.new (rows_of (λ b. (⟦<dyn Device as Device>⟧ b.vtable).device_state b.value) units.old) (rows_of (λ b. (⟦<dyn Device as Device>⟧ b.vtable).device_state b.value) units.new) result }
 {
     match which {
         TransferType::ListedOutput => begin_listed(values, run, units, transfer),
+        TransferType::ListedInput => begin_input(values, run, units, transfer),
         TransferType::InternalListedOutput => begin_internal(values, run, transfer),
         _ => Err(CallBreak::NotBuilt),
     }
@@ -65,11 +67,11 @@ pub(crate) fn begin(
     which: TransferType,
     values: &[CValue],
     run: &RunBytes,
-    units: &UnitTable,
+    units: &mut UnitTable,
     transfer: &mut Option<TransferInProgress>,
 ) -> Result<LibraryReply<RunEnding>, CallBreak>
     requires { Unit {0} }
-    ensures { Calls (builtin.Begin (kind_of which)) (front 1 0 values.now) run.now run.now transfer.old transfer.new (rows_of (λ b. (⟦<dyn Device as Device>⟧ b.vtable).device_state b.value) units.now) (rows_of (λ b. (⟦<dyn Device as Device>⟧ b.vtable).device_state b.value) units.now) result }
+    ensures { Calls (builtin.Begin (kind_of which)) (front 1 0 values.now) run.now run.now transfer.old transfer.new (rows_of (λ b. (⟦<dyn Device as Device>⟧ b.vtable).device_state b.value) units.old) (rows_of (λ b. (⟦<dyn Device as Device>⟧ b.vtable).device_state b.value) units.new) result }
 {
     match *transfer {
         None => begin_first(which, values, run, units, transfer),
@@ -117,6 +119,9 @@ pub(crate) fn listed_items(
         None => broken(CFault::Library),
         Some(TransferInProgress::ListedOutput(output)) => {
             put_listed(values, run, units, output, transfer)
+        }
+        Some(TransferInProgress::ListedInput(input)) => {
+            read_listed(values, run, units, input, transfer)
         }
         Some(TransferInProgress::InternalOutput(output)) => {
             put_internal(values, run, buffer, output, transfer)
@@ -200,6 +205,7 @@ pub(crate) fn finish(
         Some(TransferInProgress::ListedOutput(output)) => {
             finish_in_listed(which, units, output, transfer)
         }
+        Some(TransferInProgress::ListedInput(input)) => finish_in_input(which, input, transfer),
         Some(TransferInProgress::InternalOutput(output)) => {
             finish_in_internal(which, run, output, transfer)
         }

@@ -37,7 +37,7 @@ pub(crate) fn done(answer: Result<(), CFault>) -> Result<LibraryReply<RunEnding>
 }
 
 /// A call that ended without a number for its caller.
-fn cut(end: CallEnd) -> Result<LibraryReply<RunEnding>, CallBreak>
+pub(crate) fn cut(end: CallEnd) -> Result<LibraryReply<RunEnding>, CallBreak>
     ensures { result ≡ cut_by end }
 {
     match end {

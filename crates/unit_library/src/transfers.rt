@@ -4,6 +4,7 @@ ghost use Rattle.std.specs.Prelude.{◌≡◌};
 ghost use Rattle.unit_library.specs.Transfers.{behind_items, behind_start};
 
 use internal_output::InternalOutput;
+use listed_input::ListedInput;
 use listed_output::{ListedOutput, Passage, Start};
 use unit_answers::CallEnd;
 
@@ -12,6 +13,8 @@ use unit_answers::CallEnd;
 pub(crate) enum TransferInProgress {
     /// List-directed output on a unit.
     ListedOutput(ListedOutput),
+    /// List-directed input on a unit.
+    ListedInput(ListedInput),
     /// List-directed output on an internal file.
     InternalOutput(InternalOutput),
 }

@@ -24,8 +24,8 @@ use unit_library::{RunEnding, UnitLibrary};
 /// Runs a program from its main program on, so many steps, or until it is over, with the functions of the library over a table of external
 /// units. Its objects hold what they start with, and no text among them is longer than the library has room for. The buffer has room for
 /// the arguments of each call. The run is that of the definitions for the units that the table stands for, where the devices tell their
-/// records and no transfer is in progress, unless the device of a unit fails or a function is called that the library lacks. An error where
-/// memory ran out, before the first step.
+/// records and no transfer is in progress, unless the device of a unit fails, a function is called that the library lacks, or a call is to
+/// count more than 64 bits tell. An error where memory ran out, before the first step.
 ///
 /// # Errors
 /// Where the main program does not begin, that is where there is none or it has parameters: why.

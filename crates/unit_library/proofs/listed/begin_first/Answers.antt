@@ -7,4 +7,4 @@ returns-in-InternalListedOutput g c =
     begin-which c.args.which _ c.args.run.now c.args.transfer.now c.begin_internal.new.transfer _ c.begin_internal.result c.in-InternalListedOutput.is (c.begin_internal.ensures _)
 
 pub returns-in_default : goal.returns-in_default
-returns-in_default g c = begin-lacked c.args.which _ c.args.run.now _ _ (not-begun c.args.which c.in_default.not-ListedOutput c.in_default.not-InternalListedOutput)
+returns-in_default g c = begin-lacked c.args.which _ c.args.run.now _ _ (not-begun c.args.which c.in_default.not-ListedOutput c.in_default.not-ListedInput c.in_default.not-InternalListedOutput)

@@ -10,5 +10,8 @@ returns-in-None g c =
 pub returns-in-Some-ListedOutput : goal.returns-in-Some-ListedOutput
 returns-in-Some-ListedOutput g c = c.finish_in_listed.ensures c.args.run.now
 
+pub returns-in-Some-ListedInput : goal.returns-in-Some-ListedInput
+returns-in-Some-ListedInput g c = c.finish_in_input.ensures c.args.run.now _
+
 pub returns-in-Some-InternalOutput : goal.returns-in-Some-InternalOutput
 returns-in-Some-InternalOutput g c = c.finish_in_internal.ensures _
