@@ -24,6 +24,7 @@ use Rattle.listed_output.specs.declared.calls.ListedOutput.{ListedOutput}
 use Rattle.listed_output.specs.declared.calls.Passage.{Passage}
 use Rattle.listed_output.specs.declared.calls.Passage.TheVariants.{GoesOn, Over}
 use Rattle.listed_output.specs.Transferring.{AnswersItems}
+use Rattle.unit_library.specs.declared.formatted_in_progress.FormattedInProgress.{FormattedInProgress}
 use Rattle.unit_library.specs.declared.transfers.TransferInProgress.{TransferInProgress}
 use Rattle.unit_library.specs.declared.transfers.TransferInProgress.TheVariants as going
 use Rattle.unit_library.specs.Transfers.{InProgress, Standing, behind_items}
@@ -139,11 +140,11 @@ format-outside arguments' objects count first size result same is rows =
     arguments-same do_fio (count ∷ first ∷ size ∷ []) arguments' objects objects None None rows rows (broken_by fault.Library) result same is
     (outside do_fio (count ∷ first ∷ size ∷ []) objects rows fault.Library (formatted-outside objects count first size))
 
-abbrev erring : (A : Type 0) → Break → Or A
+abbrev pub erring : (A : Type 0) → Break → Or A
 erring A reason = Err reason
 
 -- the same fault in the place of another value
-same-fault : (A B : Type 0) (reason : Break) (why : CFault) → erring A reason ≡ failing why → erring B reason ≡ failing why
+pub same-fault : (A B : Type 0) (reason : Break) (why : CFault) → erring A reason ≡ failing why → erring B reason ≡ failing why
 same-fault A B reason why is =
     let same : reason ≡ Faults why = cc in ap (λ (r : Break). erring B r) same
 
@@ -159,10 +160,15 @@ failing-at (Ok number) many length rest why fails is = counted (many number) len
     counted (Ok count) (Err reason) is = same-fault (Unit {0}) Reply reason why is
     counted (Ok count) (Ok size) is = fails count size ∙ same-fault (Unit {0}) Reply (Faults fault.Library) why is
 
-listed-layout : (held : TransferInProgress) (transfer : Transfer) → InProgress (Some held) (Some transfer) → transfer.layout ≡ Listed
-listed-layout (going.ListedOutput output) transfer stands = stands.layout
-listed-layout (going.ListedInput input) transfer stands = stands.layout
-listed-layout (going.InternalOutput output) transfer stands = stands.layout
+-- no formatted output is in progress
+abbrev NoFormat : TransferInProgress → Type 0
+NoFormat held = (output : FormattedInProgress) → held ≡ going.FormattedOutput output → ⊥
+
+listed-layout : (held : TransferInProgress) (transfer : Transfer) → NoFormat held → InProgress (Some held) (Some transfer) → transfer.layout ≡ Listed
+listed-layout (going.ListedOutput output) transfer other stands = stands.layout
+listed-layout (going.ListedInput input) transfer other stands = stands.layout
+listed-layout (going.InternalOutput output) transfer other stands = stands.layout
+listed-layout (going.FormattedOutput output) transfer other stands = absurd (other output refl)
 
 formatted-listed : (objects : List Object) (count first size : CValue) (why : CFault) (units : Units) (transfer : Transfer) → transfer.layout ≡ Listed →
     formatted_fault objects count size ≡ failing why → library do_fio (world_of objects units (Some transfer)) (count ∷ first ∷ size ∷ []) ≡ failing why
@@ -171,24 +177,24 @@ formatted-listed objects count first size why units transfer listed is =
     failing-at (number_through objects count) count_from (length_from size) (λ many length. formatted_by transfer.layout length many first transfer (world_of objects units (Some transfer))) why
     (λ many length. ap (λ (layout : Layout). formatted_by layout length many first transfer (world_of objects units (Some transfer))) listed) is
 
-format-meaning : (objects : List Object) (count first size : CValue) (why : CFault) (held : TransferInProgress) (rows : List Row) → formatted_fault objects count size ≡ failing why →
+format-meaning : (objects : List Object) (count first size : CValue) (why : CFault) (held : TransferInProgress) (rows : List Row) → NoFormat held → formatted_fault objects count size ≡ failing why →
     (units : Units) (transfer : Option Transfer) → Standing rows (Some held) units transfer →
     AnswersCall do_fio (count ∷ first ∷ size ∷ []) (world_of objects units transfer) (Standing rows (Some held)) objects (broken_by why)
-format-meaning objects count first size why held rows is units (Some transfer) standing = record {
+format-meaning objects count first size why held rows other is units (Some transfer) standing = record {
   units = units;
   transfer = Some transfer;
   stood = standing;
-  holds = formatted-listed objects count first size why units transfer (listed-layout held transfer standing.in_progress) is;
+  holds = formatted-listed objects count first size why units transfer (listed-layout held transfer other standing.in_progress) is;
 }
-format-meaning objects count first size why held rows is units None standing = absurd (never-none held standing.in_progress)
+format-meaning objects count first size why held rows other is units None standing = absurd (never-none held standing.in_progress)
 
 pub format-inside : (arguments' : List CValue) (objects : List Object) (count first size : CValue) (why : CFault) (held : TransferInProgress) (result : CallResult) →
-    count ∷ first ∷ size ∷ [] ≡ arguments' → result ≡ broken_by why → formatted_fault objects count size ≡ failing why → (rows : List Row) →
+    count ∷ first ∷ size ∷ [] ≡ arguments' → result ≡ broken_by why → NoFormat held → formatted_fault objects count size ≡ failing why → (rows : List Row) →
     Calls do_fio arguments' objects objects (Some held) (Some held) rows rows result
-format-inside arguments' objects count first size why held result same is faulty rows =
+format-inside arguments' objects count first size why held result same is other faulty rows =
     arguments-same do_fio (count ∷ first ∷ size ∷ []) arguments' objects objects (Some held) (Some held) rows rows (broken_by why) result same is
     (record {
-      meaning = format-meaning objects count first size why held rows faulty;
+      meaning = format-meaning objects count first size why held rows other faulty;
       built = tt;
       devices = none-failed rows;
       forms = same-objects objects;

@@ -9,4 +9,5 @@ pub mod TransferLaws
 pub mod ItemLaws
 pub mod InternalLaws
 pub mod InputLaws
+pub mod FormattedLaws
 pub mod ReplyLaws

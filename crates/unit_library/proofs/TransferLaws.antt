@@ -66,15 +66,15 @@ begin-lacked which arguments' objects held rows lacked = record {
   forms = same-objects objects;
 }
 
-pub not-begun : (which : TransferType) → (which ≡ moved.ListedOutput → ⊥) → (which ≡ moved.ListedInput → ⊥) → (which ≡ moved.InternalListedOutput → ⊥) → is_built (Begin (kind_of which)) ≡ false
-not-begun moved.FormattedOutput on_unit from_unit in_file = refl
-not-begun moved.FormattedInput on_unit from_unit in_file = refl
-not-begun moved.ListedOutput on_unit from_unit in_file = absurd (on_unit refl)
-not-begun moved.ListedInput on_unit from_unit in_file = absurd (from_unit refl)
-not-begun moved.InternalFormattedOutput on_unit from_unit in_file = refl
-not-begun moved.InternalFormattedInput on_unit from_unit in_file = refl
-not-begun moved.InternalListedOutput on_unit from_unit in_file = absurd (in_file refl)
-not-begun moved.InternalListedInput on_unit from_unit in_file = refl
+pub not-begun : (which : TransferType) → (which ≡ moved.ListedOutput → ⊥) → (which ≡ moved.ListedInput → ⊥) → (which ≡ moved.InternalListedOutput → ⊥) → (which ≡ moved.FormattedOutput → ⊥) → is_built (Begin (kind_of which)) ≡ false
+not-begun moved.FormattedOutput on_unit from_unit in_file under_format = absurd (under_format refl)
+not-begun moved.FormattedInput on_unit from_unit in_file under_format = refl
+not-begun moved.ListedOutput on_unit from_unit in_file under_format = absurd (on_unit refl)
+not-begun moved.ListedInput on_unit from_unit in_file under_format = absurd (from_unit refl)
+not-begun moved.InternalFormattedOutput on_unit from_unit in_file under_format = refl
+not-begun moved.InternalFormattedInput on_unit from_unit in_file under_format = refl
+not-begun moved.InternalListedOutput on_unit from_unit in_file under_format = absurd (in_file refl)
+not-begun moved.InternalListedInput on_unit from_unit in_file under_format = refl
 
 start-called : (objects : List Object) (pointer : CValue) (rows : List Row) (start : Result Start CallEnd) → AnswersStart objects pointer rows start →
     Calls (Begin (kind_of moved.ListedOutput)) (pointer ∷ []) objects objects None (behind_start start) rows rows (started_by start)

@@ -40,6 +40,7 @@ pub never-none : (held : TransferInProgress) → InProgress (Some held) None →
 never-none (going.ListedOutput output) stands = stands
 never-none (going.ListedInput input) stands = stands
 never-none (going.InternalOutput output) stands = stands
+never-none (going.FormattedOutput held) stands = stands
 
 inside-meaning : (builtin : Builtin) (arguments : List CValue) (objects : List Object) (held : TransferInProgress) (rows : List Row) (why : CFault) →
     ((units : Units) → (transfer : Transfer) → library builtin (world_of objects units (Some transfer)) arguments ≡ failing why) →

@@ -91,11 +91,12 @@ form_of function = record { builtin = builtin_of function; count = argument_coun
 abbrev pub listed_form : Signature → Form
 listed_form signature = record { builtin = signature.builtin; count = length signature.takes }
 
--- of the transfers list-directed ones on a unit can begin, and list-directed output on an internal file
+-- of the transfers list-directed ones on a unit can begin, list-directed output on an internal file, and formatted output on a unit
 abbrev pub can_begin : Direction → Style → Site → Bool
 can_begin Output ByList OnUnit = true
 can_begin Input ByList OnUnit = true
 can_begin Output ByList InMemory = true
+can_begin Output ByFormat OnUnit = true
 can_begin direction style site = false
 
 -- whether the library has a function

@@ -4,6 +4,7 @@ pub mod Endings
 pub mod Transfers
 pub mod Replies
 pub mod Inputs
+pub mod Formatted
 pub mod Calls
 pub mod Items
 pub mod Held

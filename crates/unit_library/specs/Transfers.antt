@@ -13,6 +13,7 @@ use Rattle.listed_output.specs.declared.calls.Passage.TheVariants.{GoesOn, Over}
 use Rattle.listed_output.specs.Transferring as on_unit
 use Rattle.listed_input.specs.Transferring as from_unit
 use Rattle.internal_output.specs.Transferring as in_file
+use Rattle.formatted_output.specs.Transferring as under_format
 use Rattle.unit_library.specs.declared.transfers.TransferInProgress.{TransferInProgress}
 use Rattle.unit_library.specs.declared.transfers.TransferInProgress.TheVariants as going
 
@@ -25,6 +26,8 @@ InProgress (Some (going.ListedInput input)) None = ⊥
 InProgress (Some (going.ListedInput input)) (Some transfer) = from_unit.StandsFor input transfer
 InProgress (Some (going.InternalOutput output)) None = ⊥
 InProgress (Some (going.InternalOutput output)) (Some transfer) = in_file.StandsFor output transfer
+InProgress (Some (going.FormattedOutput held)) None = ⊥
+InProgress (Some (going.FormattedOutput held)) (Some transfer) = under_format.StandsFor held.format held.output transfer
 
 -- rows whose devices all tell their records, and a transfer, stand for these units and this transfer
 pub record Standing (rows : List Row) (held : Option TransferInProgress) (units : Units) (transfer : Option Transfer) : Type 0 where

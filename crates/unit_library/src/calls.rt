@@ -44,7 +44,7 @@ pub(crate) fn call_function(
         LibraryFunction::Range => range(values, run),
         LibraryFunction::Begin(which) => begin(which, values, run, units, transfer),
         LibraryFunction::Finish(which) => finish(which, run, units, transfer),
-        LibraryFunction::FormattedItems => formatted_items(values, run, *transfer),
+        LibraryFunction::FormattedItems => formatted_items(values, run, units, transfer),
         LibraryFunction::ListedItems => listed_items(values, run, units, transfer, buffer),
         LibraryFunction::Statement(which) => statement(which, values, run, units, *transfer),
     }

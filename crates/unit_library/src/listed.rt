@@ -4,7 +4,6 @@ ghost use Rattle.std.specs.Prelude.{◌≡◌, List, [], length};
 ghost use Rattle.c_tree.specs.Faults.{failing};
 ghost use Rattle.c_tree.specs.Objects.{Object};
 ghost use Rattle.c_tree.specs.Builtins as builtin;
-ghost use Rattle.f2c_outside.specs.Table.{Row};
 ghost use Rattle.f2c_outside.specs.Rows.{rows_of};
 ghost use Rattle.library_calls.specs.Room.{HasRoom};
 ghost use Rattle.unit_library.specs.Functions.{kind_of};
@@ -14,6 +13,7 @@ ghost use Rattle.unit_library.specs.Items.{formatted_fault};
 
 use crate::arguments::argument;
 use crate::endings::RunEnding;
+use crate::formatted::{begin_formatted, finish_in_formatted, listed_in_formatted, put_formatted};
 use crate::functions::TransferType;
 use crate::input::{begin_input, finish_in_input, read_listed};
 use crate::internal::{begin_internal, finish_in_internal, put_internal};
@@ -58,6 +58,7 @@ fn begin_first(
         TransferType::ListedOutput => begin_listed(values, run, units, transfer),
         TransferType::ListedInput => begin_input(values, run, units, transfer),
         TransferType::InternalListedOutput => begin_internal(values, run, transfer),
+        TransferType::FormattedOutput => begin_formatted(values, run, units, transfer),
         _ => Err(CallBreak::NotBuilt),
     }
 }
@@ -126,6 +127,9 @@ pub(crate) fn listed_items(
         Some(TransferInProgress::InternalOutput(output)) => {
             put_internal(values, run, buffer, output, transfer)
         }
+        Some(TransferInProgress::FormattedOutput(held)) => {
+            listed_in_formatted(values, run, held, transfer)
+        }
     }
 }
 
@@ -145,19 +149,26 @@ fn formatted_fault(run: &RunBytes, count: CValue, size: CValue) -> CFault
     }
 }
 
-/// Items under a format, in whose place there is a fault while no formatted transfer can begin.
+/// Items under a format. Outside every transfer they are the fault `Library`, and in one without a format there is a fault in their place.
 pub(crate) fn formatted_items(
     values: &[CValue],
     run: &RunBytes,
-    transfer: Option<TransferInProgress>,
+    units: &mut UnitTable,
+    transfer: &mut Option<TransferInProgress>,
 ) -> Result<LibraryReply<RunEnding>, CallBreak>
-    ensures { (rows : List Row) → Calls builtin.do_fio (front 3 0 values.now) run.now run.now transfer transfer rows rows result }
+    requires { Unit {0} }
+    ensures { Calls builtin.do_fio (front 3 0 values.now) run.now run.now transfer.old transfer.new (rows_of (λ b. (⟦<dyn Device as Device>⟧ b.vtable).device_state b.value) units.old) (rows_of (λ b. (⟦<dyn Device as Device>⟧ b.vtable).device_state b.value) units.new) result }
 {
     let count = argument(values, 0);
     let size = argument(values, 2);
-    match transfer {
+    match *transfer {
         None => broken(CFault::Library),
-        Some(_) => broken(formatted_fault(run, count, size)),
+        Some(going) => match going {
+            TransferInProgress::FormattedOutput(held) => {
+                put_formatted(values, run, units, held, transfer)
+            }
+            _ => broken(formatted_fault(run, count, size)),
+        },
     }
 }
 
@@ -208,6 +219,9 @@ pub(crate) fn finish(
         Some(TransferInProgress::ListedInput(input)) => finish_in_input(which, input, transfer),
         Some(TransferInProgress::InternalOutput(output)) => {
             finish_in_internal(which, run, output, transfer)
+        }
+        Some(TransferInProgress::FormattedOutput(held)) => {
+            finish_in_formatted(which, units, held, transfer)
         }
     }
 }

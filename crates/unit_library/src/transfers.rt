@@ -3,6 +3,7 @@
 ghost use Rattle.std.specs.Prelude.{◌≡◌};
 ghost use Rattle.unit_library.specs.Transfers.{behind_items, behind_start};
 
+use crate::formatted_in_progress::FormattedInProgress;
 use internal_output::InternalOutput;
 use listed_input::ListedInput;
 use listed_output::{ListedOutput, Passage, Start};
@@ -17,6 +18,8 @@ pub(crate) enum TransferInProgress {
     ListedInput(ListedInput),
     /// List-directed output on an internal file.
     InternalOutput(InternalOutput),
+    /// Formatted output on a unit.
+    FormattedOutput(FormattedInProgress),
 }
 
 /// The transfer in progress behind a start.

@@ -30,7 +30,7 @@ pub returns-in-Finish : goal.returns-in-Finish
 returns-in-Finish g c = function-as c.args.function (named.Finish c.in-Finish.which) c.args.values.now _ _ _ _ _ _ _ c.in-Finish.is c.finish.ensures
 
 pub returns-in-FormattedItems : goal.returns-in-FormattedItems
-returns-in-FormattedItems g c = function-as c.args.function named.FormattedItems c.args.values.now _ _ _ _ _ _ _ c.in-FormattedItems.is (c.formatted_items.ensures _)
+returns-in-FormattedItems g c = function-as c.args.function named.FormattedItems c.args.values.now _ _ _ _ _ _ _ c.in-FormattedItems.is c.formatted_items.ensures
 
 pub returns-in-ListedItems : goal.returns-in-ListedItems
 returns-in-ListedItems g c = function-as c.args.function named.ListedItems c.args.values.now _ _ _ _ _ _ _ c.in-ListedItems.is c.listed_items.ensures

@@ -15,3 +15,6 @@ returns-in-Some-ListedInput g c = c.finish_in_input.ensures c.args.run.now _
 
 pub returns-in-Some-InternalOutput : goal.returns-in-Some-InternalOutput
 returns-in-Some-InternalOutput g c = c.finish_in_internal.ensures _
+
+pub returns-in-Some-FormattedOutput : goal.returns-in-Some-FormattedOutput
+returns-in-Some-FormattedOutput g c = c.finish_in_formatted.ensures c.args.run.now

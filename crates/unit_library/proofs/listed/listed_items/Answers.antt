@@ -12,3 +12,6 @@ returns-in-None g c =
 
 pub returns-in-Some-InternalOutput : goal.returns-in-Some-InternalOutput
 returns-in-Some-InternalOutput g c = c.put_internal.ensures _
+
+pub returns-in-Some-FormattedOutput : goal.returns-in-Some-FormattedOutput
+returns-in-Some-FormattedOutput g c = c.listed_in_formatted.ensures _
