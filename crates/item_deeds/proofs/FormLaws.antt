@@ -10,7 +10,7 @@ use Rattle.c_tree.specs.declared.outcome.CFault.{CFault}
 use Rattle.c_tree.specs.declared.outcome.CFault.TheVariants.{Outside, Kind}
 use Rattle.c_tree.specs.Faults.{Or, after, failing}
 use Rattle.c_tree.specs.Access.{Access, ToNumber, ToChar, ToByte, ToList, ToField, ToPointer, ToFunction, ToNothing}
-use Rattle.c_tree.specs.Objects.{Object, Bytes, Values, Held, Place, overlaid, with_bytes, with_number, with_byte, with_value, put_bytes, put_object, holds, converted, store_through, stored, bytes_of_number}
+use Rattle.c_tree.specs.Objects.{Object, Bytes, Values, Held, Place, overlaid, with_bytes, with_value, put_bytes, put_object, holds, converted, store_through, stored, bytes_of_number}
 use Rattle.c_tree.specs.Declarations.{unset, unset_values}
 use Rattle.run_bytes.specs.Layout.{Stores, unset_object}
 use Rattle.item_deeds.specs.Forms.{forms, SameForms}

@@ -1,5 +1,5 @@
 -- What a view and a deed of the code stand for in the meaning of C texts (C89, 3.3.2.2 and 3.6).
-use Rattle.std.specs.Prelude.{◌≡◌, ℕ, ◌≤◌, ℤ, List, length, take, Option, Result, Ok, Err, slice_get, if◌then◌else◌}
+use Rattle.std.specs.Prelude.{◌≡◌, ℕ, ◌≤◌, ℤ, Bool, true, false, List, length, take, Option, Some, None, Result, Ok, Err, slice_get, if◌then◌else◌}
 use Rattle.c_tree.specs.simulation.Machine.{Goes, Calls, Answers, Breaks}
 use Rattle.c_tree.specs.run_state.Units.{Units}
 use Rattle.c_tree.specs.declared.outcome.CValue.{CValue}
@@ -77,3 +77,13 @@ selected view world value cases otherwise =
 unfoldable pub returned : ResultType → World → Term → Happening
 returned type world term =
     given_that (value_of world.objects term) λ value. given_that (given_by type value) λ answer. Answers world answer
+
+-- what holds where a thing is done, and where it is not
+abbrev pub IfDone : Bool → Type 0 → Type 0 → Type 0
+IfDone true done undone = done
+IfDone false done undone = undone
+
+-- what holds of what is found, and where nothing is
+abbrev pub IfFound : Option ℕ → (ℕ → Type 0) → Type 0 → Type 0
+IfFound None found none = none
+IfFound (Some number) found none = found number

@@ -3,12 +3,17 @@
 ghost use Rattle.std.specs.Prelude.{◌≡◌, ◌≤◌, ◌<◌, IfOk, ◌+◌, ◌^◌, List, Option, map, length};
 ghost use Rattle.c_tree.specs.run_state.Units.{Units};
 ghost use Rattle.c_tree.specs.Linking as linking;
+ghost use Rattle.c_tree.specs.Objects as objects;
 ghost use Rattle.c_tree.specs.Steps as steps;
+ghost use Rattle.c_tree.specs.Steps.{View};
+ghost use Rattle.c_tree.specs.simulation.Machine.{Goes};
 ghost use Rattle.c_tree.specs.World.{Transfer};
 ghost use Rattle.run_bytes.specs.Answers.{answered};
+ghost use Rattle.run_bytes.specs.Layout.{Stores};
 ghost use Rattle.linked_terms.specs.LinkedTerms.{term_of};
 ghost use Rattle.linked_terms.specs.LinkedItems.{case_of, flat_of};
-ghost use Rattle.item_deeds.specs.Deeds.{view_of, world_of, IsTold, happening, happening_or, going, answering, branched, selected, returned, argument_count};
+ghost use Rattle.term_values.specs.Finds.{place_of_numbers};
+ghost use Rattle.item_deeds.specs.Deeds.{IfDone, IfFound, view_of, world_of, IsTold, happening, happening_or, going, answering, branched, selected, returned, argument_count};
 ghost use Rattle.item_deeds.specs.Forms.{SameForms};
 
 use crate::calls::invoked;
@@ -17,7 +22,7 @@ use c_tree::outcome::{CFault, CValue};
 use c_tree::types::ResultType;
 use linked_terms::{LinkedCase, LinkedItem, LinkedTerm};
 use run_bytes::RunBytes;
-use term_values::{number_of, place_named, test_of, value_of};
+use term_values::{NumberPlace, number_of, number_place, place_named, test_of, value_of};
 
 /// What a flat item does.
 #[derive(Clone, Copy, Debug, PartialEq, Eq)]
@@ -50,6 +55,17 @@ pub enum Deed {
     Breaks(CFault),
 }
 
+/// A store at a place of numbers.
+#[tactic(auto, unfolding(c_tree::specs::Objects::stored))]
+fn put(run: &mut RunBytes, place: NumberPlace, value: CValue) -> Result<(), CFault>
+    ensures { Stores (λ all. objects.stored all (place_of_numbers place) value) run.old run.new result }
+{
+    match value {
+        CValue::Number(number) => run.put_number(place.object, place.offset, number),
+        _ => Err(CFault::Kind),
+    }
+}
+
 /// A store: its place, its value and the store, in this order.
 #[tactic(auto, using(crate::proofs::FormLaws::form_laws))]
 fn assigned(
@@ -63,9 +79,17 @@ fn assigned(
         steps.assigned (view_of view) (world_of run.old units transfer) (term_of target.now) (term_of value.now) ≡ going (world_of run.new units transfer) result }
     ensures forms { SameForms run.old run.new }
 {
-    let place = place_named(run, target)?;
-    let new = value_of(run, value)?;
-    run.store(place.at, place.access, new)?;
+    match number_place(run, target) {
+        Some(place) => {
+            let new = value_of(run, value)?;
+            put(run, place, new)?;
+        }
+        None => {
+            let place = place_named(run, target)?;
+            let new = value_of(run, value)?;
+            run.store(place.at, place.access, new)?;
+        }
+    }
     Ok(view.at(view.position + 1))
 }
 
@@ -144,6 +168,53 @@ fn returned(gives: ResultType, value: &LinkedTerm, run: &RunBytes) -> Result<Opt
 {
     let value = value_of(run, value)?;
     given_by(gives, value)
+}
+
+/// A store of a number at a place of numbers, where both are found by the short way. It answers whether it is done.
+#[tactic(auto, using(crate::proofs::FormLaws::form_laws))]
+fn numbers_assigned(target: &LinkedTerm, value: &LinkedTerm, run: &mut RunBytes) -> bool
+    ensures meaning { IfDone result ((view : View) → (units : Units) → (transfer : Option Transfer) →
+        steps.assigned view (world_of run.old units transfer) (term_of target.now) (term_of value.now) ≡ Goes (record view { position = view.position + 1 }) (world_of run.new units transfer)) (run.new ≡ run.old) }
+    ensures forms { SameForms run.old run.new }
+{
+    let Some(place) = number_place(run, target) else {
+        return false;
+    };
+    match value_of(run, value) {
+        Ok(new) => match put(run, place, new) {
+            Ok(()) => true,
+            Err(_) => false,
+        },
+        Err(_) => false,
+    }
+}
+
+/// The position at which a function goes on behind an item that calls nothing, where the short way finds it: then the item is done, and
+/// the view is the same but for its position. Else nothing is done, and `perform` tells what the item does.
+#[tactic(auto, using(crate::proofs::DeedLaws::deed_laws, crate::proofs::FormLaws::form_laws))]
+pub fn next_position(position: usize, item: &LinkedItem, run: &mut RunBytes) -> Option<usize>
+    requires { position + 1 < 2 ^ 64 }
+    ensures meaning { IfFound result (λ next. (function : linking.Function) → (view : View) → view.position ≡ position → (units : Units) → (transfer : Option Transfer) →
+        steps.deed function view (world_of run.old units transfer) (flat_of item.now) ≡ Goes (record view { position = next }) (world_of run.new units transfer)) (run.new ≡ run.old) }
+    ensures forms { SameForms run.old run.new }
+{
+    match item {
+        LinkedItem::Assign { target, value } => {
+            if numbers_assigned(target, value, run) {
+                Some(position + 1)
+            } else {
+                None
+            }
+        }
+        LinkedItem::Branch { test, on, off } => match test_of(run, test) {
+            Ok(true) => Some(*on),
+            Ok(false) => Some(*off),
+            Err(_) => None,
+        },
+        LinkedItem::Jump(next) => Some(*next),
+        LinkedItem::Nothing => Some(position + 1),
+        _ => None,
+    }
 }
 
 /// What an item does, or its fault.

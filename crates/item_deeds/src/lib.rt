@@ -7,5 +7,5 @@ mod calls;
 mod deeds;
 mod views;
 
-pub use deeds::{Deed, perform};
+pub use deeds::{Deed, next_position, perform};
 pub use views::{CallView, CallWants};

@@ -1,20 +1,22 @@
 -- What is read and stored at the place of one object.
-use Rattle.std.proofs.Common.{◌≡◌, ℕ, ◌+◌, ◌<◌, ◌≤◌, Bool, true, false, if◌then◌else◌, List, length, take, drop, replicate, Option, Some, None, refl, ap, sym, ◌∙◌, subst, arith, length-drop}
+use Rattle.std.proofs.Common.{◌≡◌, ℕ, ℤ, ◌+◌, ◌<◌, ◌≤◌, Bool, true, false, if◌then◌else◌, List, length, take, drop, replicate, Option, Some, None, refl, ap, sym, ◌∙◌, subst, arith, length-drop}
 use Rattle.std.specs.Prelude.{nat_le, slice_set, slice_get, Result, Ok, Err, OnOk, IfErr}
 use Rattle.std.proofs.lemmas.Bool.Decides.{nat_tests}
 use Rattle.std.proofs.lemmas.List.{length-take-le, length-replicate}
 use borrow.Rule.Slice.PartMut.{put_mid, put_same}
 use Rattle.c_tree.specs.declared.outcome.CValue.{CValue}
+use Rattle.c_tree.specs.declared.outcome.CValue.TheVariants.{Number}
 use Rattle.c_tree.specs.declared.outcome.CFault.{CFault}
 use Rattle.c_tree.specs.declared.outcome.CFault.TheVariants.{Outside, Kind}
-use Rattle.c_tree.specs.Faults.{Or, failing}
-use Rattle.c_tree.specs.Access.{Access}
-use Rattle.c_tree.specs.Objects.{Object, Bytes, Values, Held, holds, read_held, read_bytes, read_object, with_value, bytes_at, extent}
+use Rattle.c_tree.specs.Faults.{Or, after, failing}
+use Rattle.c_tree.specs.Access.{Access, ToNumber, ToChar, ToByte, ToList, ToField, ToPointer, ToFunction, ToNothing}
+use Rattle.c_tree.specs.Objects.{Object, Bytes, Values, Held, holds, read_held, read_bytes, read_object, with_value, bytes_at, number_at, plain, put_object, extent}
 use Rattle.c_tree.specs.LibraryArguments.{text_in}
 use Rattle.c_tree.specs.Declarations.{unset, unset_values}
 use Rattle.run_bytes.specs.declared.access.AccessType.{AccessType}
 use Rattle.run_bytes.specs.declared.places.StoredObject.{StoredObject}
 use Rattle.run_bytes.specs.declared.places.StoredObject.TheVariants as stored
+use Rattle.run_bytes.specs.Answers.{answered}
 use Rattle.run_bytes.specs.Accesses.{access_of}
 use Rattle.run_bytes.specs.Cells.{marked, Changes}
 use Rattle.run_bytes.specs.Layout.{part, object_in, IsInside, IsWithinBytes, IsWithinValues, Writes, unset_object}
@@ -132,6 +134,52 @@ value-read place access type offset start count n bytes marks values is size hel
     ap (λ k. read_held access (slice_get (take k (drop start values)) offset)) size
     ∙ sym (ap (λ test. if test then read_held access (slice_get (part start count values) offset) else failing Kind) held)
     ∙ ap (λ place. read_object access offset (Some (object_in (marked bytes marks) values place))) (sym is)
+
+-- the number that was read, as a value
+number-in : (result : Result ℤ CFault) (read : Or ℤ) → answered (λ number. number) result ≡ read →
+    answered (λ number. plain (Number number)) result ≡ after read (λ number. Ok (plain (Number number)))
+number-in (Ok number) read is = ap (λ read. after read (λ number. Ok (plain (Number number)))) is
+number-in (Err fault) read is = ap (λ read. after read (λ number. Ok (plain (Number number)))) is
+
+pub number-read : (place : StoredObject) (offset start count n : ℕ) (bytes : List ℕ) (marks : List Bool) (values : List (Option CValue)) (result : Result ℤ CFault) →
+    place ≡ stored.Bytes start count → n ≡ count → length marks ≡ length bytes →
+    answered (λ number. number) result ≡ number_at offset (marked (take n (drop start bytes)) (take n (drop start marks))) →
+    answered (λ number. plain (Number number)) result ≡ read_object ToNumber offset (Some (object_in (marked bytes marks) values place))
+number-read place offset start count n bytes marks values result is size same found =
+    number-in result (number_at offset (marked (take n (drop start bytes)) (take n (drop start marks)))) found
+    ∙ bytes-read place ToNumber offset start count n bytes marks values is size same
+
+-- no object of values holds numbers for an access to numbers
+no_numbers : (type : Access) → holds type ToNumber ≡ false
+no_numbers ToNumber = refl
+no_numbers ToChar = refl
+no_numbers ToByte = refl
+no_numbers (ToList l) = refl
+no_numbers (ToField k) = refl
+no_numbers (ToPointer ToNumber) = refl
+no_numbers (ToPointer ToChar) = refl
+no_numbers (ToPointer ToByte) = refl
+no_numbers (ToPointer (ToList l)) = refl
+no_numbers (ToPointer (ToField k)) = refl
+no_numbers (ToPointer (ToPointer t)) = refl
+no_numbers (ToPointer ToFunction) = refl
+no_numbers (ToPointer ToNothing) = refl
+no_numbers ToFunction = refl
+no_numbers ToNothing = refl
+
+pub number-held : (place : StoredObject) (offset start count : ℕ) (type : AccessType) (cells : List (Option ℕ)) (values : List (Option CValue)) →
+    place ≡ stored.Values start count type → failing Kind ≡ read_object ToNumber offset (Some (object_in cells values place))
+number-held place offset start count type cells values is =
+    sym (ap (λ place. read_object ToNumber offset (Some (object_in cells values place))) is
+    ∙ ap (λ test. if test then read_held ToNumber (slice_get (part start count values) offset) else failing Kind) (no_numbers (access_of type)))
+
+pub number-unstored : (place : StoredObject) (offset start count : ℕ) (value : CValue) (type : AccessType) (cells : List (Option ℕ)) (values : List (Option CValue)) →
+    place ≡ stored.Values start count type → put_object ToNumber offset value (Some (object_in cells values place)) ≡ failing Kind
+number-unstored place offset start count value type cells values is =
+    ap (λ place. put_object ToNumber offset value (Some (object_in cells values place))) is
+    ∙ ap (λ test. if test then with_value offset value (record { type = access_of type; values = part start count values }) else failing Kind) (no_numbers (access_of type))
+
+pub ruleset number_laws = (number-held, number-unstored)
 
 pub text-read : (place : StoredObject) (offset size start count n : ℕ) (bytes : List ℕ) (marks : List Bool) (values : List (Option CValue)) →
     place ≡ stored.Bytes start count → n ≡ count → length marks ≡ length bytes →

@@ -2,7 +2,9 @@
 
 ghost use Rattle.std.specs.Prelude.{◌≡◌, replicate, ℕ, Bool, List, Option, Some, Ok, ◌<◌, ◌≤◌, ◌^◌, length, option_map, slice_get, slice_set, OnOk, IfErr};
 ghost use Rattle.c_tree.specs.declared.outcome.CValue.{CValue};
+ghost use Rattle.c_tree.specs.declared.outcome.CValue.TheVariants.{Number};
 ghost use Rattle.c_tree.specs.declared.outcome.CFault.TheVariants.{Outside};
+ghost use Rattle.c_tree.specs.Access.{ToNumber};
 ghost use Rattle.c_tree.specs.Objects as objects;
 ghost use Rattle.c_tree.specs.LibraryArguments as arguments;
 ghost use Rattle.run_bytes.specs.Accesses.{access_of, typed_of};
@@ -134,6 +136,26 @@ pub(crate) fn read(
     }
 }
 
+/// The number at an offset of an object.
+#[tactic(auto, using(crate::proofs::PlaceLemmas::number_laws))]
+pub(crate) fn number(
+    place: StoredObject,
+    bytes: &[u8],
+    marks: &[bool],
+    offset: usize,
+) -> Result<i32, CFault>
+    requires same { length marks.now ≡ length bytes.now }
+    requires inside { IsWithinBytes place (length bytes.now) }
+    ensures { (values : List (Option CValue)) → answered (λ number. objects.plain (Number number)) result ≡ objects.read_object ToNumber offset (Some (object_in (marked bytes.now marks.now) values place)) }
+{
+    match place {
+        StoredObject::Bytes { from, len } => {
+            cells::number_at(&bytes[from..from + len], &marks[from..from + len], offset)
+        }
+        StoredObject::Values { .. } => Err(CFault::Kind),
+    }
+}
+
 /// Stores a value at an offset of an object.
 pub(crate) fn write(
     place: StoredObject,
@@ -163,6 +185,31 @@ pub(crate) fn write(
                 Err(CFault::Kind)
             }
         }
+    }
+}
+
+/// Stores a number at an offset of an object.
+#[tactic(auto, using(crate::proofs::PlaceLemmas::number_laws))]
+pub(crate) fn put_number(
+    place: StoredObject,
+    bytes: &mut [u8],
+    marks: &mut [bool],
+    offset: usize,
+    number: i32,
+) -> Result<(), CFault>
+    requires same { length marks.old ≡ length bytes.old }
+    requires inside { IsWithinBytes place (length bytes.old) }
+    ensures { (values : List (Option CValue)) → (value : CValue) → value ≡ Number number →
+        Writes (λ object. objects.put_object ToNumber offset value (Some object)) place bytes.old marks.old values bytes.new marks.new values result }
+{
+    match place {
+        StoredObject::Bytes { from, len } => cells::put_number(
+            &mut bytes[from..from + len],
+            &mut marks[from..from + len],
+            offset,
+            number,
+        ),
+        StoredObject::Values { .. } => Err(CFault::Kind),
     }
 }
 

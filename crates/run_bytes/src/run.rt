@@ -1,7 +1,8 @@
 //! The objects of a run (C89, 3.1.2.5 and 3.3.2).
 
 ghost use Rattle.std.specs.Prelude.{◌≡◌, ◌<◌, ◌^◌, Bool, List, Option, slice_get, option_map, map, length, IfOk, IfSome, OnOk};
-ghost use Rattle.c_tree.specs.declared.outcome.CValue.TheVariants.{Pointer};
+ghost use Rattle.c_tree.specs.declared.outcome.CValue.TheVariants.{Number, Pointer};
+ghost use Rattle.c_tree.specs.Access.{ToNumber};
 ghost use Rattle.c_tree.specs.Objects as objects;
 ghost use Rattle.c_tree.specs.LibraryArguments as arguments;
 ghost use Rattle.run_bytes.specs.Accesses.{access_of, typed_of, object_at_first};
@@ -98,6 +99,20 @@ impl RunBytes {
         }
     }
 
+    /// The number at an offset of an object: what `fetch` finds there for an access to numbers.
+    ///
+    /// # Errors
+    /// `Unset` where it was not set; `Outside` past the object, where there is none, and at an offset that is no multiple of four; `Kind`
+    /// for an object of values.
+    pub fn number_at(&self, object: usize, offset: usize) -> Result<i32, CFault>
+        ensures { answered (λ number. objects.plain (Number number)) result ≡ objects.read_object ToNumber offset (slice_get self.now object) }
+    {
+        match places::place_at(&self.places, object) {
+            Some(place) => places::number(place, &self.bytes, &self.marks, offset),
+            None => Err(CFault::Outside),
+        }
+    }
+
     /// Stores a value at an offset of an object as it is: no other form is made of it, as `store` does.
     ///
     /// # Errors
@@ -122,6 +137,21 @@ impl RunBytes {
                 access,
                 value,
             ),
+            None => Err(CFault::Outside),
+        }
+    }
+
+    /// Stores a number at an offset of an object, as `write` does for an access to numbers.
+    ///
+    /// # Errors
+    /// `Outside` past the object, where there is none, and at an offset that is no multiple of four; `Kind` for an object of values.
+    pub fn put_number(&mut self, object: usize, offset: usize, number: i32) -> Result<(), CFault>
+        ensures { Stores (λ all. objects.store_through all (Pointer object offset) ToNumber (Number number)) self.old self.new result }
+    {
+        match places::place_at(&self.places, object) {
+            Some(place) => {
+                places::put_number(place, &mut self.bytes, &mut self.marks, offset, number)
+            }
             None => Err(CFault::Outside),
         }
     }

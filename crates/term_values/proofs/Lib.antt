@@ -3,3 +3,4 @@ pub mod NumberLaws
 pub mod PointerLaws
 pub mod ListPlaces
 pub mod ValueLists
+pub mod DirectLaws

@@ -1,3 +1,4 @@
 pub mod Numbers
 pub mod NamedFields
 pub mod Within
+pub mod Finds

@@ -2,6 +2,7 @@
 //! (C89, 3.3). No call but `values_of` takes memory.
 #![tactic(auto)]
 
+mod direct;
 mod fields;
 mod numbers;
 mod operators;
@@ -9,4 +10,5 @@ mod pointers;
 mod terms;
 mod values;
 
+pub use direct::{NumberPlace, number_place};
 pub use values::{number_of, place_named, test_of, value_of, values_of};
