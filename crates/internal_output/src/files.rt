@@ -13,22 +13,22 @@ use unit_answers::{CallEnd, numbered};
 
 /// The records of an internal file, and how many of them are behind.
 #[derive(Clone, Copy)]
-pub(crate) struct FileRecords {
+pub struct FileRecords {
     /// The object in which the first record stands.
-    pub(crate) object: usize,
+    pub object: usize,
     /// Where the first record begins.
-    pub(crate) offset: usize,
+    pub offset: usize,
     /// The bytes of a record.
-    pub(crate) size: usize,
+    pub size: usize,
     /// How many records there are.
-    pub(crate) count: usize,
+    pub count: usize,
     /// How many of them are behind.
-    pub(crate) position: usize,
+    pub position: usize,
 }
 
 /// Why a record is not stored.
 #[derive(Clone, Copy)]
-pub(crate) enum RecordRefusal {
+pub enum RecordRefusal {
     /// The file is used up.
     UsedUp,
     /// The record is longer than those of the file.
@@ -38,7 +38,10 @@ pub(crate) enum RecordRefusal {
 }
 
 /// What a call answers whose record is not stored: -1 where the file is used up, and 5 where the record is too long.
-pub(crate) fn refused(refusal: RecordRefusal, on_error: i32, on_end: i32) -> Result<i32, CallEnd>
+///
+/// # Errors
+/// The fault of the file; the end of the run by that number, where the list of the start does not ask for it.
+pub fn refused(refusal: RecordRefusal, on_error: i32, on_end: i32) -> Result<i32, CallEnd>
     ensures { result ≡ refusal_answer refusal on_error on_end }
 {
     match refusal {
@@ -49,7 +52,7 @@ pub(crate) fn refused(refusal: RecordRefusal, on_error: i32, on_end: i32) -> Res
 }
 
 /// Where the next record of a file begins, if the offset has 64 bits.
-fn next_offset(file: FileRecords) -> Option<usize>
+pub fn next_offset(file: FileRecords) -> Option<usize>
     ensures { IsOffset result (file.offset + file.position * file.size) }
 {
     match file.position.checked_mul(file.size) {
@@ -156,7 +159,10 @@ fn put_fitted(
 }
 
 /// Stores the next record of a file, with blanks behind it up to the length of a record.
-pub(crate) fn write_record(
+///
+/// # Errors
+/// Why it is not stored; at a fault a part of it may stand in the file.
+pub fn write_record(
     file: &mut FileRecords,
     run: &mut RunBytes,
     record: &[u8],

@@ -27,7 +27,7 @@ fn item_bytes(run: &RunBytes, kind: ItemType, pointer: CValue, size: usize) -> R
 }
 
 /// Bytes behind those that stand at the front of a buffer.
-fn put_behind(buffer: &mut [u8], used: usize, bytes: &[u8])
+pub fn put_behind(buffer: &mut [u8], used: usize, bytes: &[u8])
     requires { used + length bytes.now ≤ length buffer.old }
     ensures { take (used + length bytes.now) buffer.new ≡ take used buffer.old ++ bytes.now }
 {

@@ -11,3 +11,5 @@ mod items;
 mod puts;
 
 pub use calls::{InternalOutput, do_lio, e_wsli, s_wsli};
+pub use files::{FileRecords, RecordRefusal, next_offset, refused, write_record};
+pub use items::put_behind;

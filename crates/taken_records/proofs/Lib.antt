@@ -1,0 +1,3 @@
+mod ColumnLaws
+mod BlankLaws
+mod FieldLaws
