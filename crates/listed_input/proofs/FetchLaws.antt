@@ -1,6 +1,6 @@
 -- What reading a record leaves of the records that come next.
 use Rattle.std.proofs.Common.{◌≡◌, ℕ, zero, suc, ◌+◌, ◌≤◌, ◌<◌, ℤ, pos, negsuc, Bool, true, false, List, [], ◌∷◌, ◌++◌, length, take, drop, Option, Some, None, refl, ap, sym, ◌∙◌, subst, arith}
-use Rattle.std.specs.Prelude.{Result, Ok, Err, IsErrOf, slice_get, nat_le, if◌then◌else◌}
+use Rattle.std.specs.Prelude.{Result, Ok, Err, IsErrOf, slice_get, nat_le, ◌||◌, if◌then◌else◌}
 use Rattle.std.specs.Ordering.{int_eq}
 use Rattle.std.proofs.lemmas.Bool.Decides.{Decides-int_eq, nat_tests}
 use Rattle.c_tree.specs.run_state.Units.{UnitState, Units, Reading, with_unit, read_at, read_unit}
@@ -10,15 +10,16 @@ use Rattle.run_state.specs.declared.refusals.UnitRefusal.{UnitRefusal}
 use Rattle.run_state.specs.declared.refusals.UnitRefusal.TheVariants as refusal
 use Rattle.f2c_outside.specs.declared.devices.Got.{Got}
 use Rattle.f2c_outside.specs.declared.devices.Got.TheVariants as got
-use Rattle.f2c_outside.specs.Table.{Row, Connects, AtUnit, OnUnit, ReadFrom}
+use Rattle.f2c_outside.specs.Device.{DeviceState}
+use Rattle.f2c_outside.specs.Table.{Row, Offers, Connects, Closed, is_connected, AtUnit, OnUnit, ReadFrom}
 use Rattle.f2c_outside.specs.Finishing.{OnDevice}
-use Rattle.f2c_outside.specs.Meaning.{Tells, units_of, MeansReading}
+use Rattle.f2c_outside.specs.Meaning.{Tells, unit_of, connected_in, units_of, MeansReading}
 use Rattle.unit_answers.specs.Failing.{Quiet, NoneFailed}
 use Rattle.unit_answers.proofs.FailureLaws.{each-on, on-there, quiet-same, not-raised, failed-on}
 use Rattle.listed_output.specs.Writing.{StaysAt, StayedOn}
 use Rattle.listed_output.proofs.RowLaws.{stays-there}
 use Rattle.listed_input.specs.declared.records.NextRecord.{NextRecord}
-use Rattle.listed_input.specs.Fetching.{coming, before_others, position_of, FetchesAs, FetchesFrom, IsWithin, fetched_by, Fetches}
+use Rattle.listed_input.specs.Fetching.{coming, before_others, position_of, FetchesAs, FetchesFrom, GoesFurther, IsWithin, fetched_by, Fetches}
 
 drop-next : (xs : List (List ℕ)) (i : ℕ) (x : List ℕ) → slice_get xs i ≡ Some x → drop i xs ≡ x ∷ drop (suc i) xs
 drop-next [] i x is = absurd (cc)
@@ -54,25 +55,6 @@ line-left unit units after line (Some state) is =
     drop-there state.records state.position line there
     ∙ ap (λ (rest : List (List ℕ)). line ∷ rest) (sym (left-behind unit units state line (slice_get state.records state.position) there))
     ∙ ap (λ (r : Reading). line ∷ records_left (r.after.connected unit)) same
-
--- the unit stands one record further
-position-by : (unit : ℤ) (units after : Units) (line : List ℕ) (found : Option UnitState) → units.connected unit ≡ found →
-    read_at unit found units ≡ Ok (record { found = Some line; after = after }) → position_of unit after ≡ suc (position_of unit units)
-position-by unit units after line None there is = absurd (cc)
-position-by unit units after line (Some state) there is =
-    let same : (let r : Reading = record { found = slice_get state.records state.position; after = with_unit unit (Some (states.behind (slice_get state.records state.position) state)) units } in r)
-    ≡ record { found = Some line; after = after } = cc in
-    let at_line : slice_get state.records state.position ≡ Some line = ap (λ (r : Reading). r.found) same in
-    sym (ap (λ (r : Reading). position_of unit r.after) same)
-    ∙ ap (λ (b : Bool). elim (if b then Some (states.behind (slice_get state.records state.position) state) else units.connected unit) [ None ↦ 0 | Some one ↦ one.position ]) (same_number unit)
-    ∙ ap (λ (one : Option (List ℕ)). (states.behind one state).position) at_line
-    ∙ (let next : state.position + 1 ≡ suc state.position = omega arith in next)
-    ∙ sym (ap (λ (one : Option UnitState). suc (elim one [ None ↦ 0 | Some s ↦ s.position ])) there)
-
-position-next : (unit : ℤ) (units after : Units) (line : List ℕ) → read_unit unit units ≡ Ok (record { found = Some line; after = after }) →
-    position_of unit after ≡ suc (position_of unit units)
-unfolding read_unit
-position-next unit units after line is = position-by unit units after line (units.connected unit) refl is
 
 none-left : (unit : ℤ) (units after : Units) (found : Option UnitState) → read_at unit found units ≡ Ok (record { found = None; after = after }) → records_left found ≡ []
 none-left unit units after None is = absurd (cc)
@@ -136,7 +118,6 @@ means-fetched unit b a old new (Ok (got.Line used)) size size' within on means =
           ∙ ap (λ (line : List ℕ). before_others line (coming unit (units_of a)))
           (sym (ap (take used) reads.holds.1 ∙ front reads.line (drop used old) used reads.holds.0)),
       read-on unit (units_of b) (record { found = Some reads.line; after = units_of a }) reads.is,
-      position-next unit (units_of b) (units_of a) reads.line reads.is,
     )
 means-fetched unit b a old new (Ok (got.Long size)) size_old size' within on means =
     let reads = means.done in
@@ -163,6 +144,47 @@ means-fetched unit b a old new (Err refusal.Failed) size size' within on means =
 read-there : (unit : ℤ) (b a : List Row) (old new : List ℕ) (result : Result Got UnitRefusal) → Reads unit b a old new result → (IsErrOf result refusal.NotConnected → ⊥) →
     AtUnit unit b a (λ d m d' m'. ReadFrom d m d' m' old new result)
 read-there unit b a old new result on there = on.found (on-there unit b a result (λ d m d' m'. ReadFrom d m d' m' old new result) on there)
+
+-- where a unit stands whose row is known
+connected-at : (unit : ℤ) (front back : List Row) (device : DeviceState) (m z : Bool) → is_connected unit (front ++ back) ≡ false →
+    connected_in (front ++ Connects unit device m z ∷ back) unit ≡ Some (unit_of device m z)
+connected-at unit [] back device m z alone =
+    ap (λ (b : Bool). if b then Some (unit_of device m z) else connected_in back unit) (same_number unit)
+connected-at unit (Offers name d ∷ front) back device m z alone = connected-at unit front back device m z alone
+connected-at unit (Closed ∷ front) back device m z alone = connected-at unit front back device m z alone
+connected-at unit (Connects own d n w ∷ front) back device m z alone = by (int_eq own unit) alone (connected-at unit front back device m z)
+  where
+    by : (here : Bool) → (here || is_connected unit (front ++ back)) ≡ false →
+        (is_connected unit (front ++ back) ≡ false → connected_in (front ++ Connects unit device m z ∷ back) unit ≡ Some (unit_of device m z)) →
+        (if here then Some (unit_of d n w) else connected_in (front ++ Connects unit device m z ∷ back) unit) ≡ Some (unit_of device m z)
+    by true none later = absurd (cc)
+    by false none later = later none
+
+position-at : (unit : ℤ) (rows front back : List Row) (device : DeviceState) (m z : Bool) → is_connected unit (front ++ back) ≡ false →
+    rows ≡ front ++ Connects unit device m z ∷ back → position_of unit (units_of rows) ≡ device.position
+position-at unit rows front back device m z alone is =
+    ap (λ (one : List Row). position_of unit (units_of one)) is
+    ∙ ap (λ (found : Option UnitState). elim found [ None ↦ 0 | Some state ↦ state.position ]) (connected-at unit front back device m z alone)
+
+further-reading : (unit : ℤ) (used : ℕ) (b a : List Row) (old new : List ℕ) → Reads unit b a old new (Ok (got.Line used)) →
+    position_of unit (units_of a) ≡ suc (position_of unit (units_of b))
+further-reading unit used b a old new on =
+    let at = read-there unit b a old new (Ok (got.Line used)) on (λ wrong. cc) in
+    let next : at.device'.position ≡ at.device.position + 1 = at.did.read.position in
+    position-at unit a at.front at.back at.device' at.end_mark' at.zero_blanks at.alone at.now
+    ∙ (let one : at.device'.position ≡ suc at.device.position = omega (arith, next) in one)
+    ∙ ap suc (sym (position-at unit b at.front at.back at.device at.end_mark at.zero_blanks at.alone at.was))
+
+further-fetched : (unit : ℤ) (b a : List Row) (old new : List ℕ) (result : Result Got UnitRefusal) → Reads unit b a old new result → GoesFurther unit b a (fetched_by result)
+further-fetched unit b a old new (Ok (got.Line used)) on = further-reading unit used b a old new on
+further-fetched unit b a old new (Ok (got.Long size)) on = tt
+further-fetched unit b a old new (Ok got.End) on = tt
+further-fetched unit b a old new (Ok got.Failed) on = tt
+further-fetched unit b a old new (Err refusal.NotConnected) on = tt
+further-fetched unit b a old new (Err refusal.NotOffered) on = tt
+further-fetched unit b a old new (Err refusal.Taken) on = tt
+further-fetched unit b a old new (Err refusal.PastEnd) on = tt
+further-fetched unit b a old new (Err refusal.Failed) on = tt
 
 stays-reading : (unit : ℤ) (used : ℕ) (b a : List Row) (old new : List ℕ) → Reads unit b a old new (Ok (got.Line used)) → StayedOn unit b a
 stays-reading unit used b a old new on =
@@ -222,5 +244,6 @@ fetches unit own b a old new answer result same size size' is on means =
       tells = λ tells. (means tells).tells;
       means = λ tells. means-fetched own b a old new answer size size' (within-fetched own b a old new answer size size' on) on (means tells);
       devices = devices-fetched own b a old new answer on;
+      further = further-fetched own b a old new answer on;
       within = within-fetched own b a old new answer size size' on;
     }))

@@ -1,5 +1,5 @@
 -- The items of a call, one after the other.
-use Rattle.std.proofs.Common.{◌≡◌, ℕ, suc, ℤ, pos, Bool, true, false, List, [], ◌∷◌, Option, Some, None, refl, ap, sym, ◌∙◌, subst, ◌^◌, ◌≤◌, inl, inr}
+use Rattle.std.proofs.Common.{◌≡◌, ℕ, suc, ℤ, pos, Bool, true, false, List, [], ◌∷◌, Option, Some, None, refl, ap, sym, ◌∙◌, subst}
 use Rattle.std.specs.Prelude.{Result, Ok, Err, if◌then◌else◌}
 use Rattle.std.specs.Ordering.{int_eq}
 use Rattle.c_tree.specs.run_state.Units.{Units}
@@ -7,7 +7,7 @@ use Rattle.c_tree.specs.declared.outcome.CValue.{CValue}
 use Rattle.c_tree.specs.declared.outcome.CFault.{CFault}
 use Rattle.c_tree.specs.Faults.{Or, after, failing}
 use Rattle.c_tree.specs.Objects.{Object}
-use Rattle.c_tree.specs.World.{Direction, Layout, Medium, Transfer, World, Reply, Gives, Stops, Io}
+use Rattle.c_tree.specs.World.{Medium, Transfer, Reply, Gives, Stops, Io}
 use Rattle.c_tree.specs.World as media
 use Rattle.c_tree.specs.LibraryArguments.{shifted, number_through, count_from, length_from}
 use Rattle.c_tree.specs.Transfers.{asked, numbered, Passage, GoesOn, upcoming}
@@ -42,12 +42,12 @@ use Rattle.listed_output.specs.declared.kinds.ItemList.{ItemList}
 use Rattle.listed_input.specs.declared.calls.ListedInput.{ListedInput}
 use Rattle.listed_output.specs.Kinds.{kind_shown}
 use Rattle.listed_output.specs.Items.{list_shown}
-use Rattle.listed_input.specs.Reading.{place_of, IsBehind, ItemGoesOn, taken_at, ReadsItem, IsBeyond, ArePast, AreBeyond}
-use Rattle.listed_input.specs.Fetching.{position_of}
-use Rattle.listed_input.specs.Texts.{IsFar}
+use Rattle.listed_input.specs.Reading.{place_of, IsBehind, ItemGoesOn, taken_at, ReadsItem, StandsFar}
+use Rattle.listed_input.specs.Texts.{IsPlaceBehind}
 use Rattle.listed_input.specs.Endings.{passage_of, end_of}
-use Rattle.listed_input.specs.Transferring.{StandsFor, Stands, ItemsReply, ItemsDevice, AnswersItems, CallBeyond}
+use Rattle.listed_input.specs.Transferring.{StandsFor, Stands, ItemsReply, ItemsDevice, AnswersItems, UncountedCall}
 use Rattle.listed_input.specs.Giving.{SameNumbers, GoesBehind, GivesItem, items_meant, GivesItems}
+use Rattle.listed_input.proofs.PastLaws.{items-there}
 use Rattle.listed_input.proofs.CallLaws.{shown_by, is-shown}
 use Rattle.listed_input.proofs.StepLaws.{stays-quiet}
 
@@ -74,6 +74,7 @@ given-slashed item input objects rows slashed = record {
         (upcoming (world_with objects stale (units_of rows)) transfer.medium)) (stands.slashed ∙ slashed);
   };
   devices = stays-same input.unit rows;
+  uncounted = tt;
   numbers = record { unit_is = refl; error_is = refl; end_is = refl };
 }
 
@@ -123,6 +124,7 @@ given-on own item input input' objects objects' old new place right same none no
           behind-goes item input input' transfer objects objects' stale (units_of old) (units_of new) place false same stands none now there
           (reads_it.replies tells transfer stale stands.medium (stands.place none) (stands.slashed ∙ none));
       devices = reads_it.devices;
+      uncounted = tt;
       numbers = same;
     }
 
@@ -138,6 +140,7 @@ given-left own item input input' objects objects' old new place right same none 
           behind-goes item input input' transfer objects objects' stale (units_of old) (units_of new) place true same stands none now there
           (reads_it.replies tells transfer stale stands.medium (stands.place none) (stands.slashed ∙ none));
       devices = reads_it.devices;
+      uncounted = tt;
       numbers = same;
     }
 
@@ -148,6 +151,7 @@ stopped item input input' objects objects' old new place (ends.Fault fault) same
   replies = λ tells transfer stands stale.
       meant-is item input transfer objects stale (units_of old) stands none ∙ reads_it.replies tells transfer stale stands.medium (stands.place none) (stands.slashed ∙ none);
   devices = reads_it.devices;
+  uncounted = tt;
   numbers = same;
 }
 stopped item input input' objects objects' old new place (ends.Number number) same none reads_it = record {
@@ -155,14 +159,16 @@ stopped item input input' objects objects' old new place (ends.Number number) sa
   replies = λ tells transfer stands stale.
       meant-is item input transfer objects stale (units_of old) stands none ∙ reads_it.replies tells transfer stale stands.medium (stands.place none) (stands.slashed ∙ none);
   devices = reads_it.devices;
+  uncounted = tt;
   numbers = same;
 }
 stopped item input input' objects objects' old new place ends.Device same none reads_it =
-    record { tells = reads_it.tells; replies = λ tells transfer stands stale. tt; devices = reads_it.devices; numbers = same }
+    record { tells = reads_it.tells; replies = λ tells transfer stands stale. tt; devices = reads_it.devices; uncounted = tt; numbers = same }
 stopped item input input' objects objects' old new place ends.Uncounted same none reads_it = record {
   tells = reads_it.tells;
-  replies = λ tells transfer stands stale. reads_it.replies tells transfer stale stands.medium (stands.place none) (stands.slashed ∙ none);
+  replies = λ tells transfer stands stale. tt;
   devices = reads_it.devices;
+  uncounted = reads_it.uncounted;
   numbers = same;
 }
 
@@ -191,7 +197,6 @@ pub record Giving (list : ItemList) (first : CValue) (input input' : ListedInput
   pub tells : Tells old → Tells new
   pub stays : StayedOn input.unit old new
   pub numbers : SameNumbers input input'
-  pub past : ArePast list.size left pointer → ArePast list.size list.count first
   pub goes : Tells old → (transfer : Transfer) → StandsFor input transfer → (stale : Option Transfer) →
       GoesFrom list input' objects' (units_of new) pointer left stale (items_meant list list.count first transfer objects stale (units_of old))
 
@@ -201,7 +206,6 @@ giving-starts list first input objects rows left all = record {
   tells = λ tells. tells;
   stays = stays-same input.unit rows;
   numbers = record { unit_is = refl; error_is = refl; end_is = refl };
-  past = λ are_past. subst (λ (n : ℕ). ArePast list.size n first) all are_past;
   goes = λ tells transfer stands stale. record {
     transfer = transfer;
     stands = stands;
@@ -224,14 +228,12 @@ same-both first second third one other =
     record { unit_is = other.unit_is ∙ one.unit_is; error_is = other.error_is ∙ one.error_is; end_is = other.end_is ∙ one.end_is }
 
 pub giving-goes_on : (list : ItemList) (first : CValue) (input middle input' : ListedInput) (objects between objects' : List Object) (old rows new : List Row) (pointer next : CValue) (left less : ℕ) →
-    left ≡ suc less → next ≡ shifted list.size pointer → Giving list first input middle objects between old rows pointer left →
+    left ≡ suc less → IsPlaceBehind objects' list.size pointer next → Giving list first input middle objects between old rows pointer left →
     GivesItem (item_in list pointer) middle input' between objects' rows new (Ok tt) → Giving list first input input' objects objects' old new next less
 giving-goes_on list first input middle input' objects between objects' old rows new pointer next left less more moved giving gives = record {
   tells = λ tells. gives.tells (giving.tells tells);
   stays = stays-stays input.unit old rows new giving.stays (subst (λ (n : ℤ). StayedOn n rows new) giving.numbers.unit_is gives.devices);
   numbers = same-both input middle input' giving.numbers gives.numbers;
-  past = λ are_past.
-      giving.past (subst (λ (n : ℕ). ArePast list.size n pointer) (sym more) (inr (subst (ArePast list.size less) moved are_past)));
   goes = λ tells transfer stands stale.
       let so_far : GoesFrom list middle between (units_of rows) pointer left stale (items_meant list list.count first transfer objects stale (units_of old)) = giving.goes tells transfer stands stale in
       let gone : GoesBehind (item_meant (item_in list pointer) so_far.transfer between stale (units_of rows)) input' objects' stale (units_of new) =
@@ -241,7 +243,7 @@ giving-goes_on list first input middle input' objects between objects' old rows 
         stands = gone.stands;
         rest = so_far.rest ∙ then-rest list pointer left less so_far.transfer between stale (units_of rows) more
             ∙ known (item_meant (item_in list pointer) so_far.transfer between stale (units_of rows)) (GoesOn gone.transfer (world_with objects' stale (units_of new))) _ (sym gone.goes_on)
-            ∙ ap (λ (at : CValue). items_meant list less at gone.transfer objects' stale (units_of new)) (sym moved);
+            ∙ items-there (kind_shown list.kind) list.size less list.size pointer next gone.transfer (world_with objects' stale (units_of new)) moved;
       };
 }
 
@@ -257,30 +259,8 @@ giving-ends list first input input' objects objects' old new pointer left none g
         replies = so_far.rest ∙ ap (λ (n : ℕ). items_meant list n pointer so_far.transfer objects' stale (units_of new)) none;
       };
   devices = giving.stays;
+  uncounted = tt;
   numbers = giving.numbers;
-}
-
-past-far : (list : ItemList) (first : CValue) (input middle : ListedInput) (objects between : List Object) (old rows : List Row) (pointer : CValue) (left less : ℕ) → left ≡ suc less →
-    IsFar list.size pointer → Giving list first input middle objects between old rows pointer left → ArePast list.size list.count first
-past-far list first input middle objects between old rows pointer left less more far giving =
-    giving.past (subst (λ (n : ℕ). ArePast list.size n pointer) (sym more) (inl far))
-
-beyond-all : (list : ItemList) (first : CValue) (input middle : ListedInput) (objects between : List Object) (old rows : List Row) (units : Units) (pointer : CValue) (left less : ℕ) → left ≡ suc less →
-    Giving list first input middle objects between old rows pointer left → IsBeyond list.size pointer middle.unit units → AreBeyond list.size list.count first input.unit units
-beyond-all list first input middle objects between old rows units pointer left less more giving (inl far) =
-    inl (past-far list first input middle objects between old rows pointer left less more far giving)
-beyond-all list first input middle objects between old rows units pointer left less more giving (inr deep) =
-    inr (subst (λ (n : ℤ). 2 ^ 53 ≤ position_of n units) giving.numbers.unit_is deep)
-
-pub giving-uncounted : (list : ItemList) (first : CValue) (input middle input' : ListedInput) (objects between objects' : List Object) (old rows new : List Row) (pointer : CValue) (left less : ℕ) →
-    left ≡ suc less → IsFar list.size pointer →
-    Giving list first input middle objects between old rows pointer left → GivesItem (item_in list pointer) middle input' between objects' rows new (Ok tt) →
-    GivesItems list first input input' objects objects' old new (Err ends.Uncounted)
-giving-uncounted list first input middle input' objects between objects' old rows new pointer left less more far giving gives = record {
-  tells = λ tells. gives.tells (giving.tells tells);
-  replies = λ tells transfer stands stale. inl (past-far list first input middle objects between old rows pointer left less more far giving);
-  devices = stays-quietly input.unit old new (stays-stays input.unit old rows new giving.stays (subst (λ (n : ℤ). StayedOn n rows new) giving.numbers.unit_is gives.devices));
-  numbers = same-both input middle input' giving.numbers gives.numbers;
 }
 
 pub giving-stops : (list : ItemList) (first : CValue) (input middle input' : ListedInput) (objects between objects' : List Object) (old rows new : List Row) (pointer : CValue) (left less : ℕ) (end : ItemEnd) →
@@ -293,6 +273,7 @@ giving-stops list first input middle input' objects between objects' old rows ne
       so_far.rest ∙ then-rest list pointer left less so_far.transfer between stale (units_of rows) more
       ∙ faulty (item_meant (item_in list pointer) so_far.transfer between stale (units_of rows)) fault _ (sym (gives.replies (giving.tells tells) so_far.transfer so_far.stands stale));
   devices = stays-quiet input.unit old rows new giving.stays gives.devices;
+  uncounted = tt;
   numbers = same-both input middle input' giving.numbers gives.numbers;
 }
 giving-stops list first input middle input' objects between objects' old rows new pointer left less (ends.Number number) more giving gives = record {
@@ -304,21 +285,21 @@ giving-stops list first input middle input' objects between objects' old rows ne
       ∙ ap (λ (n : ℤ). Ok (numbered number n so_far.transfer.on_end (world_with objects' None (units_of new)))) (so_far.stands.on_error ∙ giving.numbers.error_is)
       ∙ ap (λ (n : ℤ). Ok (numbered number input.on_error n (world_with objects' None (units_of new)))) (so_far.stands.on_end ∙ giving.numbers.end_is);
   devices = stays-quiet input.unit old rows new giving.stays gives.devices;
+  uncounted = tt;
   numbers = same-both input middle input' giving.numbers gives.numbers;
 }
 giving-stops list first input middle input' objects between objects' old rows new pointer left less ends.Device more giving gives = record {
   tells = λ tells. gives.tells (giving.tells tells);
   replies = λ tells transfer stands stale. tt;
   devices = stays-fails input.unit old rows new giving.stays (subst (λ (n : ℤ). FailedOn n rows new) giving.numbers.unit_is gives.devices);
+  uncounted = tt;
   numbers = same-both input middle input' giving.numbers gives.numbers;
 }
 giving-stops list first input middle input' objects between objects' old rows new pointer left less ends.Uncounted more giving gives = record {
   tells = λ tells. gives.tells (giving.tells tells);
-  replies = λ tells transfer stands stale.
-      let so_far : GoesFrom list middle between (units_of rows) pointer left stale (items_meant list list.count first transfer objects stale (units_of old)) = giving.goes tells transfer stands stale in
-      beyond-all list first input middle objects between old rows (units_of new) pointer left less more giving
-      (gives.replies (giving.tells tells) so_far.transfer so_far.stands stale);
+  replies = λ tells transfer stands stale. tt;
   devices = stays-quiet input.unit old rows new giving.stays gives.devices;
+  uncounted = subst (λ (n : ℤ). StandsFar n new) giving.numbers.unit_is gives.uncounted;
   numbers = same-both input middle input' giving.numbers gives.numbers;
 }
 
@@ -366,15 +347,16 @@ call-goes kind count first size list input input' objects objects' old new is sa
         replies = called-list objects (units_of old) input transfer kind count first size list stands is ∙ stood.replies;
       };
   devices = stays-quietly input.unit old new gives.devices;
+  uncounted = tt;
   forms = same;
 }
 
-number-reply : (beyond : Type 0) (number on_error on_end : ℤ) (objects : List Object) (units : Units) (input : ListedInput) →
-    ItemsReply beyond (Ok (numbered number on_error on_end (world_with objects None units))) objects units input (passage_of (numbered_answer number on_error on_end))
-number-reply beyond number on_error on_end objects units input = by (int_eq (asked number on_error on_end) (pos 0))
+number-reply : (number on_error on_end : ℤ) (objects : List Object) (units : Units) (input : ListedInput) →
+    ItemsReply (Ok (numbered number on_error on_end (world_with objects None units))) objects units input (passage_of (numbered_answer number on_error on_end))
+number-reply number on_error on_end objects units input = by (int_eq (asked number on_error on_end) (pos 0))
   where
     by : (over : Bool) →
-        ItemsReply beyond (Ok (if over then Stops (Io number) (world_with objects None units) else Gives number (world_with objects None units))) objects units input
+        ItemsReply (Ok (if over then Stops (Io number) (world_with objects None units) else Gives number (world_with objects None units))) objects units input
         (passage_of (if over then Err (calls.Ended number) else Ok number))
     by true = refl
     by false = refl
@@ -386,6 +368,13 @@ number-device number on_error on_end input old new none = by (int_eq (asked numb
     by true = none
     by false = none
 
+number-counted : (number on_error on_end : ℤ) (P : Type 0) → UncountedCall (passage_of (numbered_answer number on_error on_end)) P
+number-counted number on_error on_end P = by (int_eq (asked number on_error on_end) (pos 0))
+  where
+    by : (over : Bool) → UncountedCall (passage_of (if over then Err (calls.Ended number) else Ok number)) P
+    by true = tt
+    by false = tt
+
 ends-call : (kind count first size : CValue) (list : ItemList) (input input' : ListedInput) (objects objects' : List Object) (old new : List Row) (end : ItemEnd) →
     Ok (list_shown list) ≡ items_given objects kind count size → SameForms objects objects' → GivesItems list first input input' objects objects' old new (Err end) →
     AnswersItems objects objects' (kind ∷ count ∷ first ∷ size ∷ []) input input' old new (end_of input.unit input.on_error input.on_end end)
@@ -394,23 +383,26 @@ ends-call kind count first size list input input' objects objects' old new (ends
   replies = λ tells transfer stands.
       called-list objects (units_of old) input transfer kind count first size list stands is ∙ gives.replies tells transfer stands (Some transfer);
   devices = gives.devices;
+  uncounted = tt;
   forms = same;
 }
 ends-call kind count first size list input input' objects objects' old new (ends.Number number) is same gives = record {
   tells = gives.tells;
   replies = λ tells transfer stands.
-      subst (λ (meaning : Or Reply). ItemsReply (CallBeyond objects (kind ∷ count ∷ first ∷ size ∷ []) input.unit (units_of new)) meaning objects' (units_of new) input' (passage_of (numbered_answer number input.on_error input.on_end)))
+      subst (λ (meaning : Or Reply). ItemsReply meaning objects' (units_of new) input' (passage_of (numbered_answer number input.on_error input.on_end)))
       (sym (called-list objects (units_of old) input transfer kind count first size list stands is ∙ gives.replies tells transfer stands (Some transfer)))
-      (number-reply (CallBeyond objects (kind ∷ count ∷ first ∷ size ∷ []) input.unit (units_of new)) number input.on_error input.on_end objects' (units_of new) input');
+      (number-reply number input.on_error input.on_end objects' (units_of new) input');
   devices = number-device number input.on_error input.on_end input old new gives.devices;
+  uncounted = number-counted number input.on_error input.on_end (StandsFar input.unit new);
   forms = same;
 }
 ends-call kind count first size list input input' objects objects' old new ends.Device is same gives =
-    record { tells = gives.tells; replies = λ tells transfer stands. tt; devices = (refl, gives.devices); forms = same }
+    record { tells = gives.tells; replies = λ tells transfer stands. tt; devices = (refl, gives.devices); uncounted = tt; forms = same }
 ends-call kind count first size list input input' objects objects' old new ends.Uncounted is same gives = record {
   tells = gives.tells;
-  replies = λ tells transfer stands. record { list = list_shown list; given_is = sym is; beyond = gives.replies tells transfer stands (Some transfer) };
+  replies = λ tells transfer stands. tt;
   devices = gives.devices;
+  uncounted = gives.uncounted;
   forms = same;
 }
 
@@ -432,5 +424,6 @@ call-faulty kind count first size input objects rows fault same is = record {
   tells = λ tells. tells;
   replies = λ tells transfer stands. called-by objects (units_of rows) input transfer kind count first size stands ∙ faulty (items_given objects kind count size) fault _ is;
   devices = none-failed rows;
+  uncounted = tt;
   forms = same;
 }

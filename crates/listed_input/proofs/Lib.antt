@@ -1,6 +1,7 @@
 pub mod FetchLaws
 pub mod CallLaws
 pub mod ItemLaws
+pub mod PastLaws
 pub mod StoreLaws
 pub mod SeekLaws
 pub mod TakeLaws

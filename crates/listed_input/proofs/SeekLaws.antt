@@ -38,9 +38,9 @@ reads-record unit own reading reading' line used old new same is reader fetched 
       means = λ tells. (
         (fetches.means tells).0 ∙ ap (λ (one : List ℕ). before_others one (coming unit (units_of new))) (sym is),
         (fetches.means tells).1,
-        (fetches.means tells).2,
       );
       devices = fetches.devices;
+      further = fetches.further;
       reader = reader;
       kept = tt;
     }
@@ -49,7 +49,7 @@ pub reads-failed : (unit own : ℤ) (reading : RecordInReading) (line : List ℕ
     ReadsNext unit reading reading old new (Err ends.Device)
 reads-failed unit own reading line old new same fetched =
     let fetches : Fetches unit line old new Failed = subst (λ (n : ℤ). Fetches n line old new Failed) same fetched in
-    record { tells = fetches.tells; means = λ tells. tt; devices = fetches.devices; reader = refl; kept = refl }
+    record { tells = fetches.tells; means = λ tells. tt; devices = fetches.devices; further = tt; reader = refl; kept = refl }
 
 -- ## The units behind several records
 
@@ -74,7 +74,7 @@ length-dropped zero xs = omega arith
 length-dropped (suc n) [] = omega arith
 length-dropped (suc n) (x ∷ xs) = let rest : length (drop n xs) ≤ length xs = length-dropped n xs in omega (arith, rest)
 
-length-short : (n : ℕ) (xs : List ℕ) → length (take n xs) ≤ n
+pub length-short : (n : ℕ) (xs : List ℕ) → length (take n xs) ≤ n
 length-short zero xs = omega arith
 length-short (suc n) [] = omega arith
 length-short (suc n) (x ∷ xs) = let rest : length (take n xs) ≤ n = length-short n xs in omega (arith, rest)
@@ -86,7 +86,7 @@ rest-by (doing.Nulls more) place line = length-dropped place line
 rest-by (doing.Inside more constant) place line = length-dropped place line
 
 -- a record has so many bytes at most
-rest-short : (reading : RecordInReading) → rest_size (place_of reading) ≤ 1024
+pub rest-short : (reading : RecordInReading) → rest_size (place_of reading) ≤ 1024
 rest-short reading =
     let rest : rest_size (place_of reading) ≤ length (line_of reading) = rest-by reading.reader.doing reading.reader.place (line_of reading) in
     let line : length (line_of reading) ≤ reading.used = length-short reading.used reading.line in
@@ -108,7 +108,7 @@ seeking-starts from reading is none = record {
     done_is = sym (ap length (take-none {A = ℕ} from.item.size));
   };
   counted = let short : rest_size (place_of reading) ≤ 1024 = rest-short reading in omega (arith, none, short);
-  deep = λ tells. omega arith;
+  deep = omega arith;
   fresh = λ outside. refl;
 }
 
@@ -154,7 +154,7 @@ seeking-piece from reading reading' objects objects' rows done done' start end g
 
 -- ## A search that goes on in the next record
 
-next-by : (doing : Doing) (place : ℕ) (next : List ℕ) (later : List (List ℕ)) (kind : Kind) → place ≤ 0 → GoesInside (NeedRecord (place_by doing place [])) →
+pub next-by : (doing : Doing) (place : ℕ) (next : List ℕ) (later : List (List ℕ)) (kind : Kind) → place ≤ 0 → GoesInside (NeedRecord (place_by doing place [])) →
     item_over (in_record next (place_by doing place [])) later kind ≡ item_over (place_by doing place next) later kind
 next-by (doing.Between valued) place next later kind first goes =
     ap (λ (n : ℕ). item_over (Between valued (drop n next)) later kind) (let e : 0 ≡ place = omega (arith, first) in e)
@@ -172,11 +172,11 @@ outside-next (doing.Repeated more) place next outside = tt
 outside-next (doing.Nulls more) place next outside = tt
 outside-next (doing.Inside more constant) place next outside = outside
 
-take-whole : (front : List (List ℕ)) (line : List ℕ) → take (length front) (front ++ line ∷ []) ≡ front
+pub take-whole : (front : List (List ℕ)) (line : List ℕ) → take (length front) (front ++ line ∷ []) ≡ front
 take-whole [] line = refl
 take-whole (first ∷ later) line = ap (λ (rest : List (List ℕ)). first ∷ rest) (take-whole later line)
 
-take-less : (j : ℕ) (front : List (List ℕ)) (line : List ℕ) → j < length front → take j (front ++ line ∷ []) ≡ take j front
+pub take-less : (j : ℕ) (front : List (List ℕ)) (line : List ℕ) → j < length front → take j (front ++ line ∷ []) ≡ take j front
 take-less zero front line less = refl
 take-less (suc j) [] line less = absurd (omega (arith, less))
 take-less (suc j) (first ∷ later) line less = ap (λ (rest : List (List ℕ)). first ∷ rest) (take-less j later line (omega (arith, less)))
@@ -222,9 +222,9 @@ seeking-record from reading between reading' objects rows rows' done gives reads
       counted =
           let short : rest_size (place_of reading') ≤ 1024 = rest-short reading' in
           omega (arith, short, seeking.counted, length-append seeking.front (line ∷ []));
-      deep = λ tells.
-          let next : position_of from.unit (units_of rows') ≡ suc (position_of from.unit (units_of rows)) = (reads.means (seeking.tells tells)).2 in
-          omega (arith, next, seeking.deep tells, length-append seeking.front (line ∷ []));
+      deep =
+          let next : position_of from.unit (units_of rows') ≡ suc (position_of from.unit (units_of rows)) = reads.further in
+          omega (arith, next, seeking.deep, length-append seeking.front (line ∷ []));
       fresh = λ outside.
           seeking.fresh (needs-outside (place_of reading) need (kind_in from) is
           (outside-next between.reader.doing between.reader.place line (subst IsOutside (sym there) outside)));

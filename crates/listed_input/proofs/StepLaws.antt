@@ -1,5 +1,5 @@
 -- The steps of the search for the value of an item.
-use Rattle.std.proofs.Common.{◌≡◌, ◌^◌, ◌+◌, inl, inr, ℕ, zero, suc, ◌≤◌, ℤ, pos, Bool, true, false, List, [], ◌∷◌, length, take, refl, ap, sym, ◌∙◌, subst, arith}
+use Rattle.std.proofs.Common.{◌≡◌, ◌^◌, ◌+◌, ℕ, ◌≤◌, ℤ, pos, Bool, true, false, List, [], ◌∷◌, length, refl, ap, sym, ◌∙◌, subst, arith}
 use Rattle.std.specs.Prelude.{Result, Ok, Err, IfSome, if◌then◌else◌}
 use Rattle.c_tree.specs.declared.outcome.CValue.TheVariants as values
 use Rattle.c_tree.specs.Access.{ToNumber}
@@ -30,11 +30,10 @@ use Rattle.listed_input.specs.declared.kinds.Item as items
 use Rattle.listed_input.specs.declared.reading.RecordInReading.{RecordInReading}
 use Rattle.listed_input.specs.Reading.{line_of, place_of, Gives, ReadsNext, ReadsItem}
 use Rattle.listed_input.specs.Fetching.{position_of}
-use Rattle.listed_input.specs.Texts.{IsFar}
 use Rattle.listed_input.specs.Steps.{StepsNumber, StepsPiece, StepsLast, StepsText, StepsRecord}
 use Rattle.listed_input.specs.Searching.{Search, kind_in, one_more, Seeking, Steps, GoesAnywhere}
 use Rattle.listed_input.proofs.ItemLaws.{IsOfText, GoesInside, goes-inside, outside-by, inside-item, begun-twice}
-use Rattle.listed_input.proofs.SeekLaws.{item-given, place-behind, piece_of, seeking-starts, seeking-piece, seeking-record}
+use Rattle.listed_input.proofs.SeekLaws.{length-short, item-given, place-behind, piece_of, seeking-starts, seeking-piece, seeking-record}
 use Rattle.listed_input.proofs.TakeLaws.{IsAt, takes-on, takes-faulty, fresh-objects, slash-on, wrong-ends, records-end, text-faulty}
 
 -- ## The rows
@@ -80,6 +79,7 @@ number-step from before reading objects objects' rows done number value (Ok (ste
       (ap (λ (all : List Object). value_taken all from.item.pointer from.item.size (begun_with_value seeking.text value)) (fresh-objects from before objects rows done seeking none)
       ∙ means objects ∙ stores);
   devices = seeking.stays;
+  uncounted = tt;
 }
 number-step from before reading objects objects' rows done number value (Ok (steps.Read reads.Slashed)) seeking none is means stores = absurd stores
 number-step from before reading objects objects' rows done number value (Ok (steps.GoesOn other)) seeking none is means stores = absurd stores
@@ -90,6 +90,7 @@ number-step from before reading objects objects' rows done number value (Err (en
       (ap (λ (all : List Object). value_taken all from.item.pointer from.item.size (begun_with_value seeking.text value)) (fresh-objects from before objects rows done seeking none)
       ∙ means objects ∙ stores);
   devices = stays-quietly from.unit from.rows rows seeking.stays;
+  uncounted = tt;
 }
 number-step from before reading objects objects' rows done number value (Err (ends.Number other)) seeking none is means stores = absurd stores
 number-step from before reading objects objects' rows done number value (Err ends.Device) seeking none is means stores = absurd stores
@@ -124,6 +125,7 @@ null-step from before reading objects rows done gives seeking =
           takes-on from before objects objects rows done transfer stale Kept (place_of reading) seeking tells (is-at from transfer medium place slashed)
           (item-given (place_of before) (kind_in from) (Null (place_of reading)) is) (ap Ok (fresh-objects from before objects rows done seeking none));
       devices = seeking.stays;
+      uncounted = tt;
     }
 
 pub slash-step : (from : Search) (before reading : RecordInReading) (objects : List Object) (rows : List Row) (done : ℕ) →
@@ -136,6 +138,7 @@ slash-step from before reading objects rows done gives seeking =
           slash-on from before objects rows done transfer stale (place_of reading) seeking tells (is-at from transfer medium place slashed) none
           (item-given (place_of before) (kind_in from) Slash gives.given_is);
       devices = seeking.stays;
+      uncounted = tt;
     }
 
 pub bad-step : (from : Search) (before reading : RecordInReading) (objects : List Object) (rows : List Row) (done number : ℕ) →
@@ -146,12 +149,8 @@ bad-step from before reading objects rows done number gives seeking = record {
       wrong-ends from before objects rows done number transfer stale seeking tells (is-at from transfer medium place slashed)
       (item-given (place_of before) (kind_in from) (Wrong number) gives.given_is);
   devices = stays-quietly from.unit from.rows rows seeking.stays;
+  uncounted = tt;
 }
-
-far : (from : Search) (before reading : RecordInReading) (objects objects' : List Object) (rows : List Row) (done : ℕ) → Seeking from before objects rows done →
-    IsFar from.item.size from.item.pointer → Steps from reading objects' rows (Err ends.Uncounted)
-far from before reading objects objects' rows done seeking is =
-    record { tells = seeking.tells; replies = λ tells transfer stale medium place slashed. inl is; devices = stays-quietly from.unit from.rows rows seeking.stays }
 
 -- ## A text
 
@@ -173,10 +172,11 @@ piece-step from before reading objects objects' rows done start end (Err (ends.F
           (λ later. inside-item piece (place_of reading) later (kind_in from) goes) begun-twice
           (λ more. puts from.objects seeking.text more seeking.written);
       devices = stays-quietly from.unit from.rows rows seeking.stays;
+      uncounted = tt;
     }
 piece-step from before reading objects objects' rows done start end (Err (ends.Number number)) gives seeking puts = absurd puts
 piece-step from before reading objects objects' rows done start end (Err ends.Device) gives seeking puts = absurd puts
-piece-step from before reading objects objects' rows done start end (Err ends.Uncounted) gives seeking puts = far from before reading objects objects' rows done seeking puts
+piece-step from before reading objects objects' rows done start end (Err ends.Uncounted) gives seeking puts = absurd puts
 
 last-step : (from : Search) (before reading : RecordInReading) (objects objects' : List Object) (rows : List Row) (done start end : ℕ) (result : Result Step ItemEnd) →
     Gives (kind_in from) before reading (item.Text start end false) → Seeking from before objects rows done →
@@ -190,6 +190,7 @@ last-step from before reading objects objects' rows done start end (Ok (steps.Re
           takes-on from before objects objects' rows done transfer stale (TextValue piece) (place_of reading) seeking tells (is-at from transfer medium place slashed)
           (item-given (place_of before) (kind_in from) (Piece piece false (place_of reading)) is) (puts from.objects seeking.text seeking.written);
       devices = seeking.stays;
+      uncounted = tt;
     }
 last-step from before reading objects objects' rows done start end (Ok (steps.Read reads.Slashed)) gives seeking puts = absurd puts
 last-step from before reading objects objects' rows done start end (Ok (steps.GoesOn done')) gives seeking puts = absurd puts
@@ -202,10 +203,11 @@ last-step from before reading objects objects' rows done start end (Err (ends.Fa
           takes-faulty from before objects rows done transfer stale (TextValue piece) (place_of reading) fault seeking tells
           (item-given (place_of before) (kind_in from) (Piece piece false (place_of reading)) is) (puts from.objects seeking.text seeking.written);
       devices = stays-quietly from.unit from.rows rows seeking.stays;
+      uncounted = tt;
     }
 last-step from before reading objects objects' rows done start end (Err (ends.Number number)) gives seeking puts = absurd puts
 last-step from before reading objects objects' rows done start end (Err ends.Device) gives seeking puts = absurd puts
-last-step from before reading objects objects' rows done start end (Err ends.Uncounted) gives seeking puts = far from before reading objects objects' rows done seeking puts
+last-step from before reading objects objects' rows done start end (Err ends.Uncounted) gives seeking puts = absurd puts
 
 pub text-step : (from : Search) (before reading : RecordInReading) (objects objects' : List Object) (rows : List Row) (done start end : ℕ) (more : Bool) (line : List ℕ) (result : Result Step ItemEnd) →
     line ≡ line_of reading → Gives (kind_in from) before reading (item.Text start end more) → Seeking from before objects rows done →
@@ -233,11 +235,13 @@ record-step from before between reading objects rows rows' done (Err (ends.Numbe
       (item-given (place_of before) (kind_in from) (NeedRecord (place_in [] between.reader)) gives.given_is [])
       (reads.means (seeking.tells tells)).0 (reads.means (seeking.tells tells)).1;
   devices = stays-quiet from.unit from.rows rows rows' seeking.stays reads.devices;
+  uncounted = tt;
 }
 record-step from before between reading objects rows rows' done (Err ends.Device) gives seeking reads = record {
   tells = λ tells. reads.tells (seeking.tells tells);
   replies = λ tells transfer stale medium place slashed. tt;
   devices = stays-fails from.unit from.rows rows rows' seeking.stays reads.devices;
+  uncounted = tt;
 }
 record-step from before between reading objects rows rows' done (Err ends.Uncounted) gives seeking reads = absurd (reads.devices)
 
@@ -252,22 +256,17 @@ goes-anywhere (item.Int number) old new keeps = tt
 goes-anywhere (item.Logical truth) old new keeps = tt
 goes-anywhere (item.Text start end more) old new keeps = tt
 
-taken-less : (n : ℕ) (xs : List ℕ) → length (take n xs) ≤ n
-taken-less zero xs = omega arith
-taken-less (suc n) [] = omega arith
-taken-less (suc n) (x ∷ xs) = let rest : length (take n xs) ≤ n = taken-less n xs in omega (arith, rest)
-
 pub done-within : (from : Search) (reading : RecordInReading) (objects : List Object) (rows : List Row) (done : ℕ) → Seeking from reading objects rows done → done ≤ from.item.size
-done-within from reading objects rows done seeking = omega (arith, seeking.written.done_is, taken-less from.item.size seeking.text)
+done-within from reading objects rows done seeking = omega (arith, seeking.written.done_is, length-short from.item.size seeking.text)
 
 search-uncounted : (from : Search) (reading : RecordInReading) (objects : List Object) (rows : List Row) (done : ℕ) → 18446744073709551615 ≤ from.steps →
     Seeking from reading objects rows done →
     ReadsItem from.unit from.item from.place (place_of reading) from.objects objects from.rows rows (Err ends.Uncounted)
 search-uncounted from reading objects rows done many seeking = record {
   tells = seeking.tells;
-  replies = λ tells transfer stale medium place slashed.
-      inr (let deep : 2 ^ 53 ≤ position_of from.unit (units_of rows) = omega (arith, many, seeking.counted, seeking.deep tells) in deep);
+  replies = λ tells transfer stale medium place slashed. tt;
   devices = stays-quietly from.unit from.rows rows seeking.stays;
+  uncounted = let deep : 2 ^ 53 ≤ position_of from.unit (units_of rows) = omega (arith, many, seeking.counted, seeking.deep) in deep;
 }
 
 -- ## The steps as the code has them

@@ -15,7 +15,8 @@ use Rattle.item_deeds.specs.Forms.{forms, SameForms}
 use Rattle.item_deeds.proofs.FormLaws.{one-replaced, unchanged-forms}
 use Rattle.listed_input.specs.declared.ends.ItemEnd.{ItemEnd}
 use Rattle.listed_input.specs.declared.ends.ItemEnd.TheVariants as ends
-use Rattle.listed_input.specs.Texts.{IsFar, Written, PutsPiece, Pads}
+use Rattle.listed_input.specs.Texts.{IsPlaceBehind, Written, PutsPiece, Pads}
+use Rattle.listed_input.proofs.PastLaws.{text-there}
 use Rattle.c_tree.specs.LibraryArguments.{with_text, store_text, text_stored, shifted, fitted}
 
 -- ## Two texts, one behind the other, over the bytes of an object
@@ -116,7 +117,7 @@ set-set (first ∷ later) zero middle new = refl
 set-set (first ∷ later) (suc i) middle new = ap (λ (rest : List Object). first ∷ rest) (set-set later i middle new)
 
 -- a store at an object, by what is found there
-abbrev put_at : List Object → ℕ → ℕ → List ℕ → Option Object → Or (List Object)
+abbrev pub put_at : List Object → ℕ → ℕ → List ℕ → Option Object → Or (List Object)
 put_at objects object offset text found = after (with_text offset text found) λ changed. Ok (slice_set objects object changed)
 
 both-by : (objects middle : List Object) (object offset : ℕ) (a b : List ℕ) (bytes : List (Option ℕ)) (fits : Bool) → slice_get objects object ≡ Some (Bytes bytes) →
@@ -216,16 +217,16 @@ piece-cut size done count text piece is least =
     ∙ ap (λ (part : List ℕ). take size text ++ part) (sym (take-least (size - done) piece))
     ∙ ap (λ (m : ℕ). take size text ++ take m piece) (sym least)
 
-piece-stored : (objects old : List Object) (pointer place : CValue) (size done count : ℕ) (text piece : List ℕ) → place ≡ shifted done pointer →
+piece-stored : (objects old : List Object) (pointer place : CValue) (size done count : ℕ) (text piece : List ℕ) → IsPlaceBehind old done pointer place →
     count ≡ min (size - done) (length piece) → Written objects pointer size text old done →
     text_stored objects pointer (take size (text ++ piece)) ≡ text_stored old place (take count piece)
 piece-stored objects old pointer place size done count text piece at least written =
     ap (text_stored objects pointer) (piece-cut size done count text piece written.done_is least)
     ∙ sym (stored-behind objects old pointer (take size text) (take count piece) written.stored)
     ∙ ap (λ (n : ℕ). text_stored old (shifted n pointer) (take count piece)) (sym written.done_is)
-    ∙ ap (λ (one : CValue). text_stored old one (take count piece)) (sym at)
+    ∙ text-there old done pointer place (take count piece) at
 
-pub piece-put : (objects old new : List Object) (pointer place : CValue) (size done count done' : ℕ) (text piece : List ℕ) → place ≡ shifted done pointer →
+pub piece-put : (objects old new : List Object) (pointer place : CValue) (size done count done' : ℕ) (text piece : List ℕ) → IsPlaceBehind old done pointer place →
     count ≡ min (size - done) (length piece) → done' ≡ done + count → text_stored old place (take count piece) ≡ Ok new → Written objects pointer size text old done →
     Written objects pointer size (text ++ piece) new done'
 piece-put objects old new pointer place size done count done' text piece at least sum is written = record {
@@ -237,7 +238,7 @@ piece-put objects old new pointer place size done count done' text piece at leas
       omega (arith, sum, taken, cut, written.done_is);
 }
 
-pub piece-faulty : (objects old : List Object) (pointer place : CValue) (size done count : ℕ) (text piece more : List ℕ) (fault : CFault) → place ≡ shifted done pointer →
+pub piece-faulty : (objects old : List Object) (pointer place : CValue) (size done count : ℕ) (text piece more : List ℕ) (fault : CFault) → IsPlaceBehind old done pointer place →
     count ≡ min (size - done) (length piece) → text_stored old place (take count piece) ≡ failing fault → Written objects pointer size text old done →
     text_stored objects pointer (take size ((text ++ piece) ++ more)) ≡ failing fault
 piece-faulty objects old pointer place size done count text piece more fault at least is written =
@@ -270,7 +271,7 @@ blanks-both zero m = ap (λ (k : ℕ). spaces k) (let e : m ≡ 0 + m = omega ar
 blanks-both (suc n) m =
     ap (λ (rest : List ℕ). 32 ∷ rest) (blanks-both n m) ∙ ap (λ (k : ℕ). spaces k) (let e : suc (n + m) ≡ suc n + m = omega arith in e)
 
-blanks-behind : (n m : ℕ) (text : List ℕ) → (text ++ spaces n) ++ spaces m ≡ text ++ spaces (n + m)
+pub blanks-behind : (n m : ℕ) (text : List ℕ) → (text ++ spaces n) ++ spaces m ≡ text ++ spaces (n + m)
 blanks-behind n m text = append_assoc text (spaces n) (spaces m) ∙ ap (λ (part : List ℕ). text ++ part) (blanks-both n m)
 
 -- a text with some blanks behind it
@@ -363,10 +364,3 @@ text-forms at text old new (Err fault) stores = unchanged-forms old new stores.1
 
 pub forms-then : (old middle new : List Object) → SameForms old middle → SameForms middle new → SameForms old new
 forms-then old middle new first second = record { same = second.same ∙ first.same }
-
--- an offset that is too far stays so for a longer distance
-pub far-more : (pointer : CValue) (less more : ℕ) → less ≤ more → IsFar less pointer → IsFar more pointer
-far-more (Pointer object offset) less more below far = omega (arith, below, far)
-far-more (Number number) less more below far = far
-far-more Null less more below far = far
-far-more (Function number) less more below far = far

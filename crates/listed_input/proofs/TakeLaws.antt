@@ -128,7 +128,7 @@ fresh-objects from reading objects rows done seeking none =
 
 -- ## A stop
 
-needed-count : (place : Place) (lines : List (List ℕ)) (kind : Kind) (count : ℕ) → ((j : ℕ) → j < count → runs_out (item_over place (take j lines) kind) ≡ true) →
+pub needed-count : (place : Place) (lines : List (List ℕ)) (kind : Kind) (count : ℕ) → ((j : ℕ) → j < count → runs_out (item_over place (take j lines) kind) ≡ true) →
     runs_out (item_over place (take count lines) kind) ≡ false → (more so_far : ℕ) → so_far ≤ count → count ≤ so_far + more →
     records_needed more so_far place lines kind ≡ count
 needed-count place lines kind count out stops zero so_far below above = omega (arith, below, above)
@@ -143,13 +143,13 @@ needed-count place lines kind count out stops (suc more) so_far below above = by
         ap (λ (runs : Bool). if runs then records_needed more (so_far + 1) place lines kind else so_far)
         (ap (λ (n : ℕ). runs_out (item_over place (take n lines) kind)) same ∙ stops) ∙ same
 
-take-front : (j : ℕ) (front later : List (List ℕ)) → j ≤ length front → take j (front ++ later) ≡ take j front
+pub take-front : (j : ℕ) (front later : List (List ℕ)) → j ≤ length front → take j (front ++ later) ≡ take j front
 take-front j front later within =
     take-both (List ℕ) j front later
     ∙ ap (λ (n : ℕ). take j front ++ take n later) (let e : j - length front ≡ 0 = omega (arith, within) in e)
     ∙ append-nil (take j front)
 
-take-all : (front : List (List ℕ)) → take (length front) front ≡ front
+pub take-all : (front : List (List ℕ)) → take (length front) front ≡ front
 take-all [] = refl
 take-all (first ∷ later) = ap (λ (rest : List (List ℕ)). first ∷ rest) (take-all later)
 

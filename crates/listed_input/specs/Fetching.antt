@@ -31,7 +31,6 @@ before_others line later = record later { lines = line ∷ later.lines }
 abbrev pub FetchesAs : ℤ → List ℕ → Units → Units → NextRecord → Type 0
 FetchesAs unit line before after (Record used) =
     (coming unit before ≡ before_others (take used line) (coming unit after)) × (after ≡ read_on 1 unit before)
-    × (position_of unit after ≡ suc (position_of unit before))
 FetchesAs unit line before after (Nothing number) = (coming unit before ≡ nothing_but (Ok number)) × (after ≡ read_on 1 unit before)
 FetchesAs unit line before after Failed = Unit {0}
 
@@ -40,6 +39,12 @@ abbrev pub FetchesFrom : ℤ → List Row → List Row → NextRecord → Type 0
 FetchesFrom unit old new (Record used) = StayedOn unit old new
 FetchesFrom unit old new (Nothing number) = NoneFailed old new
 FetchesFrom unit old new Failed = FailedOn unit old new
+
+-- the unit stands behind one record more
+abbrev pub GoesFurther : ℤ → List Row → List Row → NextRecord → Type 0
+GoesFurther unit old new (Record used) = position_of unit (units_of new) ≡ suc (position_of unit (units_of old))
+GoesFurther unit old new (Nothing number) = Unit {0}
+GoesFurther unit old new Failed = Unit {0}
 
 -- the record stands in the line
 abbrev pub IsWithin : List ℕ → NextRecord → Type 0
@@ -71,4 +76,5 @@ pub record Fetches (unit : ℤ) (line : List ℕ) (old new : List Row) (result :
   pub tells : Tells old → Tells new
   pub means : Tells old → FetchesAs unit line (units_of old) (units_of new) result
   pub devices : FetchesFrom unit old new result
+  pub further : GoesFurther unit old new result
   pub within : IsWithin line result

@@ -19,7 +19,7 @@ use Rattle.listed_input.specs.declared.kinds.Item.{Item}
 use Rattle.listed_output.specs.declared.kinds.ItemList.{ItemList}
 use Rattle.listed_input.specs.declared.calls.ListedInput.{ListedInput}
 use Rattle.listed_output.specs.Kinds.{kind_shown}
-use Rattle.listed_input.specs.Reading.{IsBeyond, AreBeyond}
+use Rattle.listed_input.specs.Reading.{StandsFar, UncountedItem}
 use Rattle.listed_input.specs.Transferring.{StandsFor, Stands}
 
 -- an input on the same unit, with the same numbers asked for
@@ -34,12 +34,12 @@ pub record GoesBehind (meaning : Or Passage) (input : ListedInput) (objects : Li
   pub stands : StandsFor input transfer
   pub goes_on : meaning ≡ Ok (GoesOn transfer (world_with objects stale units))
 
-abbrev pub GiveReply : Type 0 → Or Passage → Transfer → ListedInput → List Object → Option Transfer → Units → Result (Unit {0}) ItemEnd → Type 0
-GiveReply beyond meaning transfer input objects stale units (Ok done) = GoesBehind meaning input objects stale units
-GiveReply beyond meaning transfer input objects stale units (Err (Fault fault)) = meaning ≡ failing fault
-GiveReply beyond meaning transfer input objects stale units (Err (Number number)) = meaning ≡ Ok (Answers (ended_by number transfer (world_with objects stale units)))
-GiveReply beyond meaning transfer input objects stale units (Err Device) = Unit {0}
-GiveReply beyond meaning transfer input objects stale units (Err Uncounted) = beyond
+abbrev pub GiveReply : Or Passage → Transfer → ListedInput → List Object → Option Transfer → Units → Result (Unit {0}) ItemEnd → Type 0
+GiveReply meaning transfer input objects stale units (Ok done) = GoesBehind meaning input objects stale units
+GiveReply meaning transfer input objects stale units (Err (Fault fault)) = meaning ≡ failing fault
+GiveReply meaning transfer input objects stale units (Err (Number number)) = meaning ≡ Ok (Answers (ended_by number transfer (world_with objects stale units)))
+GiveReply meaning transfer input objects stale units (Err Device) = Unit {0}
+GiveReply meaning transfer input objects stale units (Err Uncounted) = Unit {0}
 
 abbrev pub GiveDevice : ℤ → List Row → List Row → Result (Unit {0}) ItemEnd → Type 0
 GiveDevice unit old new (Ok done) = StayedOn unit old new
@@ -52,17 +52,18 @@ GiveDevice unit old new (Err Uncounted) = NoneFailed old new
 pub record GivesItem (item : Item) (input input' : ListedInput) (objects objects' : List Object) (old new : List Row) (result : Result (Unit {0}) ItemEnd) : Type 0 where
   pub tells : Tells old → Tells new
   pub replies : Tells old → (transfer : Transfer) → StandsFor input transfer → (stale : Option Transfer) →
-      GiveReply (IsBeyond item.size item.pointer input.unit (units_of new)) (listed_item (kind_shown item.kind) item.size item.pointer transfer (world_with objects stale (units_of old))) transfer input' objects' stale (units_of new) result
+      GiveReply (listed_item (kind_shown item.kind) item.size item.pointer transfer (world_with objects stale (units_of old))) transfer input' objects' stale (units_of new) result
   pub devices : GiveDevice input.unit old new result
+  pub uncounted : UncountedItem result (StandsFar input.unit new)
   pub numbers : SameNumbers input input'
 
 -- what the items of a call come to
-abbrev pub ListReply : Type 0 → Or Reply → ListedInput → ListedInput → List Object → Units → Result (Unit {0}) ItemEnd → Type 0
-ListReply beyond meaning input input' objects units (Ok done) = Stands meaning objects units input'
-ListReply beyond meaning input input' objects units (Err (Fault fault)) = meaning ≡ failing fault
-ListReply beyond meaning input input' objects units (Err (Number number)) = meaning ≡ Ok (numbered number input.on_error input.on_end (world_with objects None units))
-ListReply beyond meaning input input' objects units (Err Device) = Unit {0}
-ListReply beyond meaning input input' objects units (Err Uncounted) = beyond
+abbrev pub ListReply : Or Reply → ListedInput → ListedInput → List Object → Units → Result (Unit {0}) ItemEnd → Type 0
+ListReply meaning input input' objects units (Ok done) = Stands meaning objects units input'
+ListReply meaning input input' objects units (Err (Fault fault)) = meaning ≡ failing fault
+ListReply meaning input input' objects units (Err (Number number)) = meaning ≡ Ok (numbered number input.on_error input.on_end (world_with objects None units))
+ListReply meaning input input' objects units (Err Device) = Unit {0}
+ListReply meaning input input' objects units (Err Uncounted) = Unit {0}
 
 -- the meaning of so many items from a pointer on
 abbrev pub items_meant : ItemList → ℕ → CValue → Transfer → List Object → Option Transfer → Units → Or Reply
@@ -72,6 +73,7 @@ items_meant list count pointer transfer objects stale units =
 pub record GivesItems (list : ItemList) (first : CValue) (input input' : ListedInput) (objects objects' : List Object) (old new : List Row) (result : Result (Unit {0}) ItemEnd) : Type 0 where
   pub tells : Tells old → Tells new
   pub replies : Tells old → (transfer : Transfer) → StandsFor input transfer → (stale : Option Transfer) →
-      ListReply (AreBeyond list.size list.count first input.unit (units_of new)) (items_meant list list.count first transfer objects stale (units_of old)) input input' objects' (units_of new) result
+      ListReply (items_meant list list.count first transfer objects stale (units_of old)) input input' objects' (units_of new) result
   pub devices : GiveDevice input.unit old new result
+  pub uncounted : UncountedItem result (StandsFar input.unit new)
   pub numbers : SameNumbers input input'

@@ -1,10 +1,8 @@
 -- One item of list-directed input on a unit: what it is given, and the records that it reads (ANSI X3.9-1978, 13.6.1).
-use Rattle.std.specs.Prelude.{◌≡◌, ◌≤◌, ◌^◌, ◌⊎◌, ℕ, zero, suc, ℤ, Bool, true, false, List, take, Option, Result, Ok, Err, OnErr}
+use Rattle.std.specs.Prelude.{◌≡◌, ◌≤◌, ◌^◌, ℕ, suc, ℤ, Bool, true, false, List, take, Option, Result, Ok, Err, OnErr, OnOk}
 use Rattle.c_tree.specs.run_state.Units.{Units}
-use Rattle.c_tree.specs.declared.outcome.CValue.{CValue}
 use Rattle.c_tree.specs.Faults.{Or, failing}
 use Rattle.c_tree.specs.Objects.{Object}
-use Rattle.c_tree.specs.LibraryArguments.{shifted}
 use Rattle.c_tree.specs.World.{Transfer}
 use Rattle.c_tree.specs.World as media
 use Rattle.c_tree.specs.Transfers.{nothing_but, read_on, ended_by, Passage, GoesOn, Answers}
@@ -26,7 +24,6 @@ use Rattle.listed_input.specs.declared.kinds.Item.{Item}
 use Rattle.listed_input.specs.declared.reading.RecordInReading.{RecordInReading}
 use Rattle.listed_input.specs.Fetching.{coming, before_others, position_of}
 use Rattle.listed_output.specs.Kinds.{kind_shown}
-use Rattle.listed_input.specs.Texts.{IsFar}
 
 -- the record that is being read, and the place in it
 abbrev pub line_of : RecordInReading → List ℕ
@@ -46,7 +43,6 @@ pub record Gives (kind : Kind) (old new : RecordInReading) (result : ListItem) :
 abbrev pub ReadsAs : ℤ → RecordInReading → Units → Units → Result (Unit {0}) ItemEnd → Type 0
 ReadsAs unit reading before after (Ok done) =
     (coming unit before ≡ before_others (line_of reading) (coming unit after)) × (after ≡ read_on 1 unit before)
-    × (position_of unit after ≡ suc (position_of unit before))
 ReadsAs unit reading before after (Err (Number number)) = (coming unit before ≡ nothing_but (Ok number)) × (after ≡ read_on 1 unit before)
 ReadsAs unit reading before after (Err (Fault fault)) = ⊥
 ReadsAs unit reading before after (Err Device) = Unit {0}
@@ -63,6 +59,7 @@ pub record ReadsNext (unit : ℤ) (reading reading' : RecordInReading) (old new 
   pub tells : Tells old → Tells new
   pub means : Tells old → ReadsAs unit reading' (units_of old) (units_of new) result
   pub devices : ReadsFrom unit old new result
+  pub further : OnOk result (position_of unit (units_of new) ≡ suc (position_of unit (units_of old)))
   pub reader : reading'.reader ≡ reading.reader
   pub kept : OnErr result (reading' ≡ reading)
 
@@ -81,27 +78,27 @@ pub record ItemGoesOn (meaning : Or Passage) (transfer : Transfer) (objects : Li
   pub is_behind : IsBehind transfer transfer' place slashed
   pub goes_on : meaning ≡ Ok (GoesOn transfer' (world_with objects stale units))
 
--- what is to be counted for an item is more than 64 bits tell: an offset, or the bytes of so many records that the unit is behind them
-abbrev pub IsBeyond : ℕ → CValue → ℤ → Units → Type 0
-IsBeyond size pointer unit units = IsFar size pointer ⊎ (2 ^ 53 ≤ position_of unit units)
+-- a unit stands behind 2^53 records or more
+abbrev pub StandsFar : ℤ → List Row → Type 0
+StandsFar unit rows = 2 ^ 53 ≤ position_of unit (units_of rows)
 
--- the offset behind one of so many items is more than 64 bits tell
-abbrev pub ArePast : ℕ → ℕ → CValue → Type 0
-ArePast size zero pointer = ⊥
-ArePast size (suc count) pointer = IsFar size pointer ⊎ ArePast size count (shifted size pointer)
-
-abbrev pub AreBeyond : ℕ → ℕ → CValue → ℤ → Units → Type 0
-AreBeyond size count pointer unit units = ArePast size count pointer ⊎ (2 ^ 53 ≤ position_of unit units)
+-- what holds where more is to be counted than 64 bits tell
+abbrev pub UncountedItem : {T : Type 0} → Result T ItemEnd → Type 0 → Type 0
+UncountedItem (Ok done) P = Unit {0}
+UncountedItem (Err (Fault fault)) P = Unit {0}
+UncountedItem (Err (Number number)) P = Unit {0}
+UncountedItem (Err Device) P = Unit {0}
+UncountedItem (Err Uncounted) P = P
 
 -- what an item comes to
-abbrev pub ItemReply : Type 0 → Or Passage → Transfer → List Object → Option Transfer → Units → Place → Result ItemRead ItemEnd → Type 0
-ItemReply beyond meaning transfer objects stale units place (Ok Given) = ItemGoesOn meaning transfer objects stale units place false
-ItemReply beyond meaning transfer objects stale units place (Ok Slashed) = ItemGoesOn meaning transfer objects stale units place true
-ItemReply beyond meaning transfer objects stale units place (Err (Fault fault)) = meaning ≡ failing fault
-ItemReply beyond meaning transfer objects stale units place (Err (Number number)) =
+abbrev pub ItemReply : Or Passage → Transfer → List Object → Option Transfer → Units → Place → Result ItemRead ItemEnd → Type 0
+ItemReply meaning transfer objects stale units place (Ok Given) = ItemGoesOn meaning transfer objects stale units place false
+ItemReply meaning transfer objects stale units place (Ok Slashed) = ItemGoesOn meaning transfer objects stale units place true
+ItemReply meaning transfer objects stale units place (Err (Fault fault)) = meaning ≡ failing fault
+ItemReply meaning transfer objects stale units place (Err (Number number)) =
     meaning ≡ Ok (Answers (ended_by number transfer (world_with objects stale units)))
-ItemReply beyond meaning transfer objects stale units place (Err Device) = Unit {0}
-ItemReply beyond meaning transfer objects stale units place (Err Uncounted) = beyond
+ItemReply meaning transfer objects stale units place (Err Device) = Unit {0}
+ItemReply meaning transfer objects stale units place (Err Uncounted) = Unit {0}
 
 abbrev pub ItemDevice : ℤ → List Row → List Row → Result ItemRead ItemEnd → Type 0
 ItemDevice unit old new (Ok read) = StayedOn unit old new
@@ -120,5 +117,6 @@ taken_at unit item transfer objects stale units place =
 pub record ReadsItem (unit : ℤ) (item : Item) (place place' : Place) (objects objects' : List Object) (old new : List Row) (result : Result ItemRead ItemEnd) : Type 0 where
   pub tells : Tells old → Tells new
   pub replies : Tells old → (transfer : Transfer) → (stale : Option Transfer) → transfer.medium ≡ media.Unit unit → transfer.place ≡ place → transfer.slashed ≡ false →
-      ItemReply (IsBeyond item.size item.pointer unit (units_of new)) (taken_at unit item transfer objects stale (units_of old) place) transfer objects' stale (units_of new) place' result
+      ItemReply (taken_at unit item transfer objects stale (units_of old) place) transfer objects' stale (units_of new) place' result
   pub devices : ItemDevice unit old new result
+  pub uncounted : UncountedItem result (StandsFar unit new)

@@ -68,7 +68,7 @@ pub record Seeking (from : Search) (reading : RecordInReading) (objects : List O
   pub out : (j : ℕ) → j < length front → runs_out (item_over from.place (take j front) (kind_in from)) ≡ true
   pub written : Written from.objects from.item.pointer from.item.size text objects done
   pub counted : from.steps + rest_size (place_of reading) ≤ 1024 + 1025 * length front
-  pub deep : Tells from.rows → length front ≤ position_of from.unit (units_of rows)
+  pub deep : length front ≤ position_of from.unit (units_of rows)
   pub fresh : IsOutside (place_of reading) → text ≡ []
 
 -- where another record is needed, the reader stands in each

@@ -13,7 +13,7 @@ use Rattle.listed_input.specs.declared.ends.Step.{Step}
 use Rattle.listed_input.specs.declared.ends.Step.TheVariants.{Read, GoesOn}
 use Rattle.listed_input.specs.declared.kinds.Item.{Item}
 use Rattle.listed_input.specs.declared.reading.RecordInReading.{RecordInReading}
-use Rattle.listed_input.specs.Texts.{IsFar, Written, PutsPiece}
+use Rattle.listed_input.specs.Texts.{Written, PutsPiece}
 use Rattle.listed_input.specs.Reading.{ReadsNext}
 
 -- an item is given a number, or has a fault
@@ -33,7 +33,7 @@ StepsPiece item done piece old new (Ok (GoesOn done')) = PutsPiece item.pointer 
 StepsPiece item done piece old new (Err (Fault fault)) = PutsPiece item.pointer item.size done piece old new (Err (Fault fault))
 StepsPiece item done piece old new (Err (Number number)) = ⊥
 StepsPiece item done piece old new (Err Device) = ⊥
-StepsPiece item done piece old new (Err Uncounted) = IsFar item.size item.pointer
+StepsPiece item done piece old new (Err Uncounted) = ⊥
 
 -- an item is given the last piece of a text
 abbrev pub StepsLast : Item → ℕ → List ℕ → List Object → List Object → Result Step ItemEnd → Type 0
@@ -47,7 +47,7 @@ StepsLast item done piece old new (Err (Fault fault)) =
     text_stored objects item.pointer (fitted item.size (text ++ piece)) ≡ failing fault
 StepsLast item done piece old new (Err (Number number)) = ⊥
 StepsLast item done piece old new (Err Device) = ⊥
-StepsLast item done piece old new (Err Uncounted) = IsFar item.size item.pointer
+StepsLast item done piece old new (Err Uncounted) = ⊥
 
 abbrev pub StepsText : Bool → Item → ℕ → List ℕ → List Object → List Object → Result Step ItemEnd → Type 0
 StepsText true item done piece old new result = StepsPiece item done piece old new result

@@ -19,8 +19,7 @@ use Rattle.unit_answers.specs.Failing.{FailedOn, NoneFailed}
 use Rattle.unit_answers.specs.Answers.{world_with}
 use Rattle.control_lists.specs.declared.controls.UnitControl.{UnitControl}
 use Rattle.control_lists.specs.Controls.{unit_shown}
-use Rattle.listed_output.specs.Items.{Given, items_given}
-use Rattle.listed_input.specs.Reading.{place_of, AreBeyond}
+use Rattle.listed_input.specs.Reading.{place_of, StandsFar}
 use Rattle.item_deeds.specs.Forms.{SameForms}
 use Rattle.listed_output.specs.declared.calls.Passage.{Passage}
 use Rattle.listed_output.specs.declared.calls.Passage.TheVariants.{GoesOn, Over}
@@ -78,24 +77,20 @@ AnswersEnd input number =
     (objects : List Object) → (units : Units) → (transfer : Transfer) → StandsFor input transfer →
     library (Finish listed_kind) (world_with objects (Some transfer) units) [] ≡ Ok (Gives number (world_with objects None units))
 
--- what is to be counted for the items of a call is more than 64 bits tell
-pub record ListBeyond (objects : List Object) (kind count first size : CValue) (unit : ℤ) (units : Units) : Type 0 where
-  pub list : Given
-  pub given_is : items_given objects kind count size ≡ Ok list
-  pub beyond : AreBeyond list.size list.count first unit units
-
-abbrev pub CallBeyond : List Object → List CValue → ℤ → Units → Type 0
-CallBeyond objects (kind ∷ count ∷ first ∷ size ∷ []) unit units = ListBeyond objects kind count first size unit units
-CallBeyond objects other unit units = ⊥
+-- what holds where more is to be counted than 64 bits tell
+abbrev pub UncountedCall : Result Passage InputEnd → Type 0 → Type 0
+UncountedCall (Ok passage) P = Unit {0}
+UncountedCall (Err (Call end)) P = Unit {0}
+UncountedCall (Err Uncounted) P = P
 
 -- `do_lio`
-abbrev pub ItemsReply : Type 0 → Or Reply → List Object → Units → ListedInput → Result Passage InputEnd → Type 0
-ItemsReply beyond meaning objects units input (Ok GoesOn) = Stands meaning objects units input
-ItemsReply beyond meaning objects units input (Ok (Over number)) = meaning ≡ Ok (Gives number (world_with objects None units))
-ItemsReply beyond meaning objects units input (Err (Call (Fault fault))) = meaning ≡ failing fault
-ItemsReply beyond meaning objects units input (Err (Call (Ended number))) = meaning ≡ Ok (Stops (Io number) (world_with objects None units))
-ItemsReply beyond meaning objects units input (Err (Call (Device unit))) = Unit {0}
-ItemsReply beyond meaning objects units input (Err Uncounted) = beyond
+abbrev pub ItemsReply : Or Reply → List Object → Units → ListedInput → Result Passage InputEnd → Type 0
+ItemsReply meaning objects units input (Ok GoesOn) = Stands meaning objects units input
+ItemsReply meaning objects units input (Ok (Over number)) = meaning ≡ Ok (Gives number (world_with objects None units))
+ItemsReply meaning objects units input (Err (Call (Fault fault))) = meaning ≡ failing fault
+ItemsReply meaning objects units input (Err (Call (Ended number))) = meaning ≡ Ok (Stops (Io number) (world_with objects None units))
+ItemsReply meaning objects units input (Err (Call (Device unit))) = Unit {0}
+ItemsReply meaning objects units input (Err Uncounted) = Unit {0}
 
 abbrev pub ItemsDevice : ListedInput → List Row → List Row → Result Passage InputEnd → Type 0
 ItemsDevice input old new (Ok passage) = NoneFailed old new
@@ -105,12 +100,14 @@ ItemsDevice input old new (Err (Call (Device unit))) = (unit ≡ input.unit) × 
 ItemsDevice input old new (Err Uncounted) = NoneFailed old new
 
 -- for every transfer for which the input stood, the call replies what its meaning gives; the device of its unit fails where it is
--- answered, and nowhere else; the objects keep their forms
+-- answered, and nowhere else; more is to be counted than 64 bits tell only where the unit stands behind 2^53 records or more then; the
+-- objects keep their forms
 pub record AnswersItems (objects objects' : List Object) (arguments : List CValue) (input input' : ListedInput) (old new : List Row) (result : Result Passage InputEnd) : Type 0 where
   pub tells : Tells old → Tells new
   pub replies : Tells old → (transfer : Transfer) → StandsFor input transfer →
-      ItemsReply (CallBeyond objects arguments input.unit (units_of new)) (library do_lio (world_with objects (Some transfer) (units_of old)) arguments) objects' (units_of new) input' result
+      ItemsReply (library do_lio (world_with objects (Some transfer) (units_of old)) arguments) objects' (units_of new) input' result
   pub devices : ItemsDevice input old new result
+  pub uncounted : UncountedCall result (StandsFar input.unit new)
   pub forms : SameForms objects objects'
 
 -- the rest of a start whose unit is connected

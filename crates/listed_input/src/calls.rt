@@ -142,10 +142,7 @@ fn give_items(
             size: list.size,
         };
         match give_item(input, units, run, item) {
-            Ok(()) => match place_behind(pointer, list.size) {
-                Some(place) => pointer = place,
-                None => return Err(ItemEnd::Uncounted),
-            },
+            Ok(()) => pointer = place_behind(run, pointer, list.size),
             Err(end) => return Err(end),
         }
     }
@@ -157,7 +154,8 @@ fn give_items(
 ///
 /// # Errors
 /// The first fault of the arguments or of an item; the end of the run by the number of an error or of the end of the file, where the list
-/// of the start does not ask for it; the unit where its device failed; `Uncounted` where 64 bits do not tell what is to be counted.
+/// of the start does not ask for it; the unit where its device failed; `Uncounted` where 64 bits do not tell the steps for an item, which is
+/// only where the unit stands behind 2^53 records or more.
 pub fn do_lio(
     input: &mut ListedInput,
     units: &mut UnitTable,

@@ -43,8 +43,8 @@ pub(crate) enum Step {
 pub enum InputEnd {
     /// As another call on a unit ends.
     Call(CallEnd),
-    /// More is to be counted than 64 bits tell: the offset behind an item, or the steps for one item, of which there are so many only where
-    /// the unit is behind 2^53 records or more. What such a call replies is not said.
+    /// More is to be counted than 64 bits tell: the steps for one item, of which there are so many only where the unit stands behind 2^53
+    /// records or more. What such a call replies is not said.
     Uncounted,
 }
 

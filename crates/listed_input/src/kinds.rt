@@ -11,14 +11,17 @@ use listed_output::ItemType;
 
 /// One item: its kind, a pointer to it, and how many bytes it has.
 #[derive(Clone, Copy)]
-pub(crate) struct Item {
-    pub(crate) kind: ItemType,
-    pub(crate) pointer: CValue,
-    pub(crate) size: usize,
+pub struct Item {
+    /// What it is.
+    pub kind: ItemType,
+    /// Where it stands.
+    pub pointer: CValue,
+    /// How many bytes it has.
+    pub size: usize,
 }
 
 /// The kind of an item, as a reader of records has it.
-pub(crate) fn kind_read(kind: ItemType) -> ItemKind
+pub fn kind_read(kind: ItemType) -> ItemKind
     ensures { reader.kind_of result ≡ transfers.kind_of (kind_shown kind) }
 {
     match kind {

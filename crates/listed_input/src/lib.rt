@@ -19,3 +19,6 @@ mod texts;
 
 pub use calls::{ListedInput, Start, do_lio, e_rsle, s_rsle};
 pub use ends::InputEnd;
+pub use kinds::{Item, kind_read};
+pub use reading::{LONGEST, RecordInReading};
+pub use records::{NextRecord, fetch};

@@ -6,14 +6,17 @@ ghost use Rattle.listed_input.specs.Fetching.{constant_of};
 use edit_rules::ListReader;
 
 /// The bytes that a record may have.
-pub(crate) const LONGEST: usize = 1024;
+pub const LONGEST: usize = 1024;
 
 /// The record that is being read, which is the front of a line, and the place in it.
 #[derive(Clone, Copy)]
-pub(crate) struct RecordInReading {
-    pub(crate) reader: ListReader,
-    pub(crate) line: [u8; LONGEST],
-    pub(crate) used: usize,
+pub struct RecordInReading {
+    /// The place in it.
+    pub reader: ListReader,
+    /// The line whose front it is.
+    pub line: [u8; LONGEST],
+    /// How many bytes it has.
+    pub used: usize,
     ghost within: { used ≤ length line },
     ghost short: { used ≤ 1024 },
     ghost placed: { reader.place ≤ used },

@@ -15,7 +15,7 @@ use run_state::UnitRefusal;
 
 /// What came of reading the next record of a unit.
 #[derive(Clone, Copy)]
-pub(crate) enum NextRecord {
+pub enum NextRecord {
     /// A record of so many bytes, which stand in front of the line.
     Record(usize),
     /// None that can be read: -1 at the end of the file, 5 for a record that is too long.
@@ -39,7 +39,7 @@ fn fetched(answer: Result<Got, UnitRefusal>) -> NextRecord
 }
 
 /// Reads the next record of a unit into the front of a line.
-pub(crate) fn fetch(units: &mut UnitTable, unit: i32, line: &mut [u8; LONGEST]) -> NextRecord
+pub fn fetch(units: &mut UnitTable, unit: i32, line: &mut [u8; LONGEST]) -> NextRecord
     requires { Unit {0} }
     ensures { Fetches unit line.new (rows_of (λ b. (⟦<dyn Device as Device>⟧ b.vtable).device_state b.value) units.old) (rows_of (λ b. (⟦<dyn Device as Device>⟧ b.vtable).device_state b.value) units.new) result }
 {
@@ -49,7 +49,7 @@ pub(crate) fn fetch(units: &mut UnitTable, unit: i32, line: &mut [u8; LONGEST]) 
 
 impl RecordInReading {
     /// What the next item of this kind is given by the record.
-    pub(crate) fn next(&mut self, kind: ItemKind) -> ListItem
+    pub fn next(&mut self, kind: ItemKind) -> ListItem
         ensures { Gives (kind_of kind) self.old self.new result }
     {
         let mut reader = self.reader;

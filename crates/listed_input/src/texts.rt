@@ -1,23 +1,38 @@
 //! Texts that come in pieces (ANSI X3.9-1978, 13.6.1).
 
-ghost use Rattle.std.specs.Prelude.{◌≡◌, ◌+◌, ◌-◌, ◌≤◌, min, length, IfOk};
+ghost use Rattle.std.specs.Prelude.{◌≡◌, ℕ, ◌+◌, ◌-◌, ◌≤◌, ◌<◌, ◌^◌, min, length, IfOk, slice_get};
 ghost use Rattle.item_deeds.specs.Forms.{SameForms};
-ghost use Rattle.listed_input.specs.Texts.{IsPlaceBehind, PutsPiece, Pads};
+ghost use Rattle.listed_input.specs.Texts.{IsPast, IsPlaceBehind, PutsPiece, Pads};
 
 use crate::ends::ItemEnd;
 use c_tree::outcome::CValue;
 use run_bytes::RunBytes;
 
-/// A pointer to what stands so many bytes behind, where 64 bits tell its offset.
-pub(crate) fn place_behind(pointer: CValue, distance: usize) -> Option<CValue>
-    ensures { IsPlaceBehind distance pointer result }
+/// The end of an object.
+fn end_of(run: &RunBytes, object: usize) -> usize
+    ensures past { (offset : ℕ) → result ≤ offset → IsPast (slice_get run.now object) offset }
+    ensures small { result < 2 ^ 63 }
+{
+    match run.extent(object) {
+        Some(extent) => extent,
+        None => 0,
+    }
+}
+
+/// A pointer to what stands so many bytes behind, or to the end of its object where 64 bits do not tell that offset: nothing can be stored
+/// at either.
+pub(crate) fn place_behind(run: &RunBytes, pointer: CValue, distance: usize) -> CValue
+    ensures { IsPlaceBehind run.now distance pointer result }
 {
     match pointer {
         CValue::Pointer { object, offset } => match offset.checked_add(distance) {
-            Some(offset) => Some(CValue::Pointer { object, offset }),
-            None => None,
+            Some(offset) => CValue::Pointer { object, offset },
+            None => CValue::Pointer {
+                object,
+                offset: end_of(run, object),
+            },
         },
-        other => Some(other),
+        other => other,
     }
 }
 
@@ -35,12 +50,10 @@ pub(crate) fn put_piece(
     ensures forms { SameForms run.old run.new }
 {
     let count = usize::min(size - done, piece.len());
-    match place_behind(pointer, done) {
-        Some(place) => match run.put_text(place, &piece[..count]) {
-            Ok(()) => Ok(done + count),
-            Err(fault) => Err(ItemEnd::Fault(fault)),
-        },
-        None => Err(ItemEnd::Uncounted),
+    let place = place_behind(run, pointer, done);
+    match run.put_text(place, &piece[..count]) {
+        Ok(()) => Ok(done + count),
+        Err(fault) => Err(ItemEnd::Fault(fault)),
     }
 }
 

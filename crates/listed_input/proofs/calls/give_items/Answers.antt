@@ -1,7 +1,7 @@
 use Rattle.std.proofs.Common.{◌+◌, ◌-◌, arith}
 use Rattle.item_deeds.proofs.FormLaws.{same-objects}
 use Rattle.listed_input.proofs.StoreLaws.{forms-then}
-use Rattle.listed_input.proofs.GiveLaws.{giving-starts, giving-goes_on, giving-ends, giving-uncounted, giving-stops}
+use Rattle.listed_input.proofs.GiveLaws.{giving-starts, giving-goes_on, giving-ends, giving-stops}
 use Rattle.listed_input.proofs.calls.give_items.Goals as goal
 
 pub loop-init : goal.loop-init
@@ -13,17 +13,9 @@ loop-init g c = (
 pub loop-preserved : goal.loop-preserved
 loop-preserved g c = (
   forms-then c.args.run.now c.loop.run c.give_item.new.run c.loop.invariant.0 c.give_item.ensures.forms,
-  giving-goes_on c.args.list c.args.first c.args.input.now c.loop.input c.give_item.new.input c.args.run.now c.loop.run c.give_item.new.run _ _ _ c.loop.pointer c.in-Some.place
-      (c.args.list.count - c.loop.counter) (c.args.list.count - (c.loop.counter + 1)) (omega arith) c.in-Some.ensures c.loop.invariant.1 c.in-Ok.ensures.gives,
+  giving-goes_on c.args.list c.args.first c.args.input.now c.loop.input c.give_item.new.input c.args.run.now c.loop.run c.give_item.new.run _ _ _ c.loop.pointer c.place_behind-pointer.result
+      (c.args.list.count - c.loop.counter) (c.args.list.count - (c.loop.counter + 1)) (omega arith) c.place_behind-pointer.ensures c.loop.invariant.1 c.in-Ok.ensures.gives,
 )
-
-pub returns-in-None-clause-gives : goal.returns-in-None-clause-gives
-returns-in-None-clause-gives g c =
-    giving-uncounted c.args.list c.args.first c.args.input.now c.loop.input c.give_item.new.input c.args.run.now c.loop.run c.give_item.new.run _ _ _ c.loop.pointer
-    (c.args.list.count - c.loop.counter) (c.args.list.count - (c.loop.counter + 1)) (omega arith) c.in-None.ensures c.loop.invariant.1 c.in-Ok.ensures.gives
-
-pub returns-in-None-clause-forms : goal.returns-in-None-clause-forms
-returns-in-None-clause-forms g c = forms-then c.args.run.now c.loop.run c.give_item.new.run c.loop.invariant.0 c.give_item.ensures.forms
 
 pub returns-in-Err-clause-gives : goal.returns-in-Err-clause-gives
 returns-in-Err-clause-gives g c =
