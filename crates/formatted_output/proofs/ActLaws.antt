@@ -47,10 +47,10 @@ in-record (edit.ZeroBlanks zeros) a = tt
 in-record edit.Done a = tt
 in-record edit.NoDescriptor a = tt
 
-pub same-control : (one other : Control) (old new : RecordSheet) (result : Result (Unit {0}) Halt) → (let e : Option formats.Edit = Some (Act one) in e) ≡ Some (Act other) →
-    Acts unit_sheet (with_control unit_sheet one) old new result → Acts unit_sheet (with_control unit_sheet other) old new result
-same-control one other old new result is acts =
-    let same : one ≡ other = cc in subst (λ (control : Control). Acts unit_sheet (with_control unit_sheet control) old new result) same acts
+pub same-control : (page : Sheet) (one other : Control) (old new : RecordSheet) (result : Result (Unit {0}) Halt) → (let e : Option formats.Edit = Some (Act one) in e) ≡ Some (Act other) →
+    Acts page (with_control page one) old new result → Acts page (with_control page other) old new result
+same-control page one other old new result is acts =
+    let same : one ≡ other = cc in subst (λ (control : Control). Acts page (with_control page control) old new result) same acts
 
 -- the next record
 pub next-goes : (own unit : ℤ) (record' : List ℕ) (old new : RecordSheet) (rows rows' : List Row) → own ≡ unit → record' ≡ making_in old → Writes own (record' ∷ []) rows rows' (Ok tt) →

@@ -30,10 +30,10 @@ use Rattle.formatted_output.proofs.PlaceLaws.{edits_behind, behind-is}
 abbrev pub Grows : List (List ℕ) → List (List ℕ) → Type 0
 Grows before after = (later : List (List ℕ)) × (after ≡ before ++ later)
 
-grows-not : (before : List (List ℕ)) → Grows before before
+pub grows-not : (before : List (List ℕ)) → Grows before before
 grows-not before = ([], sym (append-nil before))
 
-grows-then : (a b c : List (List ℕ)) → Grows a b → Grows b c → Grows a c
+pub grows-then : (a b c : List (List ℕ)) → Grows a b → Grows b c → Grows a c
 grows-then a b c one two = (one.0 ++ two.0, two.1 ∙ ap (λ (l : List (List ℕ)). l ++ two.0) one.1 ∙ append_assoc a one.0 two.0)
 
 text-grows : (text : List ℕ) (out : Output) → Grows out.complete (with_text unit_sheet text out).complete
@@ -43,7 +43,7 @@ text-grows text out = by (nat_le (out.before + length text) 1024)
     by true = grows-not out.complete
     by false = grows-not out.complete
 
-moved-grows : (columns : ℕ) (out : Output) → Grows out.complete (moved_to columns out).complete
+pub moved-grows : (columns : ℕ) (out : Output) → Grows out.complete (moved_to columns out).complete
 moved-grows columns out = by (nat_le columns 1024)
   where
     by : (fits : Bool) → Grows out.complete (if fits then record out { before = columns } else record out { halted = Some (Number 5) }).complete
@@ -114,17 +114,17 @@ closing-starts text walk unit old rows inside = record {
 }
 
 -- what an edit of a walk is for, where it is known
-given-as : (text : List ℕ) (again rest : List formats.Edit) (walk : FormatWalk) (given : Edit) (shown' : Option formats.Edit) → edit_in text given ≡ shown' → Given false text again rest walk given →
+pub given-as : (text : List ℕ) (again rest : List formats.Edit) (walk : FormatWalk) (given : Edit) (shown' : Option formats.Edit) → edit_in text given ≡ shown' → Given false text again rest walk given →
     GivenNone text again rest walk given shown'
 given-as text again rest walk given shown' is gives = subst (λ (one : Option formats.Edit). GivenNone text again rest walk given one) is gives
 
 -- an act behind the last item
-record Acted (text : List ℕ) (again rest : List formats.Edit) (walk : FormatWalk) (control : Control) : Type 0 where
-  left : List formats.Edit
-  stands : Stands text again walk left
-  is : closing rest ≡ Act control ∷ closing left
+pub record Acted (text : List ℕ) (again rest : List formats.Edit) (walk : FormatWalk) (control : Control) : Type 0 where
+  pub left : List formats.Edit
+  pub stands : Stands text again walk left
+  pub is : closing rest ≡ Act control ∷ closing left
 
-acted : (text : List ℕ) (again rest : List formats.Edit) (walk : FormatWalk) (given : Edit) (control : Control) → edit_in text given ≡ Some (Act control) → Given false text again rest walk given →
+pub acted : (text : List ℕ) (again rest : List formats.Edit) (walk : FormatWalk) (given : Edit) (control : Control) → edit_in text given ≡ Some (Act control) → Given false text again rest walk given →
     Acted text again rest walk control
 acted text again rest walk given control is gives =
     let known = given-as text again rest walk given (Some (Act control)) is gives in record { left = known.0; stands = known.1; is = known.2 }
@@ -192,7 +192,7 @@ closing-stops text first walk walk' own unit old sheet sheet' rows rows' rows'' 
       (subst (λ (lines : List (List ℕ)). StopsBy out lines why) (append_assoc complete before.lines does.lines) stops));
 }
 
-ends-by : (text : List ℕ) (again rest : List formats.Edit) (walk : FormatWalk) (given : Edit) (found : Turn) → (found ≡ turn.Acts → ⊥) → TurnOf (edit_in text given) found →
+pub ends-by : (text : List ℕ) (again rest : List formats.Edit) (walk : FormatWalk) (given : Edit) (found : Turn) → (found ≡ turn.Acts → ⊥) → TurnOf (edit_in text given) found →
     Given false text again rest walk given → closing rest ≡ []
 ends-by text again rest walk given (turn.Takes field) not is gives = absurd (given-as text again rest walk given _ is gives)
 ends-by text again rest walk given turn.Acts not is gives = absurd (not refl)

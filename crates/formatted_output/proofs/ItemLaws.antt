@@ -170,7 +170,7 @@ reached-with text output transfer walk' complete' new field value stands at =
     made-with stands.format transfer.values value (shown output.sheet stands.complete) stands.served refl stands.made
     ∙ ap (λ (u : ℕ). unserved_by (records.output unit_sheet) u out.halted out) at.served ∙ at.edits (value ∷ []) ∙ none-more put.halted put
 
-drop-whole : (lines : List (List ℕ)) → drop (length lines) lines ≡ []
+pub drop-whole : (lines : List (List ℕ)) → drop (length lines) lines ≡ []
 drop-whole [] = refl
 drop-whole (line ∷ later) = drop-whole later
 

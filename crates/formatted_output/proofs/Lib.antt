@@ -1,12 +1,12 @@
-mod FrontLaws
-mod ReadLaws
-mod StartLaws
-mod PlaceLaws
-mod ActLaws
-mod CloseLaws
-mod EndLaws
-mod ReachLaws
-mod ServedLaws
-mod ItemLaws
-mod PutLaws
-mod CallLaws
+pub mod FrontLaws
+pub mod ReadLaws
+pub mod StartLaws
+pub mod PlaceLaws
+pub mod ActLaws
+pub mod CloseLaws
+pub mod EndLaws
+pub mod ReachLaws
+pub mod ServedLaws
+pub mod ItemLaws
+pub mod PutLaws
+pub mod CallLaws

@@ -58,17 +58,17 @@ going-starts text walk unit old rows inside = record {
   };
 }
 
-given-as : (text : List ℕ) (again rest : List formats.Edit) (walk : FormatWalk) (given : Edit) (shown' : Option formats.Edit) → edit_in text given ≡ shown' → Given true text again rest walk given →
+pub given-as : (text : List ℕ) (again rest : List formats.Edit) (walk : FormatWalk) (given : Edit) (shown' : Option formats.Edit) → edit_in text given ≡ shown' → Given true text again rest walk given →
     GivenItem text again rest walk given shown'
 given-as text again rest walk given shown' is gives = subst (λ (one : Option formats.Edit). GivenItem text again rest walk given one) is gives
 
 -- an act before the next item
-record Acted (text : List ℕ) (again rest : List formats.Edit) (walk : FormatWalk) (control : Control) : Type 0 where
-  left : List formats.Edit
-  stands : Stands text again walk left
-  is : for_next again rest ≡ led_by (Act control) (for_next again left)
+pub record Acted (text : List ℕ) (again rest : List formats.Edit) (walk : FormatWalk) (control : Control) : Type 0 where
+  pub left : List formats.Edit
+  pub stands : Stands text again walk left
+  pub is : for_next again rest ≡ led_by (Act control) (for_next again left)
 
-acted : (text : List ℕ) (again rest : List formats.Edit) (walk : FormatWalk) (given : Edit) (control : Control) → edit_in text given ≡ Some (Act control) → Given true text again rest walk given →
+pub acted : (text : List ℕ) (again rest : List formats.Edit) (walk : FormatWalk) (given : Edit) (control : Control) → edit_in text given ≡ Some (Act control) → Given true text again rest walk given →
     Acted text again rest walk control
 acted text again rest walk given control is gives =
     let known = given-as text again rest walk given (Some (Act control)) is gives in record { left = known.0; stands = known.1; is = known.2 }

@@ -9,7 +9,7 @@ use Rattle.edit_rules.proofs.EditLaws.{edits_one_more, edits_none}
 use Rattle.formatted_output.specs.Reaching.{over_next, with_next}
 
 -- how many items edits take
-items_in : List Edit → ℕ
+pub items_in : List Edit → ℕ
 items_in [] = 0
 items_in (Item d ∷ later) = suc (items_in later)
 items_in (Act control ∷ later) = items_in later
@@ -47,7 +47,7 @@ one_items again s zero e =
     omega (arith, items_in-append s.edits (for_next again s.left).edits, turn_items (has_item again) again (served 1 s.left) (served 1 s.left).unserved refl (served_items 1 s.left))
 one_items again s (suc u) e = omega arith
 
-edits_items : (format : Format) (n : ℕ) → items_in (edits_for format n).edits + (edits_for format n).unserved ≡ n
+pub edits_items : (format : Format) (n : ℕ) → items_in (edits_for format n).edits + (edits_for format n).unserved ≡ n
 unfolding items_in
 edits_items format zero = subst (λ (s : Served). items_in s.edits + s.unserved ≡ 0) (sym (edits_none format)) refl
 edits_items format (suc n) =
@@ -56,7 +56,7 @@ edits_items format (suc n) =
 
 module _ {State Thing : Type 0} (d : Direction State Thing) where
   -- edits and then others
-  edited-append : (h : Option Halt) (e f : List Edit) (v w : List Thing) (s : State) → d.halted s ≡ h → items_in e ≡ length v
+  pub edited-append : (h : Option Halt) (e f : List Edit) (v w : List Thing) (s : State) → d.halted s ≡ h → items_in e ≡ length v
       → edited d h (e ++ f) (v ++ w) s ≡ edited d (d.halted (edited d h e v s)) f w (edited d h e v s)
   unfolding items_in
   edited-append (Some halt) e f v w s p b = sym (ap (λ q. edited d q f w s) p)
@@ -74,7 +74,7 @@ pub longer-by : (values : List ListedValue) (value : ListedValue) → length (va
 longer-by values value = simp length-append (omega arith)
 
 -- the edits with one more item, where those before were all served
-next-served : (format : Format) (items : ℕ) → (edits_for format items).unserved ≡ 0 →
+pub next-served : (format : Format) (items : ℕ) → (edits_for format items).unserved ≡ 0 →
     edits_for format (suc items) ≡ behind (edits_for format items) (for_next (pass (reverted format)) (edits_for format items).left)
 next-served format items all =
     edits_one_more format items ∙ ap (λ (unserved : ℕ). and_one unserved (pass (reverted format)) (edits_for format items)) all

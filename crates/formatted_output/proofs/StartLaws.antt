@@ -35,7 +35,7 @@ use Rattle.formatted_output.specs.Transferring.{formatted_kind, StandsFor, Start
 -- ## A number that a start answers
 
 -- a number that is answered, or that ends the run
-given-number : (number on_error on_end answer : ℤ) (objects : List Object) (units : Units) → numbered_answer number on_error on_end ≡ Ok answer →
+pub given-number : (number on_error on_end answer : ℤ) (objects : List Object) (units : Units) → numbered_answer number on_error on_end ≡ Ok answer →
     numbered number on_error on_end (world_with objects None units) ≡ Gives answer (world_with objects None units)
 given-number number on_error on_end answer objects units = by (int_eq (asked number on_error on_end) (pos 0))
   where
@@ -44,7 +44,7 @@ given-number number on_error on_end answer objects units = by (int_eq (asked num
     by true is = absurd (cc)
     by false is = let same : number ≡ answer = cc in ap (λ (n : ℤ). Gives n (world_with objects None units)) same
 
-ended-number : (number on_error on_end last : ℤ) (objects : List Object) (units : Units) → numbered_answer number on_error on_end ≡ Err (Ended last) →
+pub ended-number : (number on_error on_end last : ℤ) (objects : List Object) (units : Units) → numbered_answer number on_error on_end ≡ Err (Ended last) →
     numbered number on_error on_end (world_with objects None units) ≡ Stops (Io last) (world_with objects None units)
 ended-number number on_error on_end last objects units = by (int_eq (asked number on_error on_end) (pos 0))
   where

@@ -34,7 +34,7 @@ pub(crate) enum Stop {
 
 /// What an edit is for.
 #[derive(Clone, Copy)]
-pub(crate) enum Turn {
+pub enum Turn {
     /// It takes an item.
     Takes(Field),
     /// It takes none.
@@ -44,7 +44,7 @@ pub(crate) enum Turn {
 }
 
 /// What an edit of a walk is for.
-pub(crate) fn turn_of(edit: Edit) -> Turn
+pub fn turn_of(edit: Edit) -> Turn
     ensures { (text : List ℕ) → TurnOf (edit_in text edit) result }
 {
     match edit {
@@ -113,7 +113,7 @@ fn between(text: &[u8], from: usize, to: usize) -> &[u8]
 
 /// Writes a literal in which apostrophes are doubled.
 fn put_quoted(sheet: &mut RecordSheet, text: &[u8]) -> Result<(), Halt>
-    ensures { sheets.Acts unit_sheet (with_control unit_sheet (Literal (characters false text.now))) sheet.old sheet.new result }
+    ensures { (page : Sheet) → sheets.Acts page (with_control page (Literal (characters false text.now))) sheet.old sheet.new result }
 {
     let mut line = [b' '; COLUMNS];
     match undoubled(text, &mut line) {
@@ -124,7 +124,7 @@ fn put_quoted(sheet: &mut RecordSheet, text: &[u8]) -> Result<(), Halt>
 
 /// Writes a literal.
 fn put_literal(sheet: &mut RecordSheet, text: &[u8], doubled: bool) -> Result<(), Halt>
-    ensures { sheets.Acts unit_sheet (with_control unit_sheet (Literal (literal_of doubled text.now))) sheet.old sheet.new result }
+    ensures { (page : Sheet) → sheets.Acts page (with_control page (Literal (literal_of doubled text.now))) sheet.old sheet.new result }
 {
     if doubled {
         put_quoted(sheet, text)
@@ -133,9 +133,12 @@ fn put_literal(sheet: &mut RecordSheet, text: &[u8], doubled: bool) -> Result<()
     }
 }
 
-/// Does an edit in the record in the making.
-fn edit_record(sheet: &mut RecordSheet, format: &[u8], edit: Edit) -> Result<(), Halt>
-    ensures { (control : Control) → edit_in format.now edit ≡ Some (Act control) → InRecord edit → sheets.Acts unit_sheet (with_control unit_sheet control) sheet.old sheet.new result }
+/// Does an edit in the record in the making, on any sheet. The next record is none of them.
+///
+/// # Errors
+/// `PastColumns` where the record has no such column.
+pub fn edit_record(sheet: &mut RecordSheet, format: &[u8], edit: Edit) -> Result<(), Halt>
+    ensures { (control : Control) → edit_in format.now edit ≡ Some (Act control) → InRecord edit → (page : Sheet) → sheets.Acts page (with_control page control) sheet.old sheet.new result }
 {
     match edit {
         Edit::Literal { from, to, doubled } => put_literal(

@@ -61,7 +61,7 @@ fn set_front(run: &RunBytes, pointer: CValue) -> SetFront
 ///
 /// # Errors
 /// The fault of the first byte that cannot be read where the format does not end before it.
-pub(crate) fn read_format(run: &RunBytes, pointer: CValue, into: &mut [u8]) -> Result<bool, CFault>
+pub fn read_format(run: &RunBytes, pointer: CValue, into: &mut [u8]) -> Result<bool, CFault>
     requires { 2048 ≤ length into.old }
     ensures { ReadsFormat (format_at run.now pointer) into.new result }
 {

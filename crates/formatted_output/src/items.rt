@@ -75,7 +75,10 @@ fn logical_at(run: &RunBytes, pointer: CValue, size: usize) -> Result<ListValue<
 }
 
 /// The value of the item that a pointer points to, under its descriptor.
-pub(crate) fn value_under(
+///
+/// # Errors
+/// The first fault of the item.
+pub fn value_under(
     run: &RunBytes,
     field: Field,
     pointer: CValue,
@@ -125,13 +128,18 @@ pub(crate) fn put_item(
 
 /// The number of the items of a call, and the bytes of one.
 #[derive(Clone, Copy)]
-pub(crate) struct ItemList {
-    pub(crate) count: usize,
-    pub(crate) size: usize,
+pub struct ItemList {
+    /// How many items there are.
+    pub count: usize,
+    /// The bytes of one.
+    pub size: usize,
 }
 
 /// What a call says of its items: a pointer to their count, and the length of one.
-pub(crate) fn item_list(run: &RunBytes, count: CValue, size: CValue) -> Result<ItemList, CFault>
+///
+/// # Errors
+/// The first fault of these arguments.
+pub fn item_list(run: &RunBytes, count: CValue, size: CValue) -> Result<ItemList, CFault>
     ensures { answered list_shown result ≡ items_given run.now count size }
 {
     let number = number_through(run, count)?;
@@ -141,7 +149,7 @@ pub(crate) fn item_list(run: &RunBytes, count: CValue, size: CValue) -> Result<I
 }
 
 /// A pointer behind an item that is there. An empty text may stand anywhere.
-fn behind(run: &RunBytes, pointer: CValue, size: usize) -> CValue
+pub fn behind(run: &RunBytes, pointer: CValue, size: usize) -> CValue
     ensures { StandsThere size run.now pointer → result ≡ arguments.shifted size pointer }
 {
     match pointer {

@@ -14,4 +14,7 @@ mod endings;
 mod formats;
 mod items;
 
+pub use acts::{Turn, edit_record, turn_of};
 pub use calls::{FormattedOutput, Passage, Start, do_fio, e_wsfe, s_wsfe};
+pub use formats::read_format;
+pub use items::{ItemList, behind, item_list, value_under};

@@ -1,0 +1,9 @@
+pub mod ReadLaws
+pub mod ActLaws
+pub mod ReachLaws
+pub mod CloseLaws
+pub mod ItemLaws
+pub mod GiveLaws
+pub mod CallLaws
+pub mod EndLaws
+pub mod StartLaws

@@ -1,0 +1,12 @@
+pub mod StoreLaws
+pub mod ActLaws
+pub mod CloseLaws
+pub mod ReachLaws
+pub mod ShownLaws
+pub mod MadeLaws
+pub mod ItemLaws
+pub mod PutLaws
+pub mod RecordlessLaws
+pub mod StartLaws
+pub mod EndLaws
+pub mod CallLaws

@@ -1,0 +1,30 @@
+use Rattle.internal_output.specs.Files.{file_of}
+use Rattle.internal_formatted_input.proofs.CloseLaws.{closing-starts, closing-goes_on, closing-smaller, closing-stops, closing-ends}
+use Rattle.internal_formatted_input.proofs.endings.close.Goals as goal
+
+pub edits-init : goal.edits-init
+edits-init c = closing-starts c.args.run.now c.args.format.now c.args.walk.now (file_of c.args.file.now) c.args.record.now c.requires
+
+pub returns-in-Err : goal.returns-in-Err
+returns-in-Err c =
+    let found = c.in-Acts.ensures c.args.format.now in
+    closing-stops c.args.run.now c.args.format.now c.args.walk.now c.edits.walk c.next-edit.new.self (file_of c.args.file.now) (file_of c.edits.file) (file_of c.act.new.file)
+    c.args.record.now c.edits.record c.act.new.record c.next-edit.result c.in-Err.stop c.next-edit.ensures.given found
+    (c.in-Err.ensures c.args.format.now found.0 found.1) c.edits.invariant
+
+pub edits-smaller : goal.edits-smaller
+edits-smaller c =
+    closing-smaller c.args.run.now c.args.format.now c.args.walk.now c.edits.walk c.next-edit.new.self (file_of c.args.file.now) (file_of c.edits.file) c.args.record.now c.edits.record
+    c.next-edit.result c.next-edit.ensures.given (c.in-Acts.ensures c.args.format.now) c.edits.invariant
+
+pub edits-preserved : goal.edits-preserved
+edits-preserved c =
+    let found = c.in-Acts.ensures c.args.format.now in
+    closing-goes_on c.args.run.now c.args.format.now c.args.walk.now c.edits.walk c.next-edit.new.self (file_of c.args.file.now) (file_of c.edits.file) (file_of c.act.new.file)
+    c.args.record.now c.edits.record c.act.new.record c.next-edit.result c.next-edit.ensures.stands c.next-edit.ensures.given found
+    (c.in_default-act.ensures c.args.format.now found.0 found.1) c.edits.invariant
+
+pub returns-in_default : goal.returns-in_default
+returns-in_default c =
+    closing-ends c.args.run.now c.args.format.now c.args.walk.now c.edits.walk c.next-edit.new.self (file_of c.args.file.now) (file_of c.edits.file) c.args.record.now c.edits.record
+    c.next-edit.result c.turn_of.result c.in_default.not-Acts c.next-edit.ensures.given c.turn_of.ensures c.edits.invariant

@@ -1,0 +1,4 @@
+pub mod Acting
+pub mod Reaching
+pub mod Giving
+pub mod Transferring

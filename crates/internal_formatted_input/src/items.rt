@@ -1,0 +1,97 @@
+//! The items of an input, each under the descriptor that it gets (ANSI X3.9-1978, 12.8.2, 12.9.5.1 and 13.3).
+
+ghost use Rattle.std.specs.Prelude.{OnOk};
+ghost use Rattle.edit_rules.specs.Walks.{StandsIn};
+ghost use Rattle.internal_output.specs.Files.{file_of};
+ghost use Rattle.item_deeds.specs.Forms.{SameForms};
+ghost use Rattle.listed_output.specs.Items.{StandsThere};
+ghost use Rattle.internal_formatted_input.specs.Reaching.{Reaches};
+ghost use Rattle.internal_formatted_input.specs.Giving.{GivesItem, GivesItems};
+
+use crate::acts::{Stop, act, stop_by};
+use crate::calls::InternalFormattedInput;
+use c_tree::outcome::CValue;
+use edit_rules::FormatWalk;
+use formatted_output::{ItemList, Turn, behind, turn_of};
+use formatted_records::Field;
+use internal_output::FileRecords;
+use run_bytes::RunBytes;
+use taken_items::{ItemHalt, take_item};
+use taken_records::RecordInput;
+
+/// Does what the format gives before the descriptor of the next item, and gives that descriptor.
+fn next_field(
+    walk: &mut FormatWalk,
+    record: &mut RecordInput,
+    file: &mut FileRecords,
+    run: &RunBytes,
+    format: &[u8],
+) -> Result<Field, Stop>
+    requires { StandsIn walk.old format.now }
+    ensures { Reaches run.now format.now walk.old walk.new record.old record.new (file_of file.old) (file_of file.new) result }
+{
+    'edits: loop {
+        let edit = walk.next(format, true);
+        match turn_of(edit) {
+            Turn::Takes(field) => return Ok(field),
+            Turn::Acts => {
+                if let Err(stop) = act(record, file, run, edit) {
+                    return Err(stop);
+                }
+            }
+            Turn::Ends => return Err(Stop::Number(4)),
+        }
+    }
+}
+
+/// Gives one item its value: what the format gives before its descriptor is done, then its field is taken.
+fn give_item(
+    input: &mut InternalFormattedInput,
+    run: &mut RunBytes,
+    format: &[u8],
+    pointer: CValue,
+    size: usize,
+) -> Result<(), Stop>
+    requires { StandsIn input.old.walk format.now }
+    ensures gives { GivesItem format.now input.old input.new run.old run.new pointer size result }
+    ensures there { OnOk result (StandsThere size run.old pointer) }
+    ensures forms { SameForms run.old run.new }
+{
+    match next_field(
+        &mut input.walk,
+        &mut input.record,
+        &mut input.file,
+        run,
+        format,
+    ) {
+        Ok(field) => match take_item(&mut input.record, run, field, pointer, size) {
+            Ok(()) => Ok(()),
+            Err(ItemHalt::Halts(halt)) => Err(stop_by(halt)),
+            Err(ItemHalt::Fault(fault)) => Err(Stop::Fault(fault)),
+        },
+        Err(stop) => Err(stop),
+    }
+}
+
+/// Gives so many items that stand one behind the other their values, each before the next.
+pub(crate) fn give_items(
+    input: &mut InternalFormattedInput,
+    run: &mut RunBytes,
+    format: &[u8],
+    list: ItemList,
+    first: CValue,
+) -> Result<(), Stop>
+    requires { StandsIn input.old.walk format.now }
+    ensures gives { GivesItems format.now input.old input.new run.old run.new list.count list.size first result }
+    ensures forms { SameForms run.old run.new }
+{
+    let mut pointer = first;
+    'items: for _ in 0..list.count {
+        let next = behind(run, pointer, list.size);
+        match give_item(input, run, format, pointer, list.size) {
+            Ok(()) => pointer = next,
+            Err(stop) => return Err(stop),
+        }
+    }
+    Ok(())
+}

@@ -1,0 +1,4 @@
+pub mod RoomLaws
+pub mod PadLaws
+pub mod ValueLaws
+pub mod NextLaws
