@@ -9,7 +9,6 @@ abbrev pub ToldOfCall : {L E : Type 0} → (L → L → Type 0) → (ℤ → L �
 ToldOfCall none_failed failed_on old new (Ok given) = none_failed old new
 ToldOfCall none_failed failed_on old new (Err (broken.Break why)) = none_failed old new
 ToldOfCall none_failed failed_on old new (Err (broken.Device unit)) = failed_on unit old new
-ToldOfCall none_failed failed_on old new (Err broken.NotBuilt) = none_failed old new
 ToldOfCall none_failed failed_on old new (Err broken.Uncounted) = none_failed old new
 
 -- calls one after the other, in none of which a device failed

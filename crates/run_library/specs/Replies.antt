@@ -49,13 +49,11 @@ abbrev pub Answers : {E : Type 0} → (List Object → E → Ending) → ℕ →
 Answers ending number values before stands objects (Ok given) = StandsIn stands objects (λ after. Replies ending number values before after (Ok given))
 Answers ending number values before stands objects (Err (broken.Break why)) = StandsIn stands objects (λ after. Replies ending number values before after (Err why))
 Answers ending number values before stands objects (Err (broken.Device unit)) = Unit {0}
-Answers ending number values before stands objects (Err broken.NotBuilt) = Unit {0}
 Answers ending number values before stands objects (Err broken.Uncounted) = Unit {0}
 
--- what holds where the library lacks the function
-abbrev pub LacksIt : {E : Type 0} → Result (LibraryReply E) CallBreak → Type 0 → Type 0
-LacksIt (Ok given) P = Unit {0}
-LacksIt (Err (broken.Break why)) P = Unit {0}
-LacksIt (Err (broken.Device unit)) P = Unit {0}
-LacksIt (Err broken.NotBuilt) P = P
-LacksIt (Err broken.Uncounted) P = Unit {0}
+-- what holds where more is to be counted than 64 bits tell
+abbrev pub UncountedIf : {E : Type 0} → Result (LibraryReply E) CallBreak → Type 0 → Type 0
+UncountedIf (Ok given) P = Unit {0}
+UncountedIf (Err (broken.Break why)) P = Unit {0}
+UncountedIf (Err (broken.Device unit)) P = Unit {0}
+UncountedIf (Err broken.Uncounted) P = P

@@ -1,6 +1,6 @@
 //! The functions of the library and what they answer (CSTR 149, appendix on the run time library).
 
-ghost use Rattle.std.specs.Prelude.{◌≡◌, ℕ, ℤ, Bool, true, List, Option};
+ghost use Rattle.std.specs.Prelude.{◌≡◌, ℕ, ℤ, List, Option};
 ghost use Rattle.c_tree.specs.Objects.{Object};
 ghost use Rattle.c_tree.specs.run_state.Units.{Units};
 ghost use Rattle.c_tree.specs.run_state.Endings as endings;
@@ -8,7 +8,7 @@ ghost use Rattle.c_tree.specs.World.{Transfer};
 ghost use Rattle.item_deeds.specs.Deeds.{world_of};
 ghost use Rattle.item_deeds.specs.Forms.{SameForms};
 ghost use Rattle.run_library.specs.Signatures.{IsCall};
-ghost use Rattle.run_library.specs.Replies.{Answers, LacksIt};
+ghost use Rattle.run_library.specs.Replies.{Answers, UncountedIf};
 ghost use Rattle.run_library.specs.Room.{HasRoom};
 ghost use Rattle.run_library.specs.Devices.{ToldOfCall};
 
@@ -42,9 +42,7 @@ pub enum CallBreak {
     Break(RunBreak),
     /// The device of this unit failed.
     Device(i32),
-    /// The library does not have this function yet.
-    NotBuilt,
-    /// More is to be counted than 64 bits tell. Nothing is said of such a call.
+    /// More is to be counted than 64 bits tell. Nothing is said of what such a call replies.
     Uncounted,
 }
 
@@ -55,8 +53,8 @@ pub enum CallBreak {
 /// `none_failed` says of the library before a call and after it that no device failed in the call, and `failed_on` that the device of a
 /// unit failed and no other. A count for each unit would not do: a closed unit has no device, and an opened one has that of its file.
 ///
-/// `lacks` says which functions the library does not have, and `room` how long the texts are that it can put together. An ending may name
-/// places among the objects: `ending` reads them at the end of the run.
+/// `uncounted` says what holds of the library where more was to be counted than 64 bits tell, and `room` how long the texts are that it can
+/// put together. An ending may name places among the objects: `ending` reads them at the end of the run.
 pub trait Library {
     /// How a call ends a run.
     type Ending: Drop;
@@ -69,7 +67,7 @@ pub trait Library {
 
     ghost ending: { List Object → Self.Ending → endings.Ending };
 
-    ghost lacks: { ℕ → Bool };
+    ghost uncounted: { Self → Type 0 };
 
     ghost room: { Self → ℕ };
 
@@ -77,8 +75,7 @@ pub trait Library {
     /// their forms.
     ///
     /// # Errors
-    /// Why the run cannot go on, the unit whose device failed, that the library lacks the function, or that more is to be counted than 64 bits
-    /// tell.
+    /// Why the run cannot go on, the unit whose device failed, or that more is to be counted than 64 bits tell.
     fn call(
         &mut self,
         number: usize,
@@ -89,7 +86,7 @@ pub trait Library {
         requires room { HasRoom (room self.old) run.old }
         ensures meaning { (units : Units) → (transfer : Option Transfer) → stands self.old units transfer →
             Answers ending number values.now (world_of run.old units transfer) (stands self.new) run.new result }
-        ensures built { LacksIt result (lacks number ≡ true) }
+        ensures counted { UncountedIf result (uncounted self.new) }
         ensures room { room self.new ≡ room self.old }
         ensures devices { ToldOfCall none_failed failed_on self.old self.new result }
         ensures forms { SameForms run.old run.new };

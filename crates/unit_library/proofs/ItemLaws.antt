@@ -25,14 +25,17 @@ use Rattle.listed_output.specs.declared.calls.Passage.{Passage}
 use Rattle.listed_output.specs.declared.calls.Passage.TheVariants.{GoesOn, Over}
 use Rattle.listed_output.specs.Transferring.{AnswersItems}
 use Rattle.unit_library.specs.declared.formatted_in_progress.FormattedInProgress.{FormattedInProgress}
+use Rattle.unit_library.specs.declared.formatted_in_progress.InputInProgress.{InputInProgress}
+use Rattle.unit_library.specs.declared.formatted_in_progress.InternalInProgress.{InternalInProgress}
+use Rattle.unit_library.specs.declared.formatted_in_progress.InternalInputInProgress.{InternalInputInProgress}
 use Rattle.unit_library.specs.declared.transfers.TransferInProgress.{TransferInProgress}
 use Rattle.unit_library.specs.declared.transfers.TransferInProgress.TheVariants as going
-use Rattle.unit_library.specs.Transfers.{InProgress, Standing, behind_items}
+use Rattle.unit_library.specs.Transfers.{InProgress, behind_items}
 use Rattle.unit_library.specs.Items.{formatted_fault}
 use Rattle.unit_library.specs.Replies.{CallResult, broken_by, passed_by}
-use Rattle.unit_library.specs.Calls.{Calls, AnswersCall}
-use Rattle.unit_library.proofs.SameCalls.{arguments-same}
-use Rattle.unit_library.proofs.UnitLaws.{never-none, outside}
+use Rattle.unit_library.specs.Calls.{Calls}
+use Rattle.unit_library.proofs.GivenCalls.{inside, fault-outside, ended-inside}
+use Rattle.unit_library.proofs.SameCalls.{arguments-same, calls-as}
 
 -- LIST-DIRECTED ITEMS
 listed-outside : (objects : List Object) (kind count first size : CValue) (units : Units) →
@@ -44,42 +47,7 @@ pub items-outside : (arguments' : List CValue) (objects : List Object) (kind cou
     kind ∷ count ∷ first ∷ size ∷ [] ≡ arguments' → result ≡ broken_by fault.Library → Calls do_lio arguments' objects objects None None rows rows result
 items-outside arguments' objects kind count first size rows result same is =
     arguments-same do_lio (kind ∷ count ∷ first ∷ size ∷ []) arguments' objects objects None None rows rows (broken_by fault.Library) result same is
-    (outside do_lio (kind ∷ count ∷ first ∷ size ∷ []) objects rows fault.Library (listed-outside objects kind count first size))
-
-items-meaning : (objects : List Object) (arguments : List CValue) (output output' : ListedOutput) (old new : List Row) (passage : Result Passage CallEnd) →
-    AnswersItems objects arguments output output' old new passage → (units : Units) (transfer : Option Transfer) → Standing old (Some (going.ListedOutput output)) units transfer →
-    AnswersCall do_lio arguments (world_of objects units transfer) (Standing new (behind_items passage (going.ListedOutput output) (going.ListedOutput output'))) objects (passed_by passage)
-items-meaning objects arguments output output' old new passage on units None standing = absurd standing.in_progress
-items-meaning objects arguments output output' old new (Ok GoesOn) on units (Some transfer) standing =
-    let goes = on.replies standing.tells transfer standing.in_progress in
-    record {
-      units = units_of new;
-      transfer = Some goes.transfer;
-      stood = record { tells = on.tells standing.tells; means = refl; in_progress = goes.stands };
-      holds = ap (λ (u : Units). library do_lio (world_of objects u (Some transfer)) arguments) standing.means ∙ goes.replies;
-    }
-items-meaning objects arguments output output' old new (Ok (Over number)) on units (Some transfer) standing = record {
-  units = units_of new;
-  transfer = None;
-  stood = record { tells = on.tells standing.tells; means = refl; in_progress = refl };
-  holds =
-      ap (λ (u : Units). library do_lio (world_of objects u (Some transfer)) arguments) standing.means ∙ on.replies standing.tells transfer standing.in_progress;
-}
-items-meaning objects arguments output output' old new (Err (Fault why)) on units (Some transfer) standing = record {
-  units = units_of new;
-  transfer = Some transfer;
-  stood = record { tells = on.tells standing.tells; means = refl; in_progress = standing.in_progress };
-  holds =
-      ap (λ (u : Units). library do_lio (world_of objects u (Some transfer)) arguments) standing.means ∙ on.replies standing.tells transfer standing.in_progress;
-}
-items-meaning objects arguments output output' old new (Err (Ended number)) on units (Some transfer) standing = record {
-  units = units_of new;
-  transfer = None;
-  stood = record { tells = on.tells standing.tells; means = refl; in_progress = refl };
-  holds =
-      ap (λ (u : Units). library do_lio (world_of objects u (Some transfer)) arguments) standing.means ∙ on.replies standing.tells transfer standing.in_progress;
-}
-items-meaning objects arguments output output' old new (Err (Device unit)) on units (Some transfer) standing = tt
+    (fault-outside do_lio (kind ∷ count ∷ first ∷ size ∷ []) objects rows fault.Library (listed-outside objects kind count first size))
 
 -- no device fails where the rows stay
 pub same-rows : (old new : List Row) → new ≡ old → NoneFailed old new
@@ -88,45 +56,23 @@ same-rows old new same = subst (λ (rows : List Row). NoneFailed old rows) (sym 
 items-called : (objects : List Object) (arguments : List CValue) (output output' : ListedOutput) (old new : List Row) (passage : Result Passage CallEnd) →
     AnswersItems objects arguments output output' old new passage →
     Calls do_lio arguments objects objects (Some (going.ListedOutput output)) (behind_items passage (going.ListedOutput output) (going.ListedOutput output')) old new (passed_by passage)
-items-called objects arguments output output' old new (Ok GoesOn) on = record {
-  meaning = items-meaning objects arguments output output' old new (Ok GoesOn) on;
-  built = tt;
-  devices = on.devices;
-  forms = same-objects objects;
-}
-items-called objects arguments output output' old new (Ok (Over number)) on = record {
-  meaning = items-meaning objects arguments output output' old new (Ok (Over number)) on;
-  built = tt;
-  devices = on.devices;
-  forms = same-objects objects;
-}
-items-called objects arguments output output' old new (Err (Fault why)) on = record {
-  meaning = items-meaning objects arguments output output' old new (Err (Fault why)) on;
-  built = tt;
-  devices = same-rows old new on.devices;
-  forms = same-objects objects;
-}
-items-called objects arguments output output' old new (Err (Ended number)) on = record {
-  meaning = items-meaning objects arguments output output' old new (Err (Ended number)) on;
-  built = tt;
-  devices = on.devices;
-  forms = same-objects objects;
-}
-items-called objects arguments output output' old new (Err (Device unit)) on = record {
-  meaning = items-meaning objects arguments output output' old new (Err (Device unit)) on;
-  built = tt;
-  devices = on.devices.1;
-  forms = same-objects objects;
-}
+items-called objects arguments output output' old new (Ok GoesOn) on =
+    inside (passed_by (Ok GoesOn)) on.tells
+    (λ tells transfer stands. let goes = on.replies tells transfer stands in record { transfer = Some goes.transfer; in_progress = goes.stands; holds = goes.replies }) on.devices
+    (same-objects objects)
+items-called objects arguments output output' old new (Ok (Over number)) on = ended-inside (Ok number) on.tells on.replies on.devices (same-objects objects)
+items-called objects arguments output output' old new (Err (Fault why)) on =
+    inside (passed_by (Err (Fault why))) on.tells (λ tells transfer stands. record { transfer = Some transfer; in_progress = stands; holds = on.replies tells transfer stands })
+    (same-rows old new on.devices) (same-objects objects)
+items-called objects arguments output output' old new (Err (Ended number)) on = ended-inside (Err (Ended number)) on.tells on.replies on.devices (same-objects objects)
+items-called objects arguments output output' old new (Err (Device unit)) on = ended-inside (Err (Device unit)) on.tells (λ tells transfer stands. tt) on.devices.1 (same-objects objects)
 
 pub items-put : (arguments arguments' : List CValue) (objects : List Object) (output output' : ListedOutput) (old new : List Row) (passage : Result Passage CallEnd)
     (held held' : Option TransferInProgress) (result : CallResult) → arguments ≡ arguments' → held ≡ Some (going.ListedOutput output) → held' ≡ behind_items passage (going.ListedOutput output) (going.ListedOutput output') →
     result ≡ passed_by passage → AnswersItems objects arguments output output' old new passage → Calls do_lio arguments' objects objects held held' old new result
 items-put arguments arguments' objects output output' old new passage held held' result same holds behind is on =
-    subst (λ (h : Option TransferInProgress). Calls do_lio arguments' objects objects h held' old new result) (sym holds)
-    (subst (λ (h : Option TransferInProgress). Calls do_lio arguments' objects objects (Some (going.ListedOutput output)) h old new result) (sym behind)
-    (arguments-same do_lio arguments arguments' objects objects (Some (going.ListedOutput output)) (behind_items passage (going.ListedOutput output) (going.ListedOutput output')) old new (passed_by passage) result same is
-    (items-called objects arguments output output' old new passage on)))
+    calls-as arguments arguments' held (Some (going.ListedOutput output)) held' (behind_items passage (going.ListedOutput output) (going.ListedOutput output')) result (passed_by passage) same
+    holds behind is (items-called objects arguments output output' old new passage on)
 
 -- ITEMS UNDER A FORMAT
 formatted-outside : (objects : List Object) (count first size : CValue) (units : Units) →
@@ -138,7 +84,7 @@ pub format-outside : (arguments' : List CValue) (objects : List Object) (count f
     result ≡ broken_by fault.Library → (rows : List Row) → Calls do_fio arguments' objects objects None None rows rows result
 format-outside arguments' objects count first size result same is rows =
     arguments-same do_fio (count ∷ first ∷ size ∷ []) arguments' objects objects None None rows rows (broken_by fault.Library) result same is
-    (outside do_fio (count ∷ first ∷ size ∷ []) objects rows fault.Library (formatted-outside objects count first size))
+    (fault-outside do_fio (count ∷ first ∷ size ∷ []) objects rows fault.Library (formatted-outside objects count first size))
 
 abbrev pub erring : (A : Type 0) → Break → Or A
 erring A reason = Err reason
@@ -160,15 +106,22 @@ failing-at (Ok number) many length rest why fails is = counted (many number) len
     counted (Ok count) (Err reason) is = same-fault (Unit {0}) Reply reason why is
     counted (Ok count) (Ok size) is = fails count size ∙ same-fault (Unit {0}) Reply (Faults fault.Library) why is
 
--- no formatted output is in progress
-abbrev NoFormat : TransferInProgress → Type 0
-NoFormat held = (output : FormattedInProgress) → held ≡ going.FormattedOutput output → ⊥
+-- no transfer under a format is in progress
+pub record NoFormat (held : TransferInProgress) : Type 0 where
+  pub on_unit : (output : FormattedInProgress) → held ≡ going.FormattedOutput output → ⊥
+  pub from_unit : (input : InputInProgress) → held ≡ going.FormattedInput input → ⊥
+  pub in_file : (output : InternalInProgress) → held ≡ going.InternalFormatted output → ⊥
+  pub from_file : (input : InternalInputInProgress) → held ≡ going.InternalFormattedInput input → ⊥
 
 listed-layout : (held : TransferInProgress) (transfer : Transfer) → NoFormat held → InProgress (Some held) (Some transfer) → transfer.layout ≡ Listed
 listed-layout (going.ListedOutput output) transfer other stands = stands.layout
 listed-layout (going.ListedInput input) transfer other stands = stands.layout
 listed-layout (going.InternalOutput output) transfer other stands = stands.layout
-listed-layout (going.FormattedOutput output) transfer other stands = absurd (other output refl)
+listed-layout (going.InternalInput input) transfer other stands = stands.layout
+listed-layout (going.FormattedOutput output) transfer other stands = absurd (other.on_unit output refl)
+listed-layout (going.FormattedInput input) transfer other stands = absurd (other.from_unit input refl)
+listed-layout (going.InternalFormatted output) transfer other stands = absurd (other.in_file output refl)
+listed-layout (going.InternalFormattedInput input) transfer other stands = absurd (other.from_file input refl)
 
 formatted-listed : (objects : List Object) (count first size : CValue) (why : CFault) (units : Units) (transfer : Transfer) → transfer.layout ≡ Listed →
     formatted_fault objects count size ≡ failing why → library do_fio (world_of objects units (Some transfer)) (count ∷ first ∷ size ∷ []) ≡ failing why
@@ -177,28 +130,17 @@ formatted-listed objects count first size why units transfer listed is =
     failing-at (number_through objects count) count_from (length_from size) (λ many length. formatted_by transfer.layout length many first transfer (world_of objects units (Some transfer))) why
     (λ many length. ap (λ (layout : Layout). formatted_by layout length many first transfer (world_of objects units (Some transfer))) listed) is
 
-format-meaning : (objects : List Object) (count first size : CValue) (why : CFault) (held : TransferInProgress) (rows : List Row) → NoFormat held → formatted_fault objects count size ≡ failing why →
-    (units : Units) (transfer : Option Transfer) → Standing rows (Some held) units transfer →
-    AnswersCall do_fio (count ∷ first ∷ size ∷ []) (world_of objects units transfer) (Standing rows (Some held)) objects (broken_by why)
-format-meaning objects count first size why held rows other is units (Some transfer) standing = record {
-  units = units;
-  transfer = Some transfer;
-  stood = standing;
-  holds = formatted-listed objects count first size why units transfer (listed-layout held transfer other standing.in_progress) is;
-}
-format-meaning objects count first size why held rows other is units None standing = absurd (never-none held standing.in_progress)
-
 pub format-inside : (arguments' : List CValue) (objects : List Object) (count first size : CValue) (why : CFault) (held : TransferInProgress) (result : CallResult) →
     count ∷ first ∷ size ∷ [] ≡ arguments' → result ≡ broken_by why → NoFormat held → formatted_fault objects count size ≡ failing why → (rows : List Row) →
     Calls do_fio arguments' objects objects (Some held) (Some held) rows rows result
 format-inside arguments' objects count first size why held result same is other faulty rows =
     arguments-same do_fio (count ∷ first ∷ size ∷ []) arguments' objects objects (Some held) (Some held) rows rows (broken_by why) result same is
-    (record {
-      meaning = format-meaning objects count first size why held rows other faulty;
-      built = tt;
-      devices = none-failed rows;
-      forms = same-objects objects;
-    })
+    (inside (broken_by why) (λ tells. tells)
+    (λ tells transfer stands. record {
+      transfer = Some transfer;
+      in_progress = stands;
+      holds = formatted-listed objects count first size why (units_of rows) transfer (listed-layout held transfer other stands) faulty;
+    }) (none-failed rows) (same-objects objects))
 
 pub fault-first : (objects : List Object) (count size : CValue) (why : CFault) → failing why ≡ number_through objects count → formatted_fault objects count size ≡ failing why
 fault-first objects count size why is = ap (λ (number : Or ℤ). after number (λ n. after (count_from n) (λ many. after (length_from size) (λ length. failing {A = Unit {0}} fault.Library)))) (sym is)

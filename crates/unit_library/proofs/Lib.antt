@@ -1,4 +1,6 @@
 pub mod ArgumentLaws
+pub mod GivenCalls
+pub mod KindLaws
 pub mod SameCalls
 pub mod ObjectLaws
 pub mod TextForms
@@ -9,5 +11,9 @@ pub mod TransferLaws
 pub mod ItemLaws
 pub mod InternalLaws
 pub mod InputLaws
+pub mod FileInputLaws
 pub mod FormattedLaws
+pub mod FileLaws
+pub mod ReadingLaws
+pub mod FileReadingLaws
 pub mod ReplyLaws

@@ -19,6 +19,7 @@ use Rattle.unit_library.specs.declared.endings.RunEnding.TheVariants as ended
 use Rattle.unit_library.specs.declared.transfers.TransferInProgress.{TransferInProgress}
 use Rattle.unit_library.specs.Endings.{range_ending, ending_of}
 use Rattle.unit_library.specs.Calls.{Calls}
+use Rattle.unit_library.proofs.GivenCalls.{anywhere}
 use Rattle.unit_library.proofs.SameCalls.{arguments-same}
 
 abbrev reported : Or (List ℕ) → Or ℤ → Or (List ℕ) → Or ℤ → Or Report
@@ -53,14 +54,5 @@ pub ends-outside : (arguments' : List CValue) (objects : List Object) (variable 
 ends-outside arguments' objects variable number unit card report same answers held rows =
     arguments-same s_rnge (variable ∷ number ∷ unit ∷ card ∷ []) arguments' objects objects held held rows rows (Ok (reply.Stops (ended.Range variable number unit card)))
     (Ok (reply.Stops (ended.Range variable number unit card))) same refl
-    (record {
-      meaning = λ units transfer standing. record {
-        units = units;
-        transfer = transfer;
-        stood = standing;
-        holds = range-reply objects units transfer variable number unit card report (answers units transfer);
-      };
-      built = tt;
-      devices = none-failed rows;
-      forms = same-objects objects;
-    })
+    (anywhere (Ok (reply.Stops (ended.Range variable number unit card)))
+    (λ units transfer. range-reply objects units transfer variable number unit card report (answers units transfer)) (none-failed rows) (same-objects objects))

@@ -1,27 +1,26 @@
 -- A call by the number of its function (CSTR 149, appendix on the run time library).
-use Rattle.std.proofs.Common.{◌≡◌, ℕ, true, false, List, Option, Some, None, ap, sym, ◌∙◌}
-use Rattle.std.specs.Prelude.{slice_get, option_map, not, Ok, Err}
+use Rattle.std.proofs.Common.{◌≡◌, ℕ, List, Option, Some, None, ap, sym, ◌∙◌}
+use Rattle.std.specs.Prelude.{slice_get, option_map, Ok, Err}
 use Rattle.c_tree.specs.run_state.Units.{Units}
 use Rattle.c_tree.specs.declared.outcome.CValue.{CValue}
 use Rattle.c_tree.specs.declared.outcome.CFault.{CFault}
 use Rattle.c_tree.specs.Objects.{Object}
 use Rattle.c_tree.specs.World.{World, Transfer}
-use Rattle.c_tree.specs.Builtins.{Builtin, Signature, signatures}
+use Rattle.c_tree.specs.Builtins.{Builtin, signatures}
 use Rattle.c_tree.specs.Library.{library}
 use Rattle.item_deeds.specs.Deeds.{world_of}
 use Rattle.f2c_outside.specs.Table.{Row}
 use Rattle.run_library.specs.declared.library.CallBreak.TheVariants as broken
 use Rattle.run_library.specs.Signatures.{IsCall}
 use Rattle.run_library.specs.Replies as replies
-use Rattle.run_library.specs.Replies.{LacksIt}
 use Rattle.unit_library.specs.declared.functions.LibraryFunction.{LibraryFunction}
 use Rattle.unit_library.specs.declared.transfers.TransferInProgress.{TransferInProgress}
 use Rattle.unit_library.specs.Endings.{ending_of}
-use Rattle.unit_library.specs.Functions.{form_of, listed_form, builtin_of, argument_count, is_built, lacking, is_lacked}
+use Rattle.unit_library.specs.Functions.{form_of, listed_form, builtin_of, argument_count}
 use Rattle.unit_library.specs.Arguments.{front}
 use Rattle.unit_library.specs.Transfers.{Standing}
 use Rattle.unit_library.specs.Replies.{CallResult, broken_by}
-use Rattle.unit_library.specs.Calls.{AnswersCall, IsLacked}
+use Rattle.unit_library.specs.Calls.{AnswersCall}
 use Rattle.unit_library.proofs.ArgumentLaws.{same-call, none-known}
 
 same-library : (builtin builtin' : Builtin) (arguments arguments' : List CValue) (world : World) → (builtin ≡ builtin') × (arguments ≡ arguments') →
@@ -48,24 +47,7 @@ answered number values function call is before stands objects (Err (broken.Break
       same-library (builtin_of function) signature.builtin (front (argument_count function) 0 values) values before (same-call number values function call is signature known) ∙ answers.holds;
 }
 answered number values function call is before stands objects (Err (broken.Device unit)) answers = tt
-answered number values function call is before stands objects (Err broken.NotBuilt) answers = tt
 answered number values function call is before stands objects (Err broken.Uncounted) answers = tt
-
-lacked-as : (number : ℕ) (function : LibraryFunction) (signature : Option Signature) → Some (form_of function) ≡ option_map listed_form signature → is_built (builtin_of function) ≡ false →
-    lacking signature ≡ true
-lacked-as number function None is lacked = absurd (cc)
-lacked-as number function (Some signature) is lacked =
-    let form : form_of function ≡ listed_form signature = cc in
-    ap not (ap (λ (b : Builtin). is_built b) (sym (ap (λ f. f.builtin) form)) ∙ lacked)
-
--- a function that is not built is one that the library lacks
-pub lacked : (number : ℕ) (function : LibraryFunction) → Some (form_of function) ≡ option_map listed_form (slice_get signatures number) → (result : CallResult) →
-    IsLacked (builtin_of function) result → LacksIt result (is_lacked number ≡ true)
-lacked number function is (Ok given) built = tt
-lacked number function is (Err (broken.Break why)) built = tt
-lacked number function is (Err (broken.Device unit)) built = tt
-lacked number function is (Err broken.NotBuilt) built = lacked-as number function (slice_get signatures number) is built
-lacked number function is (Err broken.Uncounted) built = tt
 
 -- there is no function of the number
 pub none-answered : (number : ℕ) (values : List CValue) (why : CFault) → None ≡ option_map listed_form (slice_get signatures number) →

@@ -18,6 +18,7 @@ use Rattle.unit_library.specs.Functions.{builtin_of, argument_count}
 use Rattle.unit_library.specs.Arguments.{front}
 use Rattle.unit_library.specs.Replies.{CallResult, broken_by}
 use Rattle.unit_library.specs.Calls.{Calls}
+use Rattle.unit_library.proofs.GivenCalls.{anywhere}
 
 pub arguments-same : (builtin : Builtin) (arguments arguments' : List CValue) (objects objects' : List Object) (held held' : Option TransferInProgress) (rows rows' : List Row)
     (result result' : CallResult) → arguments ≡ arguments' → result' ≡ result → Calls builtin arguments objects objects' held held' rows rows' result →
@@ -26,6 +27,15 @@ arguments-same builtin arguments arguments' objects objects' held held' rows row
     subst (λ (all : List CValue). Calls builtin all objects objects' held held' rows rows' result') same
     (subst (λ (r : CallResult). Calls builtin arguments objects objects' held held' rows rows' r) (sym is) calls)
 
+-- what is known of the arguments, of the transfer in progress before and behind, and of the result
+pub calls-as : {builtin : Builtin} {objects objects' : List Object} {rows rows' : List Row} (arguments arguments' : List CValue) (held known held' known' : Option TransferInProgress)
+    (result' result : CallResult) → arguments ≡ arguments' → held ≡ known → held' ≡ known' → result' ≡ result → Calls builtin arguments objects objects' known known' rows rows' result →
+    Calls builtin arguments' objects objects' held held' rows rows' result'
+calls-as {builtin} {objects} {objects'} {rows} {rows'} arguments arguments' held known held' known' result' result same holds behind is calls =
+    subst (λ (h : Option TransferInProgress). Calls builtin arguments' objects objects' h held' rows rows' result') (sym holds)
+    (subst (λ (h : Option TransferInProgress). Calls builtin arguments' objects objects' known h rows rows' result') (sym behind)
+    (arguments-same builtin arguments arguments' objects objects' known known' rows rows' result result' same is calls))
+
 -- a call that has a fault, whatever the units are and whichever transfer is in progress
 pub fault-call : (builtin : Builtin) (arguments arguments' : List CValue) (objects : List Object) (fault : CFault) (result : CallResult) →
     arguments ≡ arguments' → result ≡ broken_by fault →
@@ -33,12 +43,7 @@ pub fault-call : (builtin : Builtin) (arguments arguments' : List CValue) (objec
     (held : Option TransferInProgress) → (rows : List Row) → Calls builtin arguments' objects objects held held rows rows result
 fault-call builtin arguments arguments' objects fault result same is fails held rows =
     arguments-same builtin arguments arguments' objects objects held held rows rows (broken_by fault) result same is
-    (record {
-      meaning = λ units transfer standing. record { units = units; transfer = transfer; stood = standing; holds = fails units transfer };
-      built = tt;
-      devices = none-failed rows;
-      forms = same-objects objects;
-    })
+    (anywhere (broken_by fault) fails (none-failed rows) (same-objects objects))
 
 -- what is known of the transfer in progress
 pub held-as : (builtin : Builtin) (arguments : List CValue) (objects objects' : List Object) (held known : Option TransferInProgress) (rows rows' : List Row) (result : CallResult) →

@@ -18,6 +18,7 @@ use Rattle.unit_library.specs.declared.endings.RunEnding.TheVariants as ended
 use Rattle.unit_library.specs.declared.transfers.TransferInProgress.{TransferInProgress}
 use Rattle.unit_library.specs.Endings.{text_ending, ending_of}
 use Rattle.unit_library.specs.Calls.{Calls}
+use Rattle.unit_library.proofs.GivenCalls.{anywhere}
 use Rattle.unit_library.proofs.SameCalls.{arguments-same}
 
 empty-at : (text : List ℕ) → length text ≡ 0 → text ≡ []
@@ -58,27 +59,13 @@ pub stops-with : (arguments' : List CValue) (objects : List Object) (pointer siz
     (held : Option TransferInProgress) → (rows : List Row) → Calls s_stop arguments' objects objects held held rows rows (Ok (reply.Stops (ended.Stop pointer size)))
 stops-with arguments' objects pointer size text same answers held rows =
     arguments-same s_stop (pointer ∷ size ∷ []) arguments' objects objects held held rows rows (Ok (reply.Stops (ended.Stop pointer size))) (Ok (reply.Stops (ended.Stop pointer size))) same refl
-    (record {
-      meaning = λ units transfer standing.
-          record { units = units; transfer = transfer; stood = standing; holds = stop-reply objects units transfer pointer size text (answers units transfer) };
-      built = tt;
-      devices = none-failed rows;
-      forms = same-objects objects;
-    })
+    (anywhere (Ok (reply.Stops (ended.Stop pointer size))) (λ units transfer. stop-reply objects units transfer pointer size text (answers units transfer)) (none-failed rows)
+    (same-objects objects))
 
 pub stops-plainly : (arguments' : List CValue) (objects : List Object) (pointer size : CValue) (text : List ℕ) → pointer ∷ size ∷ [] ≡ arguments' → text ≡ [] →
     ((units : Units) → (transfer : Option Transfer) → library s_stop (world_of objects units transfer) (pointer ∷ size ∷ []) ≡ Ok (stopped (world_of objects units transfer) text)) →
     (held : Option TransferInProgress) → (rows : List Row) → Calls s_stop arguments' objects objects held held rows rows (Ok (reply.Stops ended.Plain))
 stops-plainly arguments' objects pointer size text same empty answers held rows =
     arguments-same s_stop (pointer ∷ size ∷ []) arguments' objects objects held held rows rows (Ok (reply.Stops ended.Plain)) (Ok (reply.Stops ended.Plain)) same refl
-    (record {
-      meaning = λ units transfer standing. record {
-        units = units;
-        transfer = transfer;
-        stood = standing;
-        holds = answers units transfer ∙ ap (λ (t : List ℕ). Ok (stopped (world_of objects units transfer) t)) empty;
-      };
-      built = tt;
-      devices = none-failed rows;
-      forms = same-objects objects;
-    })
+    (anywhere (Ok (reply.Stops ended.Plain))
+    (λ units transfer. answers units transfer ∙ ap (λ (t : List ℕ). Ok (stopped (world_of objects units transfer) t)) empty) (none-failed rows) (same-objects objects))

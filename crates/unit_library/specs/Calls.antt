@@ -1,6 +1,6 @@
 -- What a call of a function of the library does to the objects, the transfer in progress and the rows of the units, as the meaning of
 -- C texts has it (CSTR 149, appendix on the run time library).
-use Rattle.std.specs.Prelude.{◌≡◌, false, List, Option, Ok, Err}
+use Rattle.std.specs.Prelude.{◌≡◌, List, Option, Ok, Err}
 use Rattle.c_tree.specs.run_state.Units.{Units}
 use Rattle.c_tree.specs.declared.outcome.CValue.{CValue}
 use Rattle.c_tree.specs.Objects.{Object}
@@ -12,12 +12,12 @@ use Rattle.item_deeds.specs.Forms.{SameForms}
 use Rattle.f2c_outside.specs.Table.{Row}
 use Rattle.unit_answers.specs.Failing.{FailedOn, NoneFailed}
 use Rattle.run_library.specs.declared.library.CallBreak.TheVariants as broken
-use Rattle.run_library.specs.Replies.{StandsIn, break_of, reply_of}
+use Rattle.run_library.specs.Replies.{StandsIn, UncountedIf, break_of, reply_of}
 use Rattle.unit_library.specs.declared.transfers.TransferInProgress.{TransferInProgress}
 use Rattle.unit_library.specs.Endings.{ending_of}
-use Rattle.unit_library.specs.Functions.{is_built}
 use Rattle.unit_library.specs.Replies.{CallResult}
 use Rattle.unit_library.specs.Transfers.{Standing}
+use Rattle.unit_library.specs.Uncounted.{IsFarBehind}
 
 -- a call in a world replies what its function gives; where a device failed, or 64 bits do not tell what is to be counted, nothing is said
 -- of it
@@ -27,30 +27,21 @@ AnswersCall builtin arguments before stands objects (Ok given) =
 AnswersCall builtin arguments before stands objects (Err (broken.Break why)) =
     StandsIn stands objects (λ behind. library builtin before arguments ≡ Err (break_of why))
 AnswersCall builtin arguments before stands objects (Err (broken.Device unit)) = Unit {0}
-AnswersCall builtin arguments before stands objects (Err broken.NotBuilt) = Unit {0}
 AnswersCall builtin arguments before stands objects (Err broken.Uncounted) = Unit {0}
-
--- a function that the library lacks is not answered, and no other
-abbrev pub IsLacked : Builtin → CallResult → Type 0
-IsLacked builtin (Ok given) = Unit {0}
-IsLacked builtin (Err (broken.Break why)) = Unit {0}
-IsLacked builtin (Err (broken.Device unit)) = Unit {0}
-IsLacked builtin (Err broken.NotBuilt) = is_built builtin ≡ false
-IsLacked builtin (Err broken.Uncounted) = Unit {0}
 
 -- the device of a unit failed, and no other, or none did
 abbrev pub DevicesTold : List Row → List Row → CallResult → Type 0
 DevicesTold old new (Ok given) = NoneFailed old new
 DevicesTold old new (Err (broken.Break why)) = NoneFailed old new
 DevicesTold old new (Err (broken.Device unit)) = FailedOn unit old new
-DevicesTold old new (Err broken.NotBuilt) = NoneFailed old new
 DevicesTold old new (Err broken.Uncounted) = NoneFailed old new
 
 -- a call of a function: for all units and transfers for which the library stood it replies what its meaning gives; a device fails where
--- it is answered, and nowhere else; and the objects keep their forms
+-- it is answered, and nowhere else; more is to be counted than 64 bits tell only where a unit stands far behind; and the objects keep
+-- their forms
 pub record Calls (builtin : Builtin) (arguments : List CValue) (objects objects' : List Object) (held held' : Option TransferInProgress) (rows rows' : List Row) (result : CallResult) : Type 0 where
   pub meaning : (units : Units) → (transfer : Option Transfer) → Standing rows held units transfer →
       AnswersCall builtin arguments (world_of objects units transfer) (Standing rows' held') objects' result
-  pub built : IsLacked builtin result
+  pub counted : UncountedIf result (IsFarBehind rows')
   pub devices : DevicesTold rows rows' result
   pub forms : SameForms objects objects'

@@ -1,6 +1,6 @@
 -- The functions of the library by their numbers, in the table of the code (CSTR 149, appendix on the run time library).
-use Rattle.std.specs.Prelude.{ℕ, Bool, true, false, not, length, Option, Some, None, slice_get}
-use Rattle.c_tree.specs.World.{Direction, Output, Input}
+use Rattle.std.specs.Prelude.{ℕ, length}
+use Rattle.c_tree.specs.World.{Output, Input}
 use Rattle.c_tree.specs.Builtins as builtins
 use Rattle.c_tree.specs.Builtins.{Builtin, Begin, Signature, signatures, Style, ByFormat, ByList, Site, OnUnit, InMemory, TransferKind, transfer_kind}
 use Rattle.unit_library.specs.declared.functions.NumberFunction.{NumberFunction}
@@ -90,24 +90,3 @@ form_of function = record { builtin = builtin_of function; count = argument_coun
 
 abbrev pub listed_form : Signature → Form
 listed_form signature = record { builtin = signature.builtin; count = length signature.takes }
-
--- of the transfers list-directed ones on a unit can begin, list-directed output on an internal file, and formatted output on a unit
-abbrev pub can_begin : Direction → Style → Site → Bool
-can_begin Output ByList OnUnit = true
-can_begin Input ByList OnUnit = true
-can_begin Output ByList InMemory = true
-can_begin Output ByFormat OnUnit = true
-can_begin direction style site = false
-
--- whether the library has a function
-abbrev pub is_built : Builtin → Bool
-is_built (Begin kind) = can_begin kind.direction kind.style kind.site
-is_built builtin = true
-
-abbrev pub lacking : Option Signature → Bool
-lacking None = false
-lacking (Some signature) = not (is_built signature.builtin)
-
--- the functions that the library does not have, by their numbers: the starts of the other transfers
-abbrev pub is_lacked : ℕ → Bool
-is_lacked number = lacking (slice_get signatures number)

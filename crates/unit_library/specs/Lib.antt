@@ -5,6 +5,7 @@ pub mod Transfers
 pub mod Replies
 pub mod Inputs
 pub mod Formatted
+pub mod Uncounted
 pub mod Calls
 pub mod Items
 pub mod Held

@@ -8,7 +8,7 @@ ghost use Rattle.f2c_outside.specs.Table.{Row};
 ghost use Rattle.f2c_outside.specs.Rows.{rows_of};
 ghost use Rattle.unit_library.specs.Functions.{kind_of};
 ghost use Rattle.unit_library.specs.Arguments.{front};
-ghost use Rattle.unit_library.specs.Formatted.{behind_items, passed_by, listed_fault};
+ghost use Rattle.unit_library.specs.Formatted.{UnderFormat, behind_items, passed_by, listed_fault};
 ghost use Rattle.unit_library.specs.Calls.{Calls};
 
 use crate::arguments::argument;
@@ -27,22 +27,24 @@ use run_library::{CallBreak, LibraryReply};
 use unit_answers::CallEnd;
 
 /// The transfer in progress behind items. It stays as it was where these have a fault.
-fn behind_items(
+pub(crate) fn behind_items(
     passage: Result<Passage, CallEnd>,
-    before: FormattedInProgress,
-    after: FormattedInProgress,
+    before: TransferInProgress,
+    after: TransferInProgress,
 ) -> Option<TransferInProgress>
     ensures { result ≡ behind_items passage before after }
 {
     match passage {
-        Ok(Passage::GoesOn) => Some(TransferInProgress::FormattedOutput(after)),
-        Err(CallEnd::Fault(_)) => Some(TransferInProgress::FormattedOutput(before)),
+        Ok(Passage::GoesOn) => Some(after),
+        Err(CallEnd::Fault(_)) => Some(before),
         _ => None,
     }
 }
 
 /// What the items of an output reply.
-fn passed(passage: Result<Passage, CallEnd>) -> Result<LibraryReply<RunEnding>, CallBreak>
+pub(crate) fn passed(
+    passage: Result<Passage, CallEnd>,
+) -> Result<LibraryReply<RunEnding>, CallBreak>
     ensures { result ≡ passed_by passage }
 {
     match passage {
@@ -94,7 +96,11 @@ pub(crate) fn put_formatted(
     let format = held.format;
     let passage = do_fio(&mut output, units, run, count, first, size, &format);
     let going = FormattedInProgress { output, format };
-    *transfer = behind_items(passage, held, going);
+    *transfer = behind_items(
+        passage,
+        TransferInProgress::FormattedOutput(held),
+        TransferInProgress::FormattedOutput(going),
+    );
     passed(passage)
 }
 
@@ -108,14 +114,13 @@ fn listed_fault(run: &RunBytes, kind: CValue, count: CValue, size: CValue) -> CF
     }
 }
 
-/// List-directed items in formatted output on a unit, in whose place there is a fault.
+/// List-directed items in a transfer under a format, in whose place there is a fault.
 pub(crate) fn listed_in_formatted(
     values: &[CValue],
     run: &RunBytes,
-    held: FormattedInProgress,
     transfer: &Option<TransferInProgress>,
 ) -> Result<LibraryReply<RunEnding>, CallBreak>
-    requires { transfer.now ≡ Some (TransferInProgress.FormattedOutput held) }
+    requires { UnderFormat transfer.now }
     ensures { (rows : List Row) → Calls builtin.do_lio (front 4 0 values.now) run.now run.now transfer.now transfer.now rows rows result }
 {
     let kind = argument(values, 0);
@@ -125,7 +130,7 @@ pub(crate) fn listed_in_formatted(
 }
 
 /// The end of formatted output on a unit, in one.
-fn finish_formatted(
+pub(crate) fn finish_formatted(
     units: &mut UnitTable,
     held: FormattedInProgress,
     transfer: &mut Option<TransferInProgress>,
@@ -137,20 +142,4 @@ fn finish_formatted(
     held.stands();
     let format = held.format;
     ended(e_wsfe(held.output, units, &format))
-}
-
-/// The end of a transfer in formatted output on a unit. That of another kind is the fault `Library`.
-pub(crate) fn finish_in_formatted(
-    which: TransferType,
-    units: &mut UnitTable,
-    held: FormattedInProgress,
-    transfer: &mut Option<TransferInProgress>,
-) -> Result<LibraryReply<RunEnding>, CallBreak>
-    requires { transfer.old ≡ Some (TransferInProgress.FormattedOutput held) }
-    ensures { (objects : List Object) → Calls (builtin.Finish (kind_of which)) [] objects objects transfer.old transfer.new (rows_of (λ b. (⟦<dyn Device as Device>⟧ b.vtable).device_state b.value) units.old) (rows_of (λ b. (⟦<dyn Device as Device>⟧ b.vtable).device_state b.value) units.new) result }
-{
-    match which {
-        TransferType::FormattedOutput => finish_formatted(units, held, transfer),
-        _ => broken(CFault::Library),
-    }
 }

@@ -41,7 +41,7 @@ pub(crate) enum UnitStatement {
 }
 
 /// What a transfer is: formatted or list-directed, on a unit or on an internal file.
-#[derive(Clone, Copy)]
+#[derive(Clone, Copy, PartialEq, Eq)]
 pub(crate) enum TransferType {
     FormattedOutput,
     FormattedInput,

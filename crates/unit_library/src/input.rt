@@ -110,7 +110,7 @@ pub(crate) fn read_listed(
 }
 
 /// The end of list-directed input on a unit, in one.
-fn finish_input(
+pub(crate) fn finish_input(
     input: ListedInput,
     transfer: &mut Option<TransferInProgress>,
 ) -> Result<LibraryReply<RunEnding>, CallBreak>
@@ -119,19 +119,4 @@ fn finish_input(
 {
     *transfer = None;
     Ok(LibraryReply::Gives(e_rsle(input)))
-}
-
-/// The end of a transfer in list-directed input on a unit. That of another kind is the fault `Library`.
-pub(crate) fn finish_in_input(
-    which: TransferType,
-    input: ListedInput,
-    transfer: &mut Option<TransferInProgress>,
-) -> Result<LibraryReply<RunEnding>, CallBreak>
-    requires { transfer.old ≡ Some (TransferInProgress.ListedInput input) }
-    ensures { (objects : List Object) → (rows : List Row) → Calls (builtin.Finish (kind_of which)) [] objects objects transfer.old transfer.new rows rows result }
-{
-    match which {
-        TransferType::ListedInput => finish_input(input, transfer),
-        _ => broken(CFault::Library),
-    }
 }

@@ -64,7 +64,7 @@ pub(crate) fn put_internal(
 }
 
 /// The end of list-directed output on an internal file, in one.
-fn finish_internal(
+pub(crate) fn finish_internal(
     run: &mut RunBytes,
     output: InternalOutput,
     transfer: &mut Option<TransferInProgress>,
@@ -74,20 +74,4 @@ fn finish_internal(
 {
     *transfer = None;
     ended(e_wsli(output, run))
-}
-
-/// The end of a transfer in list-directed output on an internal file. That of another kind is the fault `Library`.
-pub(crate) fn finish_in_internal(
-    which: TransferType,
-    run: &mut RunBytes,
-    output: InternalOutput,
-    transfer: &mut Option<TransferInProgress>,
-) -> Result<LibraryReply<RunEnding>, CallBreak>
-    requires { transfer.old ≡ Some (TransferInProgress.InternalOutput output) }
-    ensures { (rows : List Row) → Calls (builtin.Finish (kind_of which)) [] run.old run.new transfer.old transfer.new rows rows result }
-{
-    match which {
-        TransferType::InternalListedOutput => finish_internal(run, output, transfer),
-        _ => broken(CFault::Library),
-    }
 }

@@ -1,19 +1,19 @@
 //! The functions of the library over a table of external units (CSTR 149, appendix on the run time library).
 
-ghost use Rattle.std.specs.Prelude.{◌≡◌, true, length, None, Option};
+ghost use Rattle.std.specs.Prelude.{◌≡◌, length, None, Option};
 ghost use Rattle.c_tree.specs.run_state.Units.{Units};
 ghost use Rattle.c_tree.specs.World.{Transfer};
 ghost use Rattle.item_deeds.specs.Deeds.{world_of};
 ghost use Rattle.item_deeds.specs.Forms.{SameForms};
 ghost use Rattle.f2c_outside.specs.Rows.{rows_of};
 ghost use Rattle.run_library.specs.Signatures.{IsCall};
-ghost use Rattle.run_library.specs.Replies.{Answers, LacksIt};
+ghost use Rattle.run_library.specs.Replies.{Answers, UncountedIf};
 ghost use Rattle.run_library.specs.Room.{HasRoom};
 ghost use Rattle.unit_library.specs.Calls.{DevicesTold};
 ghost use Rattle.unit_answers.specs.Failing.{FailedOn, NoneFailed};
 ghost use Rattle.unit_library.specs.Endings.{ending_of};
-ghost use Rattle.unit_library.specs.Functions.{is_lacked};
 ghost use Rattle.unit_library.specs.Transfers.{Standing};
+ghost use Rattle.unit_library.specs.Uncounted.{IsFarBehind};
 
 use crate::calls::call_function;
 use crate::endings::RunEnding;
@@ -74,7 +74,7 @@ impl Library for UnitLibrary {
 
     ghost ending = { ending_of };
 
-    ghost lacks = { is_lacked };
+    ghost uncounted = { λ library. IsFarBehind (rows_in (λ b. (Device-box b).device_state b.value) library) };
 
     ghost room = { room_in };
 
@@ -90,7 +90,7 @@ impl Library for UnitLibrary {
         requires room { HasRoom (room_in self.old) run.old }
         ensures meaning { (units : Units) → (transfer : Option Transfer) → Standing (rows_in (λ b. (⟦<dyn Device as Device>⟧ b.vtable).device_state b.value) self.old) (transfer_in self.old) units transfer →
             Answers ending_of number values.now (world_of run.old units transfer) (Standing (rows_in (λ b. (⟦<dyn Device as Device>⟧ b.vtable).device_state b.value) self.new) (transfer_in self.new)) run.new result }
-        ensures built { LacksIt result (is_lacked number ≡ true) }
+        ensures counted { UncountedIf result (IsFarBehind (rows_in (λ b. (⟦<dyn Device as Device>⟧ b.vtable).device_state b.value) self.new)) }
         ensures room { room_in self.new ≡ room_in self.old }
         ensures devices { DevicesTold (rows_in (λ b. (⟦<dyn Device as Device>⟧ b.vtable).device_state b.value) self.old) (rows_in (λ b. (⟦<dyn Device as Device>⟧ b.vtable).device_state b.value) self.new) result }
         ensures forms { SameForms run.old run.new }

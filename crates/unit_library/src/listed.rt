@@ -8,17 +8,22 @@ ghost use Rattle.f2c_outside.specs.Rows.{rows_of};
 ghost use Rattle.library_calls.specs.Room.{HasRoom};
 ghost use Rattle.unit_library.specs.Functions.{kind_of};
 ghost use Rattle.unit_library.specs.Arguments.{front};
+ghost use Rattle.unit_library.specs.Transfers.{type_of};
 ghost use Rattle.unit_library.specs.Calls.{Calls};
 ghost use Rattle.unit_library.specs.Items.{formatted_fault};
 
 use crate::arguments::argument;
 use crate::endings::RunEnding;
-use crate::formatted::{begin_formatted, finish_in_formatted, listed_in_formatted, put_formatted};
+use crate::file_reading::{begin_from_file, finish_from_file, read_from_file};
+use crate::formatted::{begin_formatted, finish_formatted, listed_in_formatted, put_formatted};
+use crate::formatted_file::{begin_in_file, finish_in_file, put_in_file};
+use crate::formatted_file_reading::{begin_reading_file, finish_reading_file, read_formatted_file};
+use crate::formatted_reading::{begin_reading, finish_reading, read_formatted};
 use crate::functions::TransferType;
-use crate::input::{begin_input, finish_in_input, read_listed};
-use crate::internal::{begin_internal, finish_in_internal, put_internal};
+use crate::input::{begin_input, finish_input, read_listed};
+use crate::internal::{begin_internal, finish_internal, put_internal};
 use crate::replies::{broken, ended, passed, started};
-use crate::transfers::{TransferInProgress, behind_items, behind_start};
+use crate::transfers::{TransferInProgress, behind_items, behind_start, type_of};
 use c_tree::outcome::{CFault, CValue};
 use control_lists::{count_from, length_from, number_through};
 use f2c_outside::devices::Device;
@@ -43,7 +48,7 @@ fn begin_listed(
     started(start)
 }
 
-/// The start of a transfer outside every other. Those that the library lacks cannot begin.
+/// The start of a transfer outside every other.
 fn begin_first(
     which: TransferType,
     values: &[CValue],
@@ -58,8 +63,11 @@ fn begin_first(
         TransferType::ListedOutput => begin_listed(values, run, units, transfer),
         TransferType::ListedInput => begin_input(values, run, units, transfer),
         TransferType::InternalListedOutput => begin_internal(values, run, transfer),
+        TransferType::InternalListedInput => begin_from_file(values, run, transfer),
         TransferType::FormattedOutput => begin_formatted(values, run, units, transfer),
-        _ => Err(CallBreak::NotBuilt),
+        TransferType::FormattedInput => begin_reading(values, run, units, transfer),
+        TransferType::InternalFormattedOutput => begin_in_file(values, run, transfer),
+        TransferType::InternalFormattedInput => begin_reading_file(values, run, transfer),
     }
 }
 
@@ -127,9 +135,17 @@ pub(crate) fn listed_items(
         Some(TransferInProgress::InternalOutput(output)) => {
             put_internal(values, run, buffer, output, transfer)
         }
-        Some(TransferInProgress::FormattedOutput(held)) => {
-            listed_in_formatted(values, run, held, transfer)
+        Some(TransferInProgress::InternalInput(input)) => {
+            read_from_file(values, run, buffer, input, transfer)
         }
+        Some(TransferInProgress::FormattedOutput(_)) => listed_in_formatted(values, run, transfer),
+        Some(TransferInProgress::FormattedInput(_)) => listed_in_formatted(values, run, transfer),
+        Some(TransferInProgress::InternalFormattedInput(_)) => {
+            listed_in_formatted(values, run, transfer)
+        }
+        Some(TransferInProgress::InternalFormatted(_)) => listed_in_formatted(
+            values, run, transfer,
+        ),
     }
 }
 
@@ -152,12 +168,12 @@ fn formatted_fault(run: &RunBytes, count: CValue, size: CValue) -> CFault
 /// Items under a format. Outside every transfer they are the fault `Library`, and in one without a format there is a fault in their place.
 pub(crate) fn formatted_items(
     values: &[CValue],
-    run: &RunBytes,
+    run: &mut RunBytes,
     units: &mut UnitTable,
     transfer: &mut Option<TransferInProgress>,
 ) -> Result<LibraryReply<RunEnding>, CallBreak>
     requires { Unit {0} }
-    ensures { Calls builtin.do_fio (front 3 0 values.now) run.now run.now transfer.old transfer.new (rows_of (λ b. (⟦<dyn Device as Device>⟧ b.vtable).device_state b.value) units.old) (rows_of (λ b. (⟦<dyn Device as Device>⟧ b.vtable).device_state b.value) units.new) result }
+    ensures { Calls builtin.do_fio (front 3 0 values.now) run.old run.new transfer.old transfer.new (rows_of (λ b. (⟦<dyn Device as Device>⟧ b.vtable).device_state b.value) units.old) (rows_of (λ b. (⟦<dyn Device as Device>⟧ b.vtable).device_state b.value) units.new) result }
 {
     let count = argument(values, 0);
     let size = argument(values, 2);
@@ -166,6 +182,13 @@ pub(crate) fn formatted_items(
         Some(going) => match going {
             TransferInProgress::FormattedOutput(held) => {
                 put_formatted(values, run, units, held, transfer)
+            }
+            TransferInProgress::FormattedInput(held) => {
+                read_formatted(values, run, units, held, transfer)
+            }
+            TransferInProgress::InternalFormatted(held) => put_in_file(values, run, held, transfer),
+            TransferInProgress::InternalFormattedInput(held) => {
+                read_formatted_file(values, run, held, transfer)
             }
             _ => broken(formatted_fault(run, count, size)),
         },
@@ -185,23 +208,31 @@ fn finish_listed(
     ended(e_wsle(output, units))
 }
 
-/// The end of a transfer in list-directed output on a unit. That of another kind is the fault `Library`.
-fn finish_in_listed(
-    which: TransferType,
+/// The end of the transfer in progress.
+fn finish_own(
+    run: &mut RunBytes,
     units: &mut UnitTable,
-    output: ListedOutput,
+    going: TransferInProgress,
     transfer: &mut Option<TransferInProgress>,
 ) -> Result<LibraryReply<RunEnding>, CallBreak>
-    requires { transfer.old ≡ Some (TransferInProgress.ListedOutput output) }
-    ensures { (objects : List Object) → Calls (builtin.Finish (kind_of which)) [] objects objects transfer.old transfer.new (rows_of (λ b. (⟦<dyn Device as Device>⟧ b.vtable).device_state b.value) units.old) (rows_of (λ b. (⟦<dyn Device as Device>⟧ b.vtable).device_state b.value) units.new) result }
+    requires { transfer.old ≡ Some going }
+    ensures { Calls (builtin.Finish (kind_of (type_of going))) [] run.old run.new transfer.old transfer.new (rows_of (λ b. (⟦<dyn Device as Device>⟧ b.vtable).device_state b.value) units.old) (rows_of (λ b. (⟦<dyn Device as Device>⟧ b.vtable).device_state b.value) units.new) result }
 {
-    match which {
-        TransferType::ListedOutput => finish_listed(units, output, transfer),
-        _ => broken(CFault::Library),
+    match going {
+        TransferInProgress::ListedOutput(output) => finish_listed(units, output, transfer),
+        TransferInProgress::ListedInput(input) => finish_input(input, transfer),
+        TransferInProgress::InternalOutput(output) => finish_internal(run, output, transfer),
+        TransferInProgress::InternalInput(input) => finish_from_file(input, transfer),
+        TransferInProgress::FormattedOutput(held) => finish_formatted(units, held, transfer),
+        TransferInProgress::FormattedInput(held) => finish_reading(units, held, transfer),
+        TransferInProgress::InternalFormatted(held) => finish_in_file(run, held, transfer),
+        TransferInProgress::InternalFormattedInput(held) => finish_reading_file(
+            run, held, transfer,
+        ),
     }
 }
 
-/// The end of a transfer. Where none is in progress it is the fault `Library`.
+/// The end of a transfer. Where none is in progress, or one of another kind, it is the fault `Library`.
 pub(crate) fn finish(
     which: TransferType,
     run: &mut RunBytes,
@@ -213,15 +244,12 @@ pub(crate) fn finish(
 {
     match *transfer {
         None => broken(CFault::Library),
-        Some(TransferInProgress::ListedOutput(output)) => {
-            finish_in_listed(which, units, output, transfer)
-        }
-        Some(TransferInProgress::ListedInput(input)) => finish_in_input(which, input, transfer),
-        Some(TransferInProgress::InternalOutput(output)) => {
-            finish_in_internal(which, run, output, transfer)
-        }
-        Some(TransferInProgress::FormattedOutput(held)) => {
-            finish_in_formatted(which, units, held, transfer)
+        Some(going) => {
+            if which == type_of(going) {
+                finish_own(run, units, going, transfer)
+            } else {
+                broken(CFault::Library)
+            }
         }
     }
 }

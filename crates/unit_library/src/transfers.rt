@@ -1,9 +1,13 @@
 //! The transfer in progress (ANSI X3.9-1978, 12.8).
 
 ghost use Rattle.std.specs.Prelude.{◌≡◌};
-ghost use Rattle.unit_library.specs.Transfers.{behind_items, behind_start};
+ghost use Rattle.unit_library.specs.Transfers.{behind_items, behind_start, type_of};
 
-use crate::formatted_in_progress::FormattedInProgress;
+use crate::formatted_in_progress::{
+    FormattedInProgress, InputInProgress, InternalInProgress, InternalInputInProgress,
+};
+use crate::functions::TransferType;
+use internal_input::InternalInput;
 use internal_output::InternalOutput;
 use listed_input::ListedInput;
 use listed_output::{ListedOutput, Passage, Start};
@@ -18,8 +22,32 @@ pub(crate) enum TransferInProgress {
     ListedInput(ListedInput),
     /// List-directed output on an internal file.
     InternalOutput(InternalOutput),
+    /// List-directed input on an internal file.
+    InternalInput(InternalInput),
     /// Formatted output on a unit.
     FormattedOutput(FormattedInProgress),
+    /// Formatted input on a unit.
+    FormattedInput(InputInProgress),
+    /// Formatted output on an internal file.
+    InternalFormatted(InternalInProgress),
+    /// Formatted input on an internal file.
+    InternalFormattedInput(InternalInputInProgress),
+}
+
+/// What a transfer in progress is.
+pub(crate) fn type_of(going: TransferInProgress) -> TransferType
+    ensures { result ≡ type_of going }
+{
+    match going {
+        TransferInProgress::ListedOutput(_) => TransferType::ListedOutput,
+        TransferInProgress::ListedInput(_) => TransferType::ListedInput,
+        TransferInProgress::InternalOutput(_) => TransferType::InternalListedOutput,
+        TransferInProgress::InternalInput(_) => TransferType::InternalListedInput,
+        TransferInProgress::FormattedOutput(_) => TransferType::FormattedOutput,
+        TransferInProgress::FormattedInput(_) => TransferType::FormattedInput,
+        TransferInProgress::InternalFormatted(_) => TransferType::InternalFormattedOutput,
+        TransferInProgress::InternalFormattedInput(_) => TransferType::InternalFormattedInput,
+    }
 }
 
 /// The transfer in progress behind a start.

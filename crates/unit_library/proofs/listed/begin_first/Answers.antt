@@ -1,15 +1,21 @@
-use Rattle.unit_library.proofs.TransferLaws.{begin-lacked, not-begun}
-use Rattle.unit_library.proofs.InternalLaws.{begin-which}
-use Rattle.unit_library.proofs.FormattedLaws as formatted
+use Rattle.unit_library.specs.declared.functions.TransferType.TheVariants as moved
+use Rattle.unit_library.proofs.KindLaws.{begin-as}
 use Rattle.unit_library.proofs.listed.begin_first.Goals as goal
 
 pub returns-in-InternalListedOutput : goal.returns-in-InternalListedOutput
-returns-in-InternalListedOutput g c =
-    begin-which c.args.which _ c.args.run.now c.args.transfer.now c.begin_internal.new.transfer _ c.begin_internal.result c.in-InternalListedOutput.is (c.begin_internal.ensures _)
+returns-in-InternalListedOutput g c = begin-as c.args.which moved.InternalListedOutput c.in-InternalListedOutput.is (c.begin_internal.ensures _)
+
+pub returns-in-InternalListedInput : goal.returns-in-InternalListedInput
+returns-in-InternalListedInput g c = begin-as c.args.which moved.InternalListedInput c.in-InternalListedInput.is (c.begin_from_file.ensures _)
 
 pub returns-in-FormattedOutput : goal.returns-in-FormattedOutput
-returns-in-FormattedOutput g c =
-    formatted.begin-which c.args.which _ c.args.run.now c.args.transfer.now c.begin_formatted.new.transfer _ _ c.begin_formatted.result c.in-FormattedOutput.is c.begin_formatted.ensures
+returns-in-FormattedOutput g c = begin-as c.args.which moved.FormattedOutput c.in-FormattedOutput.is c.begin_formatted.ensures
 
-pub returns-in_default : goal.returns-in_default
-returns-in_default g c = begin-lacked c.args.which _ c.args.run.now _ _ (not-begun c.args.which c.in_default.not-ListedOutput c.in_default.not-ListedInput c.in_default.not-InternalListedOutput c.in_default.not-FormattedOutput)
+pub returns-in-FormattedInput : goal.returns-in-FormattedInput
+returns-in-FormattedInput g c = begin-as c.args.which moved.FormattedInput c.in-FormattedInput.is c.begin_reading.ensures
+
+pub returns-in-InternalFormattedOutput : goal.returns-in-InternalFormattedOutput
+returns-in-InternalFormattedOutput g c = begin-as c.args.which moved.InternalFormattedOutput c.in-InternalFormattedOutput.is (c.begin_in_file.ensures _)
+
+pub returns-in-InternalFormattedInput : goal.returns-in-InternalFormattedInput
+returns-in-InternalFormattedInput g c = begin-as c.args.which moved.InternalFormattedInput c.in-InternalFormattedInput.is (c.begin_reading_file.ensures _)

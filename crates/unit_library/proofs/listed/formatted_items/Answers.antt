@@ -16,4 +16,10 @@ returns-in_default g c =
     held-as _ _ c.args.run.now c.args.run.now c.args.transfer.now (Some c.in-Some.going) _ _ c.broken-in_default.result c.in-Some.is
     (format-inside _ c.args.run.now c.argument-count.result (argument c.args.values.now 1) c.argument-size.result c.formatted_fault.result c.in-Some.going c.broken-in_default.result
     (three-given c.args.values.now c.argument-count.result (argument c.args.values.now 1) c.argument-size.result c.argument-count.ensures refl c.argument-size.ensures)
-    c.broken-in_default.ensures c.in_default.not-FormattedOutput c.formatted_fault.ensures _)
+    c.broken-in_default.ensures (record { on_unit = c.in_default.not-FormattedOutput; from_unit = c.in_default.not-FormattedInput; in_file = c.in_default.not-InternalFormatted; from_file = c.in_default.not-InternalFormattedInput }) c.formatted_fault.ensures _)
+
+pub returns-in-InternalFormatted : goal.returns-in-InternalFormatted
+returns-in-InternalFormatted g c = c.put_in_file.ensures _
+
+pub returns-in-InternalFormattedInput : goal.returns-in-InternalFormattedInput
+returns-in-InternalFormattedInput g c = c.read_formatted_file.ensures _

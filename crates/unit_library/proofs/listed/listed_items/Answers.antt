@@ -13,5 +13,17 @@ returns-in-None g c =
 pub returns-in-Some-InternalOutput : goal.returns-in-Some-InternalOutput
 returns-in-Some-InternalOutput g c = c.put_internal.ensures _
 
+pub returns-in-Some-InternalInput : goal.returns-in-Some-InternalInput
+returns-in-Some-InternalInput g c = c.read_from_file.ensures _
+
 pub returns-in-Some-FormattedOutput : goal.returns-in-Some-FormattedOutput
 returns-in-Some-FormattedOutput g c = c.listed_in_formatted.ensures _
+
+pub returns-in-Some-FormattedInput : goal.returns-in-Some-FormattedInput
+returns-in-Some-FormattedInput g c = c.listed_in_formatted-in-Some-FormattedInput.ensures _
+
+pub returns-in-Some-InternalFormattedInput : goal.returns-in-Some-InternalFormattedInput
+returns-in-Some-InternalFormattedInput g c = c.listed_in_formatted-in-Some-InternalFormattedInput.ensures _
+
+pub returns-in-Some-InternalFormatted : goal.returns-in-Some-InternalFormatted
+returns-in-Some-InternalFormatted g c = c.listed_in_formatted-in-Some-InternalFormatted.ensures _

@@ -1,6 +1,6 @@
 use Rattle.item_deeds.proofs.FormLaws.{same-objects}
 use Rattle.unit_answers.proofs.FailureLaws.{none-failed}
-use Rattle.unit_library.proofs.ReplyLaws.{answered, lacked, none-answered}
+use Rattle.unit_library.proofs.ReplyLaws.{answered, none-answered}
 use Rattle.unit_library.proofs.library.UnitLibraryLibrary.call.Goals as goal
 
 pub returns-in-Some-clause-meaning : goal.returns-in-Some-clause-meaning
@@ -8,8 +8,8 @@ returns-in-Some-clause-meaning g c = λ units transfer standing.
     answered c.args.number c.args.values.now c.in-Some.function c.requires.call c.in-Some.ensures _ _ c.call_function.new.run c.call_function.result
     (c.call_function.ensures.meaning units transfer standing)
 
-pub returns-in-Some-clause-built : goal.returns-in-Some-clause-built
-returns-in-Some-clause-built g c = lacked c.args.number c.in-Some.function c.in-Some.ensures c.call_function.result c.call_function.ensures.built
+pub returns-in-Some-clause-counted : goal.returns-in-Some-clause-counted
+returns-in-Some-clause-counted g c = c.call_function.ensures.counted
 
 pub returns-in-Some-clause-devices : goal.returns-in-Some-clause-devices
 returns-in-Some-clause-devices g c = c.call_function.ensures.devices
