@@ -1,5 +1,5 @@
 -- How a run of a program to which files are linked ends, by what is said of it.
-use Rattle.std.proofs.Common.{◌≡◌, ℕ, ℤ, List, [], ◌∷◌, Option, Some, None, refl, ap, sym, ◌∙◌, subst}
+use Rattle.std.proofs.Common.{◌≡◌, ℕ, ◌≤◌, ◌^◌, ℤ, List, [], ◌∷◌, Option, Some, None, refl, ap, sym, ◌∙◌, subst}
 use Rattle.std.specs.Prelude.{Result, Ok, Err}
 use Rattle.c_tree.specs.simulation.Machine.{State, Runs, Over, Broken}
 use Rattle.c_tree.specs.run_state.Endings.{Ending}
@@ -16,6 +16,7 @@ use Rattle.c_tree.specs.Meaning.{run_of}
 use Rattle.c_totality.specs.Totality.{AreWellFormed, each_kept, NoRunIsWithoutMeaning}
 use Rattle.f2c_outside.specs.Table.{Row}
 use Rattle.f2c_outside.specs.Meaning.{Tells, units_of}
+use Rattle.listed_input.specs.Fetching.{position_of}
 use Rattle.linked_programs.specs.LinkedPrograms.{program_of}
 use Rattle.linked_programs.specs.declared.programs.LinkedProgram.{LinkedProgram}
 use Rattle.unit_answers.specs.Failing.{NoneFailed, FailedOn}
@@ -23,18 +24,18 @@ use Rattle.item_deeds.specs.Deeds.{world_of}
 use Rattle.run_library.specs.Replies.{StandsIn}
 use Rattle.run_library.specs.Devices.{NoFailure, no_call, one_more, FailsAtLast}
 use Rattle.run_library.specs.declared.library.RunBreak.TheVariants as reason
-use Rattle.program_runner.specs.Outcomes.{IsRunOf, UnlessRunFailed, ToldOfWholeRun, LacksInWholeRun}
+use Rattle.program_runner.specs.Outcomes.{IsRunOf, UnlessRunFailed, ToldOfWholeRun, UncountedInWholeRun}
 use Rattle.program_runner.specs.declared.runs.RunOutcome.{RunOutcome}
 use Rattle.program_runner.specs.declared.runs.RunOutcome.TheVariants as ran
 use Rattle.unit_library.specs.declared.endings.RunEnding.{RunEnding}
 use Rattle.unit_library.specs.declared.endings.RunEnding.TheVariants as ending
 use Rattle.unit_library.specs.declared.transfers.TransferInProgress.{TransferInProgress}
 use Rattle.unit_library.specs.Endings.{ending_of}
-use Rattle.unit_library.specs.Functions.{is_lacked}
 use Rattle.unit_library.specs.Transfers.{Standing}
+use Rattle.unit_library.specs.Uncounted.{IsFarBehind}
 use Rattle.loaded_runs.specs.declared.ends.RunEnd.{RunEnd}
 use Rattle.loaded_runs.specs.declared.ends.RunEnd.TheVariants as how
-use Rattle.loaded_runs.specs.RunEnds.{end_of, units_in, EndsBy, DevicesInRun, DevicesOf, NoDeviceFailed, in_the_run, behind_it, Finishes, failed_before, finished, failed_now, Lacks, IsRun}
+use Rattle.loaded_runs.specs.RunEnds.{end_of, units_in, EndsBy, DevicesInRun, DevicesOf, NoDeviceFailed, in_the_run, behind_it, Finishes, failed_before, finished, failed_now, IsUncounted, IsRun}
 
 -- ONE STATE
 goes-on : (state : State Ending sorts) (units : Units) (objects : List Object) (number : ℕ) (view : _) (frames : _) (world : World) → state ≡ Runs number view frames world → world.units ≡ units → EndsBy state units objects how.Running
@@ -71,7 +72,6 @@ ends state rows held objects (Ok (ran.Stopped ended)) meant stands =
 ends state rows held objects (Ok (ran.Broken (reason.Fault fault) number)) meant stands = by-fault state (units_of rows) objects fault number stands.holds.0 stands.holds.1
 ends state rows held objects (Ok (ran.Broken reason.Meaningless number)) meant stands = meant (by-nothing state (number ∷ stands.holds.0) stands.holds.1)
 ends state rows held objects (Ok (ran.Failed unit)) meant stands = tt
-ends state rows held objects (Ok (ran.NotBuilt number)) meant stands = tt
 ends state rows held objects (Ok ran.Uncounted) meant stands = tt
 ends state rows held objects (Err fault) meant stands = meant (at-first state fault stands.holds)
 
@@ -107,20 +107,18 @@ devices shown (Ok ran.Returned) first last told = none-in shown NoneFailed first
 devices shown (Ok (ran.Stopped ended)) first last told = none-in shown NoneFailed first last told
 devices shown (Ok (ran.Broken why number)) first last told = none-in shown NoneFailed first last told
 devices shown (Ok (ran.Failed unit)) first last told = failed-in shown NoneFailed FailedOn unit first last told
-devices shown (Ok (ran.NotBuilt number)) first last told = none-in shown NoneFailed first last told
 devices shown (Ok ran.Uncounted) first last told = none-in shown NoneFailed first last told
 devices shown (Err fault) first last told = none-in shown NoneFailed first last told
 
--- FUNCTIONS THAT THE LIBRARY LACKS
-pub lacks : (result : Result (RunOutcome RunEnding) CFault) → LacksInWholeRun is_lacked result → Lacks (end_of result)
-lacks (Ok ran.Running) built = tt
-lacks (Ok ran.Returned) built = tt
-lacks (Ok (ran.Stopped ended)) built = tt
-lacks (Ok (ran.Broken why number)) built = tt
-lacks (Ok (ran.Failed unit)) built = tt
-lacks (Ok (ran.NotBuilt number)) built = built
-lacks (Ok ran.Uncounted) built = tt
-lacks (Err fault) built = tt
+-- MORE THAN 64 BITS TELL
+pub uncounted : (rows : List Row) (result : Result (RunOutcome RunEnding) CFault) → UncountedInWholeRun (IsFarBehind rows) result → IsUncounted rows (end_of result)
+uncounted rows (Ok ran.Running) counted = tt
+uncounted rows (Ok ran.Returned) counted = tt
+uncounted rows (Ok (ran.Stopped ended)) counted = tt
+uncounted rows (Ok (ran.Broken why number)) counted = tt
+uncounted rows (Ok (ran.Failed unit)) counted = tt
+uncounted rows (Ok ran.Uncounted) counted = counted
+uncounted rows (Err fault) counted = tt
 
 -- FINISHING
 -- finishing the devices keeps what the meaning has
@@ -139,7 +137,6 @@ in-run rows rows' (how.Ended ending) other none = none
 in-run rows rows' (how.Broken why number) other none = none
 in-run rows rows' (how.Unbegun fault) other none = none
 in-run rows rows' (how.Failed unit) other fails = absurd (other unit refl)
-in-run rows rows' (how.NotBuilt number) other none = none
 in-run rows rows' how.Uncounted other none = none
 
 whole : (rows rows' : List Row) (ended : RunEnd) → ((unit : ℤ) → ended ≡ how.Failed unit → ⊥) → NoDeviceFailed rows rows' → DevicesOf rows rows' ended
@@ -148,7 +145,6 @@ whole rows rows' (how.Ended ending) other none = none
 whole rows rows' (how.Broken why number) other none = none
 whole rows rows' (how.Unbegun fault) other none = none
 whole rows rows' (how.Failed unit) other none = absurd (other unit refl)
-whole rows rows' (how.NotBuilt number) other none = none
 whole rows rows' how.Uncounted other none = none
 
 pub finished-devices : (first rows rows' : List Row) (before after : RunEnd) → Finishes rows rows' before after → DevicesInRun first rows before → DevicesOf first rows' after
@@ -157,20 +153,28 @@ finished-devices first rows rows' before after (failed_before unit was same) tol
 finished-devices first rows rows' before after (finished other all same) told = whole first rows' before other (record { middle = rows; none = in-run first rows before other told; finished = all })
 finished-devices first rows rows' before after (failed_now unit other fault) told = behind_it rows (in-run first rows before other told) fault
 
-pub finished-lacks : (rows rows' : List Row) (before after : RunEnd) → Finishes rows rows' before after → Lacks before → Lacks after
-finished-lacks rows rows' before after (failed_before unit was same) lacked = tt
-finished-lacks rows rows' before after (finished other all same) lacked = lacked
-finished-lacks rows rows' before after (failed_now unit other fault) lacked = tt
+far-kept : (rows rows' : List Row) (ended : RunEnd) → units_of rows' ≡ units_of rows → IsUncounted rows ended → IsUncounted rows' ended
+far-kept rows rows' how.Running same far = tt
+far-kept rows rows' (how.Ended ending) same far = tt
+far-kept rows rows' (how.Broken why number) same far = tt
+far-kept rows rows' (how.Unbegun fault) same far = tt
+far-kept rows rows' (how.Failed unit) same far = tt
+far-kept rows rows' how.Uncounted same far = (far.0, subst (λ (units : Units). 2 ^ 53 ≤ position_of far.0 units) (sym same) far.1)
+
+pub finished-uncounted : (rows rows' : List Row) (before after : RunEnd) → Finishes rows rows' before after → IsUncounted rows before → IsUncounted rows' after
+finished-uncounted rows rows' before after (failed_before unit was same) far = tt
+finished-uncounted rows rows' before after (finished other all same) far = far-kept rows rows' before same far
+finished-uncounted rows rows' before after (failed_now unit other fault) far = tt
 
 -- a run, by the devices before and after the library had them
 pub whole-run : (files : List CFile) (steps : ℕ) (b b' m m' a : List Row) (made : LinkedProgram) (objects : List Object) (before after : RunEnd) → b' ≡ b → m' ≡ m → program_of made ≡ program files →
-    (Tells b' → EndsBy (meaning.meaning files (units_of b') steps) (units_of m) objects before) → DevicesInRun b' m before → Lacks before → Finishes m' a before after → IsRun files steps b a made objects after
-whole-run files steps b b' m m' a made objects before after eb em linked meant told lacked finishes =
+    (Tells b' → EndsBy (meaning.meaning files (units_of b') steps) (units_of m) objects before) → DevicesInRun b' m before → IsUncounted m before → Finishes m' a before after → IsRun files steps b a made objects after
+whole-run files steps b b' m m' a made objects before after eb em linked meant told far finishes =
     let end : Finishes m a before after = subst (λ r. Finishes r a before after) em finishes in
     record {
       linked = linked;
       meant = λ tells. finished-ends (meaning.meaning files (units_of b) steps) m a objects before after end
           (subst (λ r. EndsBy (meaning.meaning files (units_of r) steps) (units_of m) objects before) eb (meant (subst Tells (sym eb) tells)));
       devices = finished-devices b m a before after end (subst (λ r. DevicesInRun r m before) eb told);
-      lacks = finished-lacks m a before after end lacked;
+      uncounted = finished-uncounted m a before after end far;
     }

@@ -1,5 +1,5 @@
 -- How a run of C files over external units ends (C89, 3.6.6.4; ANSI X3.9-1978, 11.12, 12.7 and 12.10.2.1).
-use Rattle.std.specs.Prelude.{◌≡◌, ℕ, ℤ, true, List, Option, Some, None, Result, Ok, Err}
+use Rattle.std.specs.Prelude.{◌≡◌, ℕ, ℤ, List, Option, Some, None, Result, Ok, Err}
 use Rattle.c_tree.specs.simulation.Machine.{State, Runs, Over, Broken}
 use Rattle.c_tree.specs.run_state.Endings.{Ending}
 use Rattle.c_tree.specs.run_state.Units.{Units}
@@ -22,9 +22,9 @@ use Rattle.program_runner.specs.declared.runs.RunOutcome.TheVariants as ran
 use Rattle.unit_library.specs.declared.endings.RunEnding.{RunEnding}
 use Rattle.unit_library.specs.declared.endings.RunEnding.TheVariants as ending
 use Rattle.unit_library.specs.Endings.{ending_of}
-use Rattle.unit_library.specs.Functions.{is_lacked}
+use Rattle.unit_library.specs.Uncounted.{IsFarBehind}
 use Rattle.loaded_runs.specs.declared.ends.RunEnd.{RunEnd}
-use Rattle.loaded_runs.specs.declared.ends.RunEnd.TheVariants.{Running, Ended, Broken as BrokenBy, Unbegun, Failed, NotBuilt, Uncounted}
+use Rattle.loaded_runs.specs.declared.ends.RunEnd.TheVariants.{Running, Ended, Broken as BrokenBy, Unbegun, Failed, Uncounted}
 
 abbrev pub end_of : Result (RunOutcome RunEnding) CFault → RunEnd
 end_of (Ok ran.Running) = Running
@@ -32,7 +32,6 @@ end_of (Ok ran.Returned) = Ended ending.Plain
 end_of (Ok (ran.Stopped how)) = Ended how
 end_of (Ok (ran.Broken reason function)) = BrokenBy reason function
 end_of (Ok (ran.Failed unit)) = Failed unit
-end_of (Ok (ran.NotBuilt number)) = NotBuilt number
 end_of (Ok ran.Uncounted) = Uncounted
 end_of (Err fault) = Unbegun fault
 
@@ -44,8 +43,8 @@ units_in (Runs number view frames world) = Some world.units
 units_in (Over ending frames world) = Some world.units
 units_in (Broken why numbers) = None
 
--- a run of the definitions that ends so, and leaves these units and objects; where a device failed, a function was called that the library
--- lacks, or a call was to count more than 64 bits tell, nothing is said of it
+-- a run of the definitions that ends so, and leaves these units and objects; where a device failed, or a call was to count more than 64 bits
+-- tell, nothing is said of it
 abbrev pub EndsBy : State Ending sorts → Units → List Object → RunEnd → Type 0
 EndsBy state units objects Running = (meaning.outcome state ≡ meaning.Running) × (units_in state ≡ Some units)
 EndsBy state units objects (Ended how) = (meaning.outcome state ≡ meaning.Ended (ending_of objects how)) × (units_in state ≡ Some units)
@@ -53,7 +52,6 @@ EndsBy state units objects (BrokenBy (reason.Fault fault) number) = meaning.outc
 EndsBy state units objects (BrokenBy reason.Meaningless number) = ⊥
 EndsBy state units objects (Unbegun fault) = ⊥
 EndsBy state units objects (Failed unit) = Unit {0}
-EndsBy state units objects (NotBuilt number) = Unit {0}
 EndsBy state units objects Uncounted = Unit {0}
 
 -- ## Devices
@@ -91,14 +89,14 @@ pub data Finishes (b a : List Row) (before : RunEnd) : RunEnd → Type 0 where
 
 -- ## Runs
 
--- the library lacks the function that a run came to
-abbrev pub Lacks : RunEnd → Type 0
-Lacks (NotBuilt number) = is_lacked number ≡ true
-Lacks how = Unit {0}
+-- where a call was to count more than 64 bits tell, a unit stands behind 2^53 records or more
+abbrev pub IsUncounted : List Row → RunEnd → Type 0
+IsUncounted rows Uncounted = IsFarBehind rows
+IsUncounted rows how = Unit {0}
 
 -- a run of the program to which files are linked, over the units for which rows stand, so many steps from its main program on
 pub record IsRun (files : List CFile) (steps : ℕ) (b a : List Row) (made : LinkedProgram) (objects : List Object) (how : RunEnd) : Type 0 where
   pub linked : program_of made ≡ program files
   pub meant : Tells b → EndsBy (meaning.meaning files (units_of b) steps) (units_of a) objects how
   pub devices : DevicesOf b a how
-  pub lacks : Lacks how
+  pub uncounted : IsUncounted a how

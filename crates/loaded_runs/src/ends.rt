@@ -26,8 +26,6 @@ pub enum RunEnd {
     Unbegun(CFault),
     /// The device of this unit failed.
     Failed(i32),
-    /// It called the function of this number, which the library lacks.
-    NotBuilt(usize),
     /// A call of the library was to count more than 64 bits tell.
     Uncounted,
 }
@@ -42,7 +40,6 @@ pub(crate) fn end_of(ran: Result<RunOutcome<RunEnding>, CFault>) -> RunEnd
         Ok(RunOutcome::Stopped(how)) => RunEnd::Ended(how),
         Ok(RunOutcome::Broken { reason, function }) => RunEnd::Broken { reason, function },
         Ok(RunOutcome::Failed(unit)) => RunEnd::Failed(unit),
-        Ok(RunOutcome::NotBuilt(number)) => RunEnd::NotBuilt(number),
         Ok(RunOutcome::Uncounted) => RunEnd::Uncounted,
         Err(fault) => RunEnd::Unbegun(fault),
     }

@@ -12,7 +12,7 @@ ghost use Rattle.run_library.specs.Room.{HasRoom};
 ghost use Rattle.program_runner.specs.Outcomes.{FramesStand, HasArgumentRoom};
 ghost use Rattle.program_loader.specs.Loaded.{IsLoaded};
 ghost use Rattle.unit_library.specs.Held.{rows_in, transfer_in, room_in};
-ghost use Rattle.loaded_runs.specs.RunEnds.{EndsBy, DevicesInRun, Lacks, IsRun};
+ghost use Rattle.loaded_runs.specs.RunEnds.{EndsBy, DevicesInRun, IsUncounted, IsRun};
 
 use crate::ends::{RunEnd, end_of};
 use crate::finishing::finished;
@@ -62,7 +62,7 @@ fn run_with(
     ensures meant { IfOk result (λ how. Tells (rows_in (λ b. (⟦<dyn Device as Device>⟧ b.vtable).device_state b.value) library.old) →
         EndsBy (meaning _files.now (units_of (rows_in (λ b. (⟦<dyn Device as Device>⟧ b.vtable).device_state b.value) library.old)) steps) (units_of (rows_in (λ b. (⟦<dyn Device as Device>⟧ b.vtable).device_state b.value) library.new)) objects.new how) }
     ensures devices { IfOk result (DevicesInRun (rows_in (λ b. (⟦<dyn Device as Device>⟧ b.vtable).device_state b.value) library.old) (rows_in (λ b. (⟦<dyn Device as Device>⟧ b.vtable).device_state b.value) library.new)) }
-    ensures lacks { IfOk result Lacks }
+    ensures uncounted { IfOk result (IsUncounted (rows_in (λ b. (⟦<dyn Device as Device>⟧ b.vtable).device_state b.value) library.new)) }
     ensures unbegun { OnErr result (library.new ≡ library.old) }
 {
     no_run_is_without_meaning();
@@ -71,8 +71,8 @@ fn run_with(
 }
 
 /// Runs a program that was loaded from files, so many steps, or until it is over, with no transfer in progress at first, and finishes the
-/// devices of the units. For units whose devices tell their records the run is that of the definitions, unless a device fails, a function is
-/// called that the library lacks, or a call is to count more than 64 bits tell.
+/// devices of the units. For units whose devices tell their records the run is that of the definitions, unless a device fails, or a call is to
+/// count more than 64 bits tell, which is only where a unit stands behind 2^53 records or more.
 ///
 /// # Errors
 /// The units as they were, where there was no memory to begin.

@@ -21,7 +21,7 @@ use Rattle.program_runner.proofs.DeviceLaws.{one-call}
 
 broken-steps : {E : Type 0} (ending : List Object → E → Ending) (number : ℕ) (values : List CValue) (view : View) (before : World) (wants : Wants) (stands : Units → Option Transfer → Type 0) (objects : List Object)
     (given : List CValue) (why : CallBreak) (call : IsCall number values) → may_give call.signature.gives wants ≡ true → Answers ending number values before stands objects (Err why) →
-    StepsBy ending (library_called view before wants values (slice_get signatures number)) stands objects given (broken_of number why)
+    StepsBy ending (library_called view before wants values (slice_get signatures number)) stands objects given (broken_of why)
 broken-steps ending number values view before wants stands objects given (broken.Break why) call gives answers = record {
   units = answers.units;
   transfer = answers.transfer;
@@ -29,24 +29,22 @@ broken-steps ending number values view before wants stands objects given (broken
   holds = call-made number values view before wants call gives ∙ ap (λ reply. given_that reply (replied view wants)) (answers.holds call.signature call.known);
 }
 broken-steps ending number values view before wants stands objects given (broken.Device unit) call gives answers = tt
-broken-steps ending number values view before wants stands objects given broken.NotBuilt call gives answers = tt
 broken-steps ending number values view before wants stands objects given broken.Uncounted call gives answers = tt
 
 pub call-broken : {E : Type 0} (ending : List Object → E → Ending) (number : ℕ) (values : List CValue) (view : View) (before : World) (wants : Wants) (stands : Units → Option Transfer → Type 0) (objects : List Object)
-    (given : List CValue) (why : CallBreak) (result : Result (StepEvent E) StepFailure) → result ≡ broken_of number why → (call : IsCall number values) → may_give call.signature.gives wants ≡ true →
+    (given : List CValue) (why : CallBreak) (result : Result (StepEvent E) StepFailure) → result ≡ broken_of why → (call : IsCall number values) → may_give call.signature.gives wants ≡ true →
     Answers ending number values before stands objects (Err why) → StepsBy ending (library_called view before wants values (slice_get signatures number)) stands objects given result
 call-broken ending number values view before wants stands objects given why result is call gives answers =
     subst (StepsBy ending (library_called view before wants values (slice_get signatures number)) stands objects given) (sym is)
     (broken-steps ending number values view before wants stands objects given why call gives answers)
 
-broken-told : {L : Type 0} (E : Type 0) (none_failed : L → L → Type 0) (failed_on : ℤ → L → L → Type 0) (old new : L) (number : ℕ) (why : CallBreak) →
-    ToldOfCall {E = E} none_failed failed_on old new (Err why) → ToldOfStep {E = E} none_failed failed_on old new (broken_of number why)
-broken-told E none_failed failed_on old new number (broken.Break why) told = one-call told
-broken-told E none_failed failed_on old new number (broken.Device unit) told = record { before = old; none = no_call; failed = told }
-broken-told E none_failed failed_on old new number broken.NotBuilt told = one-call told
-broken-told E none_failed failed_on old new number broken.Uncounted told = one-call told
+broken-told : {L : Type 0} (E : Type 0) (none_failed : L → L → Type 0) (failed_on : ℤ → L → L → Type 0) (old new : L) (why : CallBreak) →
+    ToldOfCall {E = E} none_failed failed_on old new (Err why) → ToldOfStep {E = E} none_failed failed_on old new (broken_of why)
+broken-told E none_failed failed_on old new (broken.Break why) told = one-call told
+broken-told E none_failed failed_on old new (broken.Device unit) told = record { before = old; none = no_call; failed = told }
+broken-told E none_failed failed_on old new broken.Uncounted told = one-call told
 
-pub told-broken : {L E : Type 0} (none_failed : L → L → Type 0) (failed_on : ℤ → L → L → Type 0) (old new : L) (number : ℕ) (why : CallBreak) (result : Result (StepEvent E) StepFailure) → result ≡ broken_of number why →
+pub told-broken : {L E : Type 0} (none_failed : L → L → Type 0) (failed_on : ℤ → L → L → Type 0) (old new : L) (why : CallBreak) (result : Result (StepEvent E) StepFailure) → result ≡ broken_of why →
     ToldOfCall {E = E} none_failed failed_on old new (Err why) → ToldOfStep none_failed failed_on old new result
-told-broken {E = E} none_failed failed_on old new number why result is told =
-    subst (ToldOfStep none_failed failed_on old new) (sym is) (broken-told E none_failed failed_on old new number why told)
+told-broken {E = E} none_failed failed_on old new why result is told =
+    subst (ToldOfStep none_failed failed_on old new) (sym is) (broken-told E none_failed failed_on old new why told)

@@ -31,7 +31,6 @@ told-going none_failed failed_on old new ending state stack world outcome.Return
 told-going none_failed failed_on old new ending state stack world (outcome.Stopped how) calls reaches = calls
 told-going none_failed failed_on old new ending state stack world (outcome.Broken why number) calls reaches = calls
 told-going none_failed failed_on old new ending state stack world (outcome.Failed unit) calls reaches = absurd reaches
-told-going none_failed failed_on old new ending state stack world (outcome.NotBuilt number) calls reaches = absurd reaches
 told-going none_failed failed_on old new ending state stack world outcome.Uncounted calls reaches = absurd reaches
 
 pub told-further : {L E : Type 0} (none_failed : L → L → Type 0) (failed_on : ℤ → L → L → Type 0) (first middle last : L) (how : RunOutcome E) →
@@ -41,5 +40,4 @@ told-further none_failed failed_on first middle last outcome.Returned calls told
 told-further none_failed failed_on first middle last (outcome.Stopped how) calls told = joined calls told
 told-further none_failed failed_on first middle last (outcome.Broken why number) calls told = joined calls told
 told-further none_failed failed_on first middle last (outcome.Failed unit) calls told = record { before = told.before; none = joined calls told.none; failed = told.failed }
-told-further none_failed failed_on first middle last (outcome.NotBuilt number) calls told = joined calls told
 told-further none_failed failed_on first middle last outcome.Uncounted calls told = joined calls told

@@ -3,6 +3,7 @@ pub mod SignatureLaws
 pub mod StepLaws
 pub mod StackLaws
 pub mod DeviceLaws
-pub mod LackLaws
+pub mod RoomLaws
+pub mod CountLaws
 pub mod CallLaws
 pub mod RunLaws

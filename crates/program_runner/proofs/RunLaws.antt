@@ -148,7 +148,6 @@ over-for-good ending program state count steps stack world (outcome.Stopped stop
 over-for-good ending program state count steps stack world (outcome.Broken why number) reaches not few =
     (reaches.0, stays-up-to program state (Broken (break_of why) (number ∷ reaches.0)) count steps (broken-stays program (break_of why) (number ∷ reaches.0)) reaches.1 few)
 over-for-good ending program state count steps stack world (outcome.Failed unit) reaches not few = reaches
-over-for-good ending program state count steps stack world (outcome.NotBuilt number) reaches not few = reaches
 over-for-good ending program state count steps stack world outcome.Uncounted reaches not few = reaches
 
 -- EVENTS OF THE ACTIVE FUNCTION
@@ -165,6 +164,15 @@ happens program own number function view frames world event is all does =
 pub goes-on : (program : Program sorts) (number : ℕ) (frames : Frames) (onward : View) (after : World) → act language program (Goes onward after) number frames ≡ Runs number onward frames after
 unfolding machine_opened
 goes-on program number frames onward after = refl
+
+-- the active function goes on at a place
+pub goes-so : (program : LinkedProgram) (function : LinkedFunction) (number place : ℕ) (view : View) (frames : Frames) (old new : World) →
+    Some function ≡ slice_get program.functions number →
+    ((own : ℕ) → (other : View) → other.position ≡ view.position → step (function_of own function) other old ≡ Goes (record other { position = place }) new) →
+    next language (machine (program_of program)) (Runs number view frames old) ≡ Runs number (record view { position = place }) frames new
+goes-so program function number place view frames old new is does =
+    happens program (length program.functions) number function view frames old (Goes (record view { position = place }) new) is refl (does (length program.functions) view refl)
+    ∙ goes-on (machine (program_of program)) number frames (record view { position = place }) new
 
 pub ends-by : (program : Program sorts) (number : ℕ) (frames : Frames) (how : Ending) (last : View) (after : World) → act language program (Ends how last after) number frames ≡ Over how (Has number last ∷ frames) after
 unfolding machine_opened
@@ -191,7 +199,6 @@ unless outcome.Returned Holds is = is
 unless (outcome.Stopped ending) Holds is = is
 unless (outcome.Broken why number) Holds is = is
 unless (outcome.Failed unit) Holds is = tt
-unless (outcome.NotBuilt number) Holds is = tt
 unless outcome.Uncounted Holds is = tt
 
 pub unless-so : {E : Type 0} (how : RunOutcome E) (First Second : Type 0) → (First → Second) → UnlessFailed how First → UnlessFailed how Second
@@ -200,7 +207,6 @@ unless-so outcome.Returned First Second makes is = makes is
 unless-so (outcome.Stopped ending) First Second makes is = makes is
 unless-so (outcome.Broken why number) First Second makes is = makes is
 unless-so (outcome.Failed unit) First Second makes is = tt
-unless-so (outcome.NotBuilt number) First Second makes is = tt
 unless-so outcome.Uncounted First Second makes is = tt
 
 -- the next step of a run, by what the active function does
@@ -402,7 +408,6 @@ stands-so ending state stack world outcome.Returned reaches = reaches
 stands-so ending state stack world (outcome.Stopped how) reaches = reaches
 stands-so ending state stack world (outcome.Broken why number) reaches = reaches
 stands-so ending state stack world (outcome.Failed unit) reaches = reaches
-stands-so ending state stack world (outcome.NotBuilt number) reaches = reaches
 stands-so ending state stack world outcome.Uncounted reaches = reaches
 
 broken-for-good : (program : Program sorts) (first : State Ending sorts) (steps : ℕ) (why : Break) → first ≡ Broken why [] → run language program steps first ≡ Broken why []

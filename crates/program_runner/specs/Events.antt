@@ -1,5 +1,5 @@
 -- What the next step of an active function does, as the meaning of C texts has it (C89, 3.6).
-use Rattle.std.specs.Prelude.{◌≡◌, ℕ, ◌+◌, ◌^◌, ◌<◌, ◌≤◌, ℤ, Bool, true, List, take, Option, Some, Result, Ok, Err, slice_get}
+use Rattle.std.specs.Prelude.{◌≡◌, ℕ, ◌+◌, ◌^◌, ◌<◌, ◌≤◌, ℤ, List, take, Option, Some, Result, Ok, Err, slice_get}
 use Rattle.c_tree.specs.simulation.Machine as machine
 use Rattle.c_tree.specs.run_state.Endings.{Ending}
 use Rattle.c_tree.specs.run_state.Units.{Units}
@@ -27,14 +27,13 @@ event_of ending world values (event.Answers answer) = machine.Answers world answ
 event_of ending world values (event.Breaks why) = machine.Breaks (break_of why)
 
 -- the event of a call of a function of the library that gives nothing, or why nothing is said of it
-abbrev pub broken_of : {E : Type 0} → ℕ → CallBreak → Result (StepEvent E) StepFailure
-broken_of number (broken.Break why) = Ok (event.Breaks why)
-broken_of number (broken.Device unit) = Err (failure.Device unit)
-broken_of number broken.NotBuilt = Err (failure.NotBuilt number)
-broken_of number broken.Uncounted = Err failure.Uncounted
+abbrev pub broken_of : {E : Type 0} → CallBreak → Result (StepEvent E) StepFailure
+broken_of (broken.Break why) = Ok (event.Breaks why)
+broken_of (broken.Device unit) = Err (failure.Device unit)
+broken_of broken.Uncounted = Err failure.Uncounted
 
 -- a step does this, and leaves objects and a library that stands for the units and the transfer of the world after it; where a device
--- failed, the library lacks the function that is called, or its call was to count more than 64 bits tell, nothing is said of it
+-- failed, or its call was to count more than 64 bits tell, nothing is said of it
 abbrev pub StepsBy : {E : Type 0} → (List Object → E → Ending) → Happening → (Units → Option Transfer → Type 0) → List Object → List CValue → Result (StepEvent E) StepFailure → Type 0
 StepsBy ending happens stands objects values (Ok done) = StandsIn stands objects (λ after. happens ≡ event_of ending after values done)
 StepsBy ending happens stands objects values (Err why) = Unit {0}
@@ -43,15 +42,13 @@ StepsBy ending happens stands objects values (Err why) = Unit {0}
 abbrev pub ToldOfStep : {L E : Type 0} → (L → L → Type 0) → (ℤ → L → L → Type 0) → L → L → Result (StepEvent E) StepFailure → Type 0
 ToldOfStep none_failed failed_on old new (Ok done) = NoFailure none_failed old new
 ToldOfStep none_failed failed_on old new (Err (failure.Device unit)) = FailsAtLast none_failed failed_on unit old new
-ToldOfStep none_failed failed_on old new (Err (failure.NotBuilt number)) = NoFailure none_failed old new
 ToldOfStep none_failed failed_on old new (Err failure.Uncounted) = NoFailure none_failed old new
 
--- the library lacks the function whose call it has not built
-abbrev pub LacksInStep : {E : Type 0} → (ℕ → Bool) → Result (StepEvent E) StepFailure → Type 0
-LacksInStep lacks (Ok done) = Unit {0}
-LacksInStep lacks (Err (failure.Device unit)) = Unit {0}
-LacksInStep lacks (Err (failure.NotBuilt number)) = lacks number ≡ true
-LacksInStep lacks (Err failure.Uncounted) = Unit {0}
+-- what holds where a step's call of the library was to count more than 64 bits tell
+abbrev pub UncountedInStep : {E : Type 0} → Type 0 → Result (StepEvent E) StepFailure → Type 0
+UncountedInStep P (Ok done) = Unit {0}
+UncountedInStep P (Err (failure.Device unit)) = Unit {0}
+UncountedInStep P (Err failure.Uncounted) = P
 
 -- a call of a function stands at a position with one behind it, and its arguments have room
 abbrev pub IsCalled : {E : Type 0} → ℕ → ℕ → StepEvent E → Type 0

@@ -1,5 +1,5 @@
 -- How a run stands, as the machine of C texts has it (C89, 3.6.6.4).
-use Rattle.std.specs.Prelude.{◌≡◌, ℕ, ℤ, Bool, true, List, [], ◌∷◌, Some, Result, Ok, Err, slice_get}
+use Rattle.std.specs.Prelude.{◌≡◌, ℕ, ℤ, List, [], ◌∷◌, Some, Result, Ok, Err, slice_get}
 use Rattle.c_tree.specs.simulation.Machine as machine
 use Rattle.c_tree.specs.simulation.Machine.{State, Runs, Over}
 use Rattle.c_tree.specs.run_state.Endings.{Ending, Plain}
@@ -34,7 +34,6 @@ Leaves ending state world outcome.Returned = state ≡ Over Plain [] world
 Leaves ending state world (outcome.Stopped how) = (frames : Frames) × (state ≡ Over (ending world.objects how) frames world)
 Leaves ending state world (outcome.Broken why number) = (callers : List ℕ) × (state ≡ machine.Broken (break_of why) (number ∷ callers))
 Leaves ending state world (outcome.Failed unit) = ⊥
-Leaves ending state world (outcome.NotBuilt number) = ⊥
 Leaves ending state world outcome.Uncounted = ⊥
 
 -- a run that goes on with these active functions, or is over
@@ -52,11 +51,9 @@ abbrev pub KeepsStack : {E : Type 0} → ℕ → CallStack → RunOutcome E → 
 KeepsStack functions stack outcome.Running = IsStack functions stack
 KeepsStack functions stack over = Unit {0}
 
--- what is said of a run in which no device failed, that called no function that the library lacks, and none of whose calls was to count more
--- than 64 bits tell
+-- what is said of a run in which no device failed, and none of whose calls was to count more than 64 bits tell
 abbrev pub UnlessFailed : {E : Type 0} → RunOutcome E → Type 0 → Type 0
 UnlessFailed (outcome.Failed unit) Holds = Unit {0}
-UnlessFailed (outcome.NotBuilt number) Holds = Unit {0}
 UnlessFailed outcome.Uncounted Holds = Unit {0}
 UnlessFailed how Holds = Holds
 
@@ -65,10 +62,10 @@ abbrev pub ToldOfRun : {L E : Type 0} → (L → L → Type 0) → (ℤ → L �
 ToldOfRun none_failed failed_on old new (outcome.Failed unit) = FailsAtLast none_failed failed_on unit old new
 ToldOfRun none_failed failed_on old new how = NoFailure none_failed old new
 
--- the library lacks the function that the run came to and that is not built
-abbrev pub LacksInRun : {E : Type 0} → (ℕ → Bool) → RunOutcome E → Type 0
-LacksInRun lacks (outcome.NotBuilt number) = lacks number ≡ true
-LacksInRun lacks how = Unit {0}
+-- what holds where a call of the library in a run was to count more than 64 bits tell
+abbrev pub UncountedInRun : {E : Type 0} → Type 0 → RunOutcome E → Type 0
+UncountedInRun P outcome.Uncounted = P
+UncountedInRun P how = Unit {0}
 
 -- the main program begins and is the only active function, or it does not begin by a fault
 abbrev pub Begins : State Ending sorts → World → Result CallStack CFault → Type 0
@@ -79,8 +76,7 @@ abbrev pub IsRunOf : {E : Type 0} → (List Object → E → Ending) → State E
 IsRunOf ending state world (Ok how) = Stands ending state world how
 IsRunOf ending state world (Err fault) = state ≡ machine.Broken (Faults fault) []
 
--- what is said of a whole run in which no device failed, that called no function that the library lacks, and none of whose calls was to count
--- more than 64 bits tell
+-- what is said of a whole run in which no device failed, and none of whose calls was to count more than 64 bits tell
 abbrev pub UnlessRunFailed : {E : Type 0} → Result (RunOutcome E) CFault → Type 0 → Type 0
 UnlessRunFailed (Ok how) Holds = UnlessFailed how Holds
 UnlessRunFailed (Err fault) Holds = Holds
@@ -90,7 +86,7 @@ abbrev pub ToldOfWholeRun : {L E : Type 0} → (L → L → Type 0) → (ℤ →
 ToldOfWholeRun none_failed failed_on old new (Ok how) = ToldOfRun none_failed failed_on old new how
 ToldOfWholeRun none_failed failed_on old new (Err fault) = NoFailure none_failed old new
 
--- the library lacks the function that a whole run came to and that is not built
-abbrev pub LacksInWholeRun : {E : Type 0} → (ℕ → Bool) → Result (RunOutcome E) CFault → Type 0
-LacksInWholeRun lacks (Ok how) = LacksInRun lacks how
-LacksInWholeRun lacks (Err fault) = Unit {0}
+-- what holds where a call of the library in a whole run was to count more than 64 bits tell
+abbrev pub UncountedInWholeRun : {E : Type 0} → Type 0 → Result (RunOutcome E) CFault → Type 0
+UncountedInWholeRun P (Ok how) = UncountedInRun P how
+UncountedInWholeRun P (Err fault) = Unit {0}

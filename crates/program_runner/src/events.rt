@@ -16,7 +16,7 @@ ghost use Rattle.item_deeds.specs.Forms.{SameForms};
 ghost use Rattle.run_library.specs.Replies.{reply_of};
 ghost use Rattle.run_library.specs.Room as rooms;
 ghost use Rattle.program_runner.specs.Signatures.{Allows};
-ghost use Rattle.program_runner.specs.Events.{event_of, broken_of, StepsBy, ToldOfStep, LacksInStep, IsCalled, HasRoom};
+ghost use Rattle.program_runner.specs.Events.{event_of, broken_of, StepsBy, ToldOfStep, UncountedInStep, IsCalled, HasRoom};
 
 use crate::signatures::allowed;
 use c_tree::outcome::CValue;
@@ -60,8 +60,6 @@ pub(crate) enum StepEvent<E: Drop> {
 pub(crate) enum StepFailure {
     /// The device of this unit failed.
     Device(i32),
-    /// The library lacks the function of this number, which is called.
-    NotBuilt(usize),
     /// A call of the library was to count more than 64 bits tell.
     Uncounted,
 }
@@ -105,18 +103,17 @@ fn replied<E: Drop>(
     }
 }
 
-/// What the caller does with a call of the function of a number that gives nothing.
+/// What the caller does with a call of the library that gives nothing.
 ///
 /// # Errors
 /// Why nothing is said of it.
-fn broken<E: Drop>(number: usize, reason: CallBreak) -> Result<StepEvent<E>, StepFailure>
-    ensures is { result ≡ broken_of number reason }
+fn broken<E: Drop>(reason: CallBreak) -> Result<StepEvent<E>, StepFailure>
+    ensures is { result ≡ broken_of reason }
     ensures called { (position room : ℕ) → IfOk result (IsCalled position room) }
 {
     match reason {
         CallBreak::Break(reason) => Ok(StepEvent::Breaks(reason)),
         CallBreak::Device(unit) => Err(StepFailure::Device(unit)),
-        CallBreak::NotBuilt => Err(StepFailure::NotBuilt(number)),
         CallBreak::Uncounted => Err(StepFailure::Uncounted),
     }
 }
@@ -139,14 +136,14 @@ fn call_made<L: Library>(
     ensures meaning { (units : Units) → (transfer : Option Transfer) → (given : List CValue) → L.stands library.old units transfer →
         StepsBy L.ending (steps.library_called (view_of view) (world_of run.old units transfer) (wants_of wants) values.now (slice_get signatures number)) (L.stands library.new) run.new given result }
     ensures devices { ToldOfStep L.none_failed L.failed_on library.old library.new result }
-    ensures built { LacksInStep L.lacks result }
+    ensures counted { UncountedInStep (L.uncounted library.new) result }
     ensures texts { L.room library.new ≡ L.room library.old }
     ensures called { (position room : ℕ) → IfOk result (IsCalled position room) }
     ensures forms { SameForms run.old run.new }
 {
     match library.call(number, values, run) {
         Ok(reply) => Ok(replied(view, wants, reply, run)),
-        Err(reason) => broken(number, reason),
+        Err(reason) => broken(reason),
     }
 }
 
@@ -167,7 +164,7 @@ fn library_called<L: Library>(
     ensures meaning { (units : Units) → (transfer : Option Transfer) → (given : List CValue) → L.stands library.old units transfer →
         StepsBy L.ending (steps.library_called (view_of view) (world_of run.old units transfer) (wants_of wants) values.now (slice_get signatures number)) (L.stands library.new) run.new given result }
     ensures devices { ToldOfStep L.none_failed L.failed_on library.old library.new result }
-    ensures built { LacksInStep L.lacks result }
+    ensures counted { UncountedInStep (L.uncounted library.new) result }
     ensures texts { L.room library.new ≡ L.room library.old }
     ensures called { (position room : ℕ) → IfOk result (IsCalled position room) }
     ensures forms { SameForms run.old run.new }
@@ -206,7 +203,7 @@ fn item_step<L: Library>(
         (units : Units) → (transfer : Option Transfer) → L.stands library.old units transfer →
         StepsBy L.ending (steps.deed function (view_of view) (world_of run.old units transfer) (flat_of item.now)) (L.stands library.new) run.new buffer.new result }
     ensures devices { ToldOfStep L.none_failed L.failed_on library.old library.new result }
-    ensures built { LacksInStep L.lacks result }
+    ensures counted { UncountedInStep (L.uncounted library.new) result }
     ensures texts { L.room library.new ≡ L.room library.old }
     ensures called { IfOk result (IsCalled view.position (length buffer.new)) }
     ensures forms { SameForms run.old run.new }
@@ -257,7 +254,7 @@ pub(crate) fn step<L: Library>(
     ensures meaning { (units : Units) → (transfer : Option Transfer) → L.stands library.old units transfer →
         StepsBy L.ending (steps.step (function_of own function.now) (view_of view) (world_of run.old units transfer)) (L.stands library.new) run.new buffer.new result }
     ensures devices { ToldOfStep L.none_failed L.failed_on library.old library.new result }
-    ensures built { LacksInStep L.lacks result }
+    ensures counted { UncountedInStep (L.uncounted library.new) result }
     ensures texts { L.room library.new ≡ L.room library.old }
     ensures called { IfOk result (IsCalled view.position (length buffer.new)) }
     ensures forms { SameForms run.old run.new }

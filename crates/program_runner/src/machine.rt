@@ -6,25 +6,25 @@ ghost use Rattle.c_tree.specs.run_state.Endings.{Ending};
 ghost use Rattle.c_tree.specs.run_state.Units.{Units};
 ghost use Rattle.c_tree.specs.Meaning as meaning;
 ghost use Rattle.c_tree.specs.Steps as steps;
-ghost use Rattle.c_tree.specs.Steps.{sorts, language};
+ghost use Rattle.c_tree.specs.Steps.{View, sorts, language};
 ghost use Rattle.c_tree.specs.Objects.{Object};
 ghost use Rattle.c_tree.specs.World.{World, Transfer};
 ghost use Rattle.linked_programs.specs.LinkedPrograms.{program_of, function_of};
 ghost use Rattle.call_frames.specs.Frames.{HasFrame};
-ghost use Rattle.item_deeds.specs.Deeds.{view_of, world_of};
+ghost use Rattle.item_deeds.specs.Deeds.{IfDone, IfFound, view_of, world_of};
 ghost use Rattle.item_deeds.specs.Forms.{SameForms};
 ghost use Rattle.run_library.specs.Replies.{StandsIn};
 ghost use Rattle.run_library.specs.Room.{HasRoom};
 ghost use Rattle.program_runner.specs.Stacks.{frames_of, waiting, state_of, IsStack};
 ghost use Rattle.program_runner.specs.Events.{event_of, IsCalled};
-ghost use Rattle.program_runner.specs.Outcomes.{FramesStand, HasArgumentRoom, Reaches, KeepsStack, UnlessFailed, ToldOfRun, LacksInRun};
+ghost use Rattle.program_runner.specs.Outcomes.{FramesStand, HasArgumentRoom, Reaches, KeepsStack, UnlessFailed, ToldOfRun, UncountedInRun};
 
 use crate::events::{StepEvent, StepFailure, first_values, step};
 use crate::runs::RunOutcome;
 use crate::stack::{CallFrame, CallStack};
 use c_tree::outcome::{CFault, CValue};
 use call_frames::{resume, start};
-use item_deeds::CallView;
+use item_deeds::{CallView, next_position};
 use linked_programs::{LinkedFunction, LinkedProgram};
 use run_bytes::RunBytes;
 use run_library::{Library, RunBreak};
@@ -183,8 +183,45 @@ fn happened<E: Drop>(
     }
 }
 
+/// The position at which a function goes on behind its next item, where the short way finds it: then the item is done.
+fn position_after(function: &LinkedFunction, position: usize, run: &mut RunBytes) -> Option<usize>
+    ensures meaning { IfFound result (λ next. (own : ℕ) → (view : View) → view.position ≡ position → (units : Units) → (transfer : Option Transfer) →
+        steps.step (function_of own function.now) view (world_of run.old units transfer) ≡ machine.Goes (record view { position = next }) (world_of run.new units transfer)) (run.new ≡ run.old) }
+    ensures forms { SameForms run.old run.new }
+{
+    match function.code.get(position) {
+        Some(item) => {
+            let within = position < function.code.len();
+            prove!(within);
+            next_position(position, item, run)
+        }
+        None => None,
+    }
+}
+
+/// The next step of a run by the short way. It answers whether the step is done; else nothing is.
+fn moved_on(program: &LinkedProgram, stack: &mut CallStack, run: &mut RunBytes) -> bool
+    requires { IsStack (length program.now.functions) stack.old }
+    ensures meaning { IfDone result ((units : Units) → (transfer : Option Transfer) →
+        machine.next language (meaning.machine (program_of program.now)) (state_of stack.old (world_of run.old units transfer)) ≡ state_of stack.new (world_of run.new units transfer))
+        ((stack.new ≡ stack.old) × (run.new ≡ run.old)) }
+    ensures stack { IsStack (length program.now.functions) stack.new }
+    ensures forms { SameForms run.old run.new }
+{
+    let Some(function) = program.functions.get(stack.top.number) else {
+        return false;
+    };
+    match position_after(function, stack.top.view.position, run) {
+        Some(position) => {
+            stack.top.view.position = position;
+            true
+        }
+        None => false,
+    }
+}
+
 /// The next step of a run.
-pub(crate) fn next<L: Library>(
+fn next<L: Library>(
     program: &LinkedProgram,
     stack: &mut CallStack,
     buffer: &mut [CValue],
@@ -199,7 +236,7 @@ pub(crate) fn next<L: Library>(
         UnlessFailed result (StandsIn (L.stands library.new) run.new (λ after.
         Reaches L.ending (machine.next language (meaning.machine (program_of program.now)) (state_of stack.old (world_of run.old units transfer))) stack.new after result)) }
     ensures devices { ToldOfRun L.none_failed L.failed_on library.old library.new result }
-    ensures built { LacksInRun L.lacks result }
+    ensures counted { UncountedInRun (L.uncounted library.new) result }
     ensures texts { L.room library.new ≡ L.room library.old }
     ensures stack { KeepsStack (length program.now.functions) stack.new result }
     ensures forms { SameForms run.old run.new }
@@ -218,7 +255,34 @@ pub(crate) fn next<L: Library>(
     ) {
         Ok(event) => happened(program, stack, event, buffer, run),
         Err(StepFailure::Device(unit)) => RunOutcome::Failed(unit),
-        Err(StepFailure::NotBuilt(number)) => RunOutcome::NotBuilt(number),
         Err(StepFailure::Uncounted) => RunOutcome::Uncounted,
+    }
+}
+
+/// The next step of a run, by the short way where it is found.
+pub(crate) fn advance<L: Library>(
+    program: &LinkedProgram,
+    stack: &mut CallStack,
+    buffer: &mut [CValue],
+    run: &mut RunBytes,
+    library: &mut L,
+) -> RunOutcome<L::Ending>
+    requires stack { IsStack (length program.now.functions) stack.old }
+    requires room { HasArgumentRoom program.now (length buffer.old) }
+    requires frames { FramesStand program.now run.old }
+    requires texts { HasRoom (L.room library.old) run.old }
+    ensures meaning { (units : Units) → (transfer : Option Transfer) → L.stands library.old units transfer →
+        UnlessFailed result (StandsIn (L.stands library.new) run.new (λ after.
+        Reaches L.ending (machine.next language (meaning.machine (program_of program.now)) (state_of stack.old (world_of run.old units transfer))) stack.new after result)) }
+    ensures devices { ToldOfRun L.none_failed L.failed_on library.old library.new result }
+    ensures counted { UncountedInRun (L.uncounted library.new) result }
+    ensures texts { L.room library.new ≡ L.room library.old }
+    ensures stack { KeepsStack (length program.now.functions) stack.new result }
+    ensures forms { SameForms run.old run.new }
+{
+    if moved_on(program, stack, run) {
+        RunOutcome::Running
+    } else {
+        next(program, stack, buffer, run, library)
     }
 }

@@ -1,6 +1,6 @@
 //! Runs of linked programs (C89, 3.6.6.4 and 3.7.1).
 
-ghost use Rattle.std.specs.Prelude.{◌≡◌, ℕ, ◌<◌, [], None, List, Option, length, position, unwrap_or, bytes_eq, IfOk, OnErr};
+ghost use Rattle.std.specs.Prelude.{◌≡◌, ℕ, ◌<◌, [], None, Option, length, position, unwrap_or, bytes_eq, IfOk, OnErr};
 ghost use Rattle.c_tree.specs.simulation.Machine as machine;
 ghost use Rattle.c_tree.specs.run_state.Units.{Units};
 ghost use Rattle.c_tree.specs.Linking.{main_name};
@@ -15,9 +15,9 @@ ghost use Rattle.call_frames.specs.Frames.{HasFrame};
 ghost use Rattle.run_library.specs.Replies.{StandsIn};
 ghost use Rattle.run_library.specs.Room.{HasRoom};
 ghost use Rattle.program_runner.specs.Stacks.{state_of, IsStack};
-ghost use Rattle.program_runner.specs.Outcomes.{FramesStand, HasArgumentRoom, Reaches, KeepsStack, UnlessFailed, ToldOfRun, Begins, IsRunOf, UnlessRunFailed, ToldOfWholeRun, LacksInRun, LacksInWholeRun};
+ghost use Rattle.program_runner.specs.Outcomes.{FramesStand, HasArgumentRoom, Reaches, KeepsStack, UnlessFailed, ToldOfRun, Begins, IsRunOf, UnlessRunFailed, ToldOfWholeRun, UncountedInRun, UncountedInWholeRun};
 
-use crate::machine::next;
+use crate::machine::advance;
 use crate::stack::{CallFrame, CallStack};
 use c_tree::outcome::{CFault, CValue};
 use call_frames::start;
@@ -44,8 +44,6 @@ pub enum RunOutcome<E: Drop> {
     },
     /// The device of this unit failed.
     Failed(i32),
-    /// It called the function of this number, which the library lacks.
-    NotBuilt(usize),
     /// A call of the library was to count more than 64 bits tell.
     Uncounted,
 }
@@ -118,9 +116,8 @@ pub fn begin(
 }
 
 /// Goes so many steps on, as long as the run is not over. The buffer has room for the arguments of each call. The run is that of the
-/// definitions for all units and each transfer in progress for which the library stands, unless the device of a unit fails, a function is
-/// called that the library lacks, or a call is to count more than 64 bits tell. No text of the objects is longer than the library can put
-/// together.
+/// definitions for all units and each transfer in progress for which the library stands, unless the device of a unit fails, or a call is to
+/// count more than 64 bits tell. No text of the objects is longer than the library can put together.
 pub fn run<L: Library>(
     program: &LinkedProgram,
     stack: &mut CallStack,
@@ -137,14 +134,14 @@ pub fn run<L: Library>(
         UnlessFailed result (StandsIn (L.stands library.new) run.new (λ after.
         Reaches L.ending (machine.run language (meaning.machine (program_of program.now)) steps (state_of stack.old (world_of run.old units transfer))) stack.new after result)) }
     ensures devices { ToldOfRun L.none_failed L.failed_on library.old library.new result }
-    ensures built { LacksInRun L.lacks result }
+    ensures counted { UncountedInRun (L.uncounted library.new) result }
     ensures texts { L.room library.new ≡ L.room library.old }
     ensures stack { KeepsStack (length program.now.functions) stack.new result }
     ensures forms { SameForms run.old run.new }
 {
     let mut taken = 0;
     while taken < steps {
-        match next(program, stack, buffer, run, library) {
+        match advance(program, stack, buffer, run, library) {
             RunOutcome::Running => taken += 1,
             over => return over,
         }
@@ -154,8 +151,8 @@ pub fn run<L: Library>(
 
 /// Runs a program from its main program on, so many steps, or until it is over. Its objects hold what they start with. The buffer has room
 /// for the arguments of each call. The run is that of the definitions for all units for which the library stands without a transfer in
-/// progress, unless the device of a unit fails, a function is called that the library lacks, or a call is to count more than 64 bits tell. No
-/// text of the objects is longer than the library can put together. An error where memory ran out, before the first step.
+/// progress, unless the device of a unit fails, or a call is to count more than 64 bits tell. No text of the objects is longer than the
+/// library can put together. An error where memory ran out, before the first step.
 ///
 /// # Errors
 /// Where the main program does not begin, that is where there is none or it has parameters: why.
@@ -174,7 +171,7 @@ pub fn run_program<L: Library>(
     ensures meaning { IfOk result (λ ran. (units : Units) → L.stands library.old units None →
         UnlessRunFailed ran (StandsIn (L.stands library.new) objects.new (λ after. IsRunOf L.ending (meaning.run_of (program_of program.now) units steps) after ran))) }
     ensures devices { IfOk result (ToldOfWholeRun L.none_failed L.failed_on library.old library.new) }
-    ensures built { IfOk result (LacksInWholeRun L.lacks) }
+    ensures counted { IfOk result (UncountedInWholeRun (L.uncounted library.new)) }
     ensures texts { L.room library.new ≡ L.room library.old }
     ensures unbegun { OnErr result (library.new ≡ library.old) }
 {

@@ -32,7 +32,7 @@ use Rattle.loaded_runs.specs.declared.ends.RunEnd.{RunEnd}
 use Rattle.loaded_runs.specs.declared.ends.RunEnd.TheVariants as how
 use Rattle.loaded_runs.specs.RunEnds.{IsRun}
 use Rattle.run_command.specs.Unread.{SaysUnasked, unasked_status, SaysUnread, unread_status, SaysUnloaded, unloaded_status}
-use Rattle.run_command.specs.RunRows.{c_places, Runs, RunEnded, bad_word, not_there, unread, no_memory, not_c, not_linked, ended, faulty, out_of_steps, device, not_built, uncounted}
+use Rattle.run_command.specs.RunRows.{c_places, Runs, RunEnded, bad_word, not_there, unread, no_memory, not_c, not_linked, ended, faulty, out_of_steps, device, uncounted}
 
 -- a function of the program is named as the files name it
 name-of : (files : List CFile) (made : LinkedProgram) (number : ℕ) → program_of made ≡ program files → named_in (program_of made).functions number ≡ name_shown (function_name files number)
@@ -58,8 +58,7 @@ run-said words request files rows rows' b m a made objects (how.Broken reason.Me
 run-said words request files rows rows' b m a made objects (how.Unbegun fault) runs run said =
     faulty request files (fault_name fault) 0 m runs (λ tells. absurd (run.meant tells)) run.devices (fault-said files made 0 (fault_name fault) m a run.linked said)
 run-said words request files rows rows' b m a made objects (how.Failed unit) runs run said = device request files unit m runs run.devices said
-run-said words request files rows rows' b m a made objects (how.NotBuilt number) runs run said = not_built request files number m runs run.lacks run.devices said
-run-said words request files rows rows' b m a made objects how.Uncounted runs run said = uncounted request files m runs run.devices said
+run-said words request files rows rows' b m a made objects how.Uncounted runs run said = uncounted request files m runs run.uncounted run.devices said
 
 pub ran : {words : List (List ℕ)} {request : RunRequest} {files : List CFile} {rows rows' : List Row} {b m a : ShelfState} {made : LinkedProgram} {objects : List Object} {end : RunEnd} {status : ℕ} →
     Runs words request files b m → IsRun files request.steps rows rows' made objects end → SaysRun (program_of made).functions objects end m a → status ≡ run_status objects end → RunEnded words rows rows' b a status

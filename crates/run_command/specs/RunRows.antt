@@ -1,6 +1,6 @@
 -- How a command that runs C files ends: with each exit status its cause, what was said on Fault, and how the external units stand (C89, 3.7; CSTR 149,
 -- appendix on the run time library; ANSI X3.9-1978, 11.12, 12.7 and 12.10.2.1).
-use Rattle.std.specs.Prelude.{◌≡◌, ℕ, ℤ, true, List, map, Some, None, Ok, Err, slice_get}
+use Rattle.std.specs.Prelude.{◌≡◌, ℕ, ℤ, List, map, Some, None, Ok, Err}
 use Rattle.f2c_outside.specs.declared.shelves.Place.{Place}
 use Rattle.f2c_outside.specs.declared.shelves.Place.TheVariants.{File}
 use Rattle.f2c_outside.specs.Shelf.{ShelfState}
@@ -12,18 +12,17 @@ use Rattle.source_files.specs.SourceReads.{IsAwayAmong, IsFailedAmong}
 use Rattle.c_tree.specs.run_state.Endings.{Ending}
 use Rattle.c_tree.specs.declared.outcome.CFault.{CFault}
 use Rattle.c_tree.specs.declared.file.CFile.{CFile}
-use Rattle.c_tree.specs.Builtins.{builtin_names}
 use Rattle.c_tree.specs.FaultNames.{fault_name}
 use Rattle.c_tree.specs.Linking.{first_broken_rule}
 use Rattle.c_tree.specs.Meaning as meaning
 use Rattle.c_tree.specs.Meaning.{function_name}
 use Rattle.outcomes.specs.Lines.{bad_word_line, not_there_line, shelf_fault_line, no_memory_line}
-use Rattle.run_messages.specs.RunLines.{not_c_line, link_line, fault_line, out_of_steps_line, device_line, not_built_line, uncounted_line}
+use Rattle.run_messages.specs.RunLines.{not_c_line, link_line, fault_line, out_of_steps_line, device_line, uncounted_line}
 use Rattle.run_reports.specs.Reports.{SaysEnding, ending_status, name_shown}
 use Rattle.run_words.specs.declared.request.RunRequest.{RunRequest}
 use Rattle.run_words.specs.RunWords.{run_of}
 use Rattle.c_sources.specs.CFiles.{AreTreesRead, IsRefusedAmong}
-use Rattle.unit_library.specs.Functions.{is_lacked}
+use Rattle.unit_library.specs.Uncounted.{IsFarBehind}
 use Rattle.loaded_runs.specs.RunEnds.{units_in, NoDeviceFailed, DeviceFailed}
 
 -- the places that are read
@@ -82,10 +81,6 @@ pub data RunEnded (words : List (List ℕ)) (rows rows' : List Row) (b a : Shelf
   -- 9: the device of a unit failed, the first in the run or when the devices were finished behind it
   device : (request : RunRequest) (files : List CFile) (unit : ℤ) (middle : ShelfState) → Runs words request files b middle
       → DeviceFailed unit rows rows' → Said (device_line unit) middle a → RunEnded words rows rows' b a 9
-  -- 14: it called a function of the library that is not built
-  not_built : (request : RunRequest) (files : List CFile) (number : ℕ) (middle : ShelfState) → Runs words request files b middle
-      → is_lacked number ≡ true → NoDeviceFailed rows rows' → Said (not_built_line (name_shown (slice_get builtin_names number))) middle a
-      → RunEnded words rows rows' b a 14
-  -- 15: a call of the library was to count more than 64 bits tell; nothing is said of such a run
+  -- 15: a call of the library was to count more than 64 bits tell, and a unit stands behind 2^53 records or more; nothing is said of what such a run means
   uncounted : (request : RunRequest) (files : List CFile) (middle : ShelfState) → Runs words request files b middle
-      → NoDeviceFailed rows rows' → Said uncounted_line middle a → RunEnded words rows rows' b a 15
+      → IsFarBehind rows' → NoDeviceFailed rows rows' → Said uncounted_line middle a → RunEnded words rows rows' b a 15

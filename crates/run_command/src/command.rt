@@ -146,8 +146,8 @@ fn run_request<H: Shelf>(
 ///
 /// The status is 0 where the run ended at the end of the main program or by STOP; 2 where the words ask for no run; 3 where a file is not there or the shelf failed; 5 where
 /// memory was wanting, and no run began; 6 where a file is not in the C subset or a rule of linking is broken; 7 at a fault; 8 where the run did not end within its
-/// steps; 9 where the device of a unit failed; 10 where it ended by an error of input or output; 12 at a place outside its declared bounds; 14 where it
-/// called a function of the library that is not built; 15 where a call of the library was to count more than 64 bits tell.
+/// steps; 9 where the device of a unit failed; 10 where it ended by an error of input or output; 12 at a place outside its declared bounds; 15 where a
+/// call of the library was to count more than 64 bits tell, which is only where a unit stands behind 2^53 records or more.
 pub fn run_c_files<H: Shelf>(
     alloc: Global,
     words: &Words,

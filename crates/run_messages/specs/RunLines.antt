@@ -47,10 +47,6 @@ range_line report =
 abbrev pub stop_line : List ℕ → List ℕ
 stop_line text = joined (codes "STOP " ∷ text ∷ codes " statement executed\n" ∷ [])
 
--- f2c: NAME: not built
-abbrev pub not_built_line : List ℕ → List ℕ
-not_built_line name = joined (codes "f2c: " ∷ name ∷ codes ": not built\n" ∷ [])
-
 -- f2c: too much to count
 abbrev pub uncounted_line : List ℕ
 uncounted_line = joined (codes "f2c: too much to count\n" ∷ [])

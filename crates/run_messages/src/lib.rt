@@ -4,6 +4,6 @@
 mod lines;
 
 pub use lines::{
-    fault_text, say_device_fault, say_fault, say_io_error, say_link, say_not_built, say_not_c,
-    say_out_of_steps, say_range, say_stop, say_uncounted,
+    fault_text, say_device_fault, say_fault, say_io_error, say_link, say_not_c, say_out_of_steps,
+    say_range, say_stop, say_uncounted,
 };

@@ -3,7 +3,7 @@
 ghost use Rattle.std.specs.Prelude.{◌≡◌};
 ghost use Rattle.c_tree.specs.FaultNames.{fault_name};
 ghost use Rattle.shelf_texts.specs.Messages.{Said};
-ghost use Rattle.run_messages.specs.RunLines.{not_c_line, link_line, fault_line, out_of_steps_line, device_line, io_line, range_line, stop_line, not_built_line, uncounted_line};
+ghost use Rattle.run_messages.specs.RunLines.{not_c_line, link_line, fault_line, out_of_steps_line, device_line, io_line, range_line, stop_line, uncounted_line};
 
 use c_tree::outcome::CFault;
 use f2c_outside::shelves::Shelf;
@@ -107,15 +107,7 @@ pub fn say_stop<H: Shelf>(shelf: &mut H, text: &[u8])
     say(shelf, &pieces);
 }
 
-/// Says `f2c: NAME: not built`, of a function of the library that this program does not have (CSTR 149, appendix on the run time library).
-pub fn say_not_built<H: Shelf>(shelf: &mut H, name: &[u8])
-    ensures { Said (not_built_line name.now) (H.state shelf.old) (H.state shelf.new) }
-{
-    let pieces: [&[u8]; 3] = [b"f2c: ", name, b": not built\n"];
-    say(shelf, &pieces);
-}
-
-/// Says `f2c: too much to count`, of a call of the library that was to count more than 64 bits tell.
+/// Says `f2c: too much to count`, of an input that looks for an item in more steps than 64 bits tell (ANSI X3.9-1978, 13.6.1).
 pub fn say_uncounted<H: Shelf>(shelf: &mut H)
     ensures { Said uncounted_line (H.state shelf.old) (H.state shelf.new) }
 {

@@ -3,17 +3,16 @@
 use Rattle.std.specs.Prelude.{◌≡◌, ℕ, List, Option, Some, None, codes, slice_get, option_map}
 use Rattle.c_tree.specs.run_state.Endings.{Ending, Plain, Stop, Io, Range}
 use Rattle.c_tree.specs.FaultNames.{fault_name}
-use Rattle.c_tree.specs.Builtins.{builtin_names}
 use Rattle.c_tree.specs.Objects.{Object}
 use Rattle.c_tree.specs.Linking.{Function}
 use Rattle.f2c_outside.specs.Shelf.{ShelfState}
 use Rattle.shelf_texts.specs.Messages.{Said}
 use Rattle.run_library.specs.declared.library.RunBreak.{RunBreak}
 use Rattle.run_library.specs.declared.library.RunBreak.TheVariants as reason
-use Rattle.run_messages.specs.RunLines.{fault_line, out_of_steps_line, device_line, io_line, range_line, stop_line, not_built_line, uncounted_line}
+use Rattle.run_messages.specs.RunLines.{fault_line, out_of_steps_line, device_line, io_line, range_line, stop_line, uncounted_line}
 use Rattle.unit_library.specs.Endings.{ending_of}
 use Rattle.loaded_runs.specs.declared.ends.RunEnd.{RunEnd}
-use Rattle.loaded_runs.specs.declared.ends.RunEnd.TheVariants.{Running, Ended, Broken, Unbegun, Failed, NotBuilt, Uncounted}
+use Rattle.loaded_runs.specs.declared.ends.RunEnd.TheVariants.{Running, Ended, Broken, Unbegun, Failed, Uncounted}
 
 -- ## Endings
 
@@ -52,7 +51,6 @@ SaysRun functions objects (Ended how) b a = SaysEnding (ending_of objects how) b
 SaysRun functions objects (Broken why number) b a = Said (fault_line (break_name why) (named_in functions number)) b a
 SaysRun functions objects (Unbegun fault) b a = Said (fault_line (fault_name fault) (named_in functions 0)) b a
 SaysRun functions objects (Failed unit) b a = Said (device_line unit) b a
-SaysRun functions objects (NotBuilt number) b a = Said (not_built_line (name_shown (slice_get builtin_names number))) b a
 SaysRun functions objects Uncounted b a = Said uncounted_line b a
 
 abbrev pub run_status : List Object → RunEnd → ℕ
@@ -61,5 +59,4 @@ run_status objects (Ended how) = ending_status (ending_of objects how)
 run_status objects (Broken why number) = 7
 run_status objects (Unbegun fault) = 7
 run_status objects (Failed unit) = 9
-run_status objects (NotBuilt number) = 14
 run_status objects Uncounted = 15

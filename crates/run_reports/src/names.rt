@@ -1,12 +1,10 @@
 //! The names of functions by their numbers (C89, 3.7.1).
 
 ghost use Rattle.std.specs.Prelude.{◌≡◌, slice_get, option_map};
-ghost use Rattle.c_tree.specs.Builtins.{builtin_names};
 ghost use Rattle.linked_programs.specs.LinkedPrograms.{program_of};
 ghost use Rattle.run_reports.specs.Reports.{name_shown, break_name};
 
 use c_tree::outcome::CFault;
-use function_numbers::builtin_names;
 use linked_programs::LinkedProgram;
 use run_library::RunBreak;
 use run_messages::fault_text;
@@ -17,24 +15,6 @@ pub(crate) fn function_name(program: &LinkedProgram, number: usize) -> &[u8]
 {
     match program.functions.get(number) {
         Some(function) => function.name.as_slice(),
-        None => b"?",
-    }
-}
-
-/// The name at a place, if there is one.
-fn name_at(names: &[&'static [u8]], place: usize) -> Option<&'static [u8]>
-    ensures { result ≡ slice_get names.now place }
-{
-    names.get(place).copied()
-}
-
-/// The name of a function of the library, as a message gives it.
-#[tactic(auto, using(crate::proofs::NameLaws::named, crate::proofs::NameLaws::not_named))]
-pub(crate) fn library_name(number: usize) -> &'static [u8]
-    ensures { result.now ≡ name_shown (slice_get builtin_names number) }
-{
-    match name_at(builtin_names(), number) {
-        Some(name) => name,
         None => b"?",
     }
 }

@@ -5,12 +5,12 @@ ghost use Rattle.linked_programs.specs.LinkedPrograms.{program_of};
 ghost use Rattle.run_reports.specs.Reports.{SaysRun, run_status};
 
 use crate::endings::say_ending;
-use crate::names::{break_text, fault_shown, function_name, library_name};
+use crate::names::{break_text, fault_shown, function_name};
 use f2c_outside::shelves::Shelf;
 use linked_programs::LinkedProgram;
 use loaded_runs::RunEnd;
 use run_bytes::RunBytes;
-use run_messages::{say_device_fault, say_fault, say_not_built, say_out_of_steps, say_uncounted};
+use run_messages::{say_device_fault, say_fault, say_out_of_steps, say_uncounted};
 
 /// Says on Fault how a run of a program ended whose objects are left so, where there is anything to say, and gives the exit status.
 pub fn say_run<H: Shelf>(
@@ -39,10 +39,6 @@ pub fn say_run<H: Shelf>(
         RunEnd::Failed(unit) => {
             say_device_fault(shelf, unit);
             9
-        }
-        RunEnd::NotBuilt(number) => {
-            say_not_built(shelf, library_name(number));
-            14
         }
         RunEnd::Uncounted => {
             say_uncounted(shelf);

@@ -1,5 +1,5 @@
 -- How the command ends on the texts of a translation, by how a command ends.
-use Rattle.std.specs.Prelude.{◌≡◌, ℕ, ◌*◌, ◌≤◌, true, List, Option, Some, None, Result, Ok, Err, slice_get}
+use Rattle.std.specs.Prelude.{◌≡◌, ℕ, ◌*◌, ◌≤◌, true, List, Option, Some, None, Result, Ok, Err}
 use Rattle.std.proofs.Common.{sym, ap, ◌∙◌, subst}
 use Rattle.std.proofs.lemmas.List.{append-nil}
 use Rattle.std.proofs.lemmas.Bool.{eqb-true}
@@ -12,7 +12,6 @@ use Rattle.ended_runs.specs.faithful.Faithful.{Faithful, SpellAll, is_linked}
 use Rattle.ended_runs.specs.f_tree.declared.names.Options.{Options}
 use Rattle.ended_runs.specs.f_tree.declared.units.File.{File}
 use Rattle.ended_runs.specs.f_tree.Meaning.{units_in, Closed}
-use Rattle.ended_runs.specs.c_tree.Builtins.{builtin_names}
 use Rattle.ended_runs.specs.c_tree.declared.file.CFile.{CFile}
 use Rattle.ended_runs.specs.c_tree.Linking.{first_broken_rule}
 use Rattle.ended_runs.specs.c_tree.Meaning as meaning
@@ -32,8 +31,8 @@ use Rattle.run_words.specs.declared.request.RunRequest.{RunRequest}
 use Rattle.run_words.specs.RunWords.{run_of}
 use Rattle.loaded_runs.specs.RunEnds as run_ends
 use Rattle.loaded_runs.specs.RunEnds.{NoDeviceFailed}
-use Rattle.run_messages.specs.RunLines.{link_line, io_line, range_line, stop_line, device_line, not_built_line, uncounted_line}
-use Rattle.run_reports.specs.Reports.{SaysEnding, ending_status, name_shown}
+use Rattle.run_messages.specs.RunLines.{link_line, io_line, range_line, stop_line, device_line, uncounted_line}
+use Rattle.run_reports.specs.Reports.{SaysEnding, ending_status}
 use Rattle.run_command.specs.RunRows as rows_of_runs
 use Rattle.run_command.specs.RunRows.{c_places, Runs, StandsAt, RunEnded, bad_word, not_there, unread, not_c, not_linked, ended, faulty, out_of_steps}
 use Rattle.translated_runs.specs.TranslatedRuns as law
@@ -176,14 +175,9 @@ module _ {words : List (List ℕ)} {request : RunRequest} {texts : List (List �
     ends = law.device unit failed;
     said = line_said (device_line unit) contents b m a given.told given.quiet runs.trees.kept said;
   }
-  ends _ (rows_of_runs.not_built other files number m runs lacked devices said) = record {
-    line = not_built_line (name_shown (slice_get builtin_names number));
-    ends = law.not_built number lacked devices;
-    said = line_said (not_built_line (name_shown (slice_get builtin_names number))) contents b m a given.told given.quiet runs.trees.kept said;
-  }
-  ends _ (rows_of_runs.uncounted other files m runs devices said) = record {
+  ends _ (rows_of_runs.uncounted other files m runs far devices said) = record {
     line = uncounted_line;
-    ends = law.uncounted devices;
+    ends = law.uncounted far devices;
     said = line_said uncounted_line contents b m a given.told given.quiet runs.trees.kept said;
   }
 

@@ -1,6 +1,6 @@
 -- How the command that runs C files ends on the texts of a translation, where the run of the FORTRAN files has ended. ANSI X3.9-1978, sections 11.12, 11.14,
 -- 12.7 and 12.10.2.1; C89, 2.1.2.2.
-use Rattle.std.specs.Prelude.{◌≡◌, ℕ, ◌*◌, ◌≤◌, ℤ, true, List, [], length, slice_get, Some, Ok}
+use Rattle.std.specs.Prelude.{◌≡◌, ℕ, ◌*◌, ◌≤◌, ℤ, List, [], length, Some, Ok}
 use Rattle.std.specs.List.{All}
 use Rattle.ended_runs.specs.faithful.simulation.Machine.{Frame, Over}
 use Rattle.ended_runs.specs.faithful.run_state.Endings.{Ending, Plain, Stop, Io, Range}
@@ -14,7 +14,6 @@ use Rattle.ended_runs.specs.f_tree.Setting.{Setting, IsSetting}
 use Rattle.ended_runs.specs.f_tree.World as fortran
 use Rattle.ended_runs.specs.f_tree.Meaning.{units_in, ftn, Closed}
 use Rattle.ended_runs.specs.c_tree.declared.file.CFile.{CFile}
-use Rattle.ended_runs.specs.c_tree.Builtins.{builtin_names}
 use Rattle.ended_runs.specs.c_tree.Linking.{first_broken_rule}
 use Rattle.ended_runs.specs.c_tree.Meaning.{step_factor}
 use Rattle.f2c_outside.specs.declared.shelves.Place.TheVariants.{Fault}
@@ -24,12 +23,12 @@ use Rattle.f2c_outside.specs.Meaning.{Tells, units_of}
 use Rattle.source_files.specs.SourceOnShelf.{files_on, HasPlaces}
 use Rattle.c_sources.specs.CTexts.{most_bytes}
 use Rattle.outcomes.specs.Lines.{no_memory_line}
-use Rattle.run_messages.specs.RunLines.{link_line, io_line, range_line, stop_line, device_line, not_built_line, uncounted_line}
+use Rattle.run_messages.specs.RunLines.{link_line, io_line, range_line, stop_line, device_line, uncounted_line}
 use Rattle.run_words.specs.declared.request.RunRequest.{RunRequest}
 use Rattle.run_words.specs.RunWords.{run_of}
-use Rattle.unit_library.specs.Functions.{is_lacked}
+use Rattle.unit_library.specs.Uncounted.{IsFarBehind}
 use Rattle.loaded_runs.specs.RunEnds.{NoDeviceFailed, DeviceFailed}
-use Rattle.run_reports.specs.Reports.{ending_status, name_shown}
+use Rattle.run_reports.specs.Reports.{ending_status}
 use Rattle.run_command.specs.RunRows.{c_places, RunEnded}
 
 -- ## The FORTRAN run, and the texts
@@ -68,11 +67,8 @@ pub data EndsWith (trees : List CFile) (ending : Ending) (left : Units) (rows ro
   too_large : first_broken_rule trees ≡ Some 4 → rows' ≡ rows → EndsWith trees ending left rows rows' (link_line 4) 6
   -- the device of a unit failed
   device : (unit : ℤ) → DeviceFailed unit rows rows' → EndsWith trees ending left rows rows' (device_line unit) 9
-  -- a function of the library was called that is not built
-  not_built : (number : ℕ) → is_lacked number ≡ true → NoDeviceFailed rows rows'
-      → EndsWith trees ending left rows rows' (not_built_line (name_shown (slice_get builtin_names number))) 14
-  -- a call of the library was to count more than 64 bits tell
-  uncounted : NoDeviceFailed rows rows' → EndsWith trees ending left rows rows' uncounted_line 15
+  -- a call of the library was to count more than 64 bits tell, and a unit stands behind 2^53 records or more
+  uncounted : IsFarBehind rows' → NoDeviceFailed rows rows' → EndsWith trees ending left rows rows' uncounted_line 15
 
 -- it ended so, and the shelf holds what it held, with what was said on Fault besides
 pub record RunEndsAlike (trees : List CFile) (ending : Ending) (left : Units) (rows rows' : List Row) (contents : Contents) (after : ShelfState) (status : ℕ)

@@ -7,11 +7,11 @@ ghost use Rattle.linked_programs.specs.LinkedPrograms.{program_of};
 ghost use Rattle.unit_answers.specs.Failing.{NoneFailed, FailedOn};
 ghost use Rattle.run_library.specs.Replies.{StandsIn};
 ghost use Rattle.run_library.specs.Room.{HasRoom};
-ghost use Rattle.program_runner.specs.Outcomes.{FramesStand, HasArgumentRoom, IsRunOf, UnlessRunFailed, ToldOfWholeRun, LacksInWholeRun};
+ghost use Rattle.program_runner.specs.Outcomes.{FramesStand, HasArgumentRoom, IsRunOf, UnlessRunFailed, ToldOfWholeRun, UncountedInWholeRun};
 ghost use Rattle.unit_library.specs.Endings.{ending_of};
-ghost use Rattle.unit_library.specs.Functions.{is_lacked};
 ghost use Rattle.unit_library.specs.Held.{rows_in, transfer_in, room_in};
 ghost use Rattle.unit_library.specs.Transfers.{Standing};
+ghost use Rattle.unit_library.specs.Uncounted.{IsFarBehind};
 
 use c_tree::outcome::{CFault, CValue};
 use f2c_outside::devices::Device;
@@ -24,8 +24,8 @@ use unit_library::{RunEnding, UnitLibrary};
 /// Runs a program from its main program on, so many steps, or until it is over, with the functions of the library over a table of external
 /// units. Its objects hold what they start with, and no text among them is longer than the library has room for. The buffer has room for
 /// the arguments of each call. The run is that of the definitions for the units that the table stands for, where the devices tell their
-/// records and no transfer is in progress, unless the device of a unit fails, a function is called that the library lacks, or a call is to
-/// count more than 64 bits tell. An error where memory ran out, before the first step.
+/// records and no transfer is in progress, unless the device of a unit fails, or a call is to count more than 64 bits tell, which is only
+/// where a unit stands behind 2^53 records or more. An error where memory ran out, before the first step.
 ///
 /// # Errors
 /// Where the main program does not begin, that is where there is none or it has parameters: why.
@@ -48,7 +48,7 @@ pub fn run_on_units(
         (λ before after. NoneFailed (rows_in (λ b. (⟦<dyn Device as Device>⟧ b.vtable).device_state b.value) before) (rows_in (λ b. (⟦<dyn Device as Device>⟧ b.vtable).device_state b.value) after))
         (λ unit before after. FailedOn unit (rows_in (λ b. (⟦<dyn Device as Device>⟧ b.vtable).device_state b.value) before) (rows_in (λ b. (⟦<dyn Device as Device>⟧ b.vtable).device_state b.value) after))
         library.old library.new) }
-    ensures built { IfOk result (LacksInWholeRun is_lacked) }
+    ensures counted { IfOk result (UncountedInWholeRun (IsFarBehind (rows_in (λ b. (⟦<dyn Device as Device>⟧ b.vtable).device_state b.value) library.new))) }
     ensures texts { room_in library.new ≡ room_in library.old }
     ensures unbegun { OnErr result (library.new ≡ library.old) }
 {

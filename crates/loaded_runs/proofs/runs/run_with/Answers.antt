@@ -2,8 +2,8 @@ use Rattle.std.proofs.Common.{sym, subst}
 use Rattle.c_tree.specs.Meaning.{meaning}
 use Rattle.f2c_outside.specs.Meaning.{units_of}
 use Rattle.unit_library.specs.Held.{rows_in, transfer_in}
-use Rattle.loaded_runs.specs.RunEnds.{EndsBy, DevicesInRun}
-use Rattle.loaded_runs.proofs.RunLaws.{run-ends, devices}
+use Rattle.loaded_runs.specs.RunEnds.{EndsBy, DevicesInRun, IsUncounted}
+use Rattle.loaded_runs.proofs.RunLaws.{run-ends, devices, uncounted}
 use Rattle.loaded_runs.proofs.runs.run_with.Goals as goal
 
 pub returns-clause-meant : goal.returns-clause-meant
@@ -19,3 +19,8 @@ returns-clause-devices g c =
     let rows = rows_in {V = g.dyn-1.0.I} {H = λ x. (g.dyn-1.0.entry x).0.Denot} (λ b. (g.dyn-1.0.entry b.vtable).1.device_state b.value) in
     subst (DevicesInRun (rows c.args.library.now) (rows c.run_on_units.new.library)) (sym c.end_of.ensures)
     (devices rows c.in_ok-ran.ran c.args.library.now c.run_on_units.new.library c.in_ok-ran.ensures.devices)
+
+pub returns-clause-uncounted : goal.returns-clause-uncounted
+returns-clause-uncounted g c =
+    let rows = rows_in {V = g.dyn-1.0.I} {H = λ x. (g.dyn-1.0.entry x).0.Denot} (λ b. (g.dyn-1.0.entry b.vtable).1.device_state b.value) in
+    subst (IsUncounted (rows c.run_on_units.new.library)) (sym c.end_of.ensures) (uncounted (rows c.run_on_units.new.library) c.in_ok-ran.ran c.in_ok-ran.ensures.counted)

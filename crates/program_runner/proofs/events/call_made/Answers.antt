@@ -1,7 +1,7 @@
 use Rattle.item_deeds.specs.Deeds.{view_of, wants_of, world_of}
 use Rattle.program_runner.proofs.CallLaws.{call-broken, told-broken}
 use Rattle.program_runner.proofs.DeviceLaws.{one-call}
-use Rattle.program_runner.proofs.LackLaws.{lacks-broken}
+use Rattle.program_runner.proofs.CountLaws.{counts-broken}
 use Rattle.program_runner.proofs.events.call_made.Goals as goal
 
 pub returns-in-Ok-clause-devices : goal.returns-in-Ok-clause-devices
@@ -14,7 +14,7 @@ returns-in-Err-clause-meaning g c = λ units transfer given stood.
 
 pub returns-in-Err-clause-devices : goal.returns-in-Err-clause-devices
 returns-in-Err-clause-devices g c =
-    told-broken g.L.Library.none_failed g.L.Library.failed_on c.args.library.now c.call.new.self c.args.number c.in-Err.reason c.broken.result c.broken.ensures.is c.in-Err.ensures.devices
+    told-broken g.L.Library.none_failed g.L.Library.failed_on c.args.library.now c.call.new.self c.in-Err.reason c.broken.result c.broken.ensures.is c.in-Err.ensures.devices
 
-pub returns-in-Err-clause-built : goal.returns-in-Err-clause-built
-returns-in-Err-clause-built g c = lacks-broken g.L.Library.lacks c.args.number c.in-Err.reason c.broken.result c.broken.ensures.is c.in-Err.ensures.built
+pub returns-in-Err-clause-counted : goal.returns-in-Err-clause-counted
+returns-in-Err-clause-counted g c = counts-broken (g.L.Library.uncounted c.call.new.self) c.in-Err.reason c.broken.result c.broken.ensures.is c.in-Err.ensures.counted

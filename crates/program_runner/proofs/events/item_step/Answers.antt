@@ -5,7 +5,7 @@ use Rattle.c_tree.specs.Steps as steps
 use Rattle.item_deeds.specs.Deeds.{view_of, wants_of, world_of}
 use Rattle.run_library.specs.Devices.{no_call}
 use Rattle.program_runner.specs.Events.{StepsBy}
-use Rattle.program_runner.proofs.LackLaws.{room-kept}
+use Rattle.program_runner.proofs.RoomLaws.{room-kept}
 use Rattle.program_runner.proofs.events.item_step.Goals as goal
 
 pub returns-in-Goes-clause-devices : goal.returns-in-Goes-clause-devices

@@ -7,7 +7,7 @@ use Rattle.item_deeds.specs.Deeds.{world_of}
 use Rattle.program_runner.specs.Events.{event_of}
 use Rattle.program_runner.specs.Stacks.{frames_of, waiting}
 use Rattle.program_runner.proofs.DeviceLaws.{no_units, told-going}
-use Rattle.program_runner.proofs.LackLaws.{lacks-none}
+use Rattle.program_runner.proofs.CountLaws.{counts-none}
 use Rattle.program_runner.proofs.RunLaws.{next-so, frames-kept}
 use Rattle.program_runner.proofs.machine.next.Goals as goal
 
@@ -27,9 +27,9 @@ returns-in-Ok-clause-devices g c =
     c.args.stack.now.top.number (frames_of (waiting c.args.stack.now)))
     c.happened.new.stack (world_of c.happened.new.run no_units None) c.happened.result c.in-Ok.ensures.devices (c.happened.ensures.meaning g.L.Library.ending no_units None)
 
-pub returns-in-Ok-clause-built : goal.returns-in-Ok-clause-built
-returns-in-Ok-clause-built g c =
-    lacks-none g.L.Library.lacks g.L.Library.ending
+pub returns-in-Ok-clause-counted : goal.returns-in-Ok-clause-counted
+returns-in-Ok-clause-counted g c =
+    counts-none (g.L.Library.uncounted c.step.new.library) g.L.Library.ending
     (machine.act language (meaning.machine (program_of c.args.program.now)) (event_of g.L.Library.ending (world_of c.step.new.run no_units None) c.step.new.buffer c.in-Ok.event)
     c.args.stack.now.top.number (frames_of (waiting c.args.stack.now)))
     c.happened.new.stack (world_of c.happened.new.run no_units None) c.happened.result (c.happened.ensures.meaning g.L.Library.ending no_units None)

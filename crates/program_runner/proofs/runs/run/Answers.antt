@@ -9,15 +9,15 @@ use Rattle.call_frames.proofs.FrameLists.{forms-after}
 use Rattle.run_library.specs.Devices.{no_call}
 use Rattle.program_runner.specs.Stacks.{state_of}
 use Rattle.program_runner.proofs.DeviceLaws.{joined, told-further}
-use Rattle.program_runner.proofs.LackLaws.{room-further}
+use Rattle.program_runner.proofs.RoomLaws.{room-further}
 use Rattle.program_runner.proofs.RunLaws.{none-run, goes-further-by, over-by, frames-kept}
 use Rattle.program_runner.proofs.runs.run.Goals as goal
 
-pub next-requires-clause-frames : goal.next-requires-clause-frames
-next-requires-clause-frames g c = frames-kept c.args.program.now c.args.run.now c.loop-taken.run c.requires.frames c.loop-taken.invariant.kept
+pub advance-requires-clause-frames : goal.advance-requires-clause-frames
+advance-requires-clause-frames g c = frames-kept c.args.program.now c.args.run.now c.loop-taken.run c.requires.frames c.loop-taken.invariant.kept
 
-pub next-requires-clause-texts : goal.next-requires-clause-texts
-next-requires-clause-texts g c =
+pub advance-requires-clause-texts : goal.advance-requires-clause-texts
+advance-requires-clause-texts g c =
     room-further (g.L.Library.room c.loop-taken.library) (g.L.Library.room c.args.library.now) c.args.run.now c.loop-taken.run c.requires.texts c.loop-taken.invariant.kept c.loop-taken.invariant.texts
 
 pub loop-taken-init : goal.loop-taken-init
@@ -38,12 +38,12 @@ loop-taken-init g c = record {
 pub loop-taken-preserved : goal.loop-taken-preserved
 loop-taken-preserved g c = record {
   reached = λ units transfer stood.
-      goes-further-by (meaning.machine (program_of c.args.program.now)) c.loop-taken.taken (state_of c.args.stack.now (world_of c.args.run.now units transfer)) c.loop-taken.stack c.next.new.stack
-      (g.L.Library.stands c.loop-taken.library) (g.L.Library.stands c.next.new.library) c.loop-taken.run c.next.new.run (c.loop-taken.invariant.reached units transfer stood) c.in-Running.ensures.meaning;
+      goes-further-by (meaning.machine (program_of c.args.program.now)) c.loop-taken.taken (state_of c.args.stack.now (world_of c.args.run.now units transfer)) c.loop-taken.stack c.advance.new.stack
+      (g.L.Library.stands c.loop-taken.library) (g.L.Library.stands c.advance.new.library) c.loop-taken.run c.advance.new.run (c.loop-taken.invariant.reached units transfer stood) c.in-Running.ensures.meaning;
   texts = c.in-Running.ensures.texts ∙ c.loop-taken.invariant.texts;
   quiet = joined c.loop-taken.invariant.quiet c.in-Running.ensures.devices;
   stack = c.in-Running.ensures.stack;
-  kept = forms-after c.args.run.now c.loop-taken.run c.next.new.run c.loop-taken.invariant.kept c.in-Running.ensures.forms;
+  kept = forms-after c.args.run.now c.loop-taken.run c.advance.new.run c.loop-taken.invariant.kept c.in-Running.ensures.forms;
   few = omega arith;
 }
 
@@ -61,12 +61,12 @@ returns-clause-meaning g c = λ units transfer stood.
 pub returns-in_default : goal.returns-in_default
 returns-in_default g c = record {
   meaning = λ units transfer stood.
-      over-by g.L.Library.ending (meaning.machine (program_of c.args.program.now)) c.loop-taken.taken c.args.steps (state_of c.args.stack.now (world_of c.args.run.now units transfer)) c.loop-taken.stack c.next.new.stack
-      (g.L.Library.stands c.loop-taken.library) (g.L.Library.stands c.next.new.library) c.loop-taken.run c.next.new.run c.next.result (c.loop-taken.invariant.reached units transfer stood) c.next.ensures.meaning
+      over-by g.L.Library.ending (meaning.machine (program_of c.args.program.now)) c.loop-taken.taken c.args.steps (state_of c.args.stack.now (world_of c.args.run.now units transfer)) c.loop-taken.stack c.advance.new.stack
+      (g.L.Library.stands c.loop-taken.library) (g.L.Library.stands c.advance.new.library) c.loop-taken.run c.advance.new.run c.advance.result (c.loop-taken.invariant.reached units transfer stood) c.advance.ensures.meaning
       c.in_default.not-Running (omega arith);
-  devices = told-further g.L.Library.none_failed g.L.Library.failed_on c.args.library.now c.loop-taken.library c.next.new.library c.next.result c.loop-taken.invariant.quiet c.next.ensures.devices;
-  built = c.next.ensures.built;
-  texts = c.next.ensures.texts ∙ c.loop-taken.invariant.texts;
-  stack = c.next.ensures.stack;
-  forms = forms-after c.args.run.now c.loop-taken.run c.next.new.run c.loop-taken.invariant.kept c.next.ensures.forms;
+  devices = told-further g.L.Library.none_failed g.L.Library.failed_on c.args.library.now c.loop-taken.library c.advance.new.library c.advance.result c.loop-taken.invariant.quiet c.advance.ensures.devices;
+  counted = c.advance.ensures.counted;
+  texts = c.advance.ensures.texts ∙ c.loop-taken.invariant.texts;
+  stack = c.advance.ensures.stack;
+  forms = forms-after c.args.run.now c.loop-taken.run c.advance.new.run c.loop-taken.invariant.kept c.advance.ensures.forms;
 }

@@ -9,7 +9,7 @@ use Rattle.item_deeds.specs.Deeds.{world_of}
 use Rattle.run_library.specs.Devices.{no_call}
 use Rattle.program_runner.specs.declared.stack.CallStack.{CallStack}
 use Rattle.program_runner.specs.Outcomes.{Begins}
-use Rattle.program_runner.proofs.LackLaws.{room-kept}
+use Rattle.program_runner.proofs.RoomLaws.{room-kept}
 use Rattle.program_runner.proofs.RunLaws.{frames-kept, whole-run-by, whole-refused}
 use Rattle.program_runner.proofs.runs.run_program.Goals as goal
 
