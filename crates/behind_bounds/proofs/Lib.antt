@@ -1,0 +1,4 @@
+pub mod StepsBehind
+pub mod ValuesBehind
+pub mod CallsBehind
+pub mod ItemsBehind

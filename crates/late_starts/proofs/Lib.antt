@@ -1,0 +1,2 @@
+pub mod LateFollows
+pub use Rattle.simulation.proofs as simulation

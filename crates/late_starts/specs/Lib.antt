@@ -1,0 +1,2 @@
+pub mod LateStarts
+pub use Rattle.simulation.specs as simulation

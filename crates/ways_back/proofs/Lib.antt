@@ -1,0 +1,6 @@
+pub mod Ways
+pub mod ForwardExpressions
+pub mod ForwardForms
+pub mod CodeLengths
+pub mod UnitWays
+pub mod UnitMarks

@@ -1,0 +1,2 @@
+pub mod WaysBack
+pub use Rattle.lowering.specs as lowering
