@@ -6,7 +6,7 @@ use Rattle.l_core.specs.f_tree.declared.names.Basic.TheVariants.{Integer, Logica
 use Rattle.l_core.specs.f_tree.declared.names.Class.{Class}
 use Rattle.l_core.specs.f_tree.declared.names.Class.TheVariants as class
 use Rattle.l_core.specs.f_tree.Values.{Bytes, Datum, IsInt, IsLog, in_range}
-use Rattle.l_core.specs.f_tree.Facts.{Bounds, Facts}
+use Rattle.l_core.specs.f_tree.Facts.{Dimension, Facts}
 use Rattle.l_core.specs.Pures.{Pure, Constant, Temporary, Load, Name, ElementOf, Prefixed, Operated, Applied, Chosen, Pures, NoPure, AndPure}
 use Rattle.c_image.specs.c_tree.Access.{ToNumber}
 use Rattle.c_image.specs.c_tree.Terms as c
@@ -52,17 +52,17 @@ is_variable _ = false
 unfoldable pub has_number : Writing → Bytes → Bool
 has_number w x = is_variable (w.facts.program.attribute x).class && is_numeric (w.facts.program.attribute x).basic
 
--- an array has bounds
-unfoldable pub has_bounds : List Bounds → Bool
-has_bounds [] = false
-has_bounds (b ∷ bs) = true
+-- an array has dimensions, which a call may fix
+unfoldable pub has_shape : List Dimension → Bool
+has_shape [] = false
+has_shape (d ∷ ds) = true
 
 -- one number by its name, and an array of numbers
 unfoldable pub is_scalar : Writing → Bytes → Bool
-is_scalar w x = has_number w x && not (has_bounds (w.facts.program.attribute x).bounds)
+is_scalar w x = has_number w x && not (has_shape (w.facts.program.attribute x).dimensions)
 
 unfoldable pub is_array : Writing → Bytes → Bool
-is_array w x = has_number w x && has_bounds (w.facts.program.attribute x).bounds
+is_array w x = has_number w x && has_shape (w.facts.program.attribute x).dimensions
 
 -- a constant: `.TRUE.` is 1 and `.FALSE.` is 0
 unfoldable pub constant_value : Datum → Option Term
@@ -122,5 +122,5 @@ unfoldable mutual
   value_terms w (AndPure p ps) = one_more (value_term w p) (value_terms w ps)
 
 unfoldable pub numbers_opened : Unit {0}
-unfolding is_numeric is_variable has_number has_bounds is_scalar is_array constant_value with_two with_three one_more steps_from element_value applied_value if_number value_term place_term value_terms
+unfolding is_numeric is_variable has_number has_shape is_scalar is_array constant_value with_two with_three one_more steps_from element_value applied_value if_number value_term place_term value_terms
 numbers_opened = tt

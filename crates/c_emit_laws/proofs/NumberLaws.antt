@@ -34,7 +34,7 @@ use Rattle.c_image_laws.proofs.OperatorValues.{means_logical, prefix_meant, oper
 use Rattle.c_image_laws.proofs.PlaceValues.{reached_object, number_place}
 use Rattle.c_image_laws.proofs.SoundPlaces.{is_further}
 use Rattle.c_image_laws.proofs.TestedValues.{choices_are_meant}
-use Rattle.c_emit.specs.Numbers.{Writing, is_numeric, is_variable, has_number, has_bounds, is_scalar, is_array, constant_value, with_two, with_three, one_more, steps_from, element_value, applied_value, if_number, value_term, place_term, value_terms}
+use Rattle.c_emit.specs.Numbers.{Writing, is_numeric, is_variable, has_number, has_shape, is_scalar, is_array, constant_value, with_two, with_three, one_more, steps_from, element_value, applied_value, if_number, value_term, place_term, value_terms}
 use Rattle.c_emit_laws.specs.EmittedNumbers.{IsKnown, IsNumberPlace, NumbersAreEmitted, PlacesAreEmitted}
 use Rattle.c_emit_laws.proofs.FittingNumbers.{FitsUnit, AllFit, prefixed_fits, operated_fits, applied_fits, fetched_fits}
 use Rattle.c_emit_laws.proofs.Choices.{Got, got, mapped_by}
@@ -295,7 +295,7 @@ module _ (μ : World) (s : Store) (objects : List Object) (w : Writing) (frame :
   unfolding has_number is_scalar
   name_place x term d emitted gives =
       let number = number_by (is_scalar w x) _ term emitted in
-      let holds = left_is (has_number w x) (not (has_bounds (w.facts.program.attribute x).bounds)) number.holds_is in
+      let holds = left_is (has_number w x) (not (has_shape (w.facts.program.attribute x).dimensions)) number.holds_is in
       let spot = known.spots x d holds gives in
       let is : whole w.facts frame x ≡ Gives (IsSpot spot.0) = gives ∙ ap Gives spot.1 in
       let reaches = known.knows.reaches x spot.0 is in
@@ -316,7 +316,7 @@ module _ (μ : World) (s : Store) (objects : List Object) (w : Writing) (frame :
 
   array_holds : (x : Bytes) → is_array w x ≡ true → has_number w x ≡ true
   unfolding is_array
-  array_holds x h = left_is (has_number w x) (has_bounds (w.facts.program.attribute x).bounds) h
+  array_holds x h = left_is (has_number w x) (has_shape (w.facts.program.attribute x).dimensions) h
 
   element_place : (x : Bytes) (ts : List Term) (ds : List Datum) (term : Term) (d : Datum) → has_number w x ≡ true → element_value w.naming x (Some ts) ≡ Some term → AllMean objects ts ds →
       element w.facts frame x ds ≡ Gives d → IsNumberPlace μ objects term d

@@ -4,7 +4,7 @@ use Rattle.std.specs.Prelude.{ℕ, zero, suc, pos, negsuc, true, false, [], ◌�
 use Rattle.c_emit.specs.f_tree.declared.names.Basic.TheVariants.{Integer}
 use Rattle.c_emit.specs.f_tree.declared.names.Class.TheVariants as class
 use Rattle.c_emit.specs.f_tree.Values.{IsInt}
-use Rattle.c_emit.specs.f_tree.Terms.{Add, IsLess, Negate, Remainder, Power}
+use Rattle.c_emit.specs.f_tree.Terms.{Add, IsLess, Negate, Remainder, Power, Val, Fetch, At}
 use Rattle.c_emit.specs.f_tree.Facts.{MainProgram, Attribute, Facts, Frame}
 use Rattle.c_emit.specs.l_core.Pures.{Pure, Constant, Temporary, Load, Name, ElementOf, Prefixed, Operated, Applied, NoPure, AndPure, Temporaries}
 use Rattle.c_emit.specs.l_core.Steps.{Step, Compute}
@@ -79,7 +79,7 @@ abbrev pub sizes : ℕ → Quantity
 sizes k = Written (pos 10)
 
 abbrev pub an_array : Attribute
-an_array = record an_integer { bounds = record { lower = pos 1; upper = Some (pos 10) } ∷ record { lower = negsuc 0; upper = None } ∷ [] }
+an_array = record an_integer { dimensions = record { lower = Val (IsInt (pos 1)); upper = Some (Val (IsInt (pos 10))) } ∷ record { lower = Val (IsInt (negsuc 0)); upper = Some (Fetch (At (78 ∷ []))) } ∷ [] }
 
 abbrev pub array_writing : Writing
 array_writing = record (writing_by (Inside 4 8) lower_bounds sizes) {

@@ -32,7 +32,7 @@ use Rattle.procedure_emission.specs.c_image.Passing.{Argument}
 use Rattle.procedure_emission.specs.c_image_laws.Meanings.{Points}
 use Rattle.procedure_emission.proofs.c_image_laws.AddressValues.{Array-points, Address-points, Parameter-points}
 use Rattle.procedure_emission.proofs.c_image_laws.PlaceValues.{reached_object, number_place}
-use Rattle.procedure_emission.specs.c_emit.Numbers.{Writing, is_variable, is_numeric, has_number, has_bounds, one_more, if_number, place_term}
+use Rattle.procedure_emission.specs.c_emit.Numbers.{Writing, is_variable, is_numeric, has_number, has_shape, one_more, if_number, place_term}
 use Rattle.procedure_emission.specs.c_emit.Calls.{address_of, if_held, constant_held, held_term}
 use Rattle.procedure_emission.specs.c_emit_laws.EmittedNumbers.{IsKnown}
 use Rattle.procedure_emission.proofs.c_emit_laws.Choices.{got, mapped_by, some_same}
@@ -231,7 +231,7 @@ module _ (s : Surroundings) (number : ℕ) (ν : World) (store : Store) (objects
 
   -- ## Places and procedures
 
-  spot_valued : (x : Bytes) (d : Datum) (term : Term) → has_number w x ≡ true → whole w.facts frame x ≡ Gives d → pointer_term (has_bounds (w.facts.program.attribute x).bounds) (w.naming.address x) ≡ term → IsValued s number ν objects term d
+  spot_valued : (x : Bytes) (d : Datum) (term : Term) → has_number w x ≡ true → whole w.facts frame x ≡ Gives d → pointer_term (has_shape (w.facts.program.attribute x).dimensions) (w.naming.address x) ≡ term → IsValued s number ν objects term d
   unfolding has_number
   spot_valued x d term numeric gives is =
       let spot = known.spots x d numeric gives in
@@ -246,7 +246,7 @@ module _ (s : Surroundings) (number : ℕ) (ν : World) (store : Store) (objects
         argument = record { datum = IsSpot p; object = at.0 };
         datum_is = sym spot.1;
         value = Pointer at.0 p.first;
-        valued = ap (value_of objects) (sym is) ∙ pointer_valued ν store objects p (has_bounds (w.facts.program.attribute x).bounds) (w.naming.address x) at.0 stands sound number_type reaches at.1;
+        valued = ap (value_of objects) (sym is) ∙ pointer_valued ν store objects p (has_shape (w.facts.program.attribute x).dimensions) (w.naming.address x) at.0 stands sound number_type reaches at.1;
         given = place_given p at.0 sound number_type at.1;
       }
 
@@ -305,7 +305,7 @@ module _ (s : Surroundings) (number : ℕ) (ν : World) (store : Store) (objects
 
   name_valued : (x : Bytes) (numeric : Bool) (d : Datum) (term : Term) → has_number w x ≡ numeric → whole w.facts frame x ≡ Gives d → name_argument s.numbers w x numeric ≡ Some term → IsValued s number ν objects term d
   unfolding name_argument
-  name_valued x true d term numeric gives h = spot_valued x d term numeric gives (some_same (pointer_term (has_bounds (w.facts.program.attribute x).bounds) (w.naming.address x)) term h)
+  name_valued x true d term numeric gives h = spot_valued x d term numeric gives (some_same (pointer_term (has_shape (w.facts.program.attribute x).dimensions) (w.naming.address x)) term h)
   name_valued x false d term numeric gives h = routine_valued x (w.facts.program.attribute x).class (w.naming.address x) d term refl refl gives h
 
   element_valued : (x : Bytes) (ps : Pures) (d : Datum) (term : Term) → meant w.facts frame kept store (ElementOf x ps) ≡ Gives d → option_map address_of (place_term w (ElementOf x ps)) ≡ Some term → IsValued s number ν objects term d

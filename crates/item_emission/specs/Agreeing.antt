@@ -5,7 +5,7 @@ use Rattle.main_file.specs.f_tree.Values.{Bytes}
 use Rattle.main_file.specs.f_tree.Facts.{Bounds, Facts, UnitKind, MainProgram, SubroutineUnit, FunctionUnit, BlockDataUnit}
 use Rattle.main_file.specs.f_tree.Valuing.{size_of_dimension}
 use Rattle.main_file.specs.l_core.Steps.{Step, Starts, Acts, Halt}
-use Rattle.main_file.specs.c_emit.Numbers.{is_numeric, is_variable, has_bounds}
+use Rattle.main_file.specs.c_emit.Numbers.{is_numeric, is_variable, has_shape}
 use Rattle.main_file.specs.c_emit.Flats.{flat_of}
 use Rattle.main_file.specs.MainFile.{Inventory, Bases, place_of_constant, place_of_variable, place_of_list, place_of_string, names_of, writing_of}
 use Rattle.named_items.specs.Items.{item_for}
@@ -28,8 +28,8 @@ giving_in BlockDataUnit = giving.Nothing
 -- what a file has and what is said of a unit, as what is known: each name has an object of its own, and no procedure is known
 abbrev pub known_in : Inventory → Facts → (ℕ → Option ℕ) → Knowledge
 known_in v facts label = record {
-  is_scalar = λ x. is_variable (facts.program.attribute x).class && is_numeric (facts.program.attribute x).basic && not (has_bounds (facts.program.attribute x).bounds);
-  is_array = λ x. is_variable (facts.program.attribute x).class && is_numeric (facts.program.attribute x).basic && has_bounds (facts.program.attribute x).bounds;
+  is_scalar = λ x. is_variable (facts.program.attribute x).class && is_numeric (facts.program.attribute x).basic && not (has_shape (facts.program.attribute x).dimensions);
+  is_array = λ x. is_variable (facts.program.attribute x).class && is_numeric (facts.program.attribute x).basic && has_shape (facts.program.attribute x).dimensions;
   basic = λ x. (facts.program.attribute x).basic;
   dimensions = λ x. map dimension_of (facts.program.attribute x).bounds;
   standing = λ x. Own;

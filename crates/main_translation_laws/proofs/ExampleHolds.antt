@@ -1,5 +1,5 @@
 -- The example is a plain main program, and the statements that are said are made for it.
-use Rattle.std.specs.Prelude.{◌≡◌, ℕ, zero, suc, ◌<◌, ◌≤◌, ◌^◌, Bool, true, false, ◌&&◌, ◌||◌, List, [], ◌∷◌, Some, None, slice_get, bytes_eq, if◌then◌else◌}
+use Rattle.std.specs.Prelude.{length, ◌≡◌, ℕ, zero, suc, ◌<◌, ◌≤◌, ◌^◌, Bool, true, false, ◌&&◌, ◌||◌, List, [], ◌∷◌, Some, None, slice_get, bytes_eq, if◌then◌else◌}
 use Rattle.std.specs.Fmt.{digits}
 use Rattle.std.proofs.Common.{refl, sym, ap, ◌∙◌, subst, arith}
 use Rattle.std.proofs.lemmas.Slice.Eq.{bytes_eq-Decides}
@@ -75,6 +75,11 @@ unfolding attribute_by bare
 no_bounds true = refl
 no_bounds false = refl
 
+no_ranks : (b : Bool) → length (attribute_by b).bounds ≡ length (attribute_by b).dimensions
+unfolding attribute_by bare
+no_ranks true = refl
+no_ranks false = refl
+
 no_bound : {A : Type 0} (x : Bytes) (k : ℕ) (b : Bounds) → slice_get (attribute_of x).bounds k ≡ Some b → A
 unfolding attribute_by
 no_bound x k b at = let none : None ≡ Some b = sym (ap (λ (bs : List Bounds). slice_get bs k) (no_bounds (bytes_eq (letter 107) x || bytes_eq (letter 105) x))) ∙ at in absurd (cc)
@@ -106,6 +111,7 @@ example_is_plain = record {
   sized = both (λ m. m.size ≡ bytes_in (count_by (attribute_of m.name).bounds)) refl refl;
   within = both (λ m. extent_of (elements_of (attribute_of m.name).bounds) 4 ≤ m.size) (omega arith) (omega arith);
   small = both (λ m. m.size < 2147483648) (omega arith) (omega arith);
+  ranked = λ x. no_ranks (bytes_eq (letter 107) x || bytes_eq (letter 105) x);
   counted = λ x b bs is. no_list x b bs is;
   fits = λ x k b at. no_bound x k b at;
   closed = λ x k b at more. no_bound x k b at;

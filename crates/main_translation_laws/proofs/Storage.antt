@@ -1,15 +1,15 @@
 -- The variables of a main program are listed, each as what it is.
-use Rattle.std.specs.Prelude.{◌≡◌, ℕ, zero, suc, Bool, true, false, not, ◌&&◌, List, [], ◌∷◌, map, position, Option, Some, None, option_map, slice_get, bytes_eq}
-use Rattle.std.proofs.Common.{refl, sym, ap, ◌∙◌, subst}
+use Rattle.std.specs.Prelude.{length, ◌≡◌, ℕ, zero, suc, Bool, true, false, not, ◌&&◌, List, [], ◌∷◌, map, position, Option, Some, None, option_map, slice_get, bytes_eq}
+use Rattle.std.proofs.Common.{arith, refl, sym, ap, ◌∙◌, subst}
 use Rattle.std.proofs.lemmas.List.{length-map}
 use Rattle.std.proofs.lemmas.Slice.Eq.{bytes_eq-Decides}
 use Rattle.main_programs.specs.f_tree.declared.names.Basic.{Basic}
 use Rattle.main_programs.specs.f_tree.Values.{Bytes}
-use Rattle.main_programs.specs.f_tree.Facts.{Bounds, Member, ProgramUnit, Facts}
+use Rattle.main_programs.specs.f_tree.Facts.{Dimension, Bounds, Member, ProgramUnit, Facts}
 use Rattle.main_programs.specs.f_tree.Setting.{IsIn, first_in, later_in, IsMember, here, there, AreDistinct, no_names, another_name}
 use Rattle.main_programs.specs.f_tree.Valuing.{elements_of}
 use Rattle.main_programs.specs.l_core.Steps.{Text}
-use Rattle.main_programs.specs.c_emit.Numbers.{is_numeric, is_variable, has_bounds, has_number, is_scalar, is_array}
+use Rattle.main_programs.specs.c_emit.Numbers.{is_numeric, is_variable, has_shape, has_number, is_scalar, is_array}
 use Rattle.main_programs.proofs.linking_laws.Places.{some_same, other_bytes, same_bytes, taken, skipped, position_step, map_at}
 use Rattle.main_programs.specs.main_file.MainFile.{Variable, Bases, writing_of}
 use Rattle.main_programs.specs.main_file_laws.KnownFile.{VariablesAreListed}
@@ -102,15 +102,17 @@ own_place unit (k ∷ ms) (suc i) m (another_name none later) at =
 
 -- ## The storage of a main program
 
-no_bounds : (bs : List Bounds) → not (has_bounds bs) ≡ true → count_by bs ≡ None
-unfolding has_bounds count_by
-no_bounds [] h = refl
-no_bounds (b ∷ bs) h = absurd (cc)
+no_bounds : (ds : List Dimension) (bs : List Bounds) → length bs ≡ length ds → not (has_shape ds) ≡ true → count_by bs ≡ None
+unfolding has_shape count_by
+no_bounds [] [] same h = refl
+no_bounds [] (b ∷ bs) same h = absurd (omega (arith, same))
+no_bounds (d ∷ ds) bs same h = absurd (cc)
 
-some_bounds : (bs : List Bounds) → has_bounds bs ≡ true → ((b : Bounds) (rest : List Bounds) → bs ≡ b ∷ rest → (n : ℕ) × (elements_of (b ∷ rest) ≡ Some n)) → (n : ℕ) × (count_by bs ≡ Some n)
-unfolding has_bounds count_by
-some_bounds [] h counted = absurd (cc)
-some_bounds (b ∷ bs) h counted = counted b bs refl
+some_bounds : (ds : List Dimension) (bs : List Bounds) → length bs ≡ length ds → has_shape ds ≡ true → ((b : Bounds) (rest : List Bounds) → bs ≡ b ∷ rest → (n : ℕ) × (elements_of (b ∷ rest) ≡ Some n)) → (n : ℕ) × (count_by bs ≡ Some n)
+unfolding has_shape count_by
+some_bounds [] bs same h counted = absurd (cc)
+some_bounds (d ∷ ds) [] same h counted = absurd (omega (arith, same))
+some_bounds (d ∷ ds) (b ∷ bs) same h counted = counted b bs refl
 
 module _ (unit : ProgramUnit) (u : Text) (main : IsPlainMain unit) where
   pub storage : HasPlainStorage unit (inventory_of unit u)
@@ -128,13 +130,13 @@ module _ (unit : ProgramUnit) (u : Text) (main : IsPlainMain unit) where
   }
 
   module _ (b : Bases) (facts : Facts) (same : facts.program ≡ unit) (kind : ℕ → ℕ → Option Basic) where
-    scalar_count : (x : Bytes) (m : Member) → m.name ≡ x → not (has_bounds (facts.program.attribute x).bounds) ≡ true → (variable_of unit m).count ≡ None
+    scalar_count : (x : Bytes) (m : Member) → m.name ≡ x → not (has_shape (facts.program.attribute x).dimensions) ≡ true → (variable_of unit m).count ≡ None
     scalar_count x m called bare =
-        count_is unit m ∙ ap (λ y. count_by (unit.attribute y).bounds) called ∙ ap (λ (p : ProgramUnit). count_by (p.attribute x).bounds) (sym same) ∙ no_bounds (facts.program.attribute x).bounds bare
+        count_is unit m ∙ ap (λ y. count_by (unit.attribute y).bounds) called ∙ ap (λ (p : ProgramUnit). count_by (p.attribute x).bounds) (sym same) ∙ no_bounds (facts.program.attribute x).dimensions (facts.program.attribute x).bounds (subst (λ (p : ProgramUnit). length (p.attribute x).bounds ≡ length (p.attribute x).dimensions) (sym same) (main.ranked x)) bare
 
-    array_count : (x : Bytes) (m : Member) → m.name ≡ x → has_bounds (facts.program.attribute x).bounds ≡ true → (n : ℕ) × ((variable_of unit m).count ≡ Some n)
+    array_count : (x : Bytes) (m : Member) → m.name ≡ x → has_shape (facts.program.attribute x).dimensions ≡ true → (n : ℕ) × ((variable_of unit m).count ≡ Some n)
     array_count x m called bounded =
-        let counted = some_bounds (unit.attribute x).bounds (ap (λ (p : ProgramUnit). has_bounds (p.attribute x).bounds) (sym same) ∙ bounded) (λ c rest is. main.counted x c rest is) in
+        let counted = some_bounds (unit.attribute x).dimensions (unit.attribute x).bounds (main.ranked x) (ap (λ (p : ProgramUnit). has_shape (p.attribute x).dimensions) (sym same) ∙ bounded) (λ c rest is. main.counted x c rest is) in
         (counted.0, count_is unit m ∙ ap (λ y. count_by (unit.attribute y).bounds) called ∙ counted.1)
 
     number_placed : (x : Bytes) → has_number (writing_of (inventory_of unit u) b facts kind) x ≡ true → IsPlacedAt unit unit.stored x
@@ -145,13 +147,13 @@ module _ (unit : ProgramUnit) (u : Text) (main : IsPlainMain unit) where
     unfolding is_scalar is_array
     variables_listed = record {
       scalars = λ x is.
-          let number = and-first (has_number (writing_of (inventory_of unit u) b facts kind) x) (not (has_bounds (facts.program.attribute x).bounds)) is in
-          let bare = and-second (has_number (writing_of (inventory_of unit u) b facts kind) x) (not (has_bounds (facts.program.attribute x).bounds)) is in
+          let number = and-first (has_number (writing_of (inventory_of unit u) b facts kind) x) (not (has_shape (facts.program.attribute x).dimensions)) is in
+          let bare = and-second (has_number (writing_of (inventory_of unit u) b facts kind) x) (not (has_shape (facts.program.attribute x).dimensions)) is in
           let p = number_placed x number in
           (p.index, variable_of unit p.member, p.place, map_at (variable_of unit) unit.stored p.index p.member p.at, scalar_count x p.member p.called bare);
       arrays = λ x is.
-          let number = and-first (has_number (writing_of (inventory_of unit u) b facts kind) x) (has_bounds (facts.program.attribute x).bounds) is in
-          let bounded = and-second (has_number (writing_of (inventory_of unit u) b facts kind) x) (has_bounds (facts.program.attribute x).bounds) is in
+          let number = and-first (has_number (writing_of (inventory_of unit u) b facts kind) x) (has_shape (facts.program.attribute x).dimensions) is in
+          let bounded = and-second (has_number (writing_of (inventory_of unit u) b facts kind) x) (has_shape (facts.program.attribute x).dimensions) is in
           let p = number_placed x number in
           let counted = array_count x p.member p.called bounded in
           (p.index, variable_of unit p.member, counted.0, p.place, map_at (variable_of unit) unit.stored p.index p.member p.at, counted.1);

@@ -42,7 +42,8 @@ pub record IsPlainMain (unit : ProgramUnit) : Type 0 where
   pub sized : (m : Member) → IsIn m unit.stored → m.size ≡ bytes_in (count_by (unit.attribute m.name).bounds)
   pub within : (m : Member) → IsIn m unit.stored → extent_of (elements_of (unit.attribute m.name).bounds) 4 ≤ m.size
   pub small : (m : Member) → IsIn m unit.stored → m.size < 2147483648
-  -- bounds are constant, and have 32 bits
+  -- bounds are constant, one for each dimension, and have 32 bits
+  pub ranked : (x : Bytes) → length (unit.attribute x).bounds ≡ length (unit.attribute x).dimensions
   pub counted : (x : Bytes) (b : Bounds) (bs : List Bounds) → (unit.attribute x).bounds ≡ b ∷ bs → (n : ℕ) × (elements_of (b ∷ bs) ≡ Some n)
   pub fits : (x : Bytes) (k : ℕ) (b : Bounds) → slice_get (unit.attribute x).bounds k ≡ Some b → BoundFits b
   pub closed : (x : Bytes) (k : ℕ) (b : Bounds) → slice_get (unit.attribute x).bounds k ≡ Some b → suc k < length (unit.attribute x).bounds → (last : ℤ) × (b.upper ≡ Some last)

@@ -11,7 +11,7 @@ use Rattle.named_mains.specs.f_tree.Setting.{IsIn, first_in, later_in, IsMember,
 use Rattle.named_mains.specs.f_tree.Values.{Bytes}
 use Rattle.main_translation_laws.proofs.fortran_laws.CNameLaws.{variable_name-injective, variable_name-not_made}
 use Rattle.named_mains.specs.l_core.Steps.{Text}
-use Rattle.named_mains.specs.c_emit.Numbers.{is_numeric, is_variable, has_bounds, has_number, is_scalar, is_array}
+use Rattle.named_mains.specs.c_emit.Numbers.{is_numeric, is_variable, has_shape, has_number, is_scalar, is_array}
 use Rattle.named_mains.specs.main_file.MainFile.{Inventory, Bases, first_temporary, place_of_variable, place_or_none, object_name, names_of, writing_of}
 use Rattle.named_mains.specs.main_translation.Contents.{inventory_of}
 use Rattle.main_translation_laws.specs.PlainMains.{IsPlainMain}
@@ -77,14 +77,14 @@ module _ (unit : ProgramUnit) (u : Text) (main : IsPlainMain unit) (b : Bases) (
   scalar_object x is =
       let listed = variables_listed unit u main b facts same kind in
       let found = listed.scalars x is in
-      of_variable x found.0 found.2 (number_named x (left_true (has_number (writing_of (inventory_of unit u) b facts kind) x) (not (has_bounds (facts.program.attribute x).bounds)) is)) refl
+      of_variable x found.0 found.2 (number_named x (left_true (has_number (writing_of (inventory_of unit u) b facts kind) x) (not (has_shape (facts.program.attribute x).dimensions)) is)) refl
 
   array_object : (x : Bytes) → is_array (writing_of (inventory_of unit u) b facts kind) x ≡ true → IsNumberObject (inventory_of unit u) b (b.function + place_or_none (place_of_variable (inventory_of unit u) x))
   unfolding is_array
   array_object x is =
       let listed = variables_listed unit u main b facts same kind in
       let found = listed.arrays x is in
-      of_variable x found.0 found.3 (number_named x (left_true (has_number (writing_of (inventory_of unit u) b facts kind) x) (has_bounds (facts.program.attribute x).bounds) is)) refl
+      of_variable x found.0 found.3 (number_named x (left_true (has_number (writing_of (inventory_of unit u) b facts kind) x) (has_shape (facts.program.attribute x).dimensions) is)) refl
 
   pub writes_objects : WritesObjects (OwnAlone (IsNumberObject (inventory_of unit u) b)) (writing_of (inventory_of unit u) b facts kind)
   writes_objects = record {

@@ -13,7 +13,7 @@ use Rattle.named_main_laws.proofs.fortran_laws.CNameLaws.{variable_name-injectiv
 use Rattle.named_units.specs.c_tree.declared.types.NumberType.{NumberType}
 use Rattle.named_units.specs.c_tree.Terms.{Term}
 use Rattle.named_units.specs.c_image.Addresses.{number_term, element_term}
-use Rattle.named_units.specs.c_emit.Numbers.{Writing, is_numeric, is_variable, has_bounds, has_number, is_scalar, is_array}
+use Rattle.named_units.specs.c_emit.Numbers.{Writing, is_numeric, is_variable, has_shape, has_number, is_scalar, is_array}
 use Rattle.named_main_laws.proofs.main_translation_laws.Names.{same_first}
 use Rattle.named_units.specs.unit_file.UnitFile.{Inventory, Bases, result_object, first_temporary, place_or_none, place_of_variable, place_of_parameter, parameter_object, address_in, writing_of}
 use Rattle.named_units.specs.unit_file.UnitNames.{object_name, names_of}
@@ -131,7 +131,7 @@ module _ (vs : List Inventory) (s : Site) (v : Inventory) (facts : Facts) where
     scalar_by x class.Result is variable numeric = let r = (listed.results x is numeric).1 in of_result _ r.0 r.1 refl
     scalar_by x other is variable numeric = absurd (cc)
 
-    element_by : (x : Bytes) (k : Class) → (facts.program.attribute x).class ≡ k → is_variable k ≡ true → is_numeric (facts.program.attribute x).basic ≡ true → has_bounds (facts.program.attribute x).bounds ≡ true
+    element_by : (x : Bytes) (k : Class) → (facts.program.attribute x).class ≡ k → is_variable k ≡ true → is_numeric (facts.program.attribute x).basic ≡ true → has_shape (facts.program.attribute x).dimensions ≡ true
         → (index : Term) → NamesObjects IsUnitObject (element_term (address_in v b x k) index)
     unfolding is_variable address_in
     element_by x class.Stored is variable numeric some index = let p = listed.stored x is numeric in of_variable _ x p.place is (named.stored x is numeric) p.placed refl
@@ -143,12 +143,12 @@ module _ (vs : List Inventory) (s : Site) (v : Inventory) (facts : Facts) where
     unfolding is_scalar is_array has_number
     writes_objects = record {
       scalars = λ x is.
-          let number = left_true (has_number w x) (not (has_bounds (facts.program.attribute x).bounds)) is in
+          let number = left_true (has_number w x) (not (has_shape (facts.program.attribute x).dimensions)) is in
           scalar_by x (facts.program.attribute x).class refl (left_true (is_variable (facts.program.attribute x).class) (is_numeric (facts.program.attribute x).basic) number)
           (right_true (is_variable (facts.program.attribute x).class) (is_numeric (facts.program.attribute x).basic) number);
       arrays = λ x is index.
-          let number = left_true (has_number w x) (has_bounds (facts.program.attribute x).bounds) is in
+          let number = left_true (has_number w x) (has_shape (facts.program.attribute x).dimensions) is in
           element_by x (facts.program.attribute x).class refl (left_true (is_variable (facts.program.attribute x).class) (is_numeric (facts.program.attribute x).basic) number)
-          (right_true (is_variable (facts.program.attribute x).class) (is_numeric (facts.program.attribute x).basic) number) (right_true (has_number w x) (has_bounds (facts.program.attribute x).bounds) is) index;
+          (right_true (is_variable (facts.program.attribute x).class) (is_numeric (facts.program.attribute x).basic) number) (right_true (has_number w x) (has_shape (facts.program.attribute x).dimensions) is) index;
       temporaries = λ k below. of_temporary _ k below refl;
     }

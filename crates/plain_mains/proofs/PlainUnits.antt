@@ -171,6 +171,7 @@ plain_by options u main entry storage lines plain =
       sized = λ m o. (plain_member u plain m o).sized;
       within = λ m o. (plain_member u plain m o).within;
       small = λ m o. (plain_member u plain m o).small;
+      ranked = λ x. (each_fits u plain x).whole.many;
       counted = λ x b bs is. subst (λ c. (n : ℕ) × (elements_of c ≡ Some n)) is (counted_elements _ (each_fits u plain x).counted);
       fits = λ x k b at. bound_is b (all_at bound_fits _ k b (each_fits u plain x).whole.fit at);
       closed = λ x k b at behind. last_of _ (each_fits u plain x).whole.closed k b at behind;

@@ -141,6 +141,7 @@ each_whole u plain x =
 plain_bounds : (options : Options) (u : WrittenUnit) → each_name_is_plain u ≡ true → HasPlainBounds (unit_read options u)
 unfolding unit_read with_ties program_of each_name_is_plain
 plain_bounds options u plain = record {
+  ranked = λ m o. (each_whole u plain m.name).many;
   counted = λ m b bs o is.
       subst (λ c. (n : ℕ) × (elements_of c ≡ Some n)) is (counted_elements _ (told_member (is_plain_name (unit_kind u)) (tells_stored (unit_kind u)) u plain m o).counted);
   fits = λ x k b at. bound_is b (all_at bound_fits _ k b (each_whole u plain x).fit at);
@@ -214,7 +215,7 @@ plain_result options u own plain =
       own = own_result (unit_kind u) (named_in u (name_or_none u.name)).class own;
       numeric = λ x is.
           (function_is (unit_kind u) (parts x is).0, (number_by (named_in u x) (and_parts (plain_form.is_number (named_in u x)) (has_none (named_in u x).dimensions) (parts x is).1).0).numeric);
-      alone = λ x is. no_bounds (named_in u x) (constant_attribute u x) (and_parts (plain_form.is_number (named_in u x)) (has_none (named_in u x).dimensions) (parts x is).1).1;
+      alone = λ x is. none_is (named_in u x).dimensions (and_parts (plain_form.is_number (named_in u x)) (has_none (named_in u x).dimensions) (parts x is).1).1;
     }
 
 -- ## Dummies

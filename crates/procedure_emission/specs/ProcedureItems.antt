@@ -21,7 +21,7 @@ use Rattle.emitted_texts.specs.c_tree.Terms.{Term}
 use Rattle.emitted_texts.specs.c_tree.Flat as flat
 use Rattle.emitted_texts.specs.c_tree.Flat.{Flat, Invoke, Return, Use, Ignored, Kept}
 use Rattle.emitted_texts.specs.c_image.Addresses.{Address, Alone, Through, number_term}
-use Rattle.emitted_texts.specs.c_emit.Numbers.{Writing, has_number, has_bounds, one_more, if_number, value_term, place_term}
+use Rattle.emitted_texts.specs.c_emit.Numbers.{Writing, has_number, has_shape, one_more, if_number, value_term, place_term}
 use Rattle.emitted_texts.specs.c_emit.Calls.{address_of, held_term}
 use Rattle.emitted_texts.specs.c_emit.Flats.{returned_by, flat_of}
 
@@ -49,7 +49,7 @@ routine_term numbers x other address = None
 
 -- a name that stands alone: a variable or an array of numbers, or a procedure
 unfoldable pub name_argument : Numbers → Writing → Bytes → Bool → Option Term
-name_argument numbers w x true = Some (pointer_term (has_bounds (w.facts.program.attribute x).bounds) (w.naming.address x))
+name_argument numbers w x true = Some (pointer_term (has_shape (w.facts.program.attribute x).dimensions) (w.naming.address x))
 name_argument numbers w x false = routine_term numbers x (w.facts.program.attribute x).class (w.naming.address x)
 
 unfoldable pub argument_term : Numbers → Writing → Pure → Option Term

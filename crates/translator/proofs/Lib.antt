@@ -3,6 +3,7 @@ pub mod Agreement
 pub mod NameLemmas
 pub mod HeadingLemmas
 pub mod ToldUnits
+mod RankedNames
 pub mod FitLemmas
 pub mod RowLemmas
 pub mod TestLemmas

@@ -30,6 +30,7 @@ use Rattle.unit_writer.specs.ToldUnits.{is_stored_class, stored_names, IsNoName,
 use Rattle.translator.specs.UnitFiles.{use_in, dummy_in, IsHeading}
 use Rattle.translator.proofs.NameLemmas.{among_any, formals_named}
 use Rattle.translator.proofs.TestLemmas.{no_entries}
+use Rattle.translator.proofs.RankedNames.{plain_ranked}
 
 -- the table tells what the names of the unit are
 pub facts_given : (u : GivenUnit) (table : NameFacts) → AreNameFacts u table → AreFactsOf (given_names u) table
@@ -121,5 +122,6 @@ module _ (options : Options) (u : GivenUnit) (plain : is_plain_unit options u �
         ∙ ap (λ es. map (dummy_in u) (named_formals (formals_in (own_entry ∷ es)))) (sym one_entry);
     facts = are.facts;
     others = λ x other. none_among table u _ _ _ (all_names u) x other;
+    ranked = plain_ranked options u plain;
     stored = stored_described table u _ _ _ (all_names u) (class_among table u _ _ _ (all_names u) are.facts);
   }

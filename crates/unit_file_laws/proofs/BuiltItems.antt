@@ -26,7 +26,7 @@ use Rattle.unit_places.specs.c_structure.Expressions as written
 use Rattle.unit_places.specs.c_structure.Statements.{Outline, strings_of_item, strings_of_items}
 use Rattle.unit_places.specs.c_structure_laws.Fitting.{KnowsCallee, KnowsItems, KnowsArray, AreNumbered as AreInOrder, AreBytesOf}
 use Rattle.unit_places.proofs.c_structure_laws.DrawnExpressions.{mapped_by}
-use Rattle.unit_places.specs.c_emit.Numbers.{Writing, one_more, has_number, has_bounds, is_scalar, is_array, place_term}
+use Rattle.unit_places.specs.c_emit.Numbers.{Writing, one_more, has_number, has_shape, is_scalar, is_array, place_term}
 use Rattle.unit_places.specs.c_emit.LibraryFunctions.{library_function}
 use Rattle.unit_places.specs.c_emit.Calls.{held_term, address_of}
 use Rattle.unit_places.specs.linking_laws.Linked as linked
@@ -179,16 +179,16 @@ module _ (routines : Routines) (objects : List ℕ → Option ℕ) (functions : 
   both_so : (p q : Bool) → p ≡ true → q ≡ true → p && q ≡ true
   both_so p q one other = and_from p q one other
 
-  scalar_known : (x : Bytes) → has_number writing x ≡ true → has_bounds (u.facts.program.attribute x).bounds ≡ false → IsPlain scope names (number_term (writing.naming.address x))
+  scalar_known : (x : Bytes) → has_number writing x ≡ true → has_shape (u.facts.program.attribute x).dimensions ≡ false → IsPlain scope names (number_term (writing.naming.address x))
   unfolding is_scalar
-  scalar_known x number none = known.names.scalars x (both_so (has_number writing x) (not (has_bounds (u.facts.program.attribute x).bounds)) number (ap not none))
+  scalar_known x number none = known.names.scalars x (both_so (has_number writing x) (not (has_shape (u.facts.program.attribute x).dimensions)) number (ap not none))
 
-  array_known : (x : Bytes) → has_number writing x ≡ true → has_bounds (u.facts.program.attribute x).bounds ≡ true → StartIsPlain scope names (array_of (writing.naming.address x))
+  array_known : (x : Bytes) → has_number writing x ≡ true → has_shape (u.facts.program.attribute x).dimensions ≡ true → StartIsPlain scope names (array_of (writing.naming.address x))
   unfolding is_array
-  array_known x number some = known.names.arrays x (both_so (has_number writing x) (has_bounds (u.facts.program.attribute x).bounds) number some)
+  array_known x number some = known.names.arrays x (both_so (has_number writing x) (has_shape (u.facts.program.attribute x).dimensions) number some)
 
   -- a variable or an array of numbers by a pointer to it
-  pointer_by : (x : Bytes) (array : Bool) → has_number writing x ≡ true → has_bounds (u.facts.program.attribute x).bounds ≡ array → IsSimple (writing.naming.address x) → IsPlain scope names (pointer_term array (writing.naming.address x))
+  pointer_by : (x : Bytes) (array : Bool) → has_number writing x ≡ true → has_shape (u.facts.program.attribute x).dimensions ≡ array → IsSimple (writing.naming.address x) → IsPlain scope names (pointer_term array (writing.naming.address x))
   pointer_by x true number some (by_object object at) =
       subst (λ a. IsPlain scope names (pointer_term true a)) at (subst (λ a. StartIsPlain scope names (array_of a)) (sym at) (array_known x number some))
   pointer_by x true number some (by_parameter parameter at) =
@@ -203,8 +203,8 @@ module _ (routines : Routines) (objects : List ℕ → Option ℕ) (functions : 
   name_plain : (x : Bytes) (number : Bool) (term : Term) → has_number writing x ≡ number → AreDeclared numbers vs v (procedure_passed (u.facts.program.attribute x).class x) → name_argument numbers writing x number ≡ Some term → IsPlain scope names term
   unfolding name_argument
   name_plain x true term is' declared h =
-      subst (IsPlain scope names) (some_same (pointer_term (has_bounds (u.facts.program.attribute x).bounds) (writing.naming.address x)) term h)
-      (pointer_by x (has_bounds (u.facts.program.attribute x).bounds) is' refl (simple_address v b x (u.facts.program.attribute x).class))
+      subst (IsPlain scope names) (some_same (pointer_term (has_shape (u.facts.program.attribute x).dimensions) (writing.naming.address x)) term h)
+      (pointer_by x (has_shape (u.facts.program.attribute x).dimensions) is' refl (simple_address v b x (u.facts.program.attribute x).class))
   name_plain x false term is' declared h = routine_by x (u.facts.program.attribute x).class (writing.naming.address x) term refl refl declared h
 
   addressed_plain : (x : Option Term) (term : Term) → option_map address_of x ≡ Some term → ((t : Term) → x ≡ Some t → IsPlain scope names t) → IsPlain scope names term

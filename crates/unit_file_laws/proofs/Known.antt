@@ -28,7 +28,7 @@ use Rattle.unit_places.specs.c_image.Addresses.{Through, number_term}
 use Rattle.unit_places.specs.c_image.Elements.{quantity_term}
 use Rattle.unit_places.specs.c_structure.Expressions.{Names, strings_in}
 use Rattle.unit_places.specs.c_structure.Expressions as written
-use Rattle.unit_places.specs.c_emit.Numbers.{is_numeric, is_variable, has_number, has_bounds, is_scalar, is_array}
+use Rattle.unit_places.specs.c_emit.Numbers.{is_numeric, is_variable, has_number, has_shape, is_scalar, is_array}
 use Rattle.unit_places.specs.c_structure_laws.Fitting.{KnowsArray}
 use Rattle.unit_places.specs.linking_laws.Linked as linked
 use Rattle.unit_places.specs.linking_laws.Linked.{AreDistinct, IsNone, scope_of}
@@ -236,7 +236,7 @@ module _ (numbers : Routines) (objects : List ℕ → Option ℕ) (functions : L
   result_plain type is =
       plain_variable (result_object v b) ToNumber (framed_stands (length v.parameters) (made (made_name FunctionResult) (variable ToNumber) (unset 4)) (framed_result v type is))
 
-  scalar_by : (x : Bytes) (k : Class) → (facts.program.attribute x).class ≡ k → is_variable k ≡ true → is_numeric (facts.program.attribute x).basic ≡ true → has_bounds (facts.program.attribute x).bounds ≡ false →
+  scalar_by : (x : Bytes) (k : Class) → (facts.program.attribute x).class ≡ k → is_variable k ≡ true → is_numeric (facts.program.attribute x).basic ≡ true → has_shape (facts.program.attribute x).dimensions ≡ false →
       IsPlain scope names (number_term (address_in v b x k))
   unfolding address_in is_variable
   scalar_by x class.Stored is variable numeric none = stored_plain x (subst (IsVariable v x) none (listed.stored x is numeric))
@@ -244,7 +244,7 @@ module _ (numbers : Routines) (objects : List ℕ → Option ℕ) (functions : L
   scalar_by x class.Result is variable numeric none = let r = (listed.results x is numeric).1 in result_plain r.0 r.1
   scalar_by x other is variable numeric none = absurd (cc)
 
-  array_by : (x : Bytes) (k : Class) → (facts.program.attribute x).class ≡ k → is_variable k ≡ true → is_numeric (facts.program.attribute x).basic ≡ true → has_bounds (facts.program.attribute x).bounds ≡ true →
+  array_by : (x : Bytes) (k : Class) → (facts.program.attribute x).class ≡ k → is_variable k ≡ true → is_numeric (facts.program.attribute x).basic ≡ true → has_shape (facts.program.attribute x).dimensions ≡ true →
       StartIsPlain scope names (array_of (address_in v b x k))
   unfolding address_in is_variable
   array_by x class.Stored is variable numeric some = stored_array x (subst (IsVariable v x) some (listed.stored x is numeric))
@@ -255,14 +255,14 @@ module _ (numbers : Routines) (objects : List ℕ → Option ℕ) (functions : L
   scalar_plain : (x : Bytes) → is_scalar (unit_writing s w facts kind) x ≡ true → IsPlain scope names (number_term (address_in v b x (facts.program.attribute x).class))
   unfolding is_scalar has_number
   scalar_plain x holds =
-      let both = both_hold (is_variable (facts.program.attribute x).class && is_numeric (facts.program.attribute x).basic) (not (has_bounds (facts.program.attribute x).bounds)) holds in
+      let both = both_hold (is_variable (facts.program.attribute x).class && is_numeric (facts.program.attribute x).basic) (not (has_shape (facts.program.attribute x).dimensions)) holds in
       let number = both_hold (is_variable (facts.program.attribute x).class) (is_numeric (facts.program.attribute x).basic) both.0 in
-      scalar_by x (facts.program.attribute x).class refl number.0 number.1 (not_so (has_bounds (facts.program.attribute x).bounds) both.1)
+      scalar_by x (facts.program.attribute x).class refl number.0 number.1 (not_so (has_shape (facts.program.attribute x).dimensions) both.1)
 
   array_plain : (x : Bytes) → is_array (unit_writing s w facts kind) x ≡ true → StartIsPlain scope names (array_of (address_in v b x (facts.program.attribute x).class))
   unfolding is_array has_number
   array_plain x holds =
-      let both = both_hold (is_variable (facts.program.attribute x).class && is_numeric (facts.program.attribute x).basic) (has_bounds (facts.program.attribute x).bounds) holds in
+      let both = both_hold (is_variable (facts.program.attribute x).class && is_numeric (facts.program.attribute x).basic) (has_shape (facts.program.attribute x).dimensions) holds in
       let number = both_hold (is_variable (facts.program.attribute x).class) (is_numeric (facts.program.attribute x).basic) both.0 in
       array_by x (facts.program.attribute x).class refl number.0 number.1 both.1
 

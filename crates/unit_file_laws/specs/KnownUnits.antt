@@ -17,7 +17,7 @@ use Rattle.unit_places.specs.c_tree.FlatForm.{whole_body}
 use Rattle.unit_places.specs.c_tree.Linking.{Routines, file_scope}
 use Rattle.unit_places.specs.c_structure.Expressions.{Names}
 use Rattle.unit_places.specs.c_image.Addresses.{Through}
-use Rattle.unit_places.specs.c_emit.Numbers.{Writing, is_numeric, has_bounds}
+use Rattle.unit_places.specs.c_emit.Numbers.{Writing, is_numeric, has_shape}
 use Rattle.unit_places.specs.linking_laws.Linked.{AreDistinct, IsNone, scope_of}
 use Rattle.unit_places.specs.emitted_names.KnownNames.{IsPlain, IsKnownBy, Calls}
 use Rattle.unit_places.specs.procedure_emission.EmittedUnits.{is_number_pointer, is_function_pointer}
@@ -53,11 +53,11 @@ pub record IsParameter (v : Inventory) (x : Bytes) (points : ParameterType → B
 
 -- each name is listed as what it is; no result is an array
 pub record NamesAreListed (v : Inventory) (facts : Facts) : Type 0 where
-  pub stored : (x : Bytes) → (facts.program.attribute x).class ≡ class.Stored → is_numeric (facts.program.attribute x).basic ≡ true → IsVariable v x (has_bounds (facts.program.attribute x).bounds)
+  pub stored : (x : Bytes) → (facts.program.attribute x).class ≡ class.Stored → is_numeric (facts.program.attribute x).basic ≡ true → IsVariable v x (has_shape (facts.program.attribute x).dimensions)
   pub dummies : (x : Bytes) → (facts.program.attribute x).class ≡ class.Dummy → is_numeric (facts.program.attribute x).basic ≡ true → IsParameter v x is_number_pointer
   pub procedures : (x : Bytes) → (facts.program.attribute x).class ≡ class.DummyProcedure → IsParameter v x is_function_pointer
   pub results : (x : Bytes) → (facts.program.attribute x).class ≡ class.Result → is_numeric (facts.program.attribute x).basic ≡ true →
-      (has_bounds (facts.program.attribute x).bounds ≡ false) × ((type : NumberType) × (v.returned ≡ Some type))
+      (has_shape (facts.program.attribute x).dimensions ≡ false) × ((type : NumberType) × (v.returned ≡ Some type))
 
 -- what a function goes by, by its site
 abbrev pub unit_writing : Site → WrittenUnit → Facts → (ℕ → ℕ → Option Basic) → Writing

@@ -17,7 +17,7 @@ use Rattle.c_spelling.specs.c_tree.Terms.{Term}
 use Rattle.c_spelling.specs.c_tree.Flat.{Flat, Invoke, Ignored, Kept, Return, Callee}
 use Rattle.main_file_texts.specs.c_image.Addresses.{Address, Alone, Inside, InTexts, Through}
 use Rattle.main_file_texts.proofs.c_structure_laws.DrawnExpressions.{mapped_by}
-use Rattle.main_file_texts.specs.c_emit.Numbers.{Writing, if_number, value_term, place_term, has_number, has_bounds}
+use Rattle.main_file_texts.specs.c_emit.Numbers.{Writing, if_number, value_term, place_term, has_number, has_shape}
 use Rattle.main_file_texts.specs.c_emit.Calls.{held_term, address_of}
 use Rattle.main_file_texts.proofs.linking_laws.Places.{some_same}
 use Rattle.unit_programs.specs.procedure_emission.ProcedureItems.{Numbers, pointer_term, procedure_argument, routine_term, name_argument, argument_term, argument_terms, function_called, call_item, basic_wanted, kept_item, call_for_item, result_term, back_item, back_by_item, procedure_item}
@@ -72,7 +72,7 @@ module _ (w : Writing) (numbers : Numbers) where
   name_fieldless : (x : Bytes) (number : Bool) (term : Term) → name_argument numbers w x number ≡ Some term → HasNoField term
   unfolding name_argument
   name_fieldless x true term h =
-      subst HasNoField (some_same (pointer_term (has_bounds (w.facts.program.attribute x).bounds) (w.naming.address x)) term h) (pointer_fieldless (has_bounds (w.facts.program.attribute x).bounds) (w.naming.address x))
+      subst HasNoField (some_same (pointer_term (has_shape (w.facts.program.attribute x).dimensions) (w.naming.address x)) term h) (pointer_fieldless (has_shape (w.facts.program.attribute x).dimensions) (w.naming.address x))
   name_fieldless x false term h = routine_fieldless x (w.facts.program.attribute x).class (w.naming.address x) term h
 
   argument_fieldless : (p : Pure) (term : Term) → argument_term numbers w p ≡ Some term → HasNoField term

@@ -24,7 +24,7 @@ use Rattle.item_emission.specs.c_tree.Flat as flat
 use Rattle.item_emission.specs.c_tree.Flat.{Invoke, Return, Ignored, Kept}
 use Rattle.item_emission.specs.c_structure.Expressions.{Names, with_two, number_expr, array_expr, expr_for, one_more, exprs_for}
 use Rattle.item_emission.specs.c_image.Addresses.{number_term, element_term}
-use Rattle.item_emission.specs.c_emit.Numbers.{Writing, is_numeric, is_variable, has_number, has_bounds, is_scalar, is_array, if_number, value_term, place_term}
+use Rattle.item_emission.specs.c_emit.Numbers.{Writing, is_numeric, is_variable, has_number, has_shape, is_scalar, is_array, if_number, value_term, place_term}
 use Rattle.item_emission.specs.c_emit.Calls.{address_of, held_term}
 use Rattle.item_emission.specs.c_emit.Flats.{returned_by}
 use Rattle.unit_file_laws.specs.procedure_emission.ProcedureItems.{Numbers, pointer_term, routine_term, name_argument, argument_term, argument_terms, callee_for, function_called, call_item, basic_wanted, kept_item, call_for_item, result_term, back_item, back_by_item, procedure_item}
@@ -162,7 +162,7 @@ module _ (vs : List Inventory) (s : Site) (v : Inventory) (facts : Facts) (numbe
   scalar-by x other is variable numeric = absurd (cc)
 
   -- the start of an array, and an element of it
-  start-by : (x : Bytes) (k : Class) → (facts.program.attribute x).class ≡ k → is_variable k ≡ true → is_numeric (facts.program.attribute x).basic ≡ true → has_bounds (facts.program.attribute x).bounds ≡ true
+  start-by : (x : Bytes) (k : Class) → (facts.program.attribute x).class ≡ k → is_variable k ≡ true → is_numeric (facts.program.attribute x).basic ≡ true → has_shape (facts.program.attribute x).dimensions ≡ true
       → expr_for names (pointer_term true (address_in v b x k)) ≡ Some (variable_expr x)
   unfolding address_in is_variable expr_for array_expr variable_expr
   start-by x class.Stored is variable numeric some =
@@ -171,7 +171,7 @@ module _ (vs : List Inventory) (s : Site) (v : Inventory) (facts : Facts) (numbe
   start-by x class.Result is variable numeric some = let no : true ≡ false = sym some ∙ (listed.results x is numeric).0 in absurd (cc)
   start-by x other is variable numeric some = absurd (cc)
 
-  element-by : (x : Bytes) (k : Class) → (facts.program.attribute x).class ≡ k → is_variable k ≡ true → is_numeric (facts.program.attribute x).basic ≡ true → has_bounds (facts.program.attribute x).bounds ≡ true
+  element-by : (x : Bytes) (k : Class) → (facts.program.attribute x).class ≡ k → is_variable k ≡ true → is_numeric (facts.program.attribute x).basic ≡ true → has_shape (facts.program.attribute x).dimensions ≡ true
       → (index : Term) → expr_for names (element_term (address_in v b x k) index) ≡ option_map (expr.Index (variable_expr x)) (expr_for names index)
   unfolding address_in is_variable expr_for
   element-by x class.Stored is variable numeric some index = ap (λ o. with_two expr.Index o (expr_for names index)) (start-by x class.Stored is variable numeric some) ∙ indexed (variable_expr x) (expr_for names index)
@@ -181,13 +181,13 @@ module _ (vs : List Inventory) (s : Site) (v : Inventory) (facts : Facts) (numbe
 
   scalar-name : (x : Bytes) → known.is_scalar x ≡ true → expr_for names (number_term (address_in v b x (facts.program.attribute x).class)) ≡ Some (scalar_expr (standing_in (facts.program.attribute x).class) x)
   scalar-name x holds =
-      let both = both_hold (is_variable (facts.program.attribute x).class && is_numeric (facts.program.attribute x).basic) (not (has_bounds (facts.program.attribute x).bounds)) holds in
+      let both = both_hold (is_variable (facts.program.attribute x).class && is_numeric (facts.program.attribute x).basic) (not (has_shape (facts.program.attribute x).dimensions)) holds in
       let number = both_hold (is_variable (facts.program.attribute x).class) (is_numeric (facts.program.attribute x).basic) both.0 in
       scalar-by x (facts.program.attribute x).class refl number.0 number.1
 
   array-name : (x : Bytes) → known.is_array x ≡ true → (index : Term) → expr_for names (element_term (address_in v b x (facts.program.attribute x).class) index) ≡ option_map (expr.Index (variable_expr x)) (expr_for names index)
   array-name x holds index =
-      let both = both_hold (is_variable (facts.program.attribute x).class && is_numeric (facts.program.attribute x).basic) (has_bounds (facts.program.attribute x).bounds) holds in
+      let both = both_hold (is_variable (facts.program.attribute x).class && is_numeric (facts.program.attribute x).basic) (has_shape (facts.program.attribute x).dimensions) holds in
       let number = both_hold (is_variable (facts.program.attribute x).class) (is_numeric (facts.program.attribute x).basic) both.0 in
       element-by x (facts.program.attribute x).class refl number.0 number.1 both.1 index
 
@@ -235,7 +235,7 @@ module _ (vs : List Inventory) (s : Site) (v : Inventory) (facts : Facts) (numbe
   procedure-by x class.DummyProcedure is = let p = listed.procedures x is in ap (λ name. Some (expr.Cast (to.Function pointer.Unknown) (expr.Name name))) (parameter_is s v x p.place p.placed)
   procedure-by x other is = refl
 
-  name-by : (x : Bytes) (number bounds : Bool) → has_number w x ≡ number → has_bounds (facts.program.attribute x).bounds ≡ bounds
+  name-by : (x : Bytes) (number bounds : Bool) → has_number w x ≡ number → has_shape (facts.program.attribute x).dimensions ≡ bounds
       → expr_of names (name_argument numbers w x number)
       ≡ (if number && not bounds then Some (scalar_passed (standing_in (facts.program.attribute x).class) x) else (if number && bounds then Some (variable_expr x)
       else procedure_passed (is_procedure_in (facts.program.attribute x).class) (routine_in numbers vs x (facts.program.attribute x).class)))
@@ -250,7 +250,7 @@ module _ (vs : List Inventory) (s : Site) (v : Inventory) (facts : Facts) (numbe
 
   name-agrees : (x : Bytes) → expr_of names (name_argument numbers w x (has_number w x)) ≡ name_passed known x
   unfolding name_passed has_number
-  name-agrees x = name-by x (is_variable (facts.program.attribute x).class && is_numeric (facts.program.attribute x).basic) (has_bounds (facts.program.attribute x).bounds) refl refl
+  name-agrees x = name-by x (is_variable (facts.program.attribute x).class && is_numeric (facts.program.attribute x).basic) (has_shape (facts.program.attribute x).dimensions) refl refl
 
   held-agrees : (p : Pure) → expr_of names (option_map address_of (held_term w p)) ≡ option_map address_expr (held_expr known p)
   held-agrees p = address-agrees names (held_term w p) ∙ ap (option_map address_expr) (held-known names w known label steps-known p)

@@ -10,7 +10,7 @@ use Rattle.item_emission.specs.f_tree.Facts.{Facts, UnitKind, MainProgram, Subro
 use Rattle.item_emission.specs.f_tree.World.{Procedure}
 use Rattle.item_emission.specs.f_tree.CNames.{variable_name}
 use Rattle.item_emission.specs.l_core.Steps.{Step, Starts, Acts, Halt}
-use Rattle.item_emission.specs.c_emit.Numbers.{is_numeric, is_variable, has_bounds}
+use Rattle.item_emission.specs.c_emit.Numbers.{is_numeric, is_variable, has_shape}
 use Rattle.unit_file_laws.specs.procedure_emission.ProcedureItems.{Numbers, procedure_item}
 use Rattle.unit_file_laws.specs.unit_file.UnitFile.{Inventory, place_of_constant, place_of_list, place_of_string, writing_of}
 use Rattle.unit_file_laws.specs.unit_file.UnitNames.{routine_name, names_of}
@@ -59,8 +59,8 @@ giving_of_unit BlockDataUnit entries = giving.Nothing
 -- given the constants of the file, the inventories of all units, that of one and what is said of it, the numbers of functions, and the step of each label
 abbrev pub known_of_unit : List ℤ → List Inventory → Inventory → Facts → Numbers → (ℕ → Option ℕ) → Knowledge
 known_of_unit constants vs v facts numbers label = record {
-  is_scalar = λ x. is_variable (facts.program.attribute x).class && is_numeric (facts.program.attribute x).basic && not (has_bounds (facts.program.attribute x).bounds);
-  is_array = λ x. is_variable (facts.program.attribute x).class && is_numeric (facts.program.attribute x).basic && has_bounds (facts.program.attribute x).bounds;
+  is_scalar = λ x. is_variable (facts.program.attribute x).class && is_numeric (facts.program.attribute x).basic && not (has_shape (facts.program.attribute x).dimensions);
+  is_array = λ x. is_variable (facts.program.attribute x).class && is_numeric (facts.program.attribute x).basic && has_shape (facts.program.attribute x).dimensions;
   basic = λ x. (facts.program.attribute x).basic;
   dimensions = λ x. map dimension_of (facts.program.attribute x).bounds;
   standing = λ x. standing_in (facts.program.attribute x).class;

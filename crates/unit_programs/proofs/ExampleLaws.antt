@@ -16,7 +16,7 @@ use Rattle.emitted_procedures.specs.c_tree.declared.types.NumberType.TheVariants
 use Rattle.emitted_procedures.specs.c_tree.Opened.{trees_opened}
 use Rattle.emitted_procedures.specs.c_tree.Builtins.{builtin_names}
 use Rattle.emitted_procedures.specs.c_tree.FlatForm.{whole_body}
-use Rattle.emitted_procedures.specs.c_emit.Numbers.{Writing, is_numeric, has_bounds}
+use Rattle.emitted_procedures.specs.c_emit.Numbers.{Writing, is_numeric, has_shape}
 use Rattle.unit_file_laws.proofs.linking_laws.Places.{some_same}
 use Rattle.emitted_procedures.specs.procedure_emission.EmittedUnits.{is_number_pointer}
 use Rattle.unit_file_laws.specs.unit_file.UnitNames.{own_names, routine_name}
@@ -52,7 +52,7 @@ no_other {A} x k stored procedure constant = main_names x (λ a. a.class ≡ k �
 main_listed : NamesAreListed main_inventory (its_facts 0 main_unit)
 unfolding example_opened
 main_listed = record {
-  stored = λ x own numeric. subst (λ y. IsVariable main_inventory y (has_bounds (main_attribute y).bounds)) (main_stored x own) (record { place = 0; one = _; placed = refl; at = refl; counted = refl });
+  stored = λ x own numeric. subst (λ y. IsVariable main_inventory y (has_shape (main_attribute y).dimensions)) (main_stored x own) (record { place = 0; one = _; placed = refl; at = refl; counted = refl });
   dummies = λ x own numeric. no_other x class.Dummy (λ h. absurd (cc)) (λ h. absurd (cc)) (λ h. absurd (cc)) own;
   procedures = λ x own. no_other x class.DummyProcedure (λ h. absurd (cc)) (λ h. absurd (cc)) (λ h. absurd (cc)) own;
   results = λ x own numeric. no_other x class.Result (λ h. absurd (cc)) (λ h. absurd (cc)) (λ h. absurd (cc)) own;
@@ -218,6 +218,9 @@ function_names x P result dummy other = by (bytes_eq x the_function) (bytes_eq x
 function_bare : (x : Bytes) → (function_attribute x).bounds ≡ []
 function_bare x = function_names x (λ a. a.bounds ≡ []) refl (λ h. refl) refl
 
+function_flat : (x : Bytes) → (function_attribute x).dimensions ≡ []
+function_flat x = function_names x (λ a. a.dimensions ≡ []) refl (λ h. refl) refl
+
 function_dummy : (x : Bytes) → (function_attribute x).class ≡ class.Dummy → the_dummy ≡ x
 function_dummy x = function_names x (λ a. a.class ≡ class.Dummy → the_dummy ≡ x) (λ same. absurd (cc)) (λ h same. sym ((bytes_eq-Decides x the_dummy).0 h)) (λ same. absurd (cc))
 
@@ -230,7 +233,7 @@ function_listed = record {
   stored = λ x own numeric. no_more x class.Stored (λ h. absurd (cc)) (λ h. absurd (cc)) (λ h. absurd (cc)) own;
   dummies = λ x own numeric. subst (λ y. IsParameter function_inventory y is_number_pointer) (function_dummy x own) (record { place = 0; one = _; placed = refl; at = refl; typed = refl });
   procedures = λ x own. no_more x class.DummyProcedure (λ h. absurd (cc)) (λ h. absurd (cc)) (λ h. absurd (cc)) own;
-  results = λ x own numeric. (ap has_bounds (function_bare x), (number_type.Integer, refl));
+  results = λ x own numeric. (ap has_shape (function_flat x), (number_type.Integer, refl));
 }
 
 no_function_strings : length (whole_body function_body).items.strings ≡ 0

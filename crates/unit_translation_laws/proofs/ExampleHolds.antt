@@ -132,11 +132,20 @@ subroutine_names x P dummy other = by (bytes_eq x the_dummy) refl
 main_bare : (x : Bytes) → (main_attribute x).bounds ≡ []
 main_bare x = main_names x (λ a. a.bounds ≡ []) (λ h. refl) refl refl refl
 
+main_flat : (x : Bytes) → (main_attribute x).dimensions ≡ []
+main_flat x = main_names x (λ a. a.dimensions ≡ []) (λ h. refl) refl refl refl
+
 function_bare : (x : Bytes) → (function_attribute x).bounds ≡ []
 function_bare x = function_names x (λ a. a.bounds ≡ []) refl (λ h. refl) refl
 
+function_flat : (x : Bytes) → (function_attribute x).dimensions ≡ []
+function_flat x = function_names x (λ a. a.dimensions ≡ []) refl (λ h. refl) refl
+
 subroutine_bare : (x : Bytes) → (subroutine_attribute x).bounds ≡ []
 subroutine_bare x = subroutine_names x (λ a. a.bounds ≡ []) (λ h. refl) refl
+
+subroutine_flat : (x : Bytes) → (subroutine_attribute x).dimensions ≡ []
+subroutine_flat x = subroutine_names x (λ a. a.dimensions ≡ []) (λ h. refl) refl
 
 -- of the main program: no dummy and no result
 main_other : (A : Type 0) (x : Bytes) (k : Class) → (class.Stored ≡ k → A) → (class.Procedure ≡ k → A) → (class.Constant ≡ k → A) → (main_attribute x).class ≡ k → A
@@ -150,8 +159,9 @@ subroutine_other A x k dummy constant = subroutine_names x (λ a. a.class ≡ k 
 
 -- ## What is asked of each unit
 
-bare_bounds : (unit : ProgramUnit) → ((x : Bytes) → (unit.attribute x).bounds ≡ []) → HasPlainBounds unit
-bare_bounds unit none = record {
+bare_bounds : (unit : ProgramUnit) → ((x : Bytes) → (unit.attribute x).bounds ≡ []) → ((x : Bytes) → (unit.attribute x).dimensions ≡ []) → HasPlainBounds unit
+bare_bounds unit none flat = record {
+  ranked = λ m among. ap length (none m.name) ∙ ap length (sym (flat m.name));
   counted = λ m b bs among is. let no : [] ≡ b ∷ bs = sym (none m.name) ∙ is in absurd (cc);
   fits = λ x k b at. let no : None ≡ Some b = ap (λ bs. slice_get bs k) (sym (none x)) ∙ at in absurd (cc);
   closed = λ x k b at more. let no : None ≡ Some b = ap (λ bs. slice_get bs k) (sym (none x)) ∙ at in absurd (cc);
@@ -242,7 +252,7 @@ main_is_plain = record {
   result = record {
     own = λ h. absurd (cc);
     numeric = λ x own. absurd (main_other ⊥ x class.Result (λ h. absurd (cc)) (λ h. absurd (cc)) (λ h. absurd (cc)) own);
-    alone = λ x own. main_bare x;
+    alone = λ x own. main_flat x;
   };
   storage = record {
     blocks = refl;
@@ -258,7 +268,7 @@ main_is_plain = record {
     within = only_one (λ (m : Member). extent_of (elements_of (main_attribute m.name).bounds) 4 ≤ m.size) (record { name = the_variable; size = 4 }) (omega arith);
     small = only_one (λ (m : Member). m.size < 2147483648) (record { name = the_variable; size = 4 }) (omega arith);
   };
-  bounds = bare_bounds main_unit main_bare;
+  bounds = bare_bounds main_unit main_bare main_flat;
 }
 
 function_is_plain : IsPlainUnit its_lowered_units 1 lowered_function
@@ -284,10 +294,10 @@ function_is_plain = record {
   result = record {
     own = λ h. refl;
     numeric = λ x own. (refl, function_names x (λ a. a.class ≡ class.Result → is_numeric a.basic ≡ true) (λ same. refl) (λ h same. absurd (cc)) (λ same. absurd (cc)) own);
-    alone = λ x own. function_bare x;
+    alone = λ x own. function_flat x;
   };
   storage = nothing_stored function_unit refl refl refl refl (λ x own. function_other ⊥ x class.Stored (λ h. absurd (cc)) (λ h. absurd (cc)) (λ h. absurd (cc)) own);
-  bounds = bare_bounds function_unit function_bare;
+  bounds = bare_bounds function_unit function_bare function_flat;
 }
 
 subroutine_is_plain : IsPlainUnit its_lowered_units 2 lowered_subroutine
@@ -314,10 +324,10 @@ subroutine_is_plain = record {
   result = record {
     own = λ h. absurd (cc);
     numeric = λ x own. absurd (subroutine_other ⊥ x class.Result (λ h. absurd (cc)) (λ h. absurd (cc)) own);
-    alone = λ x own. subroutine_bare x;
+    alone = λ x own. subroutine_flat x;
   };
   storage = nothing_stored subroutine_unit refl refl refl refl (λ x own. subroutine_other ⊥ x class.Stored (λ h. absurd (cc)) (λ h. absurd (cc)) own);
-  bounds = bare_bounds subroutine_unit subroutine_bare;
+  bounds = bare_bounds subroutine_unit subroutine_bare subroutine_flat;
 }
 
 pub example_plain : ArePlainUnits its_lowered_units

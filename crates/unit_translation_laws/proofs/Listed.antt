@@ -1,18 +1,18 @@
 -- The names of a unit are listed, each as what it is: its variables, its dummies and its result.
-use Rattle.std.specs.Prelude.{◌≡◌, ◌≢◌, ℕ, suc, Bool, true, false, List, [], ◌∷◌, map, position, Some, option_map, is_some, slice_get, bytes_eq}
-use Rattle.std.proofs.Common.{refl, sym, ap, ◌∙◌, subst}
+use Rattle.std.specs.Prelude.{length, ◌≡◌, ◌≢◌, ℕ, suc, Bool, true, false, List, [], ◌∷◌, map, position, Some, option_map, is_some, slice_get, bytes_eq}
+use Rattle.std.proofs.Common.{arith, refl, sym, ap, ◌∙◌, subst}
 use Rattle.std.proofs.lemmas.List.{length-map}
 use Rattle.std.proofs.lemmas.Slice.Eq.{bytes_eq-Decides}
 use Rattle.unit_translation.specs.f_tree.declared.names.Class.TheVariants as class
 use Rattle.unit_translation.specs.f_tree.Values.{Bytes}
 use Rattle.unit_translation.specs.f_tree.CNames.{is_name}
-use Rattle.unit_translation.specs.f_tree.Facts.{Bounds, Formal, Named, Alternate, UnitKind, MainProgram, SubroutineUnit, FunctionUnit, BlockDataUnit}
+use Rattle.unit_translation.specs.f_tree.Facts.{Dimension, Bounds, Formal, Named, Alternate, UnitKind, MainProgram, SubroutineUnit, FunctionUnit, BlockDataUnit}
 use Rattle.unit_translation.specs.f_tree.Setting.{IsIn, first_in, later_in}
 use Rattle.unit_translation.specs.f_tree.Valuing.{elements_of}
 use Rattle.unit_translation.specs.f_tree.Meaning.{facts_at}
 use Rattle.unit_translation.specs.c_tree.declared.types.ResultType.TheVariants as result_type
 use Rattle.unit_translation.specs.c_tree.declared.types.ParameterType.{ParameterType}
-use Rattle.unit_translation.specs.c_emit.Numbers.{has_bounds, is_numeric}
+use Rattle.unit_translation.specs.c_emit.Numbers.{has_shape, is_numeric}
 use Rattle.unit_translation.specs.faithful.Signatures.{named_formals}
 use Rattle.main_translation_laws.specs.linking_laws.Linked as names
 use Rattle.main_translation_laws.proofs.linking_laws.Places.{same_bytes, taken, skipped, position_step, map_at, distinct_later}
@@ -83,14 +83,16 @@ apart_by (x ∷ xs) distinct = one_apart (λ y o same. first y o same) (apart_by
 
 -- ## Bounds
 
-counted_by : (bs : List Bounds) → ((b : Bounds) (rest : List Bounds) → bs ≡ b ∷ rest → (n : ℕ) × (elements_of (b ∷ rest) ≡ Some n)) → is_some (count_by bs) ≡ has_bounds bs
-unfolding count_by has_bounds
-counted_by [] counted = refl
-counted_by (b ∷ bs) counted = ap is_some (counted b bs refl).1
+counted_by : (ds : List Dimension) (bs : List Bounds) → length bs ≡ length ds → ((b : Bounds) (rest : List Bounds) → bs ≡ b ∷ rest → (n : ℕ) × (elements_of (b ∷ rest) ≡ Some n)) → is_some (count_by bs) ≡ has_shape ds
+unfolding count_by has_shape
+counted_by [] [] same counted = refl
+counted_by [] (b ∷ bs) same counted = absurd (omega (arith, same))
+counted_by (d ∷ ds) [] same counted = absurd (omega (arith, same))
+counted_by (d ∷ ds) (b ∷ bs) same counted = ap is_some (counted b bs refl).1
 
-no_bounds : (bs : List Bounds) → bs ≡ [] → has_bounds bs ≡ false
-unfolding has_bounds
-no_bounds bs none = ap has_bounds none
+no_shape : (ds : List Dimension) → ds ≡ [] → has_shape ds ≡ false
+unfolding has_shape
+no_shape ds none = ap has_shape none
 
 -- ## A unit
 
@@ -175,7 +177,7 @@ module _ (us : List LoweredUnit) (j : ℕ) (u : LoweredUnit) where
           }
 
       module _ (storage : HasPlainStorage u.unit) (bounds : HasPlainBounds u.unit) (result : HasPlainResult u.unit name) where
-        stored_listed : (x : Bytes) → (u.unit.attribute x).class ≡ class.Stored → is_numeric (u.unit.attribute x).basic ≡ true → IsVariable v x (has_bounds (u.unit.attribute x).bounds)
+        stored_listed : (x : Bytes) → (u.unit.attribute x).class ≡ class.Stored → is_numeric (u.unit.attribute x).basic ≡ true → IsVariable v x (has_shape (u.unit.attribute x).dimensions)
         stored_listed x own numeric =
             let p = placed_at u.unit x u.unit.stored (storage.stored x own numeric) in
             record {
@@ -183,8 +185,8 @@ module _ (us : List LoweredUnit) (j : ℕ) (u : LoweredUnit) where
               one = variable_of u.unit p.member;
               placed = p.place;
               at = map_at (variable_of u.unit) u.unit.stored p.index p.member p.at;
-              counted = ap is_some (count_is u.unit p.member) ∙ counted_by (u.unit.attribute p.member.name).bounds (λ b rest is. bounds.counted p.member b rest (in_at u.unit.stored p.index p.member p.at) is)
-                  ∙ ap (λ y. has_bounds (u.unit.attribute y).bounds) p.called;
+              counted = ap is_some (count_is u.unit p.member) ∙ counted_by (u.unit.attribute p.member.name).dimensions (u.unit.attribute p.member.name).bounds (bounds.ranked p.member (in_at u.unit.stored p.index p.member p.at)) (λ b rest is. bounds.counted p.member b rest (in_at u.unit.stored p.index p.member p.at) is)
+                  ∙ ap (λ y. has_shape (u.unit.attribute y).dimensions) p.called;
             }
 
         basic_is : u.unit.kind ≡ FunctionUnit → basic_given u.unit u.unit.kind ≡ Some (u.unit.attribute name).basic
@@ -201,7 +203,7 @@ module _ (us : List LoweredUnit) (j : ℕ) (u : LoweredUnit) where
           stored = stored_listed;
           dummies = λ x own numeric. let among = has.variables x own numeric in listed_parameter x is_number_pointer among (number_points x (has.plain x among) own);
           procedures = λ x own. let among = has.procedures x own in listed_parameter x is_function_pointer among (function_points x (has.plain x among) own);
-          results = λ x own numeric. (no_bounds (u.unit.attribute x).bounds (result.alone x own), (number_type_of (u.unit.attribute name).basic, returned_is (result.numeric x own).0));
+          results = λ x own numeric. (no_shape (u.unit.attribute x).dimensions (result.alone x own), (number_type_of (u.unit.attribute name).basic, returned_is (result.numeric x own).0));
         }
 
         pub result_is : u.unit.kind ≡ FunctionUnit → IsResult (own_facts (program_units us) j u.unit) v (record { name = name; formals = formals; start = 0 })

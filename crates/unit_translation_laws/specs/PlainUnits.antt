@@ -50,6 +50,7 @@ pub record HasPlainStorage (unit : ProgramUnit) : Type 0 where
 
 -- bounds are constant but for an upper bound `*` that is the last, and have 32 bits
 pub record HasPlainBounds (unit : ProgramUnit) : Type 0 where
+  pub ranked : (m : Member) → IsIn m unit.stored → length (unit.attribute m.name).bounds ≡ length (unit.attribute m.name).dimensions
   pub counted : (m : Member) (b : Bounds) (bs : List Bounds) → IsIn m unit.stored → (unit.attribute m.name).bounds ≡ b ∷ bs → (n : ℕ) × (elements_of (b ∷ bs) ≡ Some n)
   pub fits : (x : Bytes) (k : ℕ) (b : Bounds) → slice_get (unit.attribute x).bounds k ≡ Some b → BoundFits b
   pub closed : (x : Bytes) (k : ℕ) (b : Bounds) → slice_get (unit.attribute x).bounds k ≡ Some b → suc k < length (unit.attribute x).bounds → (last : ℤ) × (b.upper ≡ Some last)
@@ -74,7 +75,7 @@ pub record HasPlainDummies (us : List LoweredUnit) (j : ℕ) (u : LoweredUnit) (
 pub record HasPlainResult (unit : ProgramUnit) (name : Bytes) : Type 0 where
   pub own : unit.kind ≡ FunctionUnit → (unit.attribute name).class ≡ class.Result
   pub numeric : (x : Bytes) → (unit.attribute x).class ≡ class.Result → (unit.kind ≡ FunctionUnit) × (is_numeric (unit.attribute x).basic ≡ true)
-  pub alone : (x : Bytes) → (unit.attribute x).class ≡ class.Result → (unit.attribute x).bounds ≡ []
+  pub alone : (x : Bytes) → (unit.attribute x).class ≡ class.Result → (unit.attribute x).dimensions ≡ []
 
 -- ## Units
 

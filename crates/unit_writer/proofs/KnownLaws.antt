@@ -7,8 +7,8 @@ use Rattle.std.proofs.Common.{cond, refl, sym, ap, subst, ◌∙◌, arith}
 use Rattle.std.proofs.lemmas.Bool.{lt-ltb}
 use Rattle.std.proofs.lemmas.Bool.Decides.{nat_tests}
 use Rattle.f_tree.specs.Values.{Bytes}
-use Rattle.f_tree.specs.Facts.{Attribute, Bounds, EntryPoint, ProgramUnit}
-use Rattle.c_emit.specs.Numbers.{is_variable, is_numeric, has_bounds}
+use Rattle.f_tree.specs.Facts.{Attribute, Dimension, Bounds, EntryPoint, ProgramUnit}
+use Rattle.c_emit.specs.Numbers.{is_variable, is_numeric, has_shape}
 use Rattle.main_translation.specs.main_file.MainFile as file
 use Rattle.unit_translation.specs.unit_file.UnitFile.{place_of_constant, place_of_list}
 use Rattle.unit_translation.specs.UnitContents.{LoweredUnit, inventory_of}
@@ -74,8 +74,8 @@ listed_position n ls = λ i. cond (nat_lt (listed_place n ls i) (listed_length l
 
 -- what is found of a name is what it is
 record IsSeen (a : Attribute) (found : Option Variable) : Type 0 where
-  number : is_number found ≡ (is_variable a.class && is_numeric a.basic && not (has_bounds a.bounds))
-  numbers : is_numbers found ≡ (is_variable a.class && is_numeric a.basic && has_bounds a.bounds)
+  number : is_number found ≡ (is_variable a.class && is_numeric a.basic && not (has_shape a.dimensions))
+  numbers : is_numbers found ≡ (is_variable a.class && is_numeric a.basic && has_shape a.dimensions)
   basic : basic_of found ≡ a.basic
   dimensions : dimensions_of found ≡ map dimension_of a.bounds
   standing : standing_of found ≡ standing_in a.class
@@ -89,23 +89,25 @@ unfolding dimension_by
 dimensions_are [] = refl
 dimensions_are (b ∷ bs) = ap (λ ds. dimension_of (bounds_of b) ∷ ds) (dimensions_are bs)
 
-has_same : (bs : List Bounds) → has_dimensions (map dimension_of bs) ≡ has_bounds bs
-unfolding has_dimensions has_bounds
-has_same [] = refl
-has_same (b ∷ bs) = refl
+has_same : (ds : List Dimension) (bs : List Bounds) → length bs ≡ length ds → has_dimensions (map dimension_of bs) ≡ has_shape ds
+unfolding has_dimensions has_shape
+has_same [] [] ranked = refl
+has_same [] (b ∷ bs) ranked = absurd (omega (arith, ranked))
+has_same (d ∷ ds) [] ranked = absurd (omega (arith, ranked))
+has_same (d ∷ ds) (b ∷ bs) ranked = refl
 
-seen_some : (v : Variable) (f : NameFact) (a : Attribute) → seen_of v ≡ seen_by f → IsNameFact a f → IsSeen a (Some v)
+seen_some : (v : Variable) (f : NameFact) (a : Attribute) → seen_of v ≡ seen_by f → IsNameFact a f → length a.bounds ≡ length a.dimensions → IsSeen a (Some v)
 unfolding seen_of seen_by is_number is_numbers basic_of dimensions_of standing_of
-seen_some v f a same is =
+seen_some v f a same is ranked =
     let kind : v.is_variable ≡ is_variable a.class = ap (λ (s : Seen). s.is_variable) same ∙ ap is_variable is.class in
     let basic : v.basic ≡ a.basic = ap (λ (s : Seen). s.basic) same ∙ is.basic in
     let dimensions : v.dimensions.items ≡ map dimension_of a.bounds = ap (λ (s : Seen). s.dimensions) same ∙ dimensions_are f.bounds ∙ ap (map dimension_of) is.bounds in
-    let some : has_dimensions v.dimensions.items ≡ has_bounds a.bounds = ap has_dimensions dimensions ∙ has_same a.bounds in
-    let number : (v.is_variable && (is_numeric v.basic && not (has_dimensions v.dimensions.items))) ≡ (is_variable a.class && (is_numeric a.basic && not (has_bounds a.bounds))) = λ i. kind i && (is_numeric (basic i) && not (some i)) in
-    let numbers : (v.is_variable && (is_numeric v.basic && has_dimensions v.dimensions.items)) ≡ (is_variable a.class && (is_numeric a.basic && has_bounds a.bounds)) = λ i. kind i && (is_numeric (basic i) && some i) in
+    let some : has_dimensions v.dimensions.items ≡ has_shape a.dimensions = ap has_dimensions dimensions ∙ has_same a.dimensions a.bounds ranked in
+    let number : (v.is_variable && (is_numeric v.basic && not (has_dimensions v.dimensions.items))) ≡ (is_variable a.class && (is_numeric a.basic && not (has_shape a.dimensions))) = λ i. kind i && (is_numeric (basic i) && not (some i)) in
+    let numbers : (v.is_variable && (is_numeric v.basic && has_dimensions v.dimensions.items)) ≡ (is_variable a.class && (is_numeric a.basic && has_shape a.dimensions)) = λ i. kind i && (is_numeric (basic i) && some i) in
     record {
-      number = number ∙ all_three (is_variable a.class) (is_numeric a.basic) (not (has_bounds a.bounds));
-      numbers = numbers ∙ all_three (is_variable a.class) (is_numeric a.basic) (has_bounds a.bounds);
+      number = number ∙ all_three (is_variable a.class) (is_numeric a.basic) (not (has_shape a.dimensions));
+      numbers = numbers ∙ all_three (is_variable a.class) (is_numeric a.basic) (has_shape a.dimensions);
       basic = basic;
       dimensions = dimensions;
       standing = ap (λ (s : Seen). s.standing) same ∙ ap standing_in is.class;
@@ -114,18 +116,18 @@ seen_some v f a same is =
 seen_none : (a : Attribute) → IsNoName a → IsSeen a None
 unfolding is_variable is_number is_numbers basic_of dimensions_of standing_of standing_in
 seen_none a none = record {
-  number = sym (ap (λ c. is_variable c && is_numeric a.basic && not (has_bounds a.bounds)) none.class);
-  numbers = sym (ap (λ c. is_variable c && is_numeric a.basic && has_bounds a.bounds) none.class);
+  number = sym (ap (λ c. is_variable c && is_numeric a.basic && not (has_shape a.dimensions)) none.class);
+  numbers = sym (ap (λ c. is_variable c && is_numeric a.basic && has_shape a.dimensions) none.class);
   basic = sym none.basic;
   dimensions = sym (ap (map dimension_of) none.bounds);
   standing = sym (ap standing_in none.class);
 }
 
-seen_case : (a : Attribute) (f : NameFact) (among : Bool) (found : Option Variable) → option_map seen_of found ≡ (if among then Some (seen_by f) else None) → IsNameFact a f → (among ≡ false → IsNoName a) → IsSeen a found
-seen_case a f true None is fact other = absurd (none_some (seen_by f) is)
-seen_case a f true (Some v) is fact other = seen_some v f a (some_same is) fact
-seen_case a f false None is fact other = seen_none a (other refl)
-seen_case a f false (Some v) is fact other = absurd (some_none (seen_of v) is)
+seen_case : (a : Attribute) (f : NameFact) (among : Bool) (found : Option Variable) → option_map seen_of found ≡ (if among then Some (seen_by f) else None) → IsNameFact a f → length a.bounds ≡ length a.dimensions → (among ≡ false → IsNoName a) → IsSeen a found
+seen_case a f true None is fact ranked other = absurd (none_some (seen_by f) is)
+seen_case a f true (Some v) is fact ranked other = seen_some v f a (some_same is) fact ranked
+seen_case a f false None is fact ranked other = seen_none a (other refl)
+seen_case a f false (Some v) is fact ranked other = absurd (some_none (seen_of v) is)
 
 -- ## The heading
 
@@ -157,9 +159,12 @@ module _ (table : NameFacts) (names : List Bytes) (heading : Heading) (procedure
   other_there : (x : Bytes) → list_any (bytes_eq x) names ≡ false → IsNoName (u.text.facts.program.attribute x)
   other_there x none = subst (λ (p : ProgramUnit). IsNoName (p.attribute x)) (sym program) (told.others x none)
 
+  ranked_there : (x : Bytes) → length (u.text.facts.program.attribute x).bounds ≡ length (u.text.facts.program.attribute x).dimensions
+  ranked_there x = subst (λ (p : ProgramUnit). length (p.attribute x).bounds ≡ length (p.attribute x).dimensions) (sym program) (told.ranked x)
+
   seen : (x : Bytes) → IsSeen (u.text.facts.program.attribute x) (variable_in k x)
   unfolding seen_among
-  seen x = seen_case (u.text.facts.program.attribute x) (fact_in table x) (list_any (bytes_eq x) names) (variable_in k x) (tells.variables x) (fact_there x) (other_there x)
+  seen x = seen_case (u.text.facts.program.attribute x) (fact_in table x) (list_any (bytes_eq x) names) (variable_in k x) (tells.variables x) (fact_there x) (ranked_there x) (other_there x)
 
   routine_there : (x : Bytes) → IsRoutine us x (u.text.facts.program.attribute x).class (routine_in k x)
   routine_there x =

@@ -1,7 +1,7 @@
 -- When a C function is the one that is written for a unit among several, whatever the unit and the others are of which the table, the heading, the
 -- procedures, the constants, the text and the contents tell. ANSI X3.9-1978, sections 2.4, 5, 15.5, 15.6 and 15.9; C89, 3.7.1; CSTR 149.
 use Rattle.std.specs.List.{list_any}
-use Rattle.std.specs.Prelude.{◌≡◌, ℤ, Bool, true, false, List, [], ◌∷◌, map, Option, Some, None, option_map, bytes_eq, if◌then◌else◌}
+use Rattle.std.specs.Prelude.{◌≡◌, ℤ, Bool, true, false, List, [], ◌∷◌, map, length, Option, Some, None, option_map, bytes_eq, if◌then◌else◌}
 use Rattle.f_tree.specs.declared.names.Basic.TheVariants.{Untyped}
 use Rattle.f_tree.specs.declared.names.Class.{Class}
 use Rattle.f_tree.specs.declared.names.Class.TheVariants as class
@@ -49,13 +49,16 @@ kind_told role.Function = FunctionUnit
 abbrev pub dummy_told : Dummy → Parameter
 dummy_told d = record { name = d.name.now; type = d.parameter }
 
--- the names of the unit are these, in their order, the table tells what each name is, and the heading what the unit is, its one name and its dummies
+-- the names of the unit are these, in their order, the table tells what each name is, and the heading what the unit is, its one name and its dummies;
+-- section 5.1.1
 pub record IsToldUnit (table : NameFacts) (names : List Bytes) (heading : Heading) (u : LoweredUnit) : Type 0 where
   pub kind : u.unit.kind ≡ kind_told heading.role
   pub entries : map (λ (entry : EntryPoint). entry.name) u.unit.entries ≡ heading.name.now ∷ []
   pub dummies : map dummy_told heading.dummies.items ≡ parameters_in u
   pub facts : (x : Bytes) → IsNameFact (u.unit.attribute x) (fact_in table x)
   pub others : (x : Bytes) → list_any (bytes_eq x) names ≡ false → IsNoName (u.unit.attribute x)
+  -- the bounds of each dimension are constant
+  pub ranked : (x : Bytes) → length (u.unit.attribute x).bounds ≡ length (u.unit.attribute x).dimensions
   pub stored : map (λ (m : Member). m.name) u.unit.stored ≡ stored_names table names
 
 -- the function that is declared for a name, where there is a procedure of this name
