@@ -114,7 +114,7 @@ trees_read places texts b a (Err why) read are = tt
 unread_with : (places : List Place) (texts : List (List ℕ)) (b a : ShelfState) (why : CSourceFail) → ArePlacesRead 67108865 places texts b a → AreNotSpelled places texts why →
     AreTreesUnread places b a why
 unread_with places texts b a fail.NoMemory read not = read.kept
-unread_with places texts b a (fail.NotC name line) read not = record { kept = read.kept; texts = texts; refused = not; fronts = read.fronts }
+unread_with places texts b a (fail.NotC name line) read not = record { kept = read.kept; quiet = read.quiet; texts = texts; refused = not; fronts = read.fronts }
 unread_with places texts b a (fail.NotThere name) read not = absurd not
 unread_with places texts b a (fail.Unread place) read not = absurd not
 

@@ -66,9 +66,10 @@ pub record AreTreesRead (places : List Place) (files : List CFile) (b a : ShelfS
   pub spelled : AreSpelled texts files
   pub fronts : IfSome b.told (HasFronts 67108865 places texts)
 
--- the places were read, and what one of them holds spells no tree
+-- the places were read, no call of the shelf failed, and what one of them holds spells no tree
 pub record IsRefusedAmong (places : List Place) (name : List ℕ) (line : ℕ) (b a : ShelfState) : Type 0 where
   pub kept : IsKept b a
+  pub quiet : a.faults ≡ b.faults
   pub texts : List (List ℕ)
   pub refused : IsFirstRefused places texts name line
   pub fronts : IfSome b.told (HasFronts 67108865 places texts)

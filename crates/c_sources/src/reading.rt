@@ -98,7 +98,8 @@ fn trees_of(alloc: Global, places: &[Place], texts: &[Text]) -> Result<Items<CFi
     Ok(files)
 }
 
-/// The trees that the C files at some places spell, in their order. All places are read to their ends before the first is judged.
+/// The trees that the C files at some places spell, in their order (C89, 3.7). Of each place at most 67,108,865 bytes are read, one more than a file may
+/// have, and all places before the first is judged.
 ///
 /// # Errors
 /// The first that cannot be read: a file that is not there, or a fault of the shelf; else the first that is not in the C subset; or want of memory.

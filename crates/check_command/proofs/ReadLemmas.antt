@@ -130,7 +130,7 @@ prototypes_read places texts b a (Err why) read have = tt
 unread_with : (places : List Place) (texts : List (List ℕ)) (b a : ShelfState) (why : CheckFail) → ArePlacesRead 16777217 places texts b a → HaveNoShapes places texts why →
     ArePrototypesUnread places b a why
 unread_with places texts b a fail.NoMemory read have = read.kept
-unread_with places texts b a (fail.NotPrototype name line) read have = record { kept = read.kept; texts = texts; bad = have; fronts = read.fronts }
+unread_with places texts b a (fail.NotPrototype name line) read have = record { kept = read.kept; quiet = read.quiet; texts = texts; bad = have; fronts = read.fronts }
 unread_with places texts b a (fail.NotThere name) read have = absurd have
 unread_with places texts b a (fail.Unread place) read have = absurd have
 unread_with places texts b a (fail.Refused refusal name) read have = absurd have

@@ -83,6 +83,7 @@ pub record ArePrototypesRead (places : List Place) (shapes : List NamedShape) (b
 -- the places were read, and what one of them holds is no prototype file
 pub record IsBadAmong (places : List Place) (name : List ℕ) (line : ℕ) (b a : ShelfState) : Type 0 where
   pub kept : IsKept b a
+  pub quiet : a.faults ≡ b.faults
   pub texts : List (List ℕ)
   pub bad : IsFirstBad places texts name line
   pub fronts : IfSome b.told (HasFronts 16777217 places texts)

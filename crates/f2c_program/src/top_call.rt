@@ -78,7 +78,7 @@ pub(crate) fn asks_for_run(words: &Words) -> bool
 /// With `-run`, behind which stand C files, it reads them, links them and runs their program over the units that are handed in: `RunEnded` tells how that ends, with the
 /// statuses of `run_command`. All other commands hand the units back as they were.
 ///
-/// The status is 0 where that was done, and then no call of the shelf failed; 1
+/// Of the other commands the status is 0 where that was done, and then no call of the shelf failed; 1
 /// exactly where the set has a first refusal, which is that it is too long where it is split, and the line on Fault names it and its file, or where a
 /// prototype file is none; 2 exactly where the words are others, or two files that are translated have one output name, and the line names the first
 /// with which no command goes on, or the one that is missing behind the last; 3 only where a file that is read is not there, and the line names it, or the
