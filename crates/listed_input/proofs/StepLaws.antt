@@ -40,7 +40,7 @@ use Rattle.listed_input.proofs.TakeLaws.{IsAt, takes-on, takes-faulty, fresh-obj
 
 quiet-then : (unit : ℤ) (x y z : Row) → OnDevice (StaysAt unit) x y → Quiet x y → Quiet y z → Quiet x z
 quiet-then unit (Offers name device) y z stays first second = subst (λ (row : Row). Quiet row z) stays second
-quiet-then unit Closed y z stays first second = tt
+quiet-then unit Closed y z stays first second = subst (λ (row : Row). Quiet row z) stays second
 quiet-then unit (Connects own device m blanks) y z stays first second =
     let same : stays.device'.faults ≡ device.faults = subst (λ (row : Row). Quiet (Connects own device m blanks) row) stays.is first in
     subst (λ (count : ℕ). IfSome (faults_in z) (λ now. now ≡ count)) same (subst (λ (row : Row). Quiet row z) stays.is second)

@@ -74,7 +74,7 @@ same-faults unit own d d' stays = by (int_eq own unit) refl
 
 quiet-row : (unit : ℤ) (x y : Row) → OnDevice (StaysAt unit) x y → Quiet x y
 quiet-row unit (Offers name device) y stays = subst (λ (row : Row). Quiet (Offers name device) row) (sym stays) refl
-quiet-row unit Closed y stays = tt
+quiet-row unit Closed y stays = stays
 quiet-row unit (Connects own device m z) y stays =
     subst (λ (row : Row). Quiet (Connects own device m z) row) (sym stays.is) (same-faults unit own device stays.device' stays.did)
 

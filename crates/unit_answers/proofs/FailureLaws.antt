@@ -71,7 +71,7 @@ each-on unit P keeps b a result R on did = by (is_connected unit b) refl
 pub quiet-same : (row : Row) → Quiet row row
 quiet-same (Offers name device) = refl
 quiet-same (Connects unit device m z) = refl
-quiet-same Closed = tt
+quiet-same Closed = refl
 
 pub none-failed : (rows : List Row) → NoneFailed rows rows
 none-failed [] = refl

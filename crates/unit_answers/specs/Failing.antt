@@ -21,9 +21,11 @@ faults_in (Offers name device) = Some device.faults
 faults_in (Connects unit device end_mark zero_blanks) = Some device.faults
 faults_in Closed = None
 
--- the count of a device that stays in its row does not rise
+-- the count of a device that stays in its row does not rise, and a closed row stays closed
 abbrev pub Quiet : Row → Row → Type 0
-Quiet before after = IfSome (faults_in before) λ was. IfSome (faults_in after) λ now. now ≡ was
+Quiet (Offers name device) after = IfSome (faults_in after) λ now. now ≡ device.faults
+Quiet (Connects unit device end_mark zero_blanks) after = IfSome (faults_in after) λ now. now ≡ device.faults
+Quiet Closed after = after ≡ Closed
 
 -- no device fails
 abbrev pub NoneFailed : List Row → List Row → Type 0
