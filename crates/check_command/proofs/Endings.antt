@@ -49,9 +49,10 @@ unwritten_same place text b k a kept stopped = record {
   front = subst (λ told. IsFrontWritten place text told a.told) kept.same stopped.front;
 }
 
-away_same : (places : List Place) (name : List ℕ) (b k a : ShelfState) → IsKept b k → IsAwayAmong places name k a → IsAwayAmong places name b a
-away_same places name b k a kept away = record {
+away_same : (places : List Place) (name : List ℕ) (b k a : ShelfState) → IsKept b k → k.faults ≡ b.faults → IsAwayAmong places name k a → IsAwayAmong places name b a
+away_same places name b k a kept quiet away = record {
   kept = kept_kept b k a kept away.kept;
+  quiet = away.quiet ∙ quiet;
   among = away.among;
   first = subst (λ told. IfSome told (IsFirstAway places (FileNamed name))) kept.same away.first;
 }
@@ -150,7 +151,7 @@ module _ (options : Options) (froms prototypes : List Place) (read : SourceRead)
 
   unread_ended : (set : FileSet) → Accepted set → (why : CheckFail) → ArePrototypesUnread prototypes m a why → CheckEnded options froms prototypes b a (Err why)
   unread_ended set accepted fail.NoMemory kept = kept_kept b m a its.kept kept
-  unread_ended set accepted (fail.NotThere name) away = prototype_away (away_same prototypes name b m a its.kept away)
+  unread_ended set accepted (fail.NotThere name) away = prototype_away (away_same prototypes name b m a its.kept its.quiet away)
   unread_ended set accepted (fail.Unread place) failed = prototype_failed (failed_same prototypes place b m a its.kept failed)
   unread_ended set accepted (fail.NotPrototype name line) bad = not_prototype set accepted name line bad
   unread_ended set accepted (fail.Refused refusal name) never = absurd never

@@ -67,10 +67,10 @@ pub record IsRead (place : Place) (most : ℕ) (b a : ShelfState) (bytes : List 
   pub there : IfSome b.told (λ contents. ¬ Lacks place contents)
   pub front : IfSome b.told (λ contents. bytes ≡ take most (bytes_of place contents))
 
--- why a place was not read: a file that is not on the shelf, a count of faults that rose, or want of memory
+-- why a place was not read: a file that is not on the shelf, where no call failed, a count of faults that rose, or want of memory
 abbrev pub HasReadCause : ReadFail → Place → ShelfState → ShelfState → Type 0
 HasReadCause NoMemory place b a = Unit {0}
-HasReadCause NotThere place b a = IsFile place × IfSome b.told (Lacks place)
+HasReadCause NotThere place b a = IsFile place × (a.faults ≡ b.faults) × IfSome b.told (Lacks place)
 HasReadCause Failed place b a = Rose b.faults a.faults
 
 -- a place was not read, and the shelf holds what it held

@@ -81,6 +81,7 @@ unread_by options froms most b m a files named (source_fail.NotThere name) is re
     let its = named_in options files named is_named in
     of_included (record {
       kept = kept_kept b m a read.kept missed.kept;
+      quiet = missed.quiet ∙ read.quiet;
       missing =
           mapped b.told (IsLackingOn froms files named.names name) _
           (both_told b.told m.told _ _ _ read.kept.same read.fronts missed.first

@@ -33,7 +33,7 @@ pub away : (place : Place) (name : List ℕ) (b a : ShelfState) (why : ReadFail)
     IsAway place name b a
 away place name b a why is unread named =
     let its : IsUnreadFor read_fail.NotThere place b a = subst (λ w. IsUnreadFor w place b a) is unread in
-    record { kept = its.kept; named = named; lacks = its.cause.1 }
+    record { kept = its.kept; quiet = its.cause.1; named = named; lacks = its.cause.2 }
 
 pub failed : (place other : Place) (b a : ShelfState) (why : ReadFail) → why ≡ read_fail.Failed → IsUnreadFor why place b a → other ≡ place → IsFailed place other b a
 failed place other b a why is unread named =
@@ -106,6 +106,7 @@ unread_behind : (most : ℕ) (places before behind : List Place) (place : Place)
 unread_behind most places before behind place texts b m a source_fail.NoMemory is seen kept = kept_kept b m a seen.kept kept
 unread_behind most places before behind place texts b m a (source_fail.NotThere name) is seen one = record {
   kept = kept_kept b m a seen.kept one.kept;
+  quiet = one.quiet ∙ seen.quiet;
   among = among_by places before behind place (FileNamed name) is one.named;
   first = both_told b.told m.told _ _ _ seen.kept.same seen.fronts one.lacks (λ c have lacks. first_away most places before behind place (FileNamed name) texts c is one.named have lacks);
 }

@@ -49,7 +49,7 @@ lacks_name name None bad = tt
 lacks_name name (Some c) bad = λ there. bad there.is_name
 
 pub lacking : (name missing : List ℕ) (b : ShelfState) → ¬ IsName name → missing ≡ name → IsLacking name missing b b
-lacking name missing b bad named = record { kept = kept_as_it_is b; named = named; lacks = lacks_name name b.told bad }
+lacking name missing b bad named = record { kept = kept_as_it_is b; quiet = refl; named = named; lacks = lacks_name name b.told bad }
 
 pub no_memory : (name : List ℕ) (b : ShelfState) (fail : SourceFail) → fail ≡ source_fail.NoMemory → IsUnreadFile name b b fail
 no_memory name b fail is = subst (IsUnreadFile name b b) (sym is) (kept_as_it_is b)
@@ -63,7 +63,7 @@ same_name name other is = cc
 -- what is said of its place is said of its name
 by_name : (name : List ℕ) (b a : ShelfState) (fail : SourceFail) → IsPlaceUnread (FileNamed name) b a fail → IsUnreadFile name b a fail
 by_name name b a source_fail.NoMemory kept = kept
-by_name name b a (source_fail.NotThere missing) one = record { kept = one.kept; named = same_name missing name (sym one.named); lacks = lacks_place name (FileNamed name) b.told refl one.lacks }
+by_name name b a (source_fail.NotThere missing) one = record { kept = one.kept; quiet = one.quiet; named = same_name missing name (sym one.named); lacks = lacks_place name (FileNamed name) b.told refl one.lacks }
 by_name name b a (source_fail.Unread place) one = one
 
 unread_place : (name : List ℕ) (place : Place) (b a : ShelfState) (fail : SourceFail) → place ≡ FileNamed name → IsPlaceUnread place b a fail → IsUnreadFile name b a fail
@@ -160,6 +160,7 @@ unread_behind most names name rest texts b m a (source_fail.NotThere missing) se
     let is : names ≡ seen.done ++ missing ∷ rest = seen.is ∙ ap (λ n. seen.done ++ n ∷ rest) (sym lack.named) in
     record {
       kept = kept_kept b m a seen.read.kept lack.kept;
+      quiet = lack.quiet ∙ seen.read.quiet;
       among = record { before = seen.done; behind = rest; is = is };
       first =
           first_lacking most names seen.done rest texts missing b.told m.told seen.read.kept.same is seen.read.fronts

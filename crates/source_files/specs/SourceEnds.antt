@@ -55,9 +55,10 @@ EndedRefused options froms refusal name b a = EndedRefusedFor Translation option
 
 -- ## A source that was not read
 
--- a file that they include is the first that is not there
+-- a file that they include is the first that is not there, and no call failed
 pub record IsIncludedNotThere (options : Options) (froms : List Place) (name : List ℕ) (b a : ShelfState) : Type 0 where
   pub kept : IsKept b a
+  pub quiet : a.faults ≡ b.faults
   pub missing : IfSome b.told (IsMissing options froms name)
 
 pub data EndedNotThere (options : Options) (froms : List Place) (name : List ℕ) (b a : ShelfState) : Type 0 where

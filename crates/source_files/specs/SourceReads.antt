@@ -36,9 +36,10 @@ pub record IsPlaceAmong (places : List Place) (place : Place) : Type 0 where
   pub behind : List Place
   pub is : places ≡ before ++ place ∷ behind
 
--- one place was not read, and why: a file that is not there, or a count that rose
+-- one place was not read, and why: a file that is not there, where no call failed, or a count that rose
 pub record IsAway (place : Place) (name : List ℕ) (b a : ShelfState) : Type 0 where
   pub kept : IsKept b a
+  pub quiet : a.faults ≡ b.faults
   pub named : place ≡ FileNamed name
   pub lacks : IfSome b.told (Lacks place)
 
@@ -52,9 +53,10 @@ IsPlaceUnread place b a NoMemory = IsKept b a
 IsPlaceUnread place b a (NotThere name) = IsAway place name b a
 IsPlaceUnread place b a (Unread failed) = IsFailed place failed b a
 
--- places were not read, and why: the first that is not there, or a count that rose
+-- places were not read, and why: the first that is not there, where no call failed, or a count that rose
 pub record IsAwayAmong (places : List Place) (name : List ℕ) (b a : ShelfState) : Type 0 where
   pub kept : IsKept b a
+  pub quiet : a.faults ≡ b.faults
   pub among : IsPlaceAmong places (FileNamed name)
   pub first : IfSome b.told (IsFirstAway places (FileNamed name))
 
@@ -104,6 +106,7 @@ pub record IsFirstLacking (names : List (List ℕ)) (name : List ℕ) (contents 
 -- one file of a name was not read, and why
 pub record IsLacking (name missing : List ℕ) (b a : ShelfState) : Type 0 where
   pub kept : IsKept b a
+  pub quiet : a.faults ≡ b.faults
   pub named : missing ≡ name
   pub lacks : IfSome b.told (λ contents. ¬ IsThere name contents)
 
@@ -112,9 +115,10 @@ IsUnreadFile name b a NoMemory = IsKept b a
 IsUnreadFile name b a (NotThere missing) = IsLacking name missing b a
 IsUnreadFile name b a (Unread failed) = IsFailed (FileNamed name) failed b a
 
--- files were not read, and why: the first that is not there, or a count that rose
+-- files were not read, and why: the first that is not there, where no call failed, or a count that rose
 pub record IsMissingAmong (names : List (List ℕ)) (name : List ℕ) (b a : ShelfState) : Type 0 where
   pub kept : IsKept b a
+  pub quiet : a.faults ≡ b.faults
   pub among : IsAmong names name
   pub first : IfSome b.told (IsFirstLacking names name)
 

@@ -71,9 +71,10 @@ BytesSplit bytes b a (Err fail.NoMemory) = IsKept b a
 BytesSplit bytes b a (Err fail.NotThere) = ⊥
 BytesSplit bytes b a (Err fail.Unread) = ⊥
 
--- A PLACE that is not there, or was not read for a fault.
+-- A PLACE that is not there, where no call failed, or was not read for a fault.
 pub record IsNotThere (from : Place) (b a : ShelfState) : Type 0 where
   pub kept : IsKept b a
+  pub quiet : a.faults ≡ b.faults
   pub file : IsFile from
   pub lacks : IfSome b.told (Lacks from)
 

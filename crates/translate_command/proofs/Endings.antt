@@ -51,9 +51,10 @@ unfolding stopped_same
 unwritten_same tos texts place b k a kept stopped =
     record { number = stopped.number; stopped = stopped_same tos texts stopped.number b k a kept stopped.stopped; named = stopped.named }
 
-away_same : (places : List Place) (name : List ℕ) (b k a : ShelfState) → IsKept b k → IsAwayAmong places name k a → IsAwayAmong places name b a
-away_same places name b k a kept away = record {
+away_same : (places : List Place) (name : List ℕ) (b k a : ShelfState) → IsKept b k → k.faults ≡ b.faults → IsAwayAmong places name k a → IsAwayAmong places name b a
+away_same places name b k a kept quiet away = record {
   kept = kept_kept b k a kept away.kept;
+  quiet = away.quiet ∙ quiet;
   among = away.among;
   first = subst (λ told. IfSome told (IsFirstAway places (FileNamed name))) kept.same away.first;
 }
@@ -172,19 +173,19 @@ not_read options job tos b a why (Ok same) is its = absurd is
 not_read options job tos b a why (Err found) is its = unread options job tos b a why found is its
 
 -- and prototype files that were not read
-unread_forms : (options : Options) (job : Job) (tos : List Place) (b m a : ShelfState) (why : SourceFail) (found : TranslateFail) → IsKept b m → IsFailOfReading why found →
+unread_forms : (options : Options) (job : Job) (tos : List Place) (b m a : ShelfState) (why : SourceFail) (found : TranslateFail) → IsKept b m → m.faults ≡ b.faults → IsFailOfReading why found →
     ArePlacesUnread job.forms m a why → TranslateEnded options job tos b a (Err found)
-unread_forms options job tos b m a (source_fail.NotThere name) found kept is its =
-    subst (λ (f : TranslateFail). TranslateEnded options job tos b a (Err f)) (sym is) (form_away (away_same job.forms name b m a kept its))
-unread_forms options job tos b m a (source_fail.Unread place) found kept is its =
+unread_forms options job tos b m a (source_fail.NotThere name) found kept quiet is its =
+    subst (λ (f : TranslateFail). TranslateEnded options job tos b a (Err f)) (sym is) (form_away (away_same job.forms name b m a kept quiet its))
+unread_forms options job tos b m a (source_fail.Unread place) found kept quiet is its =
     subst (λ (f : TranslateFail). TranslateEnded options job tos b a (Err f)) (sym is) (form_failed (failed_same job.forms place b m a kept its))
-unread_forms options job tos b m a source_fail.NoMemory found kept is its =
+unread_forms options job tos b m a source_fail.NoMemory found kept quiet is its =
     subst (λ (f : TranslateFail). TranslateEnded options job tos b a (Err f)) (sym is) (kept_kept b m a kept its)
 
-pub forms_not_read : (options : Options) (job : Job) (tos : List Place) (b m a : ShelfState) (why : SourceFail) (result : Result Bool TranslateFail) → IsKept b m →
+pub forms_not_read : (options : Options) (job : Job) (tos : List Place) (b m a : ShelfState) (why : SourceFail) (result : Result Bool TranslateFail) → IsKept b m → m.faults ≡ b.faults →
     IsErrAnd result (IsFailOfReading why) → ArePlacesUnread job.forms m a why → TranslateEnded options job tos b a result
-forms_not_read options job tos b m a why (Ok same) kept is its = absurd is
-forms_not_read options job tos b m a why (Err found) kept is its = unread_forms options job tos b m a why found kept is its
+forms_not_read options job tos b m a why (Ok same) kept quiet is its = absurd is
+forms_not_read options job tos b m a why (Err found) kept quiet is its = unread_forms options job tos b m a why found kept quiet is its
 
 -- THE STEPS behind what was made
 pub was_put : (options : Options) (job : Job) (files names included forms : List (List ℕ)) (tos olds : List Place) (made : Made) (b a : ShelfState)

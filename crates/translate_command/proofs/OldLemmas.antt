@@ -46,7 +46,7 @@ pub compared_away : (place : Place) (list : List Prototype) (why : ReadFail) (b 
     IsCompared place list false b a
 compared_away place list why b a is unread =
     let its : IsUnreadFor read_fail.NotThere place b a = subst (λ w. IsUnreadFor w place b a) is unread in
-    record { kept = its.kept; quiet = λ never. absurd (cc); still = mapped b.told _ _ its.cause.1 (λ c lacks. away_at place list c lacks) }
+    record { kept = its.kept; quiet = λ never. absurd (cc); still = mapped b.told _ _ its.cause.2 (λ c lacks. away_at place list c lacks) }
 
 -- one that was not read
 pub failed_one : (place other : Place) (why : ReadFail) (b a : ShelfState) → why ≡ read_fail.Failed → IsUnreadFor why place b a → other ≡ place →

@@ -24,7 +24,7 @@ read_places-requires g c = subst (All IsSource) (sym c.as_slice-2.ensures) (all_
 pub returns-in_err-forms : goal.returns-in_err-forms
 returns-in_err-forms g c =
     forms_not_read c.args.options.now c.args.job.now c.args.tos (g.H.Shelf.state c.args.shelf.now) (g.H.Shelf.state c.read_source_from.new.shelf)
-    (g.H.Shelf.state c.read_places.new.shelf) c.in_err-forms.field-0.0 c.from_residual-in_err-forms.result c.in_ok-read.ensures.ok.kept c.from_residual-in_err-forms.ensures.1
+    (g.H.Shelf.state c.read_places.new.shelf) c.in_err-forms.field-0.0 c.from_residual-in_err-forms.result c.in_ok-read.ensures.ok.kept c.in_ok-read.ensures.ok.quiet c.from_residual-in_err-forms.ensures.1
     (subst (λ places. ArePlacesUnread places (g.H.Shelf.state c.read_source_from.new.shelf) (g.H.Shelf.state c.read_places.new.shelf) c.in_err-forms.field-0.0) c.as_slice-2.ensures
     c.in_err-forms.ensures.err)
 
