@@ -1,6 +1,6 @@
 -- A source that is accepted for translation is accepted by the whole table, and a refusal that is no F99 is the first by it.
 use Rattle.std.specs.Prelude.{◌≡◌, ℕ, suc, ◌+◌, ◌<◌, Bool, true, false, ◌&&◌, List, [], ◌∷◌, ◌++◌, length, Option, Some, None, if◌then◌else◌}
-use Rattle.std.proofs.Common.{refl, sym, ap, ◌∙◌, subst}
+use Rattle.std.proofs.Common.{refl, subst}
 use Rattle.std.proofs.lemmas.Bool.{and_parts}
 use Rattle.plain_mains.specs.f_tree.declared.names.Class.{Class}
 use Rattle.plain_mains.specs.f_tree.declared.names.Class.TheVariants as class

@@ -4,6 +4,6 @@
 mod names;
 
 pub use names::{
-    constant_name, control_list_name, external_name, made_label_name, result_name,
-    statement_label_name, temporary_name, variable_name,
+    constant_name, control_list_name, external_name, lower_bound_name, made_label_name,
+    result_name, size_name, statement_label_name, temporary_name, variable_name,
 };

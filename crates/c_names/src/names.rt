@@ -2,7 +2,7 @@
 
 ghost use Rattle.std.specs.Prelude.{◌≡◌, ◌++◌, IfOk, bytes_eq, decimal, codes};
 ghost use Rattle.std.specs.List.{list_any};
-ghost use Rattle.f_tree.specs.CNames.{made_name, FunctionResult, NumberTemporary, ControlList, ConstantOf, StatementLabel, MadeLabel};
+ghost use Rattle.f_tree.specs.CNames.{made_name, FunctionResult, NumberTemporary, ControlList, ConstantOf, StatementLabel, MadeLabel, DimensionOf, LowerBoundOf};
 ghost use Rattle.f_tree.specs.CNames as spec;
 
 use itoa::Buffer;
@@ -206,4 +206,26 @@ pub fn made_label_name(alloc: Global, number: usize) -> Result<Items<u8>, AllocE
     ensures { IfOk result (λ text. text ≡ made_name (MadeLabel number)) }
 {
     numbered(alloc, b"L__", number)
+}
+
+/// The name of what keeps the lower bound of a dimension of an array, by the number of the dimension from 1.
+#[tactic(auto, unfolding(f_tree::specs::CNames::made_name))]
+pub fn lower_bound_name(alloc: Global, array: &[u8], number: usize) -> Result<Items<u8>, AllocError>
+    ensures { IfOk result (λ text. text ≡ made_name (LowerBoundOf (spec.variable_name array.now) number)) }
+{
+    let name = variable_name(alloc, array)?;
+    let mut front = Vec::from_slice(alloc, name.as_slice())?;
+    front.extend_from_slice(b"_low")?;
+    numbered(alloc, front.as_slice(), number)
+}
+
+/// The name of what keeps the size of a dimension of an array, by the number of the dimension from 1.
+#[tactic(auto, unfolding(f_tree::specs::CNames::made_name))]
+pub fn size_name(alloc: Global, array: &[u8], number: usize) -> Result<Items<u8>, AllocError>
+    ensures { IfOk result (λ text. text ≡ made_name (DimensionOf (spec.variable_name array.now) number)) }
+{
+    let name = variable_name(alloc, array)?;
+    let mut front = Vec::from_slice(alloc, name.as_slice())?;
+    front.extend_from_slice(b"_dim")?;
+    numbered(alloc, front.as_slice(), number)
 }

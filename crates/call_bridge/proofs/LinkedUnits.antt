@@ -17,17 +17,17 @@ use Rattle.procedure_emission.specs.c_tree.Linking as linking
 use Rattle.procedure_emission.specs.c_tree.Meaning.{step_factor}
 use Rattle.procedure_emission.proofs.c_image_laws.Growing.{extends_through}
 use Rattle.procedure_emission.specs.emitted_texts.SecondLayer.{Surroundings, Emission}
-use Rattle.procedure_emission.specs.CallLayer.{call_kit, call_pairing, call_couple}
+use Rattle.procedure_emission.specs.CallLayer.{call_kit, entered_couple}
 use Rattle.call_bridge.specs.CallBridge.{Translation, MayRun, linking_of, IsTranslated}
 
 composable : (s : Surroundings) (i : ℕ) (u : Text) (costs : List ℕ) → Composable (call_kit s) (lower_couple i u costs)
 composable s i u costs = record { bare = λ n. refl; stays = λ j μ. tt; tells = λ f e told. absurd told }
 
 -- both layers, of a unit and of a function that are given
-abbrev joined : (s : Surroundings) → ℕ → Text → List ℕ → Emission → Facts → linking.Function → Couple (composite_kit lower_kit (call_kit s))
-joined s i u costs e unit function = record {
+abbrev joined : (s : Surroundings) → ℕ → Text → (own costs : List ℕ) → Emission → Facts → linking.Function → Couple (composite_kit lower_kit (call_kit s))
+joined s i u own costs e unit function = record {
   number = i;
-  pairing = composite_pairing (lower_pairing u) (call_pairing s i e);
+  pairing = composite_pairing (lower_pairing u) (entered_couple s i u own costs e).pairing;
   source = unit;
   target = function;
   weight = λ w. 1;
@@ -50,10 +50,10 @@ module _ (g : Setting) (S : List ProgramUnit) (files : List CFile) (t : Translat
       let one = is.units i known in
       let u = t.texts i in
       let e = t.emissions i in
-      let both : Local (joined t.surroundings i u (t.costs i) e u.facts e.function) =
-      composite_simulates (lower_couple i u (t.costs i)) (call_couple t.surroundings i u (t.costs i) e) (composable t.surroundings i u (t.costs i)) one.upper one.lower in
-      subst (λ f. Local (joined t.surroundings i u (t.costs i) e (facts_at g i (slice_get S i)) f)) (sym one.function)
-      (subst (λ c. Local (joined t.surroundings i u (t.costs i) e c e.function)) (one.facts ∙ ap (facts_at g i) (sym one.has)) both)
+      let both : Local (joined t.surroundings i u (t.own_costs i) (t.costs i) e u.facts e.function) =
+      composite_simulates (lower_couple i u (t.costs i)) (entered_couple t.surroundings i u (t.own_costs i) (t.costs i) e) (composable t.surroundings i u (t.costs i)) one.upper one.lower in
+      subst (λ f. Local (joined t.surroundings i u (t.own_costs i) (t.costs i) e (facts_at g i (slice_get S i)) f)) (sym one.function)
+      (subst (λ c. Local (joined t.surroundings i u (t.own_costs i) (t.costs i) e c e.function)) (one.facts ∙ ap (facts_at g i) (sym one.has)) both)
 
   own : (i : ℕ) → MayRun S i → (if nat_lt (t.emissions i).number (length (linking.program files).functions) then Some (t.emissions i).number else None) ≡ Some (t.emissions i).number
   own i known = ap (λ b. if b then Some (t.emissions i).number else None) (is.units i known).own

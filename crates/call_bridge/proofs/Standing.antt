@@ -9,6 +9,7 @@ use Rattle.lowering_laws.specs.f_tree.Facts.{ProgramUnit}
 use Rattle.lowering_laws.specs.f_tree.Setting.{Setting}
 use Rattle.lowering_laws.specs.f_tree.World as fortran
 use Rattle.lowering_laws.specs.f_tree.World.{fortran_sorts}
+use Rattle.lowering_laws.specs.l_core.Pures.{none_kept}
 use Rattle.lowering_laws.specs.l_core.Machine.{View}
 use Rattle.lowering_laws.specs.Layer.{lower_kit}
 use Rattle.lowering_laws.specs.simulation.Composition.{composite_kit}
@@ -16,15 +17,16 @@ use Rattle.procedure_emission.specs.c_tree.declared.file.CFile.{CFile}
 use Rattle.procedure_emission.specs.c_tree.Objects.{Object}
 use Rattle.procedure_emission.specs.c_tree.World as c
 use Rattle.procedure_emission.specs.c_tree.Steps as c_steps
-use Rattle.procedure_emission.specs.faithful.StorageImage.{NamesStand}
+use Rattle.procedure_emission.specs.faithful.StorageImage.{Homes, NamesStand}
 use Rattle.procedure_emission.specs.faithful.FrameImage as each
-use Rattle.procedure_emission.specs.faithful.FrameImage.{Each, ProcedureStands, FrameStands}
+use Rattle.procedure_emission.specs.faithful.FrameImage.{Each, FormalStands, ProcedureStands, FrameStands}
 use Rattle.procedure_emission.specs.faithful.SameTransfer.{SameMedium, on_unit, in_file, SameTransfer, neither, both}
 use Rattle.procedure_emission.specs.c_image.World.{World, Extends}
 use Rattle.procedure_emission.proofs.c_image_laws.Growing.{extends_itself, extends_through}
 use Rattle.procedure_emission.specs.c_emit_laws.EmittedNumbers.{IsKnown}
 use Rattle.procedure_emission.specs.emitted_texts.SecondLayer.{Surroundings, Emission, TransfersStand}
 use Rattle.procedure_emission.proofs.emitted_texts.Known.{known_later}
+use Rattle.procedure_emission.specs.kept_bounds.KeptBounds.{without_bounds}
 use Rattle.procedure_emission.specs.Reading.{numbers_kept}
 use Rattle.procedure_emission.specs.CallLayer.{CallWorld, IsFrameOf, AreProceduresHeld, function_object, call_kit}
 use Rattle.call_bridge.specs.CallBridge.{Translation, MayRun, linking_of, IsTranslated}
@@ -56,6 +58,32 @@ procedures_later s e μ ν f grown procedures x d parameter own bound address =
     let one = procedures x d parameter own bound address in
     (one.0, one.1, one.2, one.3, grown.frozen parameter (function_object one.1) one.4)
 
+-- ## Bounds
+
+-- what belongs to a procedure stands whatever the bounds of its arrays are
+module _ (S : List ProgramUnit) (files : List CFile) (homes : Homes) (objects : List Object) (f : fortran_facts.Frame) where
+  formal_apart : (function : ℕ) (unit : ProgramUnit) (formal : fortran_facts.Formal) → FormalStands files homes objects function unit (without_bounds f) formal → FormalStands files homes objects function unit f formal
+  formal_apart function unit (fortran_facts.Named x) stands = record { parameter = stands.parameter; length = stands.length }
+  formal_apart function unit fortran_facts.Alternate stands = tt
+
+  formals_apart : (function : ℕ) (unit : ProgramUnit) (formals : List fortran_facts.Formal) → Each (FormalStands files homes objects function unit (without_bounds f)) formals
+      → Each (FormalStands files homes objects function unit f) formals
+  formals_apart function unit _ each.none = each.none
+  formals_apart function unit _ (each.more formal later stands rest) = each.more formal later (formal_apart function unit formal stands) (formals_apart function unit later rest)
+
+  bounds_apart : (i : ℕ) → ProcedureStands S files homes objects i (without_bounds f) → ProcedureStands S files homes objects i f
+  bounds_apart i stands = record {
+    unit = stands.unit;
+    is = stands.is;
+    function = stands.function;
+    has = stands.has;
+    dummies = formals_apart stands.function stands.unit f.called.formals stands.dummies;
+    result = stands.result;
+  }
+
+frame_without : (u : ProgramUnit) (μ : CallWorld) (f : fortran_facts.Frame) → IsFrameOf u μ f → IsFrameOf u μ (without_bounds f)
+frame_without u μ f is = record { called = is.called; served = is.served; base = is.base; labels = is.labels; no_result = is.no_result; result = is.result }
+
 module _ (g : Setting) (S : List ProgramUnit) (files : List CFile) (t : Translation) (is : IsTranslated g S files t) where
   -- ## Stored names
 
@@ -79,6 +107,14 @@ module _ (g : Setting) (S : List ProgramUnit) (files : List CFile) (t : Translat
         → AreProceduresHeld t.surroundings (t.emissions i) ν x.frame → ProcedureStands S files ν.homes objects i v.frame
     procedure_stands i μ v x known same frame knows procedures =
         subst (ProcedureStands S files ν.homes objects i) (sym same) ((is.units i known).frames μ ν x.frame (numbers_kept x.kept) objects frame knows procedures held)
+
+    -- while no array has bounds yet
+    pub early_stands : (i : ℕ) (μ : CallWorld) (v : fortran.View) (f : fortran_facts.Frame) → MayRun S i → v.frame ≡ f → IsFrameOf (t.emissions i).writing.facts.program μ f
+        → IsKnown ν (t.emissions i).writing (without_bounds f) none_kept → AreProceduresHeld t.surroundings (t.emissions i) ν f → ProcedureStands S files ν.homes objects i v.frame
+    early_stands i μ v f known same frame knows procedures =
+        subst (ProcedureStands S files ν.homes objects i) (sym same)
+        (bounds_apart S files ν.homes objects f i
+        ((is.units i known).frames μ ν (without_bounds f) none_kept objects (frame_without (t.emissions i).writing.facts.program μ f frame) knows procedures held))
 
     pub waiting_stand : {μ : (composite_kit lower_kit (call_kit t.surroundings)).World} {us : List (Frame fortran_sorts)} {fs : List (Frame c_steps.sorts)} → Extends μ.1.image ν → WaitingFrames (linking_of g S files t) μ us fs
         → Each (FrameStands S files ν.homes objects) us

@@ -17,6 +17,7 @@ use Rattle.lowering_laws.specs.f_tree.Step.{fortran}
 use Rattle.lowering_laws.specs.f_tree.Meaning as source
 use Rattle.lowering_laws.specs.f_tree.Meaning.{RunState, found_from, started, ftn, act_of, call_of_main, start_world}
 use Rattle.lowering_laws.specs.l_core.Machine.{View}
+use Rattle.lowering_laws.specs.l_core.Costs.{cost}
 use Rattle.lowering_laws.specs.Layer.{lower_kit}
 use Rattle.lowering_laws.specs.simulation.Composition.{composite_kit}
 use Rattle.procedure_emission.specs.c_tree.declared.file.CFile.{CFile}
@@ -24,21 +25,23 @@ use Rattle.procedure_emission.specs.c_tree.declared.file.CFunction.{CFunction}
 use Rattle.procedure_emission.specs.c_tree.World as c
 use Rattle.procedure_emission.specs.c_tree.Linking as linking
 use Rattle.procedure_emission.specs.c_tree.Meaning.{run_of, meaning, step_factor}
+use Rattle.procedure_emission.specs.c_tree.Steps as c_steps
 use Rattle.procedure_emission.specs.c_tree.Steps.{sorts}
 use Rattle.procedure_emission.specs.faithful.StorageImage.{function_number}
 use Rattle.procedure_emission.specs.faithful.FrameImage as each
-use Rattle.procedure_emission.specs.faithful.FrameImage.{Each, FrameStands}
+use Rattle.procedure_emission.specs.faithful.FrameImage.{Each, ProcedureStands, FrameStands}
 use Rattle.procedure_emission.specs.faithful.SameState as same
 use Rattle.procedure_emission.specs.faithful.SameState.{is_inner, function_of, without_wrappers, SameWorld, SameActive, Same}
 use Rattle.procedure_emission.specs.faithful.Faithful.{SameRuns}
 use Rattle.procedure_emission.specs.c_image.World.{World, Extends}
 use Rattle.procedure_emission.proofs.c_image_laws.Growing.{extends_through}
+use Rattle.procedure_emission.specs.late_starts.LateStarts.{IsLate, ready, early}
 use Rattle.procedure_emission.specs.emitted_texts.SecondLayer.{BothStand}
-use Rattle.procedure_emission.specs.CallLayer.{call_kit}
+use Rattle.procedure_emission.specs.CallLayer.{CallWorld, call_kit, call_couple, IsEarly}
 use Rattle.call_bridge.specs.CallBridge.{Translation, MayRun, is_wrapper, linking_of, IsTranslated, CallsRunAlike}
 use Rattle.call_bridge.proofs.LinkedUnits.{linked}
 use Rattle.call_bridge.proofs.Beginning.{first_alike}
-use Rattle.call_bridge.proofs.Standing.{transfers_later, names_later, procedure_stands, waiting_stand}
+use Rattle.call_bridge.proofs.Standing.{transfers_later, names_later, procedure_stands, early_stands, waiting_stand}
 
 -- ## Functions
 
@@ -110,20 +113,34 @@ module _ (g : Setting) (S : List ProgramUnit) (files : List CFile) (t : Translat
     image = record { names = names_later g S files t is ν (extends_through t.surroundings.first μ ν houses both.extends); stored = both.stands.units; active = active };
   }
 
+  -- the world in which an active procedure stands
+  record IsNow (i : ℕ) (μ : CallWorld) (v : fortran.View) (m : fortran.World) (z : c.World) : Type 0 where
+    now : World
+    both : BothStand t.surroundings μ.image now m z
+    here : ProcedureStands S files now.homes z.objects i v.frame
+
+  -- its function is at the item of its step, or keeps bounds yet
+  stands_now : (i : ℕ) → MayRun S i → (μ : CallWorld) (v : fortran.View) (x : View) (m : fortran.World) (w : c_steps.View) (z : c.World) → v.frame ≡ x.frame
+      → IsLate (call_couple t.surroundings i (t.texts i) (t.own_costs i) (t.emissions i)) (IsEarly t.surroundings i (t.emissions i)) (λ (u : View). cost (t.costs i) u.at) μ x m w z → IsNow i μ v m z
+  stands_now i known μ v x m w z same (ready at) =
+      let active = at.active in
+      record { now = active.now; both = active.both; here = procedure_stands g S files t is active.now z.objects active.both.stands.held i μ v x known same active.frame active.known active.procedures }
+  stands_now i known μ v x m w z same (early count view shared first path few later) =
+      record { now = first.now; both = first.both; here = early_stands g S files t is first.now z.objects first.both.stands.held i μ v x.frame known same first.frame first.known first.procedures }
+
   -- the main program is there, so some text is housed
   alike_same : (main : ℕ) → MayRun S main → {x : RunState} {y : State c.Ending sorts} → Alike (linking_of g S files t) x y → act_of x ≡ None → Same S g files x y
   unfolding act_of numbers
   alike_same main may (running {μ = μ} {i = i} {v = v} {s = s} {w = w} {t = z} {us = us} {fs = fs} known home matched below) going =
-      let active = matched.3.active in
       let upper = matched.2 in
       let waiting = below_waits (linking_of g S files t) below unchanged in
       let frame : v.frame ≡ matched.0.frame = sym (ap (λ (view : View). view.frame) upper.seen) in
-      let here = procedure_stands g S files t is active.now z.objects active.both.stands.held i μ.1 v matched.0 known frame active.frame active.known active.procedures in
+      let active = stands_now i known μ.1 v matched.0 matched.1 w z frame matched.3 in
       let below' = waiting_stand g S files t is active.now z.objects active.both.stands.held active.both.extends waiting in
       let texts = same_texts (linking_of g S files t) (step_factor files) (linked g S files t is) (running {w = w} {t = z} known home matched below) in
       same.running i v us s (t.emissions i).number w fs z
       (subst (λ m. SameWorld S g files (Has i v ∷ us) m z) (sym upper.same)
-      (same_world μ.1.image active.now matched.1 z (Has i v ∷ us) (home.houses i known).1 active.both (each.more (Has i v) us here below')))
+      (same_world μ.1.image active.now matched.1 z (Has i v ∷ us) (home.houses i known).1 active.both (each.more (Has i v) us active.here below')))
       (same_active (i ∷ numbers us) ((t.emissions i).number ∷ numbers fs) (one_unit i (numbers us) known (waiting_may_run waiting)) texts)
   alike_same main may (over {μ = μ} {i = i} {e = e} {v = v} {s = s} {w = w} {t = z} {us = us} {fs = fs} known home halted below) going =
       let active = halted.3 in

@@ -29,12 +29,13 @@ use Rattle.procedure_emission.specs.c_image.World.{World}
 use Rattle.procedure_emission.specs.c_image.Standing.{Stands}
 use Rattle.procedure_emission.specs.c_emit_laws.EmittedNumbers.{IsKnown}
 use Rattle.procedure_emission.specs.emitted_texts.SecondLayer.{Surroundings, Emission, IsFree}
-use Rattle.procedure_emission.specs.CallLayer.{CallWorld, IsFrameOf, AreProceduresHeld, call_kit, call_pairing, call_couple}
+use Rattle.procedure_emission.specs.CallLayer.{CallWorld, IsFrameOf, AreProceduresHeld, call_kit, entered_couple}
 
--- of each unit its lowered text, what the steps of that cost, and its function
+-- of each unit its lowered text, what the steps of that cost, without and with what is kept before the first, and its function
 pub record Translation : Type 0 where
   pub surroundings : Surroundings
   pub texts : ℕ → Text
+  pub own_costs : ℕ → List ℕ
   pub costs : ℕ → List ℕ
   pub emissions : ℕ → Emission
   -- the unit of each function
@@ -53,7 +54,7 @@ is_wrapper (Some function) = not (is_inner (Some function))
 abbrev pub linking_of : (g : Setting) (S : List ProgramUnit) (files : List CFile) (t : Translation) → Linking (composite_kit lower_kit (call_kit t.surroundings)) (source.program g S) (machine (linking.program files))
 linking_of g S files t = record {
   Known = MayRun S;
-  pairing = λ i. composite_pairing (lower_pairing (t.texts i)) (call_pairing t.surroundings i (t.emissions i));
+  pairing = λ i. composite_pairing (lower_pairing (t.texts i)) (entered_couple t.surroundings i (t.texts i) (t.own_costs i) (t.costs i) (t.emissions i)).pairing;
   image = λ i. (t.emissions i).number;
   width = λ i. rest (t.costs i) 0;
   wrapper = λ i n. None;
@@ -74,7 +75,7 @@ pub record UnitIsTranslated (g : Setting) (S : List ProgramUnit) (files : List C
   pub facts : (t.texts i).facts ≡ facts_at g i (Some unit)
   -- both layers
   pub upper : Local (lower_couple i (t.texts i) (t.costs i))
-  pub lower : Local (call_couple t.surroundings i (t.texts i) (t.costs i) (t.emissions i))
+  pub lower : Local (entered_couple t.surroundings i (t.texts i) (t.own_costs i) (t.costs i) (t.emissions i))
   pub narrow : rest (t.costs i) 0 ≤ step_factor files
   -- its function is one of the program, no wrapper, and that of its name
   pub function : text_of (linking.program files).functions (t.emissions i).number ≡ (t.emissions i).function

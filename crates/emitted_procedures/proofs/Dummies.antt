@@ -6,11 +6,9 @@ use Rattle.procedure_emission.specs.f_tree.declared.names.Basic.{Basic}
 use Rattle.procedure_emission.specs.f_tree.declared.names.Basic.TheVariants.{Integer, Logical, Character, Untyped}
 use Rattle.procedure_emission.specs.f_tree.declared.names.Class.TheVariants as class
 use Rattle.procedure_emission.specs.f_tree.Values.{Bytes, Spot, Datum, IsSpot, IsProc, IsLabel, Nothing, Disagreement, Gives, Fails}
-use Rattle.procedure_emission.specs.f_tree.Store.{Store}
-use Rattle.procedure_emission.specs.f_tree.Facts.{Bounds, Attribute, Formal, Frame}
-use Rattle.procedure_emission.specs.f_tree.Setting.{IsIn, first_in, later_in}
+use Rattle.procedure_emission.specs.f_tree.Facts.{Attribute, Formal, Named, Alternate, ProgramUnit}
 use Rattle.procedure_emission.specs.f_tree.World.{Procedure}
-use Rattle.procedure_emission.specs.f_tree.Association.{Bindings, value_for, length_for, length_of, same_basic, is_array_dummy, bound_as, agreed, bind_all, dimensions_by, all_dimensions_by, bounds_for}
+use Rattle.procedure_emission.specs.f_tree.Association.{Bindings, value_for, length_for, length_of, same_basic, is_array_dummy, bound_as, agreed, bind_all}
 use Rattle.procedure_emission.specs.l_core.Steps.{Text}
 use Rattle.procedure_emission.specs.c_tree.declared.outcome.CValue.{CValue}
 use Rattle.procedure_emission.specs.c_tree.declared.outcome.CValue.TheVariants.{Pointer, Function}
@@ -23,6 +21,7 @@ use Rattle.procedure_emission.specs.c_emit.Numbers.{is_numeric}
 use Rattle.procedure_emission.proofs.c_emit_laws.Choices.{got, some_same}
 use Rattle.procedure_emission.specs.emitted_texts.SecondLayer.{Surroundings, Emission, length_of_text, lengths_of}
 use Rattle.procedure_emission.specs.CallLayer.{ArePassed, none_passed, place_passed, procedure_passed, label_passed, nothing_passed, labels_passed}
+use Rattle.procedure_emission.specs.DummyBounds.{dummies_named}
 use Rattle.procedure_emission.specs.EmittedUnits.{is_number_pointer, IsParameter, is_function_pointer, IsProcedureParameter, AreParameters, no_parameters, named, named_procedure, alternate}
 
 given_same : {A : Type 0} (a b : A) → Gives a ≡ Gives b → a ≡ b
@@ -138,9 +137,6 @@ pub data IsBoundTo (s : Surroundings) (u : Text) (e : Emission) (μ : World) (at
   a_place : DummyAt u e μ at values x d → IsBoundTo s u e μ at values x d
   a_procedure : ProcedureAt s u e at values x d → IsBoundTo s u e μ at values x d
 
-abbrev pub IsFixed : Text → Bytes → Type 0
-IsFixed u x = (f : Frame) (store : Store) (bounds : List Bounds) → dimensions_by u.facts f store (u.facts.program.attribute x).dimensions ≡ Gives bounds → bounds ≡ (u.facts.program.attribute x).bounds
-
 pub record AreBound (s : Surroundings) (u : Text) (e : Emission) (μ : World) (at : ℕ) (types : List ParameterType) (ds : List Datum) (values : List CValue) (bindings : Bindings) : Type 0 where
   pub fit : all_fit types values ≡ true
   pub as_many : length values ≡ length types
@@ -148,13 +144,9 @@ pub record AreBound (s : Surroundings) (u : Text) (e : Emission) (μ : World) (a
   pub labels : bindings.labels ≡ labels_passed ds
   pub dummy : (x : Bytes) (d : Datum) → value_for x bindings.names bindings.values ≡ Some d → IsBoundTo s u e μ at values x d
   pub numeric : (x : Bytes) (n : ℕ) → length_for x bindings.names bindings.lengths ≡ Some n → (u.facts.program.attribute x).class ≡ class.Dummy → is_numeric (u.facts.program.attribute x).basic ≡ true
-  pub fixed : (x : Bytes) → IsIn x bindings.names → IsFixed u x
 
 none_some : {A B : Type 0} (a : A) → None ≡ Some a → B
 none_some a h = absurd (cc)
-
-none_among : {A : Type 0} (x : Bytes) → IsIn x [] → A
-none_among x among = elim among [ ]
 
 module _ (s : Surroundings) (u : Text) (e : Emission) (μ : World) where
   bound_none : (at : ℕ) → AreBound s u e μ at [] [] [] (record { names = []; values = []; lengths = []; labels = [] })
@@ -166,7 +158,6 @@ module _ (s : Surroundings) (u : Text) (e : Emission) (μ : World) where
     labels = refl;
     dummy = λ x d h. none_some d h;
     numeric = λ x n h dummy. none_some n h;
-    fixed = λ x among. none_among x among;
   }
 
   -- what is one place further on
@@ -215,7 +206,6 @@ module _ (s : Surroundings) (u : Text) (e : Emission) (μ : World) where
     labels = more.labels;
     dummy = λ y d h. dummy_by y d (bytes_eq y x) refl h;
     numeric = λ y n h dummy. numeric_by y n (bytes_eq y x) refl h dummy;
-    fixed = fixed_by;
   }
     where
       number_spot : is_numeric p.basic ≡ true
@@ -247,10 +237,6 @@ module _ (s : Surroundings) (u : Text) (e : Emission) (μ : World) where
       numeric_by y n true same h dummy = ap (λ z. is_numeric (u.facts.program.attribute z).basic) ((bytes_eq-Decides y x).0 same) ∙ is.numeric
       numeric_by y n false same h dummy = more.numeric y n h dummy
 
-      fixed_by : (y : Bytes) → IsIn y (x ∷ rest.names) → IsFixed u y
-      fixed_by _ first_in = is.fixed
-      fixed_by y (later_in among) = more.fixed y among
-
   bound_procedure : (at : ℕ) (x : Bytes) (type : ParameterType) (types : List ParameterType) (name : Bytes) (number : ℕ) (ds : List Datum) (values : List CValue) (value : Datum) (rest : Bindings) → IsProcedureParameter u e at x type
       → s.numbers (Procedure name) ≡ Some number → value ≡ IsProc name → AreBound s u e μ (suc at) types ds values rest
       → AreBound s u e μ at (type ∷ types) (IsProc name ∷ ds) (Function number ∷ values) (record rest { names = x ∷ rest.names; values = value ∷ rest.values; lengths = length_of (IsProc name) ∷ rest.lengths })
@@ -262,7 +248,6 @@ module _ (s : Surroundings) (u : Text) (e : Emission) (μ : World) where
     labels = more.labels;
     dummy = λ y d h. dummy_by y d (bytes_eq y x) refl h;
     numeric = λ y n h dummy. numeric_by y n (bytes_eq y x) refl h dummy;
-    fixed = fixed_by;
   }
     where
       here : ProcedureAt s u e at (Function number ∷ values) x value
@@ -282,10 +267,6 @@ module _ (s : Surroundings) (u : Text) (e : Emission) (μ : World) where
       numeric_by y n true same h dummy = no_dummy (sym is.dummy ∙ ap (λ z. (u.facts.program.attribute z).class) (sym ((bytes_eq-Decides y x).0 same)) ∙ dummy)
       numeric_by y n false same h dummy = more.numeric y n h dummy
 
-      fixed_by : (y : Bytes) → IsIn y (x ∷ rest.names) → IsFixed u y
-      fixed_by _ first_in = is.fixed
-      fixed_by y (later_in among) = more.fixed y among
-
   bound_label : (at : ℕ) (label : ℕ) (types : List ParameterType) (ds : List Datum) (values : List CValue) (rest : Bindings) → AreBound s u e μ at types ds values rest
       → AreBound s u e μ at types (IsLabel label ∷ ds) values (record rest { labels = label ∷ rest.labels })
   bound_label at label types ds values rest more = record {
@@ -295,7 +276,6 @@ module _ (s : Surroundings) (u : Text) (e : Emission) (μ : World) where
     labels = ap (λ ls. label ∷ ls) more.labels;
     dummy = more.dummy;
     numeric = more.numeric;
-    fixed = more.fixed;
   }
 
   pub dummies_bound : (at : ℕ) (formals : List Formal) (types : List ParameterType) (ds : List Datum) (values : List CValue) (bindings : Bindings) → AreParameters u e at formals types → ArePassed s μ ds values
@@ -340,22 +320,20 @@ module _ (s : Surroundings) (u : Text) (e : Emission) (μ : World) where
       let rest = got (bind_all u.facts.program formals ds) _ bindings h in
       subst (AreBound s u e μ at types (IsLabel label ∷ ds) values) (given_same _ bindings rest.gives) (bound_label at label types ds values rest.value (dummies_bound at formals types ds values rest.value more later rest.is))
 
--- ## Bounds
+-- ## Names
 
-module _ (u : Text) (f : Frame) (store : Store) where
-  -- the bounds of a dummy are those that its unit declares
-  pub bounds_fixed : (names : List Bytes) (all : List (List Bounds)) → ((x : Bytes) → IsIn x names → IsFixed u x) → all_dimensions_by u.facts f store names ≡ Gives all
-      → (x : Bytes) (bounds : List Bounds) → bounds_for x names all ≡ Some bounds → bounds ≡ (u.facts.program.attribute x).bounds
-  unfolding all_dimensions_by bounds_for
-  bounds_fixed [] all fixed h x bounds found = none_some bounds found
-  bounds_fixed (y ∷ names) all fixed h x bounds found =
-      let one = got (dimensions_by u.facts f store (u.facts.program.attribute y).dimensions) _ all h in
-      let rest = got (all_dimensions_by u.facts f store names) _ all one.gives in
-      let all_is : one.value ∷ rest.value ≡ all = given_same (one.value ∷ rest.value) all rest.gives in
-      by one.value rest.value (fixed y first_in f store one.value one.is) (bounds_fixed names rest.value (λ z among. fixed z (later_in among)) rest.is x bounds) (bytes_eq x y) refl
-      (ap (bounds_for x (y ∷ names)) all_is ∙ found)
-    where
-      by : (first : List Bounds) (later : List (List Bounds)) → first ≡ (u.facts.program.attribute y).bounds → (bounds_for x names later ≡ Some bounds → bounds ≡ (u.facts.program.attribute x).bounds) → (b : Bool) → bytes_eq x y ≡ b
-          → (if b then Some first else bounds_for x names later) ≡ Some bounds → bounds ≡ (u.facts.program.attribute x).bounds
-      by first later is more true same g = sym (some_same first bounds g) ∙ is ∙ ap (λ z. (u.facts.program.attribute z).bounds) (sym ((bytes_eq-Decides x y).0 same))
-      by first later is more false same g = more g
+module _ (u : ProgramUnit) where
+  -- bounds are fixed of the dummies that have names
+  pub names_bound : (formals : List Formal) (ds : List Datum) (bindings : Bindings) → bind_all u formals ds ≡ Gives bindings → bindings.names ≡ dummies_named formals
+  unfolding bind_all
+  names_bound [] [] bindings h = ap (λ (b : Bindings). b.names) (sym (given_same _ bindings h))
+  names_bound [] (d ∷ ds) bindings h = absurd (cc)
+  names_bound (Named x ∷ formals) [] bindings h = absurd (cc)
+  names_bound (Named x ∷ formals) (d ∷ ds) bindings h =
+      let one = got (agreed (u.attribute x) d) _ bindings h in
+      let rest = got (bind_all u formals ds) _ bindings one.gives in
+      ap (λ (b : Bindings). b.names) (sym (given_same _ bindings rest.gives)) ∙ ap (λ names. x ∷ names) (names_bound formals ds rest.value rest.is)
+  names_bound (Alternate ∷ formals) (IsLabel label ∷ ds) bindings h =
+      let rest = got (bind_all u formals ds) _ bindings h in
+      ap (λ (b : Bindings). b.names) (sym (given_same _ bindings rest.gives)) ∙ names_bound formals ds rest.value rest.is
+  names_bound (Alternate ∷ formals) _ bindings h = absurd (cc)

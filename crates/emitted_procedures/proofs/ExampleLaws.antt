@@ -8,7 +8,7 @@ use Rattle.procedure_emission.specs.f_tree.declared.names.Basic.{Basic}
 use Rattle.procedure_emission.specs.f_tree.declared.names.Basic.TheVariants as basic
 use Rattle.procedure_emission.specs.f_tree.declared.names.Class.TheVariants as class
 use Rattle.procedure_emission.specs.f_tree.Values.{Bytes, Spot, Datum, IsInt, IsSpot, Checked, Gives, in_range}
-use Rattle.procedure_emission.specs.f_tree.Facts.{Bounds, MainProgram, FunctionUnit, BlockDataUnit, Frame}
+use Rattle.procedure_emission.specs.f_tree.Facts.{Bounds, Formal, MainProgram, FunctionUnit, BlockDataUnit, Frame}
 use Rattle.procedure_emission.specs.f_tree.Setting.{IsIn, first_in, later_in}
 use Rattle.procedure_emission.specs.f_tree.Valuing.{stored_at, extent_of, elements_of, named_as, whole}
 use Rattle.procedure_emission.specs.f_tree.World.{Called, TheMain, Procedure}
@@ -26,18 +26,20 @@ use Rattle.procedure_emission.specs.c_emit.Types.{types_opened}
 use Rattle.procedure_emission.specs.c_emit.Calls.{calls_opened}
 use Rattle.procedure_emission.specs.c_emit.Flats.{flats_opened}
 use Rattle.procedure_emission.specs.emitted_texts.Emitted.{leads, stage_behind, is_of_output}
+use Rattle.procedure_emission.specs.emitted_texts.SecondLayer.{Emission}
 use Rattle.procedure_emission.specs.ProcedureItems.{procedure_items_opened}
 use Rattle.procedure_emission.specs.Reading.{reading_opened, kind_after}
+use Rattle.procedure_emission.specs.DummyBounds.{HasConstantBounds, AreFixed, constant, BoundsAreKnown}
 use Rattle.procedure_emission.specs.EmittedUnits.{leads_on, is_number_pointer, is_function_pointer, number_result, IsItem, StepsFit, IsOfRoom, IsParameter, IsProcedureParameter, no_parameters, named, named_procedure, ResultIsMade, IsEmittedUnit}
 use Rattle.emitted_procedures.specs.Example.{the_function, the_dummy_procedure, the_other, the_dummy, an_integer, its_room, its_number, its_surroundings, main_entry, main_attribute, main_steps, main_facts, main_text, main_kind, main_emission, function_entry, function_attribute, function_steps, function_text, function_address, function_emission, other_entry, other_attribute, other_steps, other_text, other_emission, its_costs}
 
-some_is : {A : Type 0} (a b : A) → Some a ≡ Some b → a ≡ b
+pub some_is : {A : Type 0} (a b : A) → Some a ≡ Some b → a ≡ b
 some_is a b h = cc
 
-none_some : {A B : Type 0} (a : A) → None ≡ Some a → B
+pub none_some : {A B : Type 0} (a : A) → None ≡ Some a → B
 none_some a h = absurd (cc)
 
-nothing_at_all : {A B : Type 0} (k : ℕ) (b : A) → slice_get [] k ≡ Some b → B
+pub nothing_at_all : {A B : Type 0} (k : ℕ) (b : A) → slice_get [] k ≡ Some b → B
 nothing_at_all zero b h = absurd (cc)
 nothing_at_all (suc k) b h = absurd (cc)
 
@@ -47,6 +49,26 @@ none_led m among = elim among [ ]
 led_to : (m a : ℕ) → IsIn m (a ∷ []) → m ≡ a
 led_to m _ first_in = refl
 led_to m a (later_in among) = none_led m among
+
+-- ## Bounds
+
+no_bounds : (bounds : List Bounds) → Gives [] ≡ Gives bounds → bounds ≡ []
+no_bounds bounds h = let same : [] ≡ bounds = (let e = h in cc) in sym same
+
+-- a name that has no dimensions
+pub fixed_by : (e : Emission) (x : Bytes) → (e.writing.facts.program.attribute x).dimensions ≡ [] → (e.writing.facts.program.attribute x).bounds ≡ [] → AreFixed e.writing.facts x
+unfolding dimensions_by
+fixed_by e x none bare f store bounds h = no_bounds bounds (sym (ap (dimensions_by e.writing.facts f store) none) ∙ h) ∙ sym bare
+
+-- where nothing is kept, since no dummy has dimensions
+nothing_kept : (e : Emission) (formals : List Formal) → ((x : Bytes) → HasConstantBounds e x) → ((x : Bytes) → AreFixed e.writing.facts x) → BoundsAreKnown e formals []
+nothing_kept e formals constants fixed = record {
+  saved = λ i one at. nothing_at_all i one at;
+  alone = λ i j one other at at' same. nothing_at_all i one at;
+  values = λ i one at. nothing_at_all i one at;
+  others = λ x other. constants x;
+  dummies = λ x among. constant (fixed x) (constants x);
+}
 
 -- ## Rooms
 
@@ -197,6 +219,22 @@ main_bounds x k bounds h = by (bytes_eq x the_function) (bytes_eq x the_other) h
     by false true h = nothing_at_all k bounds h
     by false false h = nothing_at_all k bounds h
 
+main_constant : (x : Bytes) → HasConstantBounds main_emission x
+main_constant x = record { fits = λ k b at. main_bounds x k b at; closed = λ k b at more. main_bounds x k b at; lowers = λ k b at. main_bounds x k b at; sizes = λ k b last at upper. main_bounds x k b at }
+
+main_fixed : (x : Bytes) → AreFixed main_emission.writing.facts x
+main_fixed x = fixed_by main_emission x (none (bytes_eq x the_function) (bytes_eq x the_other)) (bare (bytes_eq x the_function) (bytes_eq x the_other))
+  where
+    none : (a b : Bool) → (if a then record an_integer { class = class.Procedure } else if b then record an_integer { class = class.Procedure } else an_integer).dimensions ≡ []
+    none true b = refl
+    none false true = refl
+    none false false = refl
+
+    bare : (a b : Bool) → (if a then record an_integer { class = class.Procedure } else if b then record an_integer { class = class.Procedure } else an_integer).bounds ≡ []
+    bare true b = refl
+    bare false true = refl
+    bare false false = refl
+
 no_block : MainProgram ≢ BlockDataUnit
 no_block same = cc
 
@@ -213,7 +251,6 @@ main_is_emitted = record {
   positive = main_costs;
   entry = main_entry;
   only = refl;
-  begins = refl;
   room = refl;
   inside = omega arith;
   apart_rooms = record { rooms = main_rooms; constants = λ j z apart has own. main_constants j z apart own };
@@ -235,15 +272,14 @@ main_is_emitted = record {
   calls = its_calls;
   sound = λ f x p stored h. subst (IsSound its_surroundings.first) (main_spot f x p stored h) (record { there = omega arith; shaped = (refl, refl); inside = omega arith });
   reached = λ f x p stored h. subst (λ q. Reaches its_surroundings.first q (Alone 1)) (main_spot f x p stored h) (refl, refl);
-  fits = λ x k b at. main_bounds x k b at;
-  closed = λ x k b at more. main_bounds x k b at;
-  lowers = λ x k b at. main_bounds x k b at;
-  sizes = λ x k b last at upper. main_bounds x k b at;
+  savings = [];
+  bounds = nothing_kept main_emission main_entry.formals main_constant main_fixed;
+  begins = refl;
 }
 
 -- ## The function
 
-not_false : {A : Type 0} → false ≡ true → A
+pub not_false : {A : Type 0} → false ≡ true → A
 not_false h = absurd (cc)
 
 function_item : (n : ℕ) (st : Step) → slice_get function_steps n ≡ Some st → IsItem its_surroundings function_text function_emission n st
@@ -321,26 +357,21 @@ function_fits = record {
   texts = λ n text at. function_halts n text at;
 }
 
-no_bounds : (bounds : List Bounds) → Gives [] ≡ Gives bounds → bounds ≡ []
-no_bounds bounds h = let same : [] ≡ bounds = (let e = h in cc) in sym same
-
 is_dummy : IsParameter function_text function_emission 0 the_dummy parameter.Integers
-unfolding is_numeric is_number_pointer dimensions_by
+unfolding is_numeric is_number_pointer
 is_dummy = record {
   dummy = refl;
   numeric = refl;
   width = refl;
-  fixed = λ f store bounds h. no_bounds bounds h;
   pointer = refl;
   address = refl;
   fresh = refl;
 }
 
 is_dummy_procedure : IsProcedureParameter function_text function_emission 1 the_dummy_procedure (parameter.Function to.Integer)
-unfolding is_function_pointer dimensions_by
+unfolding is_function_pointer
 is_dummy_procedure = record {
   dummy = refl;
-  fixed = λ f store bounds h. no_bounds bounds h;
   pointer = refl;
   address = refl;
   fresh = refl;
@@ -384,6 +415,22 @@ function_bounds x k bounds h = by (bytes_eq x the_function) (bytes_eq x the_dumm
     by false true h = nothing_at_all k bounds h
     by false false h = nothing_at_all k bounds h
 
+function_constant : (x : Bytes) → HasConstantBounds function_emission x
+function_constant x = record { fits = λ k b at. function_bounds x k b at; closed = λ k b at more. function_bounds x k b at; lowers = λ k b at. function_bounds x k b at; sizes = λ k b last at upper. function_bounds x k b at }
+
+function_fixed : (x : Bytes) → AreFixed function_emission.writing.facts x
+function_fixed x = fixed_by function_emission x (none (bytes_eq x the_function) (bytes_eq x the_dummy_procedure)) (bare (bytes_eq x the_function) (bytes_eq x the_dummy_procedure))
+  where
+    none : (a b : Bool) → (if a then record an_integer { class = class.Result } else if b then record an_integer { class = class.DummyProcedure } else record an_integer { class = class.Dummy }).dimensions ≡ []
+    none true b = refl
+    none false true = refl
+    none false false = refl
+
+    bare : (a b : Bool) → (if a then record an_integer { class = class.Result } else if b then record an_integer { class = class.DummyProcedure } else record an_integer { class = class.Dummy }).bounds ≡ []
+    bare true b = refl
+    bare false true = refl
+    bare false false = refl
+
 -- a parameter is not the temporary
 function_through : (x : Bytes) (k p : ℕ) → function_address x ≡ Through p → 5 + k ≢ p
 function_through x k p is = by (bytes_eq x the_function) (bytes_eq x the_dummy_procedure) is
@@ -409,7 +456,6 @@ function_is_emitted = record {
   positive = function_costs;
   entry = function_entry;
   only = refl;
-  begins = refl;
   room = refl;
   inside = omega arith;
   apart_rooms = record { rooms = function_rooms; constants = λ j z apart has own. not_false has };
@@ -431,10 +477,9 @@ function_is_emitted = record {
   calls = its_calls;
   sound = λ f x p stored h. function_stored x stored;
   reached = λ f x p stored h. function_stored x stored;
-  fits = λ x k b at. function_bounds x k b at;
-  closed = λ x k b at more. function_bounds x k b at;
-  lowers = λ x k b at. function_bounds x k b at;
-  sizes = λ x k b last at upper. function_bounds x k b at;
+  savings = [];
+  bounds = nothing_kept function_emission function_entry.formals function_constant function_fixed;
+  begins = refl;
 }
 
 -- ## The other one
@@ -493,12 +538,11 @@ other_fits = record {
 }
 
 is_other_dummy : IsParameter other_text other_emission 0 the_dummy parameter.Integers
-unfolding is_numeric is_number_pointer dimensions_by
+unfolding is_numeric is_number_pointer
 is_other_dummy = record {
   dummy = refl;
   numeric = refl;
   width = refl;
-  fixed = λ f store bounds h. no_bounds bounds h;
   pointer = refl;
   address = refl;
   fresh = refl;
@@ -538,6 +582,20 @@ other_bounds x k b h = by (bytes_eq x the_other) h
     by true h = nothing_at_all k b h
     by false h = nothing_at_all k b h
 
+other_constant : (x : Bytes) → HasConstantBounds other_emission x
+other_constant x = record { fits = λ k b at. other_bounds x k b at; closed = λ k b at more. other_bounds x k b at; lowers = λ k b at. other_bounds x k b at; sizes = λ k b last at upper. other_bounds x k b at }
+
+other_fixed : (x : Bytes) → AreFixed other_emission.writing.facts x
+other_fixed x = fixed_by other_emission x (none (bytes_eq x the_other)) (bare (bytes_eq x the_other))
+  where
+    none : (b : Bool) → (if b then record an_integer { class = class.Result } else record an_integer { class = class.Dummy }).dimensions ≡ []
+    none true = refl
+    none false = refl
+
+    bare : (b : Bool) → (if b then record an_integer { class = class.Result } else record an_integer { class = class.Dummy }).bounds ≡ []
+    bare true = refl
+    bare false = refl
+
 other_no_block : FunctionUnit ≢ BlockDataUnit
 other_no_block same = cc
 
@@ -550,7 +608,6 @@ other_is_emitted = record {
   positive = other_costs;
   entry = other_entry;
   only = refl;
-  begins = refl;
   room = refl;
   inside = omega arith;
   apart_rooms = record { rooms = other_rooms; constants = λ j z apart has own. not_false has };
@@ -563,8 +620,7 @@ other_is_emitted = record {
   calls = its_calls;
   sound = λ f x p stored h. other_stored x stored;
   reached = λ f x p stored h. other_stored x stored;
-  fits = λ x k b at. other_bounds x k b at;
-  closed = λ x k b at more. other_bounds x k b at;
-  lowers = λ x k b at. other_bounds x k b at;
-  sizes = λ x k b last at upper. other_bounds x k b at;
+  savings = [];
+  bounds = nothing_kept other_emission other_entry.formals other_constant other_fixed;
+  begins = refl;
 }

@@ -1,24 +1,26 @@
 -- What the function of a procedure knows of its names, given what its dummies and its result are.
-use Rattle.std.specs.Prelude.{◌≡◌, ◌≢◌, ℕ, suc, ◌<◌, ℤ, true, ◌&&◌, List, length, Option, Some, None, slice_get}
-use Rattle.std.proofs.Common.{refl, sym, ap, ◌∙◌, subst}
+use Rattle.std.specs.Prelude.{◌≡◌, ◌≢◌, ℕ, suc, ◌<◌, ℤ, pos, true, ◌&&◌, List, [], length, Option, Some, None, slice_get}
+use Rattle.std.proofs.Common.{refl, sym, ap, ◌∙◌, subst, arith}
+use Rattle.std.proofs.lemmas.Option.{slice_get_within}
 use Rattle.procedure_emission.specs.f_tree.declared.names.Basic.{Basic}
 use Rattle.procedure_emission.specs.f_tree.declared.names.Basic.TheVariants.{Character}
 use Rattle.procedure_emission.specs.f_tree.declared.names.Class.{Class}
 use Rattle.procedure_emission.specs.f_tree.declared.names.Class.TheVariants as class
 use Rattle.procedure_emission.specs.f_tree.Values.{Bytes, Spot, Datum, IsSpot, IsProc, NoMeaning, Checked, Gives, Fails}
 use Rattle.procedure_emission.specs.f_tree.Facts.{Bounds, Attribute, Home, Facts, Frame}
-use Rattle.procedure_emission.specs.f_tree.Valuing.{stored_at, if_bound, if_there, named_as, whole, bounds_of}
+use Rattle.procedure_emission.specs.f_tree.Valuing.{stored_at, if_bound, if_there, named_as, whole, bounds_of, size_of_dimension}
+use Rattle.procedure_emission.specs.l_core.Pures.{none_kept}
 use Rattle.procedure_emission.specs.l_core.Steps.{Text}
 use Rattle.procedure_emission.specs.faithful.FrameImage.{HasLength}
 use Rattle.procedure_emission.specs.c_image.World.{World, Extends}
 use Rattle.procedure_emission.specs.c_image.Addresses.{Reaches, IsSound}
-use Rattle.procedure_emission.specs.c_image.Elements.{Quantity}
 use Rattle.procedure_emission.specs.c_image.Knowing.{IsQuantity}
 use Rattle.procedure_emission.proofs.c_image_laws.Knowledge.{reaches_later}
 use Rattle.procedure_emission.proofs.c_image_laws.SoundPlaces.{sound_later}
 use Rattle.procedure_emission.specs.c_emit.Numbers.{is_variable, is_numeric, has_number}
-use Rattle.procedure_emission.specs.c_emit_laws.EmittedNumbers.{IsKnown}
+use Rattle.procedure_emission.specs.c_emit_laws.EmittedNumbers.{BoundFits, IsKnown}
 use Rattle.procedure_emission.specs.emitted_texts.SecondLayer.{Surroundings, Emission}
+use Rattle.procedure_emission.specs.kept_bounds.KeptBounds.{without_bounds}
 use Rattle.procedure_emission.specs.EmittedUnits.{IsEmittedUnit}
 
 -- ## What a name stands for
@@ -116,6 +118,12 @@ basic_by a (Some width) (Some h) p e = sym (ap (λ r. (spot_in p r).basic) e)
 basic_by a None h p e = absurd (cc)
 basic_by a (Some width) None p e = absurd (cc)
 
+none_there : {A : Type 0} (bs : List Bounds) (k : ℕ) (b : Bounds) → bs ≡ [] → slice_get bs k ≡ Some b → A
+none_there bs k b none h =
+    let low = slice_get_within bs k b h in
+    let size = ap length none in
+    absurd (omega (arith, low, size))
+
 -- ## The frame of a procedure
 
 pub record DummyStands (ν : World) (e : Emission) (x : Bytes) (d : Datum) : Type 0 where
@@ -134,19 +142,16 @@ pub record ResultStands (ν : World) (e : Emission) (x : Bytes) (p : Spot) : Typ
   pub sound : IsSound ν p
   pub reaches : Reaches ν p (e.writing.naming.address x)
 
--- what its dummies and its result are, and that its bounds are those that are declared
+-- what its dummies and its result are
 pub record FrameStands (ν : World) (e : Emission) (f : Frame) : Type 0 where
   pub dummies : (x : Bytes) (d : Datum) → f.bound x ≡ Some d → IsDummy ν e x d
   pub result : (x : Bytes) (q : Spot) → (e.writing.facts.program.attribute x).class ≡ class.Result → f.result ≡ Some q → ResultStands ν e x (record q { basic = (e.writing.facts.program.attribute x).basic })
   pub lengths : (x : Bytes) (n : ℕ) → f.lengths x ≡ Some n → (e.writing.facts.program.attribute x).class ≡ class.Dummy → (e.writing.facts.program.attribute x).basic ≢ Character
-  pub bounds : (x : Bytes) → bounds_of e.writing.facts f x ≡ (e.writing.facts.program.attribute x).bounds
 
-module _ (s : Surroundings) (number : ℕ) (u : Text) (costs : List ℕ) (e : Emission) (is : IsEmittedUnit s number u costs e) (ν : World) (f : Frame) (grown : Extends s.first ν) (stands : FrameStands ν e f) where
-  bound_at : (x : Bytes) (k : ℕ) (b : Bounds) → slice_get (bounds_of e.writing.facts f x) k ≡ Some b → slice_get (e.writing.facts.program.attribute x).bounds k ≡ Some b
-  bound_at x k b at = ap (λ bs. slice_get bs k) (sym (stands.bounds x)) ∙ at
-
-  written : (q : Quantity) (z : ℤ) (one : Quantity) → q ≡ one → IsQuantity ν one z → IsQuantity ν q z
-  written q z one same holds = subst (λ x. IsQuantity ν x z) (sym same) holds
+module _ (s : Surroundings) (number : ℕ) (u : Text) (costs : List ℕ) (e : Emission) (is : IsEmittedUnit s number u costs e) (ν : World) (f : Frame) (grown : Extends s.first ν) (stands : FrameStands ν e f)
+    (bare : (x : Bytes) → bounds_of e.writing.facts f x ≡ []) where
+  no_bound : {A : Type 0} (x : Bytes) (k : ℕ) (b : Bounds) → slice_get (bounds_of e.writing.facts f x) k ≡ Some b → A
+  no_bound x k b at = none_there (bounds_of e.writing.facts f x) k b (bare x) at
 
   bound_spot : (x : Bytes) (p : Spot) → f.bound x ≡ Some (IsSpot p) → (q : Spot) × (q ≡ p) × IsSound ν q × Reaches ν q (e.writing.naming.address x) × (q.basic ≡ (e.writing.facts.program.attribute x).basic)
   bound_spot x p h = by (stands.dummies x (IsSpot p) h)
@@ -181,24 +186,52 @@ module _ (s : Surroundings) (number : ℕ) (u : Text) (costs : List ℕ) (e : Em
   unfolding HasLength
   no_text x n has h = absurd (stands.lengths x n h has.0 has.1)
 
-  none_kept : {A : Type 0} (k : ℕ) (d : Datum) → None ≡ Some d → A
-  none_kept k d h = absurd (cc)
+  nothing_kept : {A : Type 0} (k : ℕ) (d : Datum) → none_kept k ≡ Some d → A
+  nothing_kept k d h = absurd (cc)
 
-  -- it knows its names, and has kept nothing yet
-  pub known_at_first : IsKnown ν e.writing f (λ k. None)
+  -- where no array has bounds yet, it knows its names, and has kept nothing
+  pub known_at_first : IsKnown ν e.writing f none_kept
   unfolding has_number whole
   known_at_first = record {
     knows = record {
       sound = λ x p h. (sound_of x p h (stands_by e.writing.facts f x (e.writing.facts.program.attribute x) p h)).0;
       reaches = λ x p h. (sound_of x p h (stands_by e.writing.facts f x (e.writing.facts.program.attribute x) p h)).1;
       lengths = λ x n has h. no_text x n has h;
-      lowers = λ x k b h. written (e.writing.naming.lower x k) b.lower _ (is.lowers x k b (bound_at x k b h)) refl;
-      sizes = λ x k b last h upper. written (e.writing.naming.size x k) _ _ (is.sizes x k b last (bound_at x k b h) upper) refl;
-      kept = λ k d h. none_kept k d h;
+      lowers = λ x k b h. no_bound x k b h;
+      sizes = λ x k b last h upper. no_bound x k b h;
+      kept = λ k d h. nothing_kept k d h;
     };
     spots = λ x d numeric h. spot_only e.writing.facts f x (e.writing.facts.program.attribute x) d (λ own one bound. variable_spot x one own (stands.dummies x one bound)) numeric h;
     types = λ x p h. basic_of x p (stands_by e.writing.facts f x (e.writing.facts.program.attribute x) p h);
-    numbers = λ k d h numeric. none_kept k d h;
-    bounds = λ x k b h. is.fits x k b (bound_at x k b h);
-    closed = λ x k b h more. is.closed x k b (bound_at x k b h) (subst (λ bs. suc k < length bs) (stands.bounds x) more);
+    numbers = λ k d h numeric. nothing_kept k d h;
+    bounds = λ x k b h. no_bound x k b h;
+    closed = λ x k b h more. no_bound x k b h;
   }
+
+-- ## Its bounds
+
+-- how the bounds of a name are known
+pub record AreBoundsKnown (ν : World) (e : Emission) (x : Bytes) (bs : List Bounds) : Type 0 where
+  pub fits : (k : ℕ) (b : Bounds) → slice_get bs k ≡ Some b → BoundFits b
+  pub closed : (k : ℕ) (b : Bounds) → slice_get bs k ≡ Some b → suc k < length bs → (last : ℤ) × (b.upper ≡ Some last)
+  pub lowers : (k : ℕ) (b : Bounds) → slice_get bs k ≡ Some b → IsQuantity ν (e.writing.naming.lower x k) b.lower
+  pub sizes : (k : ℕ) (b : Bounds) (last : ℤ) → slice_get bs k ≡ Some b → b.upper ≡ Some last → IsQuantity ν (e.writing.naming.size x k) (pos (size_of_dimension b))
+
+-- with these it knows its names in the frame of the procedure
+pub known_with : (ν : World) (e : Emission) (f : Frame) → IsKnown ν e.writing (without_bounds f) none_kept → ((x : Bytes) → AreBoundsKnown ν e x (bounds_of e.writing.facts f x)) → IsKnown ν e.writing f none_kept
+unfolding whole named_as
+known_with ν e f known all = record {
+  knows = record {
+    sound = known.knows.sound;
+    reaches = known.knows.reaches;
+    lengths = known.knows.lengths;
+    lowers = λ x k b at. (all x).lowers k b at;
+    sizes = λ x k b last at upper. (all x).sizes k b last at upper;
+    kept = known.knows.kept;
+  };
+  spots = known.spots;
+  types = known.types;
+  numbers = known.numbers;
+  bounds = λ x k b at. (all x).fits k b at;
+  closed = λ x k b at more. (all x).closed k b at more;
+}

@@ -3,6 +3,7 @@ pub mod Transfers
 pub mod Begins
 pub mod Dummies
 pub mod Known
+pub mod Keeping
 pub mod Passing
 pub mod Arguments
 pub mod Transferring
@@ -12,6 +13,7 @@ pub mod Calling
 pub mod Opening
 pub mod Simulated
 pub mod ExampleLaws
+pub mod KeptExampleLaws
 pub mod ReadNumbers
 pub mod StepsOverNumbers
 pub mod MainUnits

@@ -1,6 +1,7 @@
 -- The function of a main program is that of a unit.
 use Rattle.std.specs.Prelude.{◌≡◌, ℕ, ◌≤◌, true, List, [], length, Some, None, slice_get}
 use Rattle.std.proofs.Common.{refl, sym, ap, ◌∙◌, subst, arith}
+use Rattle.procedure_emission.specs.f_tree.Values.{Bytes}
 use Rattle.procedure_emission.specs.f_tree.Facts.{MainProgram, FunctionUnit, BlockDataUnit, Formal, Facts}
 use Rattle.procedure_emission.specs.f_tree.Setting.{IsIn}
 use Rattle.procedure_emission.specs.l_core.Steps.{Step, Keep, Put, PutText, PutLabel, Compute, Unless, AgainIf, Skip, Again, Jump, Select, JumpBy, Pass, CallFor, CallSub, Branch, Back, BackBy, Halt, Acts, Text}
@@ -11,7 +12,9 @@ use Rattle.procedure_emission.specs.emitted_texts.SecondLayer.{Surroundings, Emi
 use Rattle.procedure_emission.specs.emitted_texts.Emitted.{leads, kind_behind, IsEmittedMain}
 use Rattle.procedure_emission.specs.ProcedureItems.{back_item, procedure_item}
 use Rattle.procedure_emission.specs.Reading.{kind_after}
+use Rattle.procedure_emission.specs.DummyBounds.{dummies_named, HasConstantBounds}
 use Rattle.procedure_emission.specs.EmittedUnits.{IsItem, leads_on, is_return, AreParameters, no_parameters, IsEmittedUnit}
+use Rattle.emitted_procedures.proofs.Keeping.{no_element}
 use Rattle.emitted_procedures.specs.MainUnits.{IsFurther, MainsAreUnits}
 
 no_item : {A : Type 0} (item : Flat) → None ≡ Some item → A
@@ -113,6 +116,12 @@ module _ (s : Surroundings) (number : ℕ) (u : Text) (costs : List ℕ) (e : Em
   no_function : MainProgram ≡ FunctionUnit → ⊥
   no_function same = cc
 
+  constant_bounds : (x : Bytes) → HasConstantBounds e x
+  constant_bounds x = record { fits = λ k b at. is.fits x k b at; closed = λ k b at more. is.closed x k b at more; lowers = λ k b at. is.lowers x k b at; sizes = λ k b last at upper. is.sizes x k b last at upper }
+
+  no_dummy : {A : Type 0} (x : Bytes) → IsIn x [] → A
+  no_dummy x among = elim among [ ]
+
   pub main_is_unit : IsEmittedUnit s number u costs e
   main_is_unit = record {
     facts = is.facts;
@@ -122,7 +131,6 @@ module _ (s : Surroundings) (number : ℕ) (u : Text) (costs : List ℕ) (e : Em
     positive = is.positive;
     entry = is.entry;
     only = is.only;
-    begins = ap (λ n. e.place (u.begins n)) is.at_first ∙ is.begins;
     room = is.room;
     inside = is.inside;
     apart_rooms = further.apart_rooms;
@@ -146,10 +154,15 @@ module _ (s : Surroundings) (number : ℕ) (u : Text) (costs : List ℕ) (e : Em
     calls = further.calls;
     sound = is.sound;
     reached = is.reached;
-    fits = is.fits;
-    closed = is.closed;
-    lowers = is.lowers;
-    sizes = is.sizes;
+    savings = [];
+    bounds = record {
+      saved = λ i one at. no_element i one at;
+      alone = λ i j one other at at' same. no_element i one at;
+      values = λ i one at. no_element i one at;
+      others = λ x other. constant_bounds x;
+      dummies = λ x among. no_dummy x (subst (λ formals. IsIn x (dummies_named formals)) is.no_dummies among);
+    };
+    begins = ap (λ n. e.place (u.begins n)) is.at_first ∙ is.begins;
   }
 
 pub mains_are_units : MainsAreUnits

@@ -1,25 +1,28 @@
 -- How the function of a procedure begins where the procedure does.
-use Rattle.std.specs.Prelude.{◌≡◌, ◌≢◌, ℕ, ◌+◌, ◌<◌, ◌≤◌, nat_eq, true, false, List, [], ◌∷◌, ◌++◌, length, take, drop, Option, Some, None, slice_get, if◌then◌else◌}
+use Rattle.std.specs.Prelude.{◌≡◌, ◌≢◌, ℕ, ◌+◌, ◌<◌, ◌≤◌, nat_eq, ℤ, true, false, List, [], ◌∷◌, ◌++◌, length, take, drop, Option, Some, None, slice_get, if◌then◌else◌}
 use Rattle.std.proofs.Common.{refl, sym, ap, ◌∙◌, subst, arith}
 use Rattle.std.proofs.lemmas.List.{append-nil, length-take-le, length-drop, length-append}
 use Rattle.std.proofs.lemmas.Option.{slice_get_within}
-use Rattle.procedure_emission.specs.simulation.Machine.{Entry, Enters, Refused}
-use Rattle.procedure_emission.specs.simulation.LocalSimulation.{Opened}
+use Rattle.procedure_emission.specs.simulation.Machine.{Goes, Entry, Enters, Refused}
+use Rattle.procedure_emission.specs.simulation.LocalSimulation.{Does, Opened}
+use Rattle.procedure_emission.specs.late_starts.LateStarts.{IsLate, ready, early}
 use Rattle.procedure_emission.specs.f_tree.declared.names.Basic.{Basic}
 use Rattle.procedure_emission.specs.f_tree.declared.names.Basic.TheVariants as basic
 use Rattle.procedure_emission.specs.f_tree.declared.names.Class.TheVariants as class
-use Rattle.procedure_emission.specs.f_tree.Values.{Bytes, Spot, Datum, IsProc}
+use Rattle.procedure_emission.specs.f_tree.Values.{Bytes, Spot, Datum, IsProc, Gives}
 use Rattle.procedure_emission.specs.f_tree.Terms.{Wanted, AsSubroutine, AsFunction}
 use Rattle.procedure_emission.specs.f_tree.Store.{Store, undefined_units}
-use Rattle.procedure_emission.specs.f_tree.Facts.{Bounds, Attribute, UnitKind, MainProgram, SubroutineUnit, FunctionUnit, BlockDataUnit, EntryPoint, Facts, Frame}
+use Rattle.procedure_emission.specs.f_tree.Facts.{Attribute, UnitKind, MainProgram, SubroutineUnit, FunctionUnit, BlockDataUnit, EntryPoint, Facts, Frame}
 use Rattle.procedure_emission.specs.f_tree.Setting.{IsIn, first_in}
 use Rattle.procedure_emission.specs.f_tree.Valuing.{either_bounds, bounds_of}
 use Rattle.procedure_emission.specs.f_tree.World as fortran
 use Rattle.procedure_emission.specs.f_tree.World.{Called, Procedure, Passed, fortran_sorts}
 use Rattle.procedure_emission.specs.f_tree.Association as association
-use Rattle.procedure_emission.specs.f_tree.Association.{same_basic, same_width, serves, value_for, length_for, bounds_for, result_of, with_result, frame_of}
+use Rattle.procedure_emission.specs.f_tree.Association.{same_basic, same_width, serves, value_for, length_for, all_dimensions_by, bounds_for, result_of, with_result, frame_of}
+use Rattle.procedure_emission.specs.l_core.Pures.{none_kept}
 use Rattle.procedure_emission.specs.l_core.Steps.{Text}
-use Rattle.procedure_emission.specs.l_core.Machine.{begun}
+use Rattle.procedure_emission.specs.l_core.Machine.{View, begun}
+use Rattle.procedure_emission.specs.l_core.Costs.{cost}
 use Rattle.procedure_emission.specs.c_tree.declared.outcome.CValue.{CValue}
 use Rattle.procedure_emission.specs.c_tree.declared.outcome.CValue.TheVariants.{Pointer, Function}
 use Rattle.procedure_emission.specs.c_tree.declared.outcome.CFault.TheVariants.{Disagree}
@@ -31,7 +34,7 @@ use Rattle.procedure_emission.specs.c_tree.Objects.{Object}
 use Rattle.procedure_emission.specs.c_tree.Linking as linking
 use Rattle.procedure_emission.specs.c_tree.World as c
 use Rattle.procedure_emission.specs.c_tree.Steps as c_steps
-use Rattle.procedure_emission.specs.c_tree.Steps.{first_view, with_frame, all_bound, all_fit, bound}
+use Rattle.procedure_emission.specs.c_tree.Steps.{language, first_view, with_frame, all_bound, all_fit, bound}
 use Rattle.procedure_emission.specs.c_image.World.{World, changed, with_held, with_sequence, framed, Extends, IsIdle}
 use Rattle.procedure_emission.specs.c_image.Standing.{Stands}
 use Rattle.procedure_emission.specs.c_image.Addresses.{Through, access_to, pointer_object, HasShape, Reaches}
@@ -42,19 +45,25 @@ use Rattle.procedure_emission.proofs.c_image_laws.ListLaws.{by_equal}
 use Rattle.procedure_emission.proofs.c_image_laws.Parameters.{parameter_at, temporary_at}
 use Rattle.procedure_emission.proofs.c_image_laws.SoundPlaces.{sound_later}
 use Rattle.procedure_emission.specs.c_emit.Numbers.{is_numeric}
+use Rattle.procedure_emission.specs.c_emit_laws.EmittedNumbers.{IsKnown}
 use Rattle.procedure_emission.proofs.c_emit_laws.Choices.{some_same}
-use Rattle.procedure_emission.specs.emitted_texts.SecondLayer.{Room, Surroundings, Emission, IsFree, IsTemporary, TransfersStand}
+use Rattle.procedure_emission.specs.emitted_texts.SecondLayer.{Room, Surroundings, Emission, IsFree, BothStand, IsTemporary, TransfersStand}
 use Rattle.procedure_emission.proofs.emitted_texts.Worlds.{extends_changed}
 use Rattle.procedure_emission.specs.Reading.{number_kept}
-use Rattle.procedure_emission.specs.CallLayer.{CallWorld, function_object, ResultIsPassed, CallsAlike, IsFrameOf, IsStaged, call_couple}
-use Rattle.procedure_emission.specs.EmittedUnits.{IsMadeAnew, IsOfRoom, ResultIsMade, IsEmittedUnit}
+use Rattle.procedure_emission.specs.kept_bounds.KeptBounds.{without_bounds}
+use Rattle.procedure_emission.specs.bound_items.BoundItems.{Saving, AreSaved, ComesBehind}
+use Rattle.procedure_emission.proofs.bound_items.KeptItems.{bounds_are_kept}
+use Rattle.procedure_emission.specs.CallLayer.{CallWorld, function_object, ResultIsPassed, CallsAlike, IsFrameOf, AreProceduresHeld, IsStaged, IsAtStep, call_couple, IsEarly, entered_couple}
+use Rattle.procedure_emission.specs.DummyBounds.{dummies_named, IsMadeAnew}
+use Rattle.procedure_emission.specs.EmittedUnits.{IsOfRoom, ResultIsMade, IsEmittedUnit, IsCosted}
 use Rattle.emitted_procedures.proofs.Begins.{first_frame, IsBegun, procedure_begins}
 use Rattle.emitted_procedures.proofs.Calling.{IsPlainWant}
 use Rattle.emitted_procedures.proofs.Dummies as bound_laws
-use Rattle.emitted_procedures.proofs.Dummies.{DummyAt, IsBoundTo, AreBound, dummies_bound, bounds_fixed}
+use Rattle.emitted_procedures.proofs.Dummies.{DummyAt, IsBoundTo, AreBound, dummies_bound, names_bound}
+use Rattle.emitted_procedures.proofs.Keeping.{no_element, placed, saved_from, HoldsItsValue, held_at, bounds_known}
 use Rattle.emitted_procedures.proofs.KeptNumbers.{left_true}
 use Rattle.emitted_procedures.proofs.Known as known_laws
-use Rattle.emitted_procedures.proofs.Known.{DummyStands, IsDummy, ResultStands, FrameStands, known_at_first}
+use Rattle.emitted_procedures.proofs.Known.{DummyStands, IsDummy, ResultStands, FrameStands, known_at_first, known_with}
 use Rattle.emitted_procedures.proofs.Steering.{own_idle, made_far, not_held_yet}
 
 -- ## What is wanted
@@ -140,6 +149,7 @@ module _ (s : Surroundings) (number : ℕ) (u : Text) (costs : List ℕ) (e : Em
     others : (j : ℕ) → nat_eq j number ≡ false → IsFree (s.rooms j) μ → IsFree (s.rooms j) now
     parameters : (i : ℕ) (value : CValue) (object : Object) → i < length e.function.parameters → slice_get values i ≡ Some value → slice_get e.function.fresh i ≡ Some object → now.frozen (e.function.frame + i) ≡ Some (bound value object)
     temporaries : (k : ℕ) → e.writing.is_number k ≡ true → IsTemporary now (e.writing.naming.temporary k)
+    rooms : (i : ℕ) (one : Saving) → slice_get is.savings i ≡ Some one → IsTemporary now one.object
     result : u.facts.program.kind ≡ FunctionUnit → (x : Bytes) → (u.facts.program.attribute x).class ≡ class.Result → ResultStands now e x (first_result (u.facts.program.attribute x).basic μ.height)
 
   module _ (μ : World) (values : List CValue) (store : Store) (y : c.World) (free : IsFree (s.rooms number) μ) (as_many : length values ≡ length e.function.parameters) (stood : Stands μ store y.objects) (many : length y.objects ≡ s.objects) where
@@ -183,6 +193,7 @@ module _ (s : Surroundings) (number : ℕ) (u : Text) (costs : List ℕ) (e : Em
       others = others_framed;
       parameters = λ i value object low is_value there. parameter_at μ e.function.frame i values e.function.fresh value object is_value there;
       temporaries = λ k numeric. temporary_framed (e.writing.naming.temporary k) (is.temporaries k numeric);
+      rooms = λ i one at. temporary_framed one.object (is.bounds.saved i one at).made;
       result = λ function x own. absurd (other function);
     }
 
@@ -216,6 +227,9 @@ module _ (s : Surroundings) (number : ℕ) (u : Text) (costs : List ℕ) (e : Em
               changed_elsewhere first.frozen made.object (e.function.frame + i) None (λ same. (let at = made.made.in_frame.at in let behind = made.made.behind in omega (arith, same, at, behind, low)))
               ∙ parameter_at μ e.function.frame i values e.function.fresh value object is_value there;
           temporaries = λ k numeric. temporary_there (e.writing.naming.temporary k) made.object (made.apart k numeric) (temporary_framed (e.writing.naming.temporary k) (is.temporaries k numeric));
+          rooms = λ i one at.
+              temporary_there one.object made.object (λ same. (is.bounds.saved i one at).results is.entry.name made.object (ap (λ (f : Facts). (f.program.attribute is.entry.name).class) is.facts ∙ made.own) (made.address is.entry.name made.own) (sym same))
+              (temporary_framed one.object (is.bounds.saved i one at).made);
           result = λ same x own'. record {
             sound = record {
               there = omega arith;
@@ -339,27 +353,22 @@ module _ (s : Surroundings) (number : ℕ) (u : Text) (costs : List ℕ) (e : Em
           other wrong = cc
       result_stands_at BlockDataUnit same z q own h = absurd (is.runs same)
 
-      bounds_are : (z : Bytes) → bounds_of e.writing.facts v.frame z ≡ (e.writing.facts.program.attribute z).bounds
-      unfolding bounds_of either_bounds
-      bounds_are z =
-          ap (λ d. either_bounds d (e.writing.facts.program.attribute z).bounds) (ap (λ (f : Frame). f.dimensions z) begins.frame)
-          ∙ by (bounds_for z begins.bindings.names begins.bounds) refl
-        where
-          by : (found : Option (List Bounds)) → bounds_for z begins.bindings.names begins.bounds ≡ found → either_bounds found (e.writing.facts.program.attribute z).bounds ≡ (e.writing.facts.program.attribute z).bounds
-          by None found = refl
-          by (Some bounds) found =
-              bounds_fixed u (first_frame u.facts is.entry a x begins.bindings) (with_result u.facts.program.kind a.result x.store) begins.bindings.names begins.bounds binds.fixed begins.fixed z bounds found
-              ∙ ap (λ (b : Attribute). b.bounds) (sym (attribute_is z))
-
-      frame_stands : FrameStands laid.now e v.frame
+      -- what it knows while no array has bounds
+      frame_stands : FrameStands laid.now e (without_bounds v.frame)
       unfolding frame_of
       frame_stands = record {
         dummies = λ z d h. dummy_is z d (bound_to z d h);
         result = λ z q own h. result_stands_at u.facts.program.kind refl z q own h;
         lengths = λ z k h own. no_character (e.writing.facts.program.attribute z).basic
             (ap (λ (b : Attribute). is_numeric b.basic) (attribute_is z) ∙ binds.numeric z k (sym (ap (λ (f : Frame). f.lengths z) begins.frame) ∙ h) (ap (λ (b : Attribute). b.class) (sym (attribute_is z)) ∙ own));
-        bounds = bounds_are;
       }
+
+      no_bounds : (z : Bytes) → bounds_of e.writing.facts (without_bounds v.frame) z ≡ []
+      unfolding bounds_of either_bounds
+      no_bounds z = refl
+
+      known_at_entry : IsKnown laid.now e.writing (without_bounds v.frame) none_kept
+      known_at_entry = known_at_first s number u costs e is laid.now (without_bounds v.frame) (extends_through s.first μ.image laid.now houses laid.grown) frame_stands no_bounds
 
       frame_is : IsFrameOf e.writing.facts.program μ v.frame
       unfolding frame_of
@@ -380,42 +389,208 @@ module _ (s : Surroundings) (number : ℕ) (u : Text) (costs : List ℕ) (e : Em
         );
       }
 
-      entered : Opened (call_couple s number u costs e) μ (begun u (Enters v x')) y function values
-      unfolding begun c_steps.start number_kept frame_of
-      entered = record {
-        view = first_view;
-        shared = record y { objects = with_frame e.function values y.objects };
-        starts = ap (λ b. if b then Enters first_view (record y { objects = with_frame e.function values y.objects }) else Refused (Faults Disagree)) all_fits;
-        matched = record {
-          position = sym (ap (λ (f : Frame). e.place (u.begins f.called.start)) begins.frame ∙ is.begins);
-          plain = λ k d holds. nothing_among d holds;
-          typed = λ k d basic holds kind. nothing_among d holds;
-          staged = subst (IsStaged μ x' (record y { objects = with_frame e.function values y.objects })) (sym (ap (λ (f : Frame). e.stage (u.begins f.called.start)) begins.frame ∙ is.fit.none_at_first))
-              (ap (λ (w : fortran.World). w.transfer) begins.world ∙ calls.found.0, calls.found.1);
-          active = record {
-            now = laid.now;
-            housed = houses;
-            both = record {
-              extends = laid.grown;
-              stands = subst (λ (w : fortran.World). Stands laid.now w.store (with_frame e.function values y.objects)) (sym begins.world) (subst (λ z. Stands laid.now z (with_frame e.function values y.objects)) (sym store_is) laid.stands);
-              units = ap (λ (w : fortran.World). w.units) begins.world ∙ calls.both.units;
-              transfers = subst (λ (w : fortran.World). TransfersStand μ.image w.transfer y.transfer) (sym begins.world) calls.both.transfers;
-              as_many = framed_length e.function values y.objects (subst (λ n. e.function.frame + length e.function.fresh ≤ n) (sym calls.both.as_many) is.inside) ∙ calls.both.as_many;
-            };
-            free = free;
-            others = laid.others;
-            frame = frame_is;
-            known = known_at_first s number u costs e is laid.now v.frame (extends_through s.first μ.image laid.now houses laid.grown) frame_stands;
-            temporaries = laid.temporaries;
-            procedures = λ z d parameter own h address. procedure_held z d parameter own (bound_to z d h) address;
-          };
+      -- ## The bounds of its dummies
+
+      abbrev at_call : Frame
+      at_call = first_frame u.facts is.entry a x begins.bindings
+
+      abbrev store : Store
+      store = with_result u.facts.program.kind a.result x.store
+
+      bare : without_bounds at_call ≡ without_bounds v.frame
+      unfolding frame_of
+      bare = ap without_bounds (sym begins.frame)
+
+      are_named : begins.bindings.names ≡ dummies_named is.entry.formals
+      are_named = names_bound u.facts.program is.entry.formals a.actuals begins.bindings begins.bound
+
+      fixed : all_dimensions_by e.writing.facts at_call store begins.bindings.names ≡ Gives begins.bounds
+      fixed = subst (λ c. all_dimensions_by c at_call store begins.bindings.names ≡ Gives begins.bounds) (sym is.facts) begins.fixed
+
+      dimensions_are : (z : Bytes) → v.frame.dimensions z ≡ bounds_for z begins.bindings.names begins.bounds
+      dimensions_are z = ap (λ (f : Frame). f.dimensions z) begins.frame
+
+      abbrev HoldsIts : World → Saving → Type 0
+      HoldsIts = HoldsItsValue e is.entry.formals is.savings is.bounds at_call v.frame store begins.bindings.names begins.bounds bare are_named fixed
+
+      -- where the objects hold what they keep, it knows its names
+      known_behind : (ν : World) → IsKnown ν e.writing (without_bounds v.frame) none_kept → ((i : ℕ) (one : Saving) → slice_get is.savings i ≡ Some one → HoldsIts ν one) → IsKnown ν e.writing v.frame none_kept
+      known_behind ν known holds =
+          known_with ν e v.frame known (bounds_known e is.entry.formals is.savings is.bounds at_call v.frame store begins.bindings.names begins.bounds bare are_named fixed ν holds dimensions_are)
+
+      -- ## At the first step
+
+      framed_many : length (with_frame e.function values y.objects) ≡ s.objects
+      framed_many = framed_length e.function values y.objects (subst (λ n. e.function.frame + length e.function.fresh ≤ n) (sym calls.both.as_many) is.inside) ∙ calls.both.as_many
+
+      both_stand : (ν : World) (objects : List Object) → Extends μ.image ν → Stands ν store objects → length objects ≡ s.objects → BothStand s μ.image ν x' (record y { objects = objects })
+      both_stand ν objects grown stood many = record {
+        extends = grown;
+        stands = subst (λ (w : fortran.World). Stands ν w.store objects) (sym begins.world) stood;
+        units = ap (λ (w : fortran.World). w.units) begins.world ∙ calls.both.units;
+        transfers = subst (λ (w : fortran.World). TransfersStand μ.image w.transfer y.transfer) (sym begins.world) calls.both.transfers;
+        as_many = many;
+      }
+
+      stands_at_entry : Stands laid.now store (with_frame e.function values y.objects)
+      stands_at_entry = subst (λ z. Stands laid.now z (with_frame e.function values y.objects)) (sym store_is) laid.stands
+
+      -- what stands where nothing is left to be kept
+      record IsReady (ν : World) (objects : List Object) : Type 0 where
+        grown : Extends μ.image ν
+        stands : Stands ν store objects
+        as_many : length objects ≡ s.objects
+        others : (j : ℕ) → nat_eq j number ≡ false → IsFree (s.rooms j) μ.image → IsFree (s.rooms j) ν
+        known : IsKnown ν e.writing v.frame none_kept
+        temporaries : (k : ℕ) → e.writing.is_number k ≡ true → IsTemporary ν (e.writing.naming.temporary k)
+        procedures : AreProceduresHeld s e ν v.frame
+
+      abbrev view_at : View
+      view_at = record { frame = v.frame; at = u.begins v.frame.called.start; kept = none_kept; height = 0 }
+
+      at_step : (ν : World) (objects : List Object) → IsReady ν objects → IsAtStep s number e μ view_at x' (record first_view { position = length is.savings }) (record y { objects = objects })
+      unfolding number_kept frame_of
+      at_step ν objects there = record {
+        position = sym (ap (λ (f : Frame). e.place (u.begins f.called.start)) begins.frame ∙ is.begins);
+        plain = λ k d holds. nothing_among d holds;
+        typed = λ k d basic holds kind. nothing_among d holds;
+        staged = subst (IsStaged μ x' (record y { objects = objects })) (sym (ap (λ (f : Frame). e.stage (u.begins f.called.start)) begins.frame ∙ is.fit.none_at_first))
+            (ap (λ (w : fortran.World). w.transfer) begins.world ∙ calls.found.0, calls.found.1);
+        active = record {
+          now = ν;
+          housed = houses;
+          both = both_stand ν objects there.grown there.stands there.as_many;
+          free = free;
+          others = there.others;
+          frame = frame_is;
+          known = there.known;
+          temporaries = there.temporaries;
+          procedures = there.procedures;
         };
       }
 
-  pub opened : (μ : CallWorld) (x : fortran.World) (n : Called) (a : Passed) (y : c.World) (function : ℕ) (values : List CValue) → Extends s.first μ.image → IsFree (s.rooms number) μ.image → CallsAlike s μ x n a y function values
-      → (entry : Entry fortran_sorts) → association.start u.facts n a x ≡ entry → Opened (call_couple s number u costs e) μ (begun u entry) y function values
-  unfolding begun
-  opened μ x n a y function values houses free calls (Refused act) h = tt
-  opened μ x n a y function values houses free calls (Enters v x') h =
-      let begins = procedure_begins u.facts is.entry n a x x' v is.only h in
-      entered μ x n a y function values houses free calls x' v begins (laid_by μ x n a y function values houses free calls x' v begins u.facts.program.kind refl)
+      procedures_at_entry : AreProceduresHeld s e laid.now v.frame
+      procedures_at_entry = λ z d parameter own h address. procedure_held z d parameter own (bound_to z d h) address
+
+      -- ## Behind what is kept
+
+      module _ (one : Saving) (rest : List Saving) (zs : List ℤ) (some : is.savings ≡ one ∷ rest) (saved : AreSaved laid.now e.writing v.frame store e.function.code 0 (one ∷ rest) zs)
+          (behind : ComesBehind laid.now e.writing v.frame store e.function first_view (record y { objects = with_frame e.function values y.objects }) (one ∷ rest) zs) where
+        abbrev now : World
+        now = record laid.now { frozen = behind.frozen }
+
+        does_first : Does language (λ w. 1) e.function first_view (record y { objects = with_frame e.function values y.objects }) (length (one ∷ rest)) (Goes (record first_view { position = length (one ∷ rest) }) (record y { objects = behind.objects }))
+        does_first =
+            subst (λ n. Does language (λ w. 1) e.function first_view (record y { objects = with_frame e.function values y.objects }) (length (one ∷ rest)) (Goes (record first_view { position = n }) (record y { objects = behind.objects })))
+            {x = 0 + length (one ∷ rest)} {y = length (one ∷ rest)} (omega arith) behind.does
+
+        among_savings : (other : Saving) → IsIn other (one ∷ rest) → (i : ℕ) × (slice_get is.savings i ≡ Some other)
+        among_savings other among = let at = placed other (one ∷ rest) among in (at.0, ap (λ ones. slice_get ones at.0) some ∙ at.1)
+
+        made_among : (other : Saving) → IsIn other (one ∷ rest) → IsMadeAnew e other.object
+        made_among other among = let at = among_savings other among in (is.bounds.saved at.0 other at.1).made
+
+        grown_behind : Extends μ.image now
+        grown_behind = record {
+          higher = laid.grown.higher;
+          homes = laid.grown.homes;
+          size = laid.grown.size;
+          fixed = laid.grown.fixed;
+          frozen = λ k object held. behind.same k (λ other among same.
+              nothing_among object (sym (not_held_yet s number u costs e is μ.image free other.object (made_among other among)) ∙ ap μ.image.frozen same ∙ held)) ∙ laid.grown.frozen k object held;
+        }
+
+        others_behind : (j : ℕ) → nat_eq j number ≡ false → IsFree (s.rooms j) μ.image → IsFree (s.rooms j) now
+        others_behind j apart free' =
+            let idle = laid.others j apart free' in
+            record {
+              no_home = idle.no_home;
+              not_held = λ k low high. behind.same k (λ other among same.
+                  made_far s number u costs e is other.object (made_among other among) j apart (subst (λ n. (s.rooms j).first ≤ n) (sym same) low) (subst (λ n. n < (s.rooms j).first + (s.rooms j).count) (sym same) high)) ∙ idle.not_held k low high;
+            }
+
+        temporaries_behind : (k : ℕ) → e.writing.is_number k ≡ true → IsTemporary now (e.writing.naming.temporary k)
+        temporaries_behind k numeric =
+            let old = laid.temporaries k numeric in
+            record {
+              bytes = old.bytes;
+              holds = behind.same (e.writing.naming.temporary k) (λ other among same. (let at = among_savings other among in (is.bounds.saved at.0 other at.1).temporaries k numeric (sym same))) ∙ old.holds;
+              room = old.room;
+              homeless = old.homeless;
+            }
+
+        procedures_behind : AreProceduresHeld s e now v.frame
+        procedures_behind = λ z d parameter own h address.
+            let old = procedures_at_entry z d parameter own h address in
+            (old.0, old.1, old.2, old.3, behind.same parameter (λ other among same. (let at = among_savings other among in (is.bounds.saved at.0 other at.1).addresses z parameter address (sym same))) ∙ old.4)
+
+        is_ready : IsReady now behind.objects
+        is_ready = record {
+          grown = grown_behind;
+          stands = behind.stands;
+          as_many = behind.as_many ∙ framed_many;
+          others = others_behind;
+          known = known_behind now behind.known (λ i other at. held_at e is.entry.formals is.savings is.bounds at_call v.frame store begins.bindings.names begins.bounds bare are_named fixed laid.now now 0 (one ∷ rest) zs saved behind.held i other
+              (ap (λ ones. slice_get ones i) (sym some) ∙ at));
+          temporaries = temporaries_behind;
+          procedures = procedures_behind;
+        }
+
+      module _ (later : List ℕ) (costed : IsCosted u costs later is.entry is.savings) where
+        starts_by : c_steps.start e.function function values y ≡ Enters first_view (record y { objects = with_frame e.function values y.objects })
+        unfolding c_steps.start
+        starts_by = ap (λ b. if b then Enters first_view (record y { objects = with_frame e.function values y.objects }) else Refused (Faults Disagree)) all_fits
+
+        is_early : IsEarly s number e μ view_at x' first_view (record y { objects = with_frame e.function values y.objects })
+        is_early = record {
+          now = laid.now;
+          both = both_stand laid.now (with_frame e.function values y.objects) laid.grown stands_at_entry framed_many;
+          frame = frame_is;
+          known = known_at_entry;
+          procedures = procedures_at_entry;
+        }
+
+        few : (ones : List Saving) → is.savings ≡ ones → length ones + cost costs view_at.at ≤ cost later view_at.at
+        unfolding frame_of
+        few ones same =
+            subst (λ os. length os + cost costs view_at.at ≤ cost later view_at.at) same
+            (subst (λ (one : EntryPoint). length is.savings + cost costs (u.begins one.start) ≤ cost later (u.begins one.start)) (sym (ap (λ (f : Frame). f.called) begins.frame)) costed.first)
+
+        -- nothing is kept, or the items of what is kept come first
+        matched_by : (ones : List Saving) → is.savings ≡ ones → IsLate (call_couple s number u costs e) (IsEarly s number e) (λ w. cost later w.at) μ view_at x' first_view (record y { objects = with_frame e.function values y.objects })
+        matched_by [] none =
+            ready (subst (λ ones. IsAtStep s number e μ view_at x' (record first_view { position = length ones }) (record y { objects = with_frame e.function values y.objects })) none
+            (at_step laid.now (with_frame e.function values y.objects) (record {
+              grown = laid.grown;
+              stands = stands_at_entry;
+              as_many = framed_many;
+              others = laid.others;
+              known = known_behind laid.now known_at_entry (λ i one at. no_element i one (ap (λ ones. slice_get ones i) (sym none) ∙ at));
+              temporaries = laid.temporaries;
+              procedures = procedures_at_entry;
+            })))
+        matched_by (one ∷ rest) some =
+            let saved = saved_from e is.entry.formals is.savings is.bounds at_call v.frame store begins.bindings.names begins.bounds bare are_named fixed laid.now laid.rooms 0 (one ∷ rest)
+            (λ i other h. ap (slice_get is.savings) {x = 0 + i} {y = i} (omega arith) ∙ ap (λ ones. slice_get ones i) some ∙ h) in
+            let behind = bounds_are_kept laid.now e.writing v.frame store e.function first_view (record y { objects = with_frame e.function values y.objects }) one rest saved.0 stands_at_entry known_at_entry saved.1 in
+            early (length (one ∷ rest)) (record first_view { position = length (one ∷ rest) }) (record y { objects = behind.objects }) is_early (does_first one rest saved.0 some saved.1 behind) (few (one ∷ rest) some)
+            (subst (λ ones. IsAtStep s number e μ view_at x' (record first_view { position = length ones }) (record y { objects = behind.objects })) some
+            (at_step (record laid.now { frozen = behind.frozen }) behind.objects (is_ready one rest saved.0 some saved.1 behind)))
+
+        entered : Opened (entered_couple s number u costs later e) μ (begun u (Enters v x')) y function values
+        unfolding begun
+        entered = record {
+          view = first_view;
+          shared = record y { objects = with_frame e.function values y.objects };
+          starts = starts_by;
+          matched = matched_by is.savings refl;
+        }
+
+  module _ (later : List ℕ) (costed : IsCosted u costs later is.entry is.savings) where
+    pub opened : (μ : CallWorld) (x : fortran.World) (n : Called) (a : Passed) (y : c.World) (function : ℕ) (values : List CValue) → Extends s.first μ.image → IsFree (s.rooms number) μ.image → CallsAlike s μ x n a y function values
+        → (entry : Entry fortran_sorts) → association.start u.facts n a x ≡ entry → Opened (entered_couple s number u costs later e) μ (begun u entry) y function values
+    unfolding begun
+    opened μ x n a y function values houses free calls (Refused act) h = tt
+    opened μ x n a y function values houses free calls (Enters v x') h =
+        let begins = procedure_begins u.facts is.entry n a x x' v is.only h in
+        entered μ x n a y function values houses free calls x' v begins (laid_by μ x n a y function values houses free calls x' v begins u.facts.program.kind refl) later costed

@@ -20,8 +20,9 @@ use Rattle.procedure_emission.specs.c_emit_laws.EmittedFlats.{by_put, by_label, 
 use Rattle.procedure_emission.proofs.c_emit_laws.Choices.{some_same}
 use Rattle.procedure_emission.specs.emitted_texts.SecondLayer.{Surroundings, Emission}
 use Rattle.procedure_emission.specs.ProcedureItems.{procedure_item}
-use Rattle.procedure_emission.specs.CallLayer.{CallWorld, IsAtStep, call_couple}
-use Rattle.procedure_emission.specs.EmittedUnits.{IsItem, IsEmittedUnit}
+use Rattle.procedure_emission.proofs.late_starts.LateFollows.{follows_late}
+use Rattle.procedure_emission.specs.CallLayer.{CallWorld, IsAtStep, call_couple, IsEarly, entered_couple}
+use Rattle.procedure_emission.specs.EmittedUnits.{IsItem, IsEmittedUnit, IsCosted}
 use Rattle.emitted_procedures.specs.SimulatedUnits.{UnitsAreSimulated}
 use Rattle.emitted_procedures.proofs.Answering.{answers, answers_by}
 use Rattle.emitted_procedures.proofs.Calling.{calls_function, calls_subroutine}
@@ -77,13 +78,14 @@ module _ (s : Surroundings) (number : ℕ) (u : Text) (costs : List ℕ) (e : Em
   follows μ v x w y now None at = subst (λ o. Meets (call_couple s number u costs e) μ w y (cost costs v.at) (done u v x o)) (sym at) (λ claimed. absurd claimed)
   follows μ v x w y now (Some st) at = each μ v x w y now st at (is.items v.at st at)
 
-  pub simulates : Local (call_couple s number u costs e)
-  unfolding lower.start
-  simulates = record {
-    starts = λ μ x n a y n' values houses idle calls. opened s number u costs e is μ x n a y n' values houses idle calls (association.start u.facts n a x) refl;
-    refuses = λ n a x act h claimed. claimed;
-    follows = λ μ v x w y matched. follows μ v x w y matched (slice_get u.steps v.at) refl;
-  }
+  module _ (later : List ℕ) (costed : IsCosted u costs later is.entry is.savings) where
+    pub simulates : Local (entered_couple s number u costs later e)
+    unfolding lower.start
+    simulates = record {
+      starts = λ μ x n a y n' values houses idle calls. opened s number u costs e is later costed μ x n a y n' values houses idle calls (association.start u.facts n a x) refl;
+      refuses = λ n a x act h claimed. claimed;
+      follows = follows_late (call_couple s number u costs e) (IsEarly s number e) (λ v. cost later v.at) (λ v. costed.more v.at) (λ μ v x w y matched. follows μ v x w y matched (slice_get u.steps v.at) refl);
+    }
 
 pub units_are_simulated : UnitsAreSimulated
-units_are_simulated s number u costs e is = simulates s number u costs e is
+units_are_simulated s number u costs later e is costed = simulates s number u costs e is later costed

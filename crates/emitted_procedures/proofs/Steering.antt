@@ -48,7 +48,8 @@ use Rattle.procedure_emission.proofs.emitted_texts.Worlds.{plain_length, extends
 use Rattle.procedure_emission.proofs.emitted_texts.Steps.{GoesOrBreaks, steering_goes, keeping_goes, steering_shared, steering_plain, steering_leads, steering_stages, kept_by, output_on}
 use Rattle.procedure_emission.specs.Reading.{IsPlain, kind_after, numbers_kept}
 use Rattle.procedure_emission.specs.CallLayer.{CallWorld, IsFrameOf, AreProceduresHeld, IsActive, IsStaged, IsAtStep, call_couple}
-use Rattle.procedure_emission.specs.EmittedUnits.{leads_on, IsItem, IsMadeAnew, IsOfRoom, IsEmittedUnit}
+use Rattle.procedure_emission.specs.DummyBounds.{IsMadeAnew}
+use Rattle.procedure_emission.specs.EmittedUnits.{leads_on, IsItem, IsOfRoom, IsEmittedUnit}
 use Rattle.emitted_procedures.proofs.KeptNumbers.{whole_number, numbers_behind}
 use Rattle.emitted_procedures.proofs.ReadNumbers.{typed_plain, typed_read, value_read, integers_held}
 use Rattle.emitted_procedures.proofs.StepsOverNumbers.{same_done}

@@ -16,9 +16,8 @@ use Rattle.procedure_emission.specs.f_tree.Setting.{IsIn, first_in}
 use Rattle.procedure_emission.specs.f_tree.World as fortran
 use Rattle.procedure_emission.specs.f_tree.Courses.{Course}
 use Rattle.procedure_emission.specs.f_tree.Transfers.{begins, item_done, finished}
-use Rattle.procedure_emission.specs.f_tree.Valuing as valuing
 use Rattle.procedure_emission.specs.f_tree.Step.{stop_ending}
-use Rattle.procedure_emission.specs.l_core.Pures.{Pure, Constant, Temporary, Load, Name, AllOf, ElementOf, FirstOf, Substring, Concatenated, Prefixed, Operated, Applied, Chosen, Pures, NoPure, AndPure, if_kept, meant, all_meant}
+use Rattle.procedure_emission.specs.l_core.Pures.{Pure, Constant, Pures, NoPure, AndPure, meant, all_meant}
 use Rattle.procedure_emission.specs.l_core.Steps.{Acting, Starts, Takes, Finishes, Step, Halt, Acts, Text}
 use Rattle.procedure_emission.specs.l_core.Machine.{View, Doing, to, onward, past, course_of, coursing, acting, done, step}
 use Rattle.procedure_emission.specs.l_core.Costs.{cost}
@@ -28,7 +27,7 @@ use Rattle.procedure_emission.specs.c_tree.declared.types.CastType.TheVariants a
 use Rattle.procedure_emission.specs.c_tree.declared.types.ListType.TheVariants as list_type
 use Rattle.procedure_emission.specs.c_tree.Faults.{Or, after}
 use Rattle.procedure_emission.specs.c_tree.Access.{ToNumber, ToChar, ToList}
-use Rattle.procedure_emission.specs.c_tree.Objects.{Object, Bytes as Stored, plain, as_number, fetched}
+use Rattle.procedure_emission.specs.c_tree.Objects.{Object, Bytes as Stored}
 use Rattle.procedure_emission.specs.c_tree.Terms as c_term
 use Rattle.procedure_emission.specs.c_tree.Terms.{Term}
 use Rattle.procedure_emission.specs.c_tree.Values as c_values
@@ -48,16 +47,15 @@ use Rattle.procedure_emission.specs.faithful.SameTransfer.{SameTransfer, neither
 use Rattle.procedure_emission.specs.c_image.World.{World}
 use Rattle.procedure_emission.specs.c_image.Standing.{Stands}
 use Rattle.procedure_emission.specs.c_image.Held.{whole_for, Holds}
-use Rattle.procedure_emission.specs.c_image_laws.Meanings.{Means, IsPlace}
+use Rattle.procedure_emission.specs.c_image_laws.Meanings.{IsPlace}
 use Rattle.procedure_emission.proofs.c_image_laws.AddressValues.{Address-points}
 use Rattle.procedure_emission.proofs.c_image_laws.Keeping.{held_number, held_text}
 use Rattle.procedure_emission.proofs.c_image_laws.TextValues.{length_is}
-use Rattle.procedure_emission.specs.c_emit.Numbers.{Writing, value_term, place_term, if_number}
+use Rattle.procedure_emission.specs.c_emit.Numbers.{Writing}
 use Rattle.procedure_emission.specs.c_emit.Types.{HasType, type_of}
-use Rattle.procedure_emission.specs.c_emit.Calls.{call_of, address_of, is_unit_alone, is_plain, start_on, start_item, unit_of, if_held, constant_held, held_term, kind_number, item_by, takes_item, finish_item, stop_item}
+use Rattle.procedure_emission.specs.c_emit.Calls.{call_of, address_of, is_unit_alone, is_plain, start_on, start_item, unit_of, held_term, kind_number, item_by, takes_item, finish_item, stop_item}
 use Rattle.procedure_emission.specs.c_emit.Flats.{flat_of}
-use Rattle.procedure_emission.specs.c_emit_laws.EmittedNumbers.{IsKnown}
-use Rattle.procedure_emission.proofs.c_emit_laws.Choices.{got, some_same}
+use Rattle.procedure_emission.proofs.c_emit_laws.Choices.{some_same}
 use Rattle.procedure_emission.proofs.c_emit_laws.HeldNumbers.{number_there, value_holds}
 use Rattle.procedure_emission.proofs.c_emit_laws.TypeLaws.{types_are_right}
 use Rattle.procedure_emission.specs.output_laws.ListedOutputs.{fortran_listing, c_listing, list_object, unit_alone, s_wsle, e_wsle, GoOnOrStop, go_on, stop, EndOrStop, end', stopped as both_stopped, IsItem, an_integer, a_truth}

@@ -4,7 +4,7 @@ use Rattle.std.specs.Ordering.{int_eq}
 use Rattle.std.proofs.Common.{refl}
 use Rattle.item_emission.specs.f_tree.Values.{Bytes, Datum, IsInt, IsLog}
 use Rattle.item_emission.specs.f_tree.Terms as fortran
-use Rattle.item_emission.specs.f_tree.CNames.{variable_name, made_name, FunctionResult, NumberTemporary}
+use Rattle.item_emission.specs.f_tree.CNames.{variable_name, made_name, FunctionResult, NumberTemporary, DimensionOf, LowerBoundOf}
 use Rattle.item_emission.specs.l_core.Pures.{Pure, Constant, Temporary, Load, Name, ElementOf, Prefixed, Operated, Applied, Chosen, Pures, NoPure, AndPure}
 use Rattle.item_emission.specs.c_tree.Opened.{trees_opened}
 use Rattle.item_emission.specs.c_tree.LinkedExpressions.{linked, linked_all}
@@ -21,9 +21,13 @@ use Rattle.item_emission.specs.named_items.c_structure.Expressions.{number_expr,
 use Rattle.item_emission.specs.named_items.SamePlaces.{number_in}
 use Rattle.item_emission.specs.main_file.c_image.Operations.{prefix_for, operator_for}
 use Rattle.item_emission.specs.declared.known.Dimension.{Dimension}
+use Rattle.item_emission.specs.declared.known.LowerBound.{LowerBound}
+use Rattle.item_emission.specs.declared.known.LowerBound.TheVariants as low
+use Rattle.item_emission.specs.declared.known.Size.{Size}
+use Rattle.item_emission.specs.declared.known.Size.TheVariants as many
 use Rattle.item_emission.specs.declared.known.Standing.{Standing}
 use Rattle.item_emission.specs.declared.known.Standing.TheVariants.{Own, Parameter, Result}
-use Rattle.item_emission.specs.NamedEmission.{Knowledge, negative_expr, constant_expr, datum_expr, is_the_number, added_expr, sum_by, sum_expr, difference_expr, product_expr, sum_of, dimension_at, distance_expr, stepped_expr, index_expr, variable_expr, result_object, scalar_expr, element_expr, extreme_expr, first_extreme, alone_expr, remainder_expr, function_expr, applied_expr, expr_if, temporary_object, temporary_expr, value_expr, place_expr, value_exprs}
+use Rattle.item_emission.specs.NamedEmission.{Knowledge, negative_expr, constant_expr, datum_expr, is_the_number, added_expr, sum_by, sum_expr, difference_expr, product_expr, sum_of, lower_expr, size_expr, distance_expr, stepped_expr, index_expr, variable_expr, result_object, scalar_expr, element_expr, extreme_expr, first_extreme, alone_expr, remainder_expr, function_expr, applied_expr, expr_if, temporary_object, temporary_expr, value_expr, place_expr, value_exprs}
 
 -- ## Without strings
 
@@ -174,20 +178,30 @@ sum_of_bare None y h g = tt
 sum_of_bare (Some a) None h g = tt
 sum_of_bare (Some a) (Some b) h g = sum_bare (number_in a) (number_in b) a b h g
 
-distance_bare : (d : Dimension) (e : CExpr) → Plain e → Bare (distance_expr d e)
+lower_bare : (x : Bytes) (k : ℕ) (lower : LowerBound) → Bare (lower_expr x k lower)
+unfolding lower_expr
+lower_bare x k (low.Written z) = constant_bare z
+lower_bare x k low.Kept = name_plain (made_name (LowerBoundOf (variable_name x) (suc k)))
+
+size_bare : (x : Bytes) (k : ℕ) (size : Size) → Bare (size_expr x k size)
+unfolding size_expr
+size_bare x k (many.Written n) = number_bare (pos n)
+size_bare x k many.Kept = name_plain (made_name (DimensionOf (variable_name x) (suc k)))
+
+distance_bare : (x : Bytes) (k : ℕ) (d : Dimension) (e : CExpr) → Plain e → Bare (distance_expr x k d e)
 unfolding distance_expr
-distance_bare d e h = map_bare (difference_expr e) (constant_expr d.lower) (λ f g. difference_plain e f h g) (constant_bare d.lower)
+distance_bare x k d e h = map_bare (difference_expr e) (lower_expr x k d.lower) (λ f g. difference_plain e f h g) (lower_bare x k d.lower)
 
-stepped_bare : (d : Dimension) (e : CExpr) (index : Option CExpr) → Plain e → Bare index → Bare (stepped_expr d e index)
+stepped_bare : (x : Bytes) (k : ℕ) (d : Dimension) (e : CExpr) (index : Option CExpr) → Plain e → Bare index → Bare (stepped_expr x k d e index)
 unfolding stepped_expr
-stepped_bare d e index h g =
-    sum_of_bare (with_two product_expr index (number_expr (pos d.size))) (distance_expr d e) (two_bare product_expr index (number_expr (pos d.size)) product_plain g (number_bare (pos d.size))) (distance_bare d e h)
+stepped_bare x k d e index h g =
+    sum_of_bare (with_two product_expr index (size_expr x k d.size)) (distance_expr x k d e) (two_bare product_expr index (size_expr x k d.size) product_plain g (size_bare x k d.size)) (distance_bare x k d e h)
 
-index_bare : (ds : List Dimension) (k : ℕ) (es : List CExpr) → AllPlain es → Bare (index_expr ds k es)
+index_bare : (x : Bytes) (d : ℕ → Dimension) (k : ℕ) (es : List CExpr) → AllPlain es → Bare (index_expr x d k es)
 unfolding index_expr
-index_bare ds k [] h = number_bare (pos 0)
-index_bare ds k (e ∷ []) h = distance_bare (dimension_at ds k) e h.0
-index_bare ds k (e ∷ next ∷ later) h = stepped_bare (dimension_at ds k) e (index_expr ds (suc k) (next ∷ later)) h.0 (index_bare ds (suc k) (next ∷ later) h.1)
+index_bare x d k [] h = number_bare (pos 0)
+index_bare x d k (e ∷ []) h = distance_bare x k (d k) e h.0
+index_bare x d k (e ∷ next ∷ later) h = stepped_bare x k (d k) e (index_expr x d (suc k) (next ∷ later)) h.0 (index_bare x d (suc k) (next ∷ later) h.1)
 
 pub variable_plain : (x : Bytes) → Plain (variable_expr x)
 unfolding variable_expr
@@ -199,10 +213,10 @@ scalar_plain Own x = variable_plain x
 scalar_plain Parameter x = unary_plain prefix.Deref (variable_expr x) (variable_plain x)
 scalar_plain Result x = name_plain (made_name FunctionResult)
 
-element_bare : (x : Bytes) (ds : List Dimension) (es : Option (List CExpr)) → AllBare es → Bare (element_expr x ds es)
+element_bare : (x : Bytes) (d : ℕ → Dimension) (es : Option (List CExpr)) → AllBare es → Bare (element_expr x d es)
 unfolding element_expr
-element_bare x ds None h = tt
-element_bare x ds (Some es) h = map_bare (expr.Index (variable_expr x)) (index_expr ds 0 es) (λ e g. index_plain (variable_expr x) e (variable_plain x) g) (index_bare ds 0 es h)
+element_bare x d None h = tt
+element_bare x d (Some es) h = map_bare (expr.Index (variable_expr x)) (index_expr x d 0 es) (λ e g. index_plain (variable_expr x) e (variable_plain x) g) (index_bare x d 0 es h)
 
 -- ## Functions
 
@@ -262,7 +276,7 @@ mutual
 
   pub place_bare : (known : Knowledge) (p : Pure) → Bare (place_expr known p)
   place_bare known (Name x) = if_bare (known.is_scalar x) _ (scalar_plain (known.standing x) x)
-  place_bare known (ElementOf x ps) = if_bare (known.is_array x) (element_expr x (known.dimensions x) (value_exprs known ps)) (element_bare x (known.dimensions x) (value_exprs known ps) (values_bare known ps))
+  place_bare known (ElementOf x ps) = if_bare (known.is_array x) (element_expr x (known.dimension x) (value_exprs known ps)) (element_bare x (known.dimension x) (value_exprs known ps) (values_bare known ps))
   place_bare known p = tt
 
   pub values_bare : (known : Knowledge) (ps : Pures) → AllBare (value_exprs known ps)

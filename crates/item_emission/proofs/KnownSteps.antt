@@ -32,8 +32,10 @@ use Rattle.named_items.specs.declared.item.Item.TheVariants as item
 use Rattle.named_items.specs.Items as named_items
 use Rattle.named_items.specs.Items.{by_name, assign_by, set_call_by, case_of, item_for}
 use Rattle.item_emission.specs.declared.known.Dimension.{Dimension}
+use Rattle.item_emission.specs.declared.known.LowerBound.TheVariants as low
+use Rattle.item_emission.specs.declared.known.Size.TheVariants as many
 use Rattle.item_emission.specs.NamedEmission as named
-use Rattle.item_emission.specs.NamedEmission.{Knowledge, constant_expr, datum_expr, dimension_at, variable_expr, expr_if, temporary_expr, value_expr, place_expr, type_in, constant_object, list_object, datum_held, held_expr, held_exprs, computed_step, start_call, start_if, start_step, output_call, output_if, output_by, output_step, finish_step, stop_call, stop_step, branch_step, case_to, cases_from, select_step, label_cases, switch_step, return_step, acting_step, item_step, address_expr}
+use Rattle.item_emission.specs.NamedEmission.{Knowledge, constant_expr, datum_expr, dimension_at, lower_expr, size_expr, variable_expr, expr_if, temporary_expr, value_expr, place_expr, type_in, constant_object, list_object, datum_held, held_expr, held_exprs, computed_step, start_call, start_if, start_step, output_call, output_if, output_by, output_step, finish_step, stop_call, stop_step, branch_step, case_to, cases_from, select_step, label_cases, switch_step, return_step, acting_step, item_step, address_expr}
 use Rattle.item_emission.specs.Agreeing.{dimension_of}
 use Rattle.item_emission.proofs.TermNumbers.{constant-agrees}
 use Rattle.item_emission.proofs.ValuesAgree.{IsKnownBy, expr_of, exprs_of, more-agrees, temporary-agrees, value-agrees, place-agrees}
@@ -65,24 +67,25 @@ dimension-of (b ∷ bs) zero = refl
 dimension-of (b ∷ bs) (suc k) = dimension-of bs k
 
 abbrev no_dimension : Dimension
-no_dimension = record { lower = pos 0; size = 0 }
+no_dimension = record { lower = low.Written (pos 0); size = many.Written 0 }
 
-lower-by : (names : Names) (o : Option Bounds) → expr_for names (quantity_term (lower_of o)) ≡ constant_expr (unwrap_or (option_map dimension_of o) no_dimension).lower
-lower-by names None = constant-agrees names (pos 0)
-lower-by names (Some bounds) = constant-agrees names bounds.lower
+lower-by : (names : Names) (x : Bytes) (k : ℕ) (o : Option Bounds) → expr_for names (quantity_term (lower_of o)) ≡ lower_expr x k (unwrap_or (option_map dimension_of o) no_dimension).lower
+unfolding lower_expr
+lower-by names x k None = constant-agrees names (pos 0)
+lower-by names x k (Some bounds) = constant-agrees names bounds.lower
 
-size-by : (names : Names) (o : Option Bounds) → expr_for names (quantity_term (size_of o)) ≡ number_expr (pos (unwrap_or (option_map dimension_of o) no_dimension).size)
-unfolding expr_for
-size-by names None = refl
-size-by names (Some bounds) = refl
+size-by : (names : Names) (x : Bytes) (k : ℕ) (o : Option Bounds) → expr_for names (quantity_term (size_of o)) ≡ size_expr x k (unwrap_or (option_map dimension_of o) no_dimension).size
+unfolding expr_for size_expr
+size-by names x k None = refl
+size-by names x k (Some bounds) = refl
 
-pub lower-agrees : (names : Names) (bs : List Bounds) (k : ℕ) → expr_for names (quantity_term (lower_of (slice_get bs k))) ≡ constant_expr (dimension_at (map dimension_of bs) k).lower
+pub lower-agrees : (names : Names) (x : Bytes) (bs : List Bounds) (k : ℕ) → expr_for names (quantity_term (lower_of (slice_get bs k))) ≡ lower_expr x k (dimension_at (map dimension_of bs) k).lower
 unfolding dimension_at
-lower-agrees names bs k = lower-by names (slice_get bs k) ∙ ap (λ (o : Option Dimension). constant_expr (unwrap_or o no_dimension).lower) (sym (dimension-of bs k))
+lower-agrees names x bs k = lower-by names x k (slice_get bs k) ∙ ap (λ (o : Option Dimension). lower_expr x k (unwrap_or o no_dimension).lower) (sym (dimension-of bs k))
 
-pub size-agrees : (names : Names) (bs : List Bounds) (k : ℕ) → expr_for names (quantity_term (size_of (slice_get bs k))) ≡ number_expr (pos (dimension_at (map dimension_of bs) k).size)
+pub size-agrees : (names : Names) (x : Bytes) (bs : List Bounds) (k : ℕ) → expr_for names (quantity_term (size_of (slice_get bs k))) ≡ size_expr x k (dimension_at (map dimension_of bs) k).size
 unfolding dimension_at
-size-agrees names bs k = size-by names (slice_get bs k) ∙ ap (λ (o : Option Dimension). number_expr (pos (unwrap_or o no_dimension).size)) (sym (dimension-of bs k))
+size-agrees names x bs k = size-by names x k (slice_get bs k) ∙ ap (λ (o : Option Dimension). size_expr x k (unwrap_or o no_dimension).size) (sym (dimension-of bs k))
 
 -- ## Forms of options
 

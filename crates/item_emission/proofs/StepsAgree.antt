@@ -67,8 +67,8 @@ module _ (v : Inventory) (b : Bases) (facts : Facts) (kind : ℕ → ℕ → Opt
     scalar_names = scalar-name;
     array_names = λ x there index. array-name x there (expr_for (names_of v b) index);
     temporary_names = λ k there. temporary_is v b k there;
-    lowers = λ x k. lower-agrees (names_of v b) (facts.program.attribute x).bounds k;
-    sizes = λ x k. size-agrees (names_of v b) (facts.program.attribute x).bounds k;
+    lowers = λ x k. lower-agrees (names_of v b) x (facts.program.attribute x).bounds k;
+    sizes = λ x k. size-agrees (names_of v b) x (facts.program.attribute x).bounds k;
   }
 
   steps-known : StepsAreKnownBy (names_of v b) (writing_of v b facts kind) (known_in v facts label) label

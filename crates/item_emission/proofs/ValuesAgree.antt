@@ -1,5 +1,5 @@
 -- The expressions of lowered values by names are those of their linked expressions.
-use Rattle.std.specs.Prelude.{◌≡◌, ℕ, suc, nat_lt, pos, Bool, true, false, List, [], ◌∷◌, Option, Some, None, option_map, option_and_then}
+use Rattle.std.specs.Prelude.{◌≡◌, ℕ, suc, nat_lt, Bool, true, false, List, [], ◌∷◌, Option, Some, None, option_map, option_and_then}
 use Rattle.std.proofs.Common.{refl, sym, ap, ◌∙◌}
 use Rattle.main_file.specs.f_tree.Values.{Bytes}
 use Rattle.main_file.specs.f_tree.Terms as fortran
@@ -13,14 +13,14 @@ use Rattle.c_tree.specs.declared.expression.Extreme.TheVariants as extreme
 use Rattle.c_tree.specs.Access.{ToNumber}
 use Rattle.c_tree.specs.Terms as c
 use Rattle.c_tree.specs.Terms.{Term}
-use Rattle.named_items.specs.c_structure.Expressions.{Names, with_two, with_three, number_expr, expr_for, one_more, exprs_for}
+use Rattle.named_items.specs.c_structure.Expressions.{Names, with_two, with_three, expr_for, one_more, exprs_for}
 use Rattle.main_file.specs.c_image.Addresses.{number_term, element_term}
 use Rattle.main_file.specs.c_image.Elements.{quantity_term, index_term, difference_term, product_term}
 use Rattle.main_file.specs.c_image.Operations.{prefix_for, operator_for, extreme_term, function_term}
 use Rattle.main_file.specs.c_emit.Numbers as emit
 use Rattle.main_file.specs.c_emit.Numbers.{Writing, is_scalar, is_array, steps_from, element_value, applied_value, if_number, value_term, place_term, value_terms}
 use Rattle.item_emission.specs.declared.known.Dimension.{Dimension}
-use Rattle.item_emission.specs.NamedEmission.{Knowledge, constant_expr, difference_expr, product_expr, sum_of, dimension_at, distance_expr, stepped_expr, index_expr, variable_expr, scalar_expr, element_expr, extreme_expr, first_extreme, alone_expr, remainder_expr, function_expr, applied_expr, expr_if, temporary_object, temporary_expr, value_expr, place_expr, value_exprs}
+use Rattle.item_emission.specs.NamedEmission.{Knowledge, difference_expr, product_expr, sum_of, lower_expr, size_expr, distance_expr, stepped_expr, index_expr, variable_expr, scalar_expr, element_expr, extreme_expr, first_extreme, alone_expr, remainder_expr, function_expr, applied_expr, expr_if, temporary_object, temporary_expr, value_expr, place_expr, value_exprs}
 use Rattle.item_emission.proofs.TermNumbers.{datum-agrees, difference-agrees, product-agrees, sum-agrees}
 
 -- what is known is what the names and the facts say
@@ -31,8 +31,8 @@ pub record IsKnownBy (names : Names) (w : Writing) (known : Knowledge) : Type 0 
   pub scalar_names : (x : Bytes) → known.is_scalar x ≡ true → expr_for names (number_term (w.naming.address x)) ≡ Some (scalar_expr (known.standing x) x)
   pub array_names : (x : Bytes) → known.is_array x ≡ true → (index : Term) → expr_for names (element_term (w.naming.address x) index) ≡ option_map (expr.Index (variable_expr x)) (expr_for names index)
   pub temporary_names : (k : ℕ) → nat_lt k known.temporaries ≡ true → names.object (w.naming.temporary k) ≡ made_name (NumberTemporary (suc k))
-  pub lowers : (x : Bytes) (k : ℕ) → expr_for names (quantity_term (w.naming.lower x k)) ≡ constant_expr (dimension_at (known.dimensions x) k).lower
-  pub sizes : (x : Bytes) (k : ℕ) → expr_for names (quantity_term (w.naming.size x k)) ≡ number_expr (pos (dimension_at (known.dimensions x) k).size)
+  pub lowers : (x : Bytes) (k : ℕ) → expr_for names (quantity_term (w.naming.lower x k)) ≡ lower_expr x k (known.dimension x k).lower
+  pub sizes : (x : Bytes) (k : ℕ) → expr_for names (quantity_term (w.naming.size x k)) ≡ size_expr x k (known.dimension x k).size
 
 abbrev pub expr_of : Names → Option Term → Option CExpr
 expr_of names o = option_and_then (expr_for names) o
@@ -203,35 +203,35 @@ applied-agrees names f (Some ts) = function-agrees names f ts
 
 -- ## Elements
 
-unfoldable index_of : List Dimension → ℕ → Option (List CExpr) → Option CExpr
-index_of ds k None = None
-index_of ds k (Some es) = index_expr ds k es
+unfoldable index_of : Bytes → (ℕ → Dimension) → ℕ → Option (List CExpr) → Option CExpr
+index_of x d k None = None
+index_of x d k (Some es) = index_expr x d k es
 
-index-last : (ds : List Dimension) (k : ℕ) (o : Option CExpr) → with_two difference_expr o (constant_expr (dimension_at ds k).lower) ≡ index_of ds k (one_more o (Some []))
+index-last : (x : Bytes) (d : ℕ → Dimension) (k : ℕ) (o : Option CExpr) → with_two difference_expr o (lower_expr x k (d k).lower) ≡ index_of x d k (one_more o (Some []))
 unfolding index_of one_more index_expr distance_expr with_two
-index-last ds k None = refl
-index-last ds k (Some e) = two-map difference_expr e (constant_expr (dimension_at ds k).lower)
+index-last x d k None = refl
+index-last x d k (Some e) = two-map difference_expr e (lower_expr x k (d k).lower)
 
-index-more : (ds : List Dimension) (k : ℕ) (o p : Option CExpr) (os : Option (List CExpr))
-    → sum_of (with_two product_expr (index_of ds (suc k) (one_more p os)) (number_expr (pos (dimension_at ds k).size))) (with_two difference_expr o (constant_expr (dimension_at ds k).lower)) ≡ index_of ds k (one_more o (one_more p os))
+index-more : (x : Bytes) (d : ℕ → Dimension) (k : ℕ) (o p : Option CExpr) (os : Option (List CExpr))
+    → sum_of (with_two product_expr (index_of x d (suc k) (one_more p os)) (size_expr x k (d k).size)) (with_two difference_expr o (lower_expr x k (d k).lower)) ≡ index_of x d k (one_more o (one_more p os))
 unfolding index_of one_more index_expr stepped_expr distance_expr with_two sum_of
-index-more ds k None p os = sum-none (with_two product_expr (index_of ds (suc k) (one_more p os)) (number_expr (pos (dimension_at ds k).size)))
-index-more ds k (Some e) None os = refl
-index-more ds k (Some e) (Some a) None = refl
-index-more ds k (Some e) (Some a) (Some es) =
-    ap (sum_of (with_two product_expr (index_expr ds (suc k) (a ∷ es)) (number_expr (pos (dimension_at ds k).size)))) (two-map difference_expr e (constant_expr (dimension_at ds k).lower))
+index-more x d k None p os = sum-none (with_two product_expr (index_of x d (suc k) (one_more p os)) (size_expr x k (d k).size))
+index-more x d k (Some e) None os = refl
+index-more x d k (Some e) (Some a) None = refl
+index-more x d k (Some e) (Some a) (Some es) =
+    ap (sum_of (with_two product_expr (index_expr x d (suc k) (a ∷ es)) (size_expr x k (d k).size))) (two-map difference_expr e (lower_expr x k (d k).lower))
 
-element-by : (x : Bytes) (ds : List Dimension) (o : Option (List CExpr)) → option_map (expr.Index (variable_expr x)) (index_of ds 0 o) ≡ element_expr x ds o
+element-by : (x : Bytes) (d : ℕ → Dimension) (o : Option (List CExpr)) → option_map (expr.Index (variable_expr x)) (index_of x d 0 o) ≡ element_expr x d o
 unfolding index_of element_expr
-element-by x ds None = refl
-element-by x ds (Some es) = refl
+element-by x d None = refl
+element-by x d (Some es) = refl
 
 module _ (names : Names) (w : Writing) (known : Knowledge) (agrees : IsKnownBy names w known) where
-  index-agrees : (x : Bytes) (k : ℕ) (ts : List Term) → expr_for names (index_term (steps_from w.naming x k ts)) ≡ index_of (known.dimensions x) k (exprs_for names ts)
+  index-agrees : (x : Bytes) (k : ℕ) (ts : List Term) → expr_for names (index_term (steps_from w.naming x k ts)) ≡ index_of x (known.dimension x) k (exprs_for names ts)
   unfolding steps_from exprs_for index_of index_expr expr_for
   index-agrees x k [] = refl
   index-agrees x k (t ∷ []) =
-      difference-agrees names t (quantity_term (w.naming.lower x k)) ∙ ap (with_two difference_expr (expr_for names t)) (agrees.lowers x k) ∙ index-last (known.dimensions x) k (expr_for names t)
+      difference-agrees names t (quantity_term (w.naming.lower x k)) ∙ ap (with_two difference_expr (expr_for names t)) (agrees.lowers x k) ∙ index-last x (known.dimension x) k (expr_for names t)
   index-agrees x k (t ∷ u ∷ ts) =
       let later = index_term (steps_from w.naming x (suc k) (u ∷ ts)) in
       let size = quantity_term (w.naming.size x k) in
@@ -239,21 +239,21 @@ module _ (names : Names) (w : Writing) (known : Knowledge) (agrees : IsKnownBy n
       sum-agrees names (product_term later size) (difference_term t lower)
       ∙ (λ i. sum_of (product-agrees names later size i) (difference-agrees names t lower i))
       ∙ (λ i. sum_of (with_two product_expr (index-agrees x (suc k) (u ∷ ts) i) (agrees.sizes x k i)) (with_two difference_expr (expr_for names t) (agrees.lowers x k i)))
-      ∙ index-more (known.dimensions x) k (expr_for names t) (expr_for names u) (exprs_for names ts)
+      ∙ index-more x (known.dimension x) k (expr_for names t) (expr_for names u) (exprs_for names ts)
 
-  element-of : (x : Bytes) → known.is_array x ≡ true → (o : Option (List Term)) → expr_of names (element_value w.naming x o) ≡ element_expr x (known.dimensions x) (exprs_of names o)
+  element-of : (x : Bytes) → known.is_array x ≡ true → (o : Option (List Term)) → expr_of names (element_value w.naming x o) ≡ element_expr x (known.dimension x) (exprs_of names o)
   unfolding element_value element_expr
   element-of x there None = refl
   element-of x there (Some ts) =
       agrees.array_names x there (index_term (steps_from w.naming x 0 ts))
       ∙ ap (option_map (expr.Index (variable_expr x))) (index-agrees x 0 ts)
-      ∙ element-by x (known.dimensions x) (exprs_for names ts)
+      ∙ element-by x (known.dimension x) (exprs_for names ts)
 
-  array-agrees : (x : Bytes) (o : Option (List Term)) → expr_of names (if_number (is_array w x) (element_value w.naming x o)) ≡ expr_if (known.is_array x) (element_expr x (known.dimensions x) (exprs_of names o))
+  array-agrees : (x : Bytes) (o : Option (List Term)) → expr_of names (if_number (is_array w x) (element_value w.naming x o)) ≡ expr_if (known.is_array x) (element_expr x (known.dimension x) (exprs_of names o))
   unfolding if_number expr_if
   array-agrees x o = ap (λ t. expr_of names (if_number t (element_value w.naming x o))) (agrees.arrays x) ∙ by (known.is_array x) refl
     where
-      by : (t : Bool) → known.is_array x ≡ t → expr_of names (if_number t (element_value w.naming x o)) ≡ expr_if t (element_expr x (known.dimensions x) (exprs_of names o))
+      by : (t : Bool) → known.is_array x ≡ t → expr_of names (if_number t (element_value w.naming x o)) ≡ expr_if t (element_expr x (known.dimension x) (exprs_of names o))
       by true h = element-of x h o
       by false h = refl
 
@@ -297,7 +297,7 @@ module _ (names : Names) (w : Writing) (known : Knowledge) (agrees : IsKnownBy n
 
     pub place-agrees : (p : Pure) → expr_of names (place_term w p) ≡ place_expr known p
     place-agrees (Name x) = scalar-agrees x
-    place-agrees (ElementOf x ps) = array-agrees x (value_terms w ps) ∙ ap (λ o. expr_if (known.is_array x) (element_expr x (known.dimensions x) o)) (values-agrees ps)
+    place-agrees (ElementOf x ps) = array-agrees x (value_terms w ps) ∙ ap (λ o. expr_if (known.is_array x) (element_expr x (known.dimension x) o)) (values-agrees ps)
     place-agrees (Constant d) = refl
     place-agrees (Temporary k) = refl
     place-agrees (Load p) = refl

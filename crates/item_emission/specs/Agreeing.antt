@@ -10,13 +10,16 @@ use Rattle.main_file.specs.c_emit.Flats.{flat_of}
 use Rattle.main_file.specs.MainFile.{Inventory, Bases, place_of_constant, place_of_variable, place_of_list, place_of_string, names_of, writing_of}
 use Rattle.named_items.specs.Items.{item_for}
 use Rattle.item_emission.specs.declared.known.Dimension.{Dimension}
+use Rattle.item_emission.specs.declared.known.LowerBound.TheVariants as low
+use Rattle.item_emission.specs.declared.known.Size.TheVariants as many
 use Rattle.item_emission.specs.declared.known.Standing.TheVariants.{Own}
 use Rattle.item_emission.specs.declared.known.Giving.{Giving}
 use Rattle.item_emission.specs.declared.known.Giving.TheVariants as giving
-use Rattle.item_emission.specs.NamedEmission.{Knowledge, item_step}
+use Rattle.item_emission.specs.NamedEmission.{Knowledge, dimension_at, item_step}
 
+-- a dimension whose bounds are constant
 abbrev pub dimension_of : Bounds → Dimension
-dimension_of bounds = record { lower = bounds.lower; size = size_of_dimension bounds }
+dimension_of bounds = record { lower = low.Written bounds.lower; size = many.Written (size_of_dimension bounds) }
 
 -- what END and RETURN give, but for the numbers of alternate returns and the results of functions
 unfoldable pub giving_in : UnitKind → Giving
@@ -31,7 +34,7 @@ known_in v facts label = record {
   is_scalar = λ x. is_variable (facts.program.attribute x).class && is_numeric (facts.program.attribute x).basic && not (has_shape (facts.program.attribute x).dimensions);
   is_array = λ x. is_variable (facts.program.attribute x).class && is_numeric (facts.program.attribute x).basic && has_shape (facts.program.attribute x).dimensions;
   basic = λ x. (facts.program.attribute x).basic;
-  dimensions = λ x. map dimension_of (facts.program.attribute x).bounds;
+  dimension = λ x k. dimension_at (map dimension_of (facts.program.attribute x).bounds) k;
   standing = λ x. Own;
   is_procedure = λ x. false;
   routine = λ x. None;

@@ -8,7 +8,7 @@ use Rattle.main_file.specs.f_tree.Values.{Bytes, Datum, IsInt, IsLog, in_range}
 use Rattle.main_file.specs.f_tree.Terms as fortran
 use Rattle.main_file.specs.f_tree.Terms.{Wanted, AsFunction}
 use Rattle.main_file.specs.f_tree.Facts.{Output, Listed, Controls}
-use Rattle.main_file.specs.f_tree.CNames.{variable_name, made_name, FunctionResult, NumberTemporary, ControlList, ConstantOf}
+use Rattle.main_file.specs.f_tree.CNames.{variable_name, made_name, FunctionResult, NumberTemporary, ControlList, ConstantOf, DimensionOf, LowerBoundOf}
 use Rattle.main_file.specs.l_core.Pures.{Pure, Constant, Temporary, Load, Name, ElementOf, Prefixed, Operated, Applied, Chosen, Pures, NoPure, AndPure}
 use Rattle.main_file.specs.l_core.Steps as step
 use Rattle.main_file.specs.l_core.Steps.{Step}
@@ -33,6 +33,10 @@ use Rattle.named_items.specs.declared.item.Item.TheVariants as item
 use Rattle.named_items.specs.Items.{by_name, assign_by, call_by, set_call_by}
 use Rattle.named_items.specs.SamePlaces.{number_in}
 use Rattle.item_emission.specs.declared.known.Dimension.{Dimension}
+use Rattle.item_emission.specs.declared.known.LowerBound.{LowerBound}
+use Rattle.item_emission.specs.declared.known.LowerBound.TheVariants as low
+use Rattle.item_emission.specs.declared.known.Size.{Size}
+use Rattle.item_emission.specs.declared.known.Size.TheVariants as many
 use Rattle.item_emission.specs.declared.known.Standing.{Standing}
 use Rattle.item_emission.specs.declared.known.Standing.TheVariants.{Own, Parameter, Result}
 use Rattle.item_emission.specs.declared.known.Giving.{Giving}
@@ -40,11 +44,11 @@ use Rattle.item_emission.specs.declared.known.Giving.TheVariants as giving
 
 -- what is known of a program unit
 pub record Knowledge : Type 0 where
-  -- whether a name stands for one number, or for an array of numbers; its type, and its dimensions
+  -- whether a name stands for one number, or for an array of numbers; its type, and each of its dimensions
   pub is_scalar : Bytes → Bool
   pub is_array : Bytes → Bool
   pub basic : Bytes → Basic
-  pub dimensions : Bytes → List Dimension
+  pub dimension : Bytes → ℕ → Dimension
   -- how a variable or an array stands in C
   pub standing : Bytes → Standing
   -- whether a name stands for a procedure that may be passed, and the function that is called by a name
@@ -114,21 +118,30 @@ sum_of _ _ = None
 
 -- a dimension; what is not there counts as 0
 unfoldable pub dimension_at : List Dimension → ℕ → Dimension
-dimension_at ds k = unwrap_or (slice_get ds k) (record { lower = pos 0; size = 0 })
+dimension_at ds k = unwrap_or (slice_get ds k) (record { lower = low.Written (pos 0); size = many.Written 0 })
+
+-- a lower bound and a size: a constant, or the variable that keeps it, by the name of the array and the number of the dimension
+unfoldable pub lower_expr : Bytes → ℕ → LowerBound → Option CExpr
+lower_expr x k (low.Written z) = constant_expr z
+lower_expr x k low.Kept = Some (expr.Name (made_name (LowerBoundOf (variable_name x) (suc k))))
+
+unfoldable pub size_expr : Bytes → ℕ → Size → Option CExpr
+size_expr x k (many.Written n) = number_expr (pos n)
+size_expr x k many.Kept = Some (expr.Name (made_name (DimensionOf (variable_name x) (suc k))))
 
 -- how far a subscript is from its lower bound
-unfoldable pub distance_expr : Dimension → CExpr → Option CExpr
-distance_expr d e = option_map (difference_expr e) (constant_expr d.lower)
+unfoldable pub distance_expr : Bytes → ℕ → Dimension → CExpr → Option CExpr
+distance_expr x k d e = option_map (difference_expr e) (lower_expr x k d.lower)
 
 -- one dimension more, before those by which an element has an index
-unfoldable pub stepped_expr : Dimension → CExpr → Option CExpr → Option CExpr
-stepped_expr d e index = sum_of (with_two product_expr index (number_expr (pos d.size))) (distance_expr d e)
+unfoldable pub stepped_expr : Bytes → ℕ → Dimension → CExpr → Option CExpr → Option CExpr
+stepped_expr x k d e index = sum_of (with_two product_expr index (size_expr x k d.size)) (distance_expr x k d e)
 
 -- the index of an element by its subscripts, from a dimension on, the first one going fastest
-unfoldable pub index_expr : List Dimension → ℕ → List CExpr → Option CExpr
-index_expr ds k [] = number_expr (pos 0)
-index_expr ds k (e ∷ []) = distance_expr (dimension_at ds k) e
-index_expr ds k (e ∷ next ∷ later) = stepped_expr (dimension_at ds k) e (index_expr ds (suc k) (next ∷ later))
+unfoldable pub index_expr : Bytes → (ℕ → Dimension) → ℕ → List CExpr → Option CExpr
+index_expr x d k [] = number_expr (pos 0)
+index_expr x d k (e ∷ []) = distance_expr x k (d k) e
+index_expr x d k (e ∷ next ∷ later) = stepped_expr x k (d k) e (index_expr x d (suc k) (next ∷ later))
 
 -- a variable or a parameter by its name
 unfoldable pub variable_expr : Bytes → CExpr
@@ -144,9 +157,9 @@ scalar_expr Own x = variable_expr x
 scalar_expr Parameter x = expr.Unary prefix.Deref (variable_expr x)
 scalar_expr Result x = result_object
 
-unfoldable pub element_expr : Bytes → List Dimension → Option (List CExpr) → Option CExpr
-element_expr x ds None = None
-element_expr x ds (Some es) = option_map (expr.Index (variable_expr x)) (index_expr ds 0 es)
+unfoldable pub element_expr : Bytes → (ℕ → Dimension) → Option (List CExpr) → Option CExpr
+element_expr x d None = None
+element_expr x d (Some es) = option_map (expr.Index (variable_expr x)) (index_expr x d 0 es)
 
 -- ## Functions
 
@@ -207,7 +220,7 @@ unfoldable mutual
 
   pub place_expr : Knowledge → Pure → Option CExpr
   place_expr known (Name x) = expr_if (known.is_scalar x) (Some (scalar_expr (known.standing x) x))
-  place_expr known (ElementOf x ps) = expr_if (known.is_array x) (element_expr x (known.dimensions x) (value_exprs known ps))
+  place_expr known (ElementOf x ps) = expr_if (known.is_array x) (element_expr x (known.dimension x) (value_exprs known ps))
   place_expr known p = None
 
   pub value_exprs : Knowledge → Pures → Option (List CExpr)
@@ -441,5 +454,5 @@ item_step known kind n (step.Halt text) = stop_step text
 item_step known kind n _ = None
 
 unfoldable pub named_emission_opened : Unit {0}
-unfolding negative_expr constant_expr datum_expr is_the_number added_expr sum_by sum_expr difference_expr product_expr sum_of dimension_at distance_expr stepped_expr index_expr variable_expr result_object scalar_expr element_expr extreme_expr first_extreme alone_expr remainder_expr function_expr applied_expr expr_if temporary_object temporary_expr value_expr place_expr value_exprs type_at type_in constant_object list_object constant_held datum_held held_expr held_exprs computed_step start_call start_if start_step output_call output_if output_by output_step finish_step stop_call stop_step scalar_passed procedure_expr procedure_passed name_passed argument_expr argument_exprs call_step wants_number call_for_step branch_step cases_from select_step label_cases switch_step return_step given_expr alternate_step acting_step item_step
+unfolding negative_expr constant_expr datum_expr is_the_number added_expr sum_by sum_expr difference_expr product_expr sum_of dimension_at lower_expr size_expr distance_expr stepped_expr index_expr variable_expr result_object scalar_expr element_expr extreme_expr first_extreme alone_expr remainder_expr function_expr applied_expr expr_if temporary_object temporary_expr value_expr place_expr value_exprs type_at type_in constant_object list_object constant_held datum_held held_expr held_exprs computed_step start_call start_if start_step output_call output_if output_by output_step finish_step stop_call stop_step scalar_passed procedure_expr procedure_passed name_passed argument_expr argument_exprs call_step wants_number call_for_step branch_step cases_from select_step label_cases switch_step return_step given_expr alternate_step acting_step item_step
 named_emission_opened = tt

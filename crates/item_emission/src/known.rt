@@ -2,13 +2,31 @@
 
 use c_tree::expression::Text;
 
+/// The lower bound of a dimension. ANSI X3.9-1978, section 5.1.1.
+#[derive(Clone, Copy, Debug, PartialEq, Eq)]
+pub enum LowerBound {
+    /// A constant.
+    Written(i32),
+    /// What a variable of its own keeps since the procedure began.
+    Kept,
+}
+
+/// How many elements a dimension has. ANSI X3.9-1978, section 5.1.2.1.
+#[derive(Clone, Copy, Debug, PartialEq, Eq)]
+pub enum Size {
+    /// A constant.
+    Written(u64),
+    /// What a variable of its own keeps since the procedure began.
+    Kept,
+}
+
 /// A dimension of an array. ANSI X3.9-1978, section 5.1.
 #[derive(Clone, Copy, Debug, PartialEq, Eq)]
 pub struct Dimension {
     /// Its lower bound.
-    pub lower: i32,
+    pub lower: LowerBound,
     /// How many elements it has.
-    pub size: u64,
+    pub size: Size,
 }
 
 /// How a name stands in C. ANSI X3.9-1978, sections 2.4, 15.5.1 and 15.9.

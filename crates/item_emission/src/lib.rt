@@ -6,4 +6,4 @@
 pub mod agreement;
 pub mod known;
 
-pub use known::{Dimension, Giving, Standing};
+pub use known::{Dimension, Giving, LowerBound, Size, Standing};

@@ -87,7 +87,7 @@ pub place-AllOf : (known : Knowledge) (x : Bytes) → place_expr known (pure_of 
 unfolding place_expr
 place-AllOf known x = ap (place_expr known) (pure-AllOf x)
 
-pub place-ElementOf : (known : Knowledge) (x : Bytes) (ps : List Pure) → place_expr known (pure_of (tree.ElementOf x ps)) ≡ expr_if (known.is_array x) (element_expr x (known.dimensions x) (value_exprs known (pures_of ps)))
+pub place-ElementOf : (known : Knowledge) (x : Bytes) (ps : List Pure) → place_expr known (pure_of (tree.ElementOf x ps)) ≡ expr_if (known.is_array x) (element_expr x (known.dimension x) (value_exprs known (pures_of ps)))
 unfolding place_expr
 place-ElementOf known x ps = ap (place_expr known) (pure-ElementOf x ps)
 

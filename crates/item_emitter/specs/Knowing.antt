@@ -15,7 +15,7 @@ use Rattle.item_emission.specs.declared.known.Standing.TheVariants.{Own}
 use Rattle.item_emitter.specs.declared.known.Variable.{Variable}
 use Rattle.item_emitter.specs.declared.known.Routine.{Routine}
 use Rattle.item_emitter.specs.declared.known.Known.{Known}
-use Rattle.item_emission.specs.NamedEmission.{Knowledge}
+use Rattle.item_emission.specs.NamedEmission.{Knowledge, dimension_at}
 
 unfoldable pub variable_in : Known → Bytes → Option Variable
 variable_in table x = get_by (λ k. bytes_eq x k.now) table.variables
@@ -63,7 +63,7 @@ known_of table = record {
   is_scalar = λ x. is_number (variable_in table x);
   is_array = λ x. is_numbers (variable_in table x);
   basic = λ x. basic_of (variable_in table x);
-  dimensions = λ x. dimensions_of (variable_in table x);
+  dimension = λ x. dimension_at (dimensions_of (variable_in table x));
   standing = λ x. standing_of (variable_in table x);
   is_procedure = λ x. is_passed (routine_in table x);
   routine = λ x. callee_in (routine_in table x);

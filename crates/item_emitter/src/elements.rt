@@ -1,15 +1,15 @@
 //! Elements of arrays. ANSI X3.9-1978, section 5.4.
 
-ghost use Rattle.std.specs.Prelude.{◌≡◌, ◌++◌, ◌∷◌, [], Some, option_map, IfOk};
+ghost use Rattle.std.specs.Prelude.{◌≡◌, ◌+◌, ◌^◌, ◌<◌, ◌++◌, ◌∷◌, [], length, Some, option_map, IfOk};
 ghost use Rattle.c_tree.specs.declared.expression.CExpr.TheVariants as expr;
 ghost use Rattle.c_tree.specs.declared.expression.UnaryOp.TheVariants as prefix;
 ghost use Rattle.c_structure.specs.Expressions.{with_two};
 ghost use Rattle.item_emission.specs.NamedEmission as spec;
 
 use crate::arithmetic::{constant, count, difference, prefixed, product, sum};
-use c_names::variable_name;
+use c_names::{lower_bound_name, size_name, variable_name};
 use c_tree::expression::{CExpr, UnaryOp};
-use item_emission::{Dimension, Standing};
+use item_emission::{Dimension, LowerBound, Size, Standing};
 use plain_data::{Boxed, Items};
 use std::alloc::{AllocError, Global};
 
@@ -20,16 +20,60 @@ fn dimension_at(dimensions: &[Dimension], place: usize) -> Dimension
 {
     match dimensions.get(place) {
         Some(dimension) => *dimension,
-        None => Dimension { lower: 0, size: 0 },
+        None => Dimension {
+            lower: LowerBound::Written(0),
+            size: Size::Written(0),
+        },
+    }
+}
+
+/// The lower bound of a dimension of an array.
+#[tactic(auto, unfolding(item_emission::specs::NamedEmission::lower_expr))]
+fn lower_bound(
+    alloc: Global,
+    name: &[u8],
+    place: usize,
+    lower: LowerBound,
+) -> Result<CExpr, AllocError>
+    requires { place + 1 < 2 ^ 64 }
+    ensures { IfOk result (λ e. spec.lower_expr name.now place lower ≡ Some e) }
+{
+    match lower {
+        LowerBound::Written(lower) => constant(alloc, lower),
+        LowerBound::Kept => Ok(CExpr::Name(lower_bound_name(alloc, name, place + 1)?)),
+    }
+}
+
+/// How many elements a dimension of an array has.
+#[tactic(auto, unfolding(item_emission::specs::NamedEmission::size_expr))]
+fn size_of(
+    alloc: Global,
+    name: &[u8],
+    place: usize,
+    size: Size,
+) -> Result<Option<CExpr>, AllocError>
+    requires { place + 1 < 2 ^ 64 }
+    ensures { IfOk result (λ e. e ≡ spec.size_expr name.now place size) }
+{
+    match size {
+        Size::Written(size) => Ok(count(size)),
+        Size::Kept => Ok(Some(CExpr::Name(size_name(alloc, name, place + 1)?))),
     }
 }
 
 /// How far a subscript is from the lower bound of its dimension.
 #[tactic(auto, unfolding(item_emission::specs::NamedEmission::distance_expr))]
-fn distance(alloc: Global, dimension: Dimension, subscript: CExpr) -> Result<CExpr, AllocError>
-    ensures { IfOk result (λ e. spec.distance_expr dimension subscript ≡ Some e) }
+fn distance(
+    alloc: Global,
+    name: &[u8],
+    place: usize,
+    dimension: Dimension,
+    subscript: CExpr,
+) -> Result<CExpr, AllocError>
+    requires { place + 1 < 2 ^ 64 }
+    ensures { IfOk result (λ e. spec.distance_expr name.now place dimension subscript ≡ Some e) }
 {
-    let lower = constant(alloc, dimension.lower)?;
+    let lower = lower_bound(alloc, name, place, dimension.lower)?;
     difference(alloc, subscript, lower)
 }
 
@@ -64,34 +108,46 @@ fn sum_of(alloc: Global, left: Option<CExpr>, right: CExpr) -> Result<Option<CEx
 #[tactic(auto, unfolding(item_emission::specs::NamedEmission::stepped_expr))]
 fn stepped(
     alloc: Global,
+    name: &[u8],
+    place: usize,
     dimension: Dimension,
     subscript: CExpr,
     index: Option<CExpr>,
 ) -> Result<Option<CExpr>, AllocError>
-    ensures { IfOk result (λ e. e ≡ spec.stepped_expr dimension subscript index) }
+    requires { place + 1 < 2 ^ 64 }
+    ensures { IfOk result (λ e. e ≡ spec.stepped_expr name.now place dimension subscript index) }
 {
-    let before = product_of(alloc, index, count(dimension.size))?;
-    let distance = distance(alloc, dimension, subscript)?;
+    let size = size_of(alloc, name, place, dimension.size)?;
+    let before = product_of(alloc, index, size)?;
+    let distance = distance(alloc, name, place, dimension, subscript)?;
     sum_of(alloc, before, distance)
+}
+
+/// The place of the dimension behind those of some subscripts.
+fn place_behind(before: &[CExpr]) -> usize
+    ensures is { result ≡ length before.now }
+    ensures few { result + 1 < 2 ^ 64 }
+{
+    before.len()
 }
 
 /// The index of an element whose last subscript is given apart, the first subscript going fastest.
 fn index_by(
     alloc: Global,
+    name: &[u8],
     dimensions: &[Dimension],
     mut before: Items<CExpr>,
     last: CExpr,
 ) -> Result<Option<CExpr>, AllocError>
-    ensures { IfOk result (λ e. e ≡ spec.index_expr dimensions.now 0 (before ++ last ∷ [])) }
+    ensures { IfOk result (λ e. e ≡ spec.index_expr name.now (spec.dimension_at dimensions.now) 0 (before ++ last ∷ [])) }
 {
-    let mut index = Some(distance(alloc, dimension_at(dimensions, before.len()), last)?);
+    let place = place_behind(before.as_slice());
+    let dimension = dimension_at(dimensions, place);
+    let mut index = Some(distance(alloc, name, place, dimension, last)?);
     while let Some(subscript) = before.pop() {
-        index = stepped(
-            alloc,
-            dimension_at(dimensions, before.len()),
-            subscript,
-            index,
-        )?;
+        let place = place_behind(before.as_slice());
+        let dimension = dimension_at(dimensions, place);
+        index = stepped(alloc, name, place, dimension, subscript, index)?;
     }
     Ok(index)
 }
@@ -99,13 +155,14 @@ fn index_by(
 /// The index of an element, by its subscripts.
 fn index(
     alloc: Global,
+    name: &[u8],
     dimensions: &[Dimension],
     mut subscripts: Items<CExpr>,
 ) -> Result<Option<CExpr>, AllocError>
-    ensures { IfOk result (λ e. e ≡ spec.index_expr dimensions.now 0 subscripts) }
+    ensures { IfOk result (λ e. e ≡ spec.index_expr name.now (spec.dimension_at dimensions.now) 0 subscripts) }
 {
     match subscripts.pop() {
-        Some(last) => index_by(alloc, dimensions, subscripts, last),
+        Some(last) => index_by(alloc, name, dimensions, subscripts, last),
         None => Ok(count(0)),
     }
 }
@@ -177,11 +234,11 @@ pub(crate) fn element(
     dimensions: &[Dimension],
     subscripts: Option<Vec<CExpr>>,
 ) -> Result<Option<CExpr>, AllocError>
-    ensures { IfOk result (λ e. e ≡ spec.element_expr name.now dimensions.now (option_map (λ es. es.items) subscripts)) }
+    ensures { IfOk result (λ e. e ≡ spec.element_expr name.now (spec.dimension_at dimensions.now) (option_map (λ es. es.items) subscripts)) }
 {
     match subscripts {
         Some(subscripts) => {
-            let index = index(alloc, dimensions, Items::from_vec(subscripts))?;
+            let index = index(alloc, name, dimensions, Items::from_vec(subscripts))?;
             indexed_if(alloc, name, index)
         }
         None => Ok(None),

@@ -160,7 +160,7 @@ impl<'a> Known<'a> {
     /// The dimensions of a name.
     #[tactic(auto, unfolding(crate::specs::Knowing::dimensions_of))]
     pub(crate) fn dimensions(&self, name: &[u8]) -> &[Dimension]
-        ensures { result.now ≡ (known_of self.now).dimensions name.now }
+        ensures { result.now ≡ dimensions_of (variable_in self.now name.now) }
     {
         match self.variable(name) {
             Some(variable) => variable.dimensions.as_slice(),

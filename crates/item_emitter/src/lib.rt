@@ -19,3 +19,4 @@ mod values;
 
 pub use known::{Known, Routine, Variable};
 pub use steps::emit_step;
+pub use values::value;

@@ -166,7 +166,7 @@ fn array_element(
     name: &[u8],
     subscripts: Option<Vec<CExpr>>,
 ) -> Result<Option<CExpr>, AllocError>
-    ensures { IfOk result (λ e. e ≡ spec.expr_if ((known_of known.now).is_array name.now) (spec.element_expr name.now ((known_of known.now).dimensions name.now) (option_map (λ es. es.items) subscripts))) }
+    ensures { IfOk result (λ e. e ≡ spec.expr_if ((known_of known.now).is_array name.now) (spec.element_expr name.now ((known_of known.now).dimension name.now) (option_map (λ es. es.items) subscripts))) }
 {
     if known.is_array(name) {
         element(alloc, name, known.dimensions(name), subscripts)
@@ -178,11 +178,7 @@ fn array_element(
 /// The value of a number or a truth value.
 #[cycle(value)]
 #[tactic(auto, using(crate::proofs::ValueForms::value_forms))]
-pub(crate) fn value(
-    alloc: Global,
-    known: &Known,
-    source: &Pure,
-) -> Result<Option<CExpr>, AllocError>
+pub fn value(alloc: Global, known: &Known, source: &Pure) -> Result<Option<CExpr>, AllocError>
     ensures { IfOk result (λ e. e ≡ spec.value_expr (known_of known.now) (pure_of source.now)) }
 {
     match source {

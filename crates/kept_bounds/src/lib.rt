@@ -5,7 +5,7 @@
 ghost use Rattle.kept_bounds.specs.FixedBounds.{DimensionsAreFixed, NamesAreFixed};
 ghost use Rattle.kept_bounds.specs.KeptBounds.{LowersAreMeant, SizesAreMeant};
 
-/// The lower bound of a dimension that a call fixes is the value of its expression, where this takes no function of the library.
+/// The lower bound of a dimension that a call fixes is the value of its expression, where this takes no power and no function.
 pub fn lowers_are_meant()
     ensures { LowersAreMeant }
 {}

@@ -33,12 +33,15 @@ use Rattle.translated_files.specs.named_units.named_mains.NamedMains.{named_main
 use Rattle.translated_files.specs.named_units.NamedUnits.{named_units_opened}
 use Rattle.translated_files.specs.named_units.unit_item_laws.AgreeingUnits.{agreeing_units_opened}
 use Rattle.translated_files.specs.unit_file.UnitFile.{unit_file_opened}
+use Rattle.translated_files.specs.unit_forms.kept_bounds.KeptBounds.{kept_bounds_opened}
 use Rattle.translated_files.specs.unit_forms.PlainProcedures.{plain_procedures_opened}
 use Rattle.translated_files.specs.unit_forms.SpellableUnits.{spellable_units_opened}
 use Rattle.translated_files.specs.unit_forms.lowering_laws.Layout.{layout_opened}
 use Rattle.translated_files.specs.unit_forms.plain_forms.PlainUnits.{plain_units_opened}
 use Rattle.translated_files.specs.unit_forms.plain_forms.SpellableNames.{has_element, is_spellable_name, is_spellable}
 use Rattle.translated_files.specs.unit_translation.UnitBodies.{unit_bodies_opened}
+use Rattle.translated_files.specs.unit_translation.behind_bounds.BehindBounds.{behind_bounds_opened}
+use Rattle.translated_files.specs.unit_translation.UnitBounds.{unit_bounds_opened}
 use Rattle.translated_files.specs.unit_translation.UnitContents.{unit_contents_opened}
 use Rattle.translated_files.specs.unit_translation.UnitFlow.{unit_flow_opened}
 use Rattle.translated_files.specs.translated_forms.LoweredForms.{lowered_forms_opened}
@@ -52,11 +55,11 @@ use Rattle.kept_loops.specs.SourceLoops.{do_whiles, statement_labels, source_loo
 
 -- the files of the example, and those where loops are run at least once
 loops_translated : translated false ≡ Some (((record { fors = 2; dos = 0 }, codes "L__1" ∷ codes "L20" ∷ [], in_order) ∷ []) ∷ [])
-unfolding digits everything nests_opened is_name_byte is_name has_underscore external_name main_name c_keywords built_in_names field_names single_letters is_reserved takes_underscores variable_name constant_name made_name global_rows_opened name_rows_opened trees_opened function_name lowered_expressions.expressions_opened lowered_statements.statements_opened lowered_units.units_opened contents_opened flow_opened outlined_opened numbers_opened structure.statements_opened named_emission_opened items_opened same_places_opened structured_opened named_mains_opened named_units_opened agreeing_units_opened unit_file_opened plain_procedures_opened spellable_units_opened layout_opened plain_units_opened has_element is_spellable_name is_spellable unit_bodies_opened unit_contents_opened unit_flow_opened lowered_forms_opened translated_forms_opened translated_files_opened loops_opened named_ahead_opened examples_opened named_formals name_lowers operator_lowers variable_is_text if_numeric number_expr with_two
+unfolding digits everything nests_opened is_name_byte is_name has_underscore external_name main_name c_keywords built_in_names field_names single_letters is_reserved takes_underscores variable_name constant_name made_name global_rows_opened name_rows_opened trees_opened function_name lowered_expressions.expressions_opened lowered_statements.statements_opened lowered_units.units_opened contents_opened flow_opened outlined_opened numbers_opened structure.statements_opened named_emission_opened items_opened same_places_opened structured_opened named_mains_opened named_units_opened agreeing_units_opened unit_file_opened plain_procedures_opened spellable_units_opened layout_opened plain_units_opened has_element is_spellable_name is_spellable unit_bodies_opened unit_contents_opened unit_bounds_opened behind_bounds_opened kept_bounds_opened unit_flow_opened lowered_forms_opened translated_forms_opened translated_files_opened loops_opened named_ahead_opened examples_opened named_formals name_lowers operator_lowers variable_is_text if_numeric number_expr with_two
 loops_translated = refl
 
 once_translated : translated true ≡ Some (((record { fors = 0; dos = 2 }, codes "L__1" ∷ codes "L20" ∷ [], in_order) ∷ []) ∷ [])
-unfolding digits everything nests_opened is_name_byte is_name has_underscore external_name main_name c_keywords built_in_names field_names single_letters is_reserved takes_underscores variable_name constant_name made_name global_rows_opened name_rows_opened trees_opened function_name lowered_expressions.expressions_opened lowered_statements.statements_opened lowered_units.units_opened contents_opened flow_opened outlined_opened numbers_opened structure.statements_opened named_emission_opened items_opened same_places_opened structured_opened named_mains_opened named_units_opened agreeing_units_opened unit_file_opened plain_procedures_opened spellable_units_opened layout_opened plain_units_opened has_element is_spellable_name is_spellable unit_bodies_opened unit_contents_opened unit_flow_opened lowered_forms_opened translated_forms_opened translated_files_opened loops_opened named_ahead_opened examples_opened named_formals name_lowers operator_lowers variable_is_text if_numeric number_expr with_two
+unfolding digits everything nests_opened is_name_byte is_name has_underscore external_name main_name c_keywords built_in_names field_names single_letters is_reserved takes_underscores variable_name constant_name made_name global_rows_opened name_rows_opened trees_opened function_name lowered_expressions.expressions_opened lowered_statements.statements_opened lowered_units.units_opened contents_opened flow_opened outlined_opened numbers_opened structure.statements_opened named_emission_opened items_opened same_places_opened structured_opened named_mains_opened named_units_opened agreeing_units_opened unit_file_opened plain_procedures_opened spellable_units_opened layout_opened plain_units_opened has_element is_spellable_name is_spellable unit_bodies_opened unit_contents_opened unit_bounds_opened behind_bounds_opened kept_bounds_opened unit_flow_opened lowered_forms_opened translated_forms_opened translated_files_opened loops_opened named_ahead_opened examples_opened named_formals name_lowers operator_lowers variable_is_text if_numeric number_expr with_two
 once_translated = refl
 
 -- ## Jumps

@@ -17,14 +17,15 @@ use Rattle.translated_files.specs.c_tree.declared.statement.CStmt.{CStmt}
 use Rattle.translated_files.specs.faithful.StorageImage.{function_name}
 use Rattle.translated_files.specs.unit_file.UnitFile.{Inventory, WrittenUnit, unit_function}
 use Rattle.translated_files.specs.unit_sites.UnitSites.{UnitsOfFile, file_for, files_of as c_files}
-use Rattle.translated_files.specs.unit_translation.UnitContents.{LoweredUnit, constants_passed, inventory_of}
+use Rattle.translated_files.specs.unit_translation.UnitContents.{LoweredUnit, whole_text, constants_passed, inventory_of}
 use Rattle.translated_files.specs.unit_translation.UnitBodies.{all_lowered, written_before}
 use Rattle.translated_files.specs.named_units.NamedUnits.{named_body_of, named_from, named_file_of, named_files_from, named_files}
 use Rattle.translated_files.specs.unit_forms.OwnSetting.{own_facts}
 use Rattle.translated_files.specs.unit_forms.PlainProcedures.{is_plain_unit}
 use Rattle.translated_files.specs.unit_forms.SpellableUnits.{is_spellable_unit}
 use Rattle.translated_files.specs.translated_forms.LoweredForms.{statements_lower}
-use Rattle.translated_files.specs.TranslatedFiles.{text_fits, procedure_names, procedures_are_defined, passes_tests, lowered_by, lowered_at, lowered_before, lowered_from, files_before, lowered_files, each_has_units, made_files, files_of}
+use Rattle.translated_files.specs.TranslatedFiles.{text_fits, unit_with, procedure_names, procedures_are_defined, passes_tests, lowered_by, lowered_at, lowered_before, lowered_from, files_before, lowered_files, each_has_units, made_files, files_of}
+use Rattle.behind_units.specs.BehindUnits.{LoweredUnitsStandBehind}
 use Rattle.loop_marks.specs.c_loops.KeptLayouts.{EachStructureIsKept}
 use Rattle.loop_marks.specs.MarkedLoops.{EachTextMarksItsLoops, EachBranchIsNamed}
 use Rattle.kept_loops.specs.KeptFunctions.{KeepsLoops, HasFunctions, EachTranslationKeepsLoops}
@@ -52,7 +53,7 @@ of_text : (options : Options) (given : GivenUnit) (found : Option Text) (u : Low
 unfolding lowered_by
 of_text options given None u h = absurd (cc)
 of_text options given (Some text) u h =
-    let same = if_some (text_fits text) _ u h in
+    let same = if_some (text_fits (whole_text (unit_with options given text))) (unit_with options given text) u h in
     record { unit = ap (λ (v : LoweredUnit). v.unit) (sym same); text = ap (λ (v : LoweredUnit). Some v.text) same }
 
 of_tests : (options : Options) (units : List GivenUnit) (j : ℕ) (given : GivenUnit) (u : LoweredUnit) (b : Bool) → passes_tests options (procedure_names units) given ≡ b
@@ -121,7 +122,7 @@ pick : (options : Options) (g f : GivenUnit) (fs : List GivenUnit) (w : WrittenU
 pick options _ f fs w ws first_in one more = one
 pick options g f fs w ws (later_in among) one more = more_ones options g w ws (more among)
 
-module _ (built : EachStructureIsKept) (marked : EachTextMarksItsLoops) (branches : EachBranchIsNamed) (options : Options) (units : List GivenUnit) (all : List LoweredUnit) where
+module _ (built : EachStructureIsKept) (marked : EachTextMarksItsLoops) (branches : EachBranchIsNamed) (stand : LoweredUnitsStandBehind) (options : Options) (units : List GivenUnit) (all : List LoweredUnit) where
   one_kept : (constants : List ℤ) (j : ℕ) (given : GivenUnit) (u : LoweredUnit) (body : List CStmt) (ws : List WrittenUnit) → lowered_at options units j given ≡ Some u → named_body_of constants all u ≡ Some body
       → HasOne options given (record { inventory = inventory_of all u; body = body } ∷ ws)
   one_kept constants j given u body ws lowered is =
@@ -132,7 +133,7 @@ module _ (built : EachStructureIsKept) (marked : EachTextMarksItsLoops) (branche
         function = function;
         among = first_in;
         named = ap function_name made.unit;
-        keeps = unit_keeps built marked branches options given c (own_program (map (unit_read options) units) j (unit_read options given)) (plain_unit options given made.plain) constants all u function made.text
+        keeps = unit_keeps built marked branches stand options given c (own_program (map (unit_read options) units) j (unit_read options given)) (plain_unit options given made.plain) constants all u function made.text
             (nothing_implied (given_names given) given.statements made.lowers) is;
       }
 
@@ -220,11 +221,11 @@ filled : (b : Bool) (x : Option (List UnitsOfFile)) (fs : List UnitsOfFile) → 
 filled true x fs h = h
 filled false x fs h = absurd (cc)
 
-pub translations_keep : EachStructureIsKept → EachTextMarksItsLoops → EachBranchIsNamed → EachTranslationKeepsLoops
+pub translations_keep : EachStructureIsKept → EachTextMarksItsLoops → EachBranchIsNamed → LoweredUnitsStandBehind → EachTranslationKeepsLoops
 unfolding files_of made_files named_files
-translations_keep built marked branches options files cs h k file is =
+translations_keep built marked branches stand options files cs h k file is =
     let source = from_map c_files (made_files options files) cs h in
     let made = filled (each_has_units files) (option_and_then named_files (lowered_files options (all_units files) 0 files)) source.from source.was in
     let lowered = from_option named_files (lowered_files options (all_units files) 0 files) source.from made in
     subst (λ (xs : List CFile). HasFunctions options file (slice_get xs k)) source.gives
-    (files_kept built marked branches options (all_units files) (all_lowered lowered.from) 0 files lowered.from source.from lowered.was lowered.gives k file is)
+    (files_kept built marked branches stand options (all_units files) (all_lowered lowered.from) 0 files lowered.from source.from lowered.was lowered.gives k file is)

@@ -1,6 +1,7 @@
 pub mod SourceForms
 pub mod Direct
 pub mod Items
+pub mod BehindKept
 pub mod OwnLabels
 pub mod Mentions
 pub mod Names

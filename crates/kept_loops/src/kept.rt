@@ -3,6 +3,7 @@
 ghost use Rattle.kept_loops.specs.Examples.{ExampleIsCounted};
 ghost use Rattle.kept_loops.specs.KeptFunctions.{EachTranslationKeepsLoops};
 
+use behind_units::units_stand_behind;
 use c_loops::built::structured_statements_keep_loops;
 use loop_marks::marked::lowered_units_mark_loops;
 
@@ -16,6 +17,7 @@ pub fn translations_keep_loops()
 {
     structured_statements_keep_loops();
     lowered_units_mark_loops();
+    units_stand_behind();
 }
 
 /// A unit with two loops that end with one statement, a DO WHILE and a GO TO has two DO statements and a DO WHILE, and its function two `for`s, and jumps to

@@ -13,7 +13,7 @@ use Rattle.main_file.specs.c_tree.Drafts.{Scope}
 use Rattle.main_file.specs.c_tree.Declarations.{filled, parameter_object, string_object, declared_parameters, declared_statics, declared_automatics}
 use Rattle.main_file.specs.c_tree.Linking.{strings_of, objects_of, bytes_of_object, bytes_of_objects}
 use Rattle.main_file.specs.c_tree.Linking as linking
-use Rattle.unit_sites.specs.unit_file.UnitFile.{Variable, Listing, Parameter, Callee, Inventory, parameter_for, extern_for, result_local, result_count, frame_count, unit_locals, variable_for, lists_from, temporaries_from}
+use Rattle.unit_sites.specs.unit_file.UnitFile.{Variable, Listing, Parameter, KeptBound, Callee, Inventory, parameter_for, bound_for, extern_for, result_local, result_count, frame_count, unit_locals, variable_for, lists_from, temporaries_from}
 use Rattle.main_file.specs.f_tree.CNames.{made_name, FunctionResult, NumberTemporary}
 use Rattle.main_file.specs.MainFile.{list_for}
 use Rattle.linked_sizes.specs.LinkedSizes.{count_bytes, variables_bytes}
@@ -72,6 +72,10 @@ externs_last : (calls : List Callee) (rest : List CLocal) (n : ℕ) → Lasts re
 externs_last [] rest n h scope first before = h scope first before
 externs_last (call ∷ calls) rest n h scope first before = externs_last calls rest n h scope (first + 0) (before ++ extern_for call ∷ [])
 
+bounds_last : (bounds : List KeptBound) (rest : List CLocal) (n : ℕ) → Lasts rest n → Lasts (map bound_for bounds ++ rest) n
+bounds_last [] rest n h scope first before = h scope first before
+bounds_last (one ∷ bounds) rest n h scope first before = bounds_last bounds rest n h scope (first + 0) (before ++ bound_for one ∷ [])
+
 temporaries_last : (k count : ℕ) (rest : List CLocal) (n : ℕ) → Lasts rest n → Lasts (temporaries_from k count ++ rest) n
 temporaries_last k zero rest n h scope first before = h scope first before
 temporaries_last k (suc count) rest n h scope first before = temporaries_last (suc k) count rest n h scope (first + 0) (before ++ local.Number number_type.Integer (made_name (NumberTemporary k)) ∷ [])
@@ -86,8 +90,9 @@ locals_last v scope first before =
     let lists = lists_from 1 v.lists in
     let variables = map variable_for v.variables ++ lists in
     let externs = map extern_for v.calls ++ variables in
-    let temporaries = temporaries_from 1 v.temporaries ++ externs in
-    let all = result_lasts v.returned temporaries n (temporaries_last 1 v.temporaries externs n (externs_last v.calls variables n (variables_last v.variables lists 0 (lists_last 1 v.lists)))) scope first before in
+    let bounds = map bound_for v.bounds ++ externs in
+    let temporaries = temporaries_from 1 v.temporaries ++ bounds in
+    let all = result_lasts v.returned temporaries n (temporaries_last 1 v.temporaries bounds n (bounds_last v.bounds externs n (externs_last v.calls variables n (variables_last v.variables lists 0 (lists_last 1 v.lists))))) scope first before in
     omega (arith, all)
 
 -- ## Strings of what lasts
@@ -111,6 +116,10 @@ externs_strings : (calls : List Callee) (rest : List CLocal) → Strings rest �
 externs_strings [] rest h = h
 externs_strings (call ∷ calls) rest h = externs_strings calls rest h
 
+bounds_strings : (bounds : List KeptBound) (rest : List CLocal) → Strings rest → Strings (map bound_for bounds ++ rest)
+bounds_strings [] rest h = h
+bounds_strings (one ∷ bounds) rest h = bounds_strings bounds rest h
+
 temporaries_strings : (k count : ℕ) (rest : List CLocal) → Strings rest → Strings (temporaries_from k count ++ rest)
 temporaries_strings k zero rest h = h
 temporaries_strings k (suc count) rest h = temporaries_strings (suc k) count rest h
@@ -124,7 +133,9 @@ locals_strings v =
     let lists = lists_from 1 v.lists in
     let variables = map variable_for v.variables ++ lists in
     let externs = map extern_for v.calls ++ variables in
-    result_strings v.returned (temporaries_from 1 v.temporaries ++ externs) (temporaries_strings 1 v.temporaries externs (externs_strings v.calls variables (variables_strings v.variables lists (lists_strings 1 v.lists))))
+    let bounds = map bound_for v.bounds ++ externs in
+    result_strings v.returned (temporaries_from 1 v.temporaries ++ bounds)
+    (temporaries_strings 1 v.temporaries bounds (bounds_strings v.bounds externs (externs_strings v.calls variables (variables_strings v.variables lists (lists_strings 1 v.lists)))))
 
 -- ## The frame
 
@@ -147,6 +158,10 @@ externs_frame : (calls : List Callee) (rest : List CLocal) (n : ℕ) → Frames 
 externs_frame [] rest n h scope first = h scope first
 externs_frame (call ∷ calls) rest n h scope first = externs_frame calls rest n h scope first
 
+bounds_frame : (bounds : List KeptBound) (rest : List CLocal) (n : ℕ) → Frames rest n → Frames (map bound_for bounds ++ rest) (4 * length bounds + n)
+bounds_frame [] rest n h scope first = let all = h scope first in omega (arith, all)
+bounds_frame (one ∷ bounds) rest n h scope first = let more = bounds_frame bounds rest n h scope (first + 0) in omega (arith, more)
+
 temporaries_frame : (k count : ℕ) (rest : List CLocal) (n : ℕ) → Frames rest n → Frames (temporaries_from k count ++ rest) (4 * count + n)
 temporaries_frame k zero rest n h scope first = let all = h scope first in omega (arith, all)
 temporaries_frame k (suc count) rest n h scope first = let more = temporaries_frame (suc k) count rest n h scope (first + 0) in omega (arith, more)
@@ -155,12 +170,14 @@ result_frame : (type : Option NumberType) (rest : List CLocal) (n : ℕ) → Fra
 result_frame None rest n h scope first = let all = h scope first in omega (arith, all)
 result_frame (Some type) rest n h scope first = let all = h scope (first + 0) in omega (arith, all)
 
-locals_frame : (v : Inventory) → Frames (unit_locals v) (4 * result_count v.returned + (4 * v.temporaries + 0))
+locals_frame : (v : Inventory) → Frames (unit_locals v) (4 * result_count v.returned + (4 * v.temporaries + (4 * length v.bounds + 0)))
 locals_frame v =
     let lists = lists_from 1 v.lists in
     let variables = map variable_for v.variables ++ lists in
     let externs = map extern_for v.calls ++ variables in
-    result_frame v.returned (temporaries_from 1 v.temporaries ++ externs) (4 * v.temporaries + 0) (temporaries_frame 1 v.temporaries externs 0 (externs_frame v.calls variables 0 (variables_frame v.variables lists 0 (lists_frame 1 v.lists))))
+    let bounds = map bound_for v.bounds ++ externs in
+    result_frame v.returned (temporaries_from 1 v.temporaries ++ bounds) (4 * v.temporaries + (4 * length v.bounds + 0))
+    (temporaries_frame 1 v.temporaries bounds (4 * length v.bounds + 0) (bounds_frame v.bounds externs 0 (externs_frame v.calls variables 0 (variables_frame v.variables lists 0 (lists_frame 1 v.lists)))))
 
 parameter_within : (type : ParameterType) → bytes_of_object (parameter_object type) ≤ 4
 parameter_within parameter.Integers = omega arith
@@ -178,4 +195,4 @@ parameters_frame (p ∷ ps) locals n h scope first =
     omega (arith, one, more)
 
 pub frame_within : (v : Inventory) (scope : Scope) (first : ℕ) → bytes_of_objects (objects_of scope first (declared_parameters (map parameter_for v.parameters) ++ declared_automatics (unit_locals v))) ≤ 4 * frame_count v
-frame_within v scope first = let all = parameters_frame v.parameters (unit_locals v) (4 * result_count v.returned + (4 * v.temporaries + 0)) (locals_frame v) scope first in omega (arith, all)
+frame_within v scope first = let all = parameters_frame v.parameters (unit_locals v) (4 * result_count v.returned + (4 * v.temporaries + (4 * length v.bounds + 0))) (locals_frame v) scope first in omega (arith, all)

@@ -15,7 +15,8 @@ unfoldable pub variables_bytes : List Variable → ℕ
 variables_bytes [] = 0
 variables_bytes (v ∷ later) = count_bytes v.count + variables_bytes later
 
--- a function: its variables and arrays, the strings of its statements, its parameters, its result and its temporaries
+-- a function: its variables and arrays, the strings of its statements, its parameters, its result, its temporaries and what it keeps of its dummy
+-- arrays
 unfoldable pub unit_bytes : WrittenUnit → ℕ
 unit_bytes w = variables_bytes w.inventory.variables + (texts_bytes (whole_body w.body).items.strings + 4 * frame_count w.inventory)
 

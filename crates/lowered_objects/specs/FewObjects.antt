@@ -1,10 +1,11 @@
--- What the texts of STOP statements have as they are read and lowered, and that the text of a lowered unit needs few temporaries, constants and strings for the
--- nodes of its statements. ANSI X3.9-1978, sections 6, 10 to 12 and 15; C89, 3.1.4.
+-- What the texts of STOP statements have as they are read and lowered, and that the text of a lowered unit, behind what is kept before its first statement, needs
+-- few temporaries, constants and strings for the nodes of its statements. ANSI X3.9-1978, sections 5.5.1, 6, 10 to 12 and 15; C89, 3.1.4.
 use Rattle.std.specs.Prelude.{◌≡◌, ℕ, suc, ◌+◌, ◌*◌, ◌≤◌, List, [], ◌∷◌, length, Some}
 use Rattle.lowered_sizes.specs.l_core.f_tree.Facts.{ToGuard, ToStop, Head, Form, Passes, On, Line, Facts}
 use Rattle.lowered_sizes.specs.l_core.Steps.{Step, Halt, Text}
 use Rattle.lowered_sizes.specs.lowering.Units.{lowered_unit}
 use Rattle.lowered_sizes.specs.ReadNodes.{lines_nodes}
+use Rattle.unit_translation.specs.behind_bounds.BehindBounds.{behind}
 use Rattle.unit_translation.specs.UnitContents.{values_from, temporaries_kept}
 
 -- the length of the text of a STOP statement, which a logical IF may have (11.12)
@@ -38,8 +39,9 @@ pub record NeedsFew (lines : List Line) (u : Text) : Type 0 where
   pub strings : strings_bytes u.steps ≤ lines_nodes lines + lines_text lines
 
 -- LAW
+-- behind however much is kept before it
 abbrev pub EachTextNeedsFewObjects : Type 0
-EachTextNeedsFewObjects = (c : Facts) (u : Text) → lowered_unit c ≡ Some u → NeedsFew c.program.lines u
+EachTextNeedsFewObjects = (c : Facts) (u : Text) → lowered_unit c ≡ Some u → (first : ℕ) → NeedsFew c.program.lines (behind first u)
 
 unfoldable pub few_objects_opened : Unit {0}
 unfolding form_text head_text lines_text string_bytes strings_bytes

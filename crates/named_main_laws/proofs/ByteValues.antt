@@ -6,7 +6,7 @@ use Rattle.std.proofs.Common.{refl}
 use Rattle.named_mains.specs.f_tree.Values.{Bytes, Datum, IsInt, IsLog, in_range}
 use Rattle.named_mains.specs.f_tree.Terms as fortran
 use Rattle.named_mains.specs.f_tree.Facts.{Output, Listed, Controls}
-use Rattle.named_mains.specs.f_tree.CNames.{variable_name, made_name, FunctionResult, NumberTemporary, ControlList, ConstantOf}
+use Rattle.named_mains.specs.f_tree.CNames.{variable_name, made_name, FunctionResult, NumberTemporary, ControlList, ConstantOf, DimensionOf, LowerBoundOf}
 use Rattle.named_mains.specs.l_core.Pures.{Pure, Constant, Temporary, Load, Name, ElementOf, Prefixed, Operated, Applied, Chosen, Pures, NoPure, AndPure}
 use Rattle.named_mains.specs.l_core.Steps as step
 use Rattle.named_mains.specs.l_core.Steps.{Step}
@@ -31,6 +31,10 @@ use Rattle.named_mains.specs.named_items.declared.item.Item.TheVariants as item
 use Rattle.named_mains.specs.named_items.Items.{assign_by, call_by, set_call_by}
 use Rattle.named_mains.specs.named_items.SamePlaces.{number_in}
 use Rattle.named_mains.specs.item_emission.declared.known.Dimension.{Dimension}
+use Rattle.named_mains.specs.item_emission.declared.known.LowerBound.{LowerBound}
+use Rattle.named_mains.specs.item_emission.declared.known.LowerBound.TheVariants as low
+use Rattle.named_mains.specs.item_emission.declared.known.Size.{Size}
+use Rattle.named_mains.specs.item_emission.declared.known.Size.TheVariants as many
 use Rattle.named_mains.specs.item_emission.declared.known.Standing.{Standing}
 use Rattle.named_mains.specs.item_emission.declared.known.Standing.TheVariants.{Own, Parameter, Result}
 use Rattle.named_mains.specs.item_emission.declared.known.Giving.{Giving}
@@ -188,29 +192,39 @@ product : (a b : CExpr) → expression_of_bytes a ≡ true → expression_of_byt
 unfolding emission.product_expr
 product a b one other = either (emission.is_the_number (pos 1) (number_in b)) a (expr.Binary op.Multiply a b) one (binary op.Multiply a b one other)
 
-distance : (d : Dimension) (e : CExpr) → expression_of_bytes e ≡ true → passes expression_of_bytes (emission.distance_expr d e) ≡ true
+lowest : (x : Bytes) (k : ℕ) (lower : LowerBound) → passes expression_of_bytes (emission.lower_expr x k lower) ≡ true
+unfolding emission.lower_expr
+lowest x k (low.Written z) = constant z
+lowest x k low.Kept = name (made_name (LowerBoundOf (variable_name x) (suc k)))
+
+extent : (x : Bytes) (k : ℕ) (size : Size) → passes expression_of_bytes (emission.size_expr x k size) ≡ true
+unfolding emission.size_expr
+extent x k (many.Written n) = number (pos n)
+extent x k many.Kept = name (made_name (DimensionOf (variable_name x) (suc k)))
+
+distance : (x : Bytes) (k : ℕ) (d : Dimension) (e : CExpr) → expression_of_bytes e ≡ true → passes expression_of_bytes (emission.distance_expr x k d e) ≡ true
 unfolding emission.distance_expr
-distance d e h = mapped expression_of_bytes expression_of_bytes (emission.difference_expr e) (emission.constant_expr d.lower) (λ lower is. difference e lower h is) (constant d.lower)
+distance x k d e h = mapped expression_of_bytes expression_of_bytes (emission.difference_expr e) (emission.lower_expr x k d.lower) (λ lower is. difference e lower h is) (lowest x k d.lower)
 
-stepped : (d : Dimension) (e : CExpr) (index : Option CExpr) → expression_of_bytes e ≡ true → passes expression_of_bytes index ≡ true → passes expression_of_bytes (emission.stepped_expr d e index) ≡ true
+stepped : (x : Bytes) (k : ℕ) (d : Dimension) (e : CExpr) (index : Option CExpr) → expression_of_bytes e ≡ true → passes expression_of_bytes index ≡ true → passes expression_of_bytes (emission.stepped_expr x k d e index) ≡ true
 unfolding emission.stepped_expr
-stepped d e index h ahead =
-    sums (with_two emission.product_expr index (number_expr (pos d.size))) (emission.distance_expr d e)
-    (two emission.product_expr index (number_expr (pos d.size)) product ahead (number (pos d.size))) (distance d e h)
+stepped x k d e index h ahead =
+    sums (with_two emission.product_expr index (emission.size_expr x k d.size)) (emission.distance_expr x k d e)
+    (two emission.product_expr index (emission.size_expr x k d.size) product ahead (extent x k d.size)) (distance x k d e h)
 
-indexed : (ds : List Dimension) (k : ℕ) (es : List CExpr) → of_expressions es ≡ true → passes expression_of_bytes (emission.index_expr ds k es) ≡ true
+indexed : (x : Bytes) (d : ℕ → Dimension) (k : ℕ) (es : List CExpr) → of_expressions es ≡ true → passes expression_of_bytes (emission.index_expr x d k es) ≡ true
 unfolding emission.index_expr
-indexed ds k [] h = number (pos 0)
-indexed ds k (e ∷ []) h = distance (emission.dimension_at ds k) e (left (expression_of_bytes e) true h)
-indexed ds k (e ∷ next ∷ later) h =
-    stepped (emission.dimension_at ds k) e (emission.index_expr ds (suc k) (next ∷ later)) (left (expression_of_bytes e) (of_expressions (next ∷ later)) h)
-    (indexed ds (suc k) (next ∷ later) (right (expression_of_bytes e) (of_expressions (next ∷ later)) h))
+indexed x d k [] h = number (pos 0)
+indexed x d k (e ∷ []) h = distance x k (d k) e (left (expression_of_bytes e) true h)
+indexed x d k (e ∷ next ∷ later) h =
+    stepped x k (d k) e (emission.index_expr x d (suc k) (next ∷ later)) (left (expression_of_bytes e) (of_expressions (next ∷ later)) h)
+    (indexed x d (suc k) (next ∷ later) (right (expression_of_bytes e) (of_expressions (next ∷ later)) h))
 
-of_array : (x : Bytes) (ds : List Dimension) (subscripts : Option (List CExpr)) → passes of_expressions subscripts ≡ true → passes expression_of_bytes (emission.element_expr x ds subscripts) ≡ true
+of_array : (x : Bytes) (d : ℕ → Dimension) (subscripts : Option (List CExpr)) → passes of_expressions subscripts ≡ true → passes expression_of_bytes (emission.element_expr x d subscripts) ≡ true
 unfolding emission.element_expr emission.variable_expr
-of_array x ds None h = refl
-of_array x ds (Some es) h =
-    mapped expression_of_bytes expression_of_bytes (expr.Index (emission.variable_expr x)) (emission.index_expr ds 0 es) (λ index is. element (emission.variable_expr x) index (name (variable_name x)) is) (indexed ds 0 es h)
+of_array x d None h = refl
+of_array x d (Some es) h =
+    mapped expression_of_bytes expression_of_bytes (expr.Index (emission.variable_expr x)) (emission.index_expr x d 0 es) (λ index is. element (emission.variable_expr x) index (name (variable_name x)) is) (indexed x d 0 es h)
 
 scalar : (standing : Standing) (x : Bytes) → expression_of_bytes (emission.scalar_expr standing x) ≡ true
 unfolding emission.scalar_expr emission.variable_expr emission.result_object
@@ -286,7 +300,7 @@ mutual
   place : (known : Knowledge) (p : Pure) → passes expression_of_bytes (emission.place_expr known p) ≡ true
   place known (Name x) = where_so (known.is_scalar x) (Some (emission.scalar_expr (known.standing x) x)) (scalar (known.standing x) x)
   place known (ElementOf x ps) =
-      where_so (known.is_array x) (emission.element_expr x (known.dimensions x) (emission.value_exprs known ps)) (of_array x (known.dimensions x) (emission.value_exprs known ps) (values known ps))
+      where_so (known.is_array x) (emission.element_expr x (known.dimension x) (emission.value_exprs known ps)) (of_array x (known.dimension x) (emission.value_exprs known ps) (values known ps))
   place known p = refl
 
   values : (known : Knowledge) (ps : Pures) → passes of_expressions (emission.value_exprs known ps) ≡ true

@@ -64,21 +64,21 @@ module _ (v : Inventory) (facts : Facts) (kind : ℕ → Kinds) (label : ℕ →
 
 -- ## Items
 
-record AreAhead (o : Option Item) (os : Option (List Item)) (items : List Item) : Type 0 where
-  item : Item
-  later : List Item
-  item_is : o ≡ Some item
-  later_is : os ≡ Some later
-  is : item ∷ later ≡ items
+pub record AreAhead (o : Option Item) (os : Option (List Item)) (items : List Item) : Type 0 where
+  pub item : Item
+  pub later : List Item
+  pub item_is : o ≡ Some item
+  pub later_is : os ≡ Some later
+  pub is : item ∷ later ≡ items
 
-ahead_of : (o : Option Item) (os : Option (List Item)) (items : List Item) → item_ahead o os ≡ Some items → AreAhead o os items
+pub ahead_of : (o : Option Item) (os : Option (List Item)) (items : List Item) → item_ahead o os ≡ Some items → AreAhead o os items
 unfolding item_ahead
 ahead_of (Some item) (Some later) items h = record { item = item; later = later; item_is = refl; later_is = refl; is = some_same (item ∷ later) items h }
 ahead_of (Some item) None items h = absurd (cc)
 ahead_of None os items h = absurd (cc)
 
 -- the flat item of an item
-flat_item : (names : Names) (o : Option Flat) (item : Item) → option_and_then (item_for names) o ≡ Some item → (one : Flat) × (o ≡ Some one) × (item_for names one ≡ Some item)
+pub flat_item : (names : Names) (o : Option Flat) (item : Item) → option_and_then (item_for names) o ≡ Some item → (one : Flat) × (o ≡ Some one) × (item_for names one ≡ Some item)
 flat_item names (Some one) item h = (one, refl, h)
 flat_item names None item h = absurd (cc)
 

@@ -63,14 +63,14 @@ pub flats_emitted : (w : Writing) (label : ℕ → Option ℕ) → EmitsEach (fl
 unfolding flats_from
 flats_emitted w label = record { none = λ n. refl; more = λ n st later. refl }
 
-record AreSplit (o : Option Flat) (os : Option (List Flat)) (flats : List Flat) : Type 0 where
-  first : Flat
-  rest : List Flat
-  first_is : o ≡ Some first
-  rest_is : os ≡ Some rest
-  is : first ∷ rest ≡ flats
+pub record AreSplit (o : Option Flat) (os : Option (List Flat)) (flats : List Flat) : Type 0 where
+  pub first : Flat
+  pub rest : List Flat
+  pub first_is : o ≡ Some first
+  pub rest_is : os ≡ Some rest
+  pub is : first ∷ rest ≡ flats
 
-split : (o : Option Flat) (os : Option (List Flat)) (flats : List Flat) → item_before o os ≡ Some flats → AreSplit o os flats
+pub split : (o : Option Flat) (os : Option (List Flat)) (flats : List Flat) → item_before o os ≡ Some flats → AreSplit o os flats
 unfolding item_before
 split (Some first) (Some rest) flats h = record { first = first; rest = rest; first_is = refl; rest_is = refl; is = some_same (first ∷ rest) flats h }
 split (Some first) None flats h = absurd (cc)
@@ -219,7 +219,7 @@ module _ (IsObject : Reach → ℕ → Type 0) where
     mutual
       unfolding value_term place_term value_terms
 
-      value_names : (p : Pure) → MayName IsObject (value_term w p)
+      pub value_names : (p : Pure) → MayName IsObject (value_term w p)
       value_names (Constant d) = constant_names d
       value_names (Temporary k) = if_names (Some (c.Variable (w.naming.temporary k) ToNumber)) (w.is_number k) (writes.temporaries k)
       value_names (Load p) = place_names p
@@ -286,7 +286,7 @@ module _ (IsObject : Reach → ℕ → Type 0) where
 
   -- ## Items of steps, by what each of them sets
 
-  later_sets : (first : Flat) (rest : List Flat) → SetsObjects IsObject first → ((k : ℕ) (item : Flat) → slice_get rest k ≡ Some item → SetsObjects IsObject item) → (i : ℕ) (item : Flat)
+  pub later_sets : (first : Flat) (rest : List Flat) → SetsObjects IsObject first → ((k : ℕ) (item : Flat) → slice_get rest k ≡ Some item → SetsObjects IsObject item) → (i : ℕ) (item : Flat)
       → slice_get (first ∷ rest) i ≡ Some item → SetsObjects IsObject item
   later_sets first rest sets also zero item at = subst (SetsObjects IsObject) (some_same first item at) sets
   later_sets first rest sets also (suc i) item at = also i item at

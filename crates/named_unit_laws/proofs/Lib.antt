@@ -1,3 +1,5 @@
+pub mod UnitBoundNames
 pub mod UnitReaches
 pub mod UnitSteps
+pub mod UnitSaved
 pub mod UnitBodiesMade

@@ -1,12 +1,12 @@
 -- The functions that are made from items by names are those that are made from flat items.
-use Rattle.std.specs.Prelude.{◌≡◌, ℕ, ◌+◌, ◌≤◌, ℤ, true, List, [], ◌∷◌, map, length, Option, Some, None, option_map, option_and_then, slice_get, if◌then◌else◌}
+use Rattle.std.specs.Prelude.{◌≡◌, ℕ, ◌+◌, ◌≤◌, ℤ, true, List, [], ◌∷◌, map, length, drop, Option, Some, None, option_map, option_and_then, slice_get, if◌then◌else◌}
 use Rattle.std.proofs.Common.{refl, sym, ap, ◌∙◌, subst, arith}
 use Rattle.std.proofs.lemmas.List.{length-map}
 use Rattle.named_units.specs.f_tree.Values.{Bytes}
 use Rattle.named_units.specs.f_tree.Facts.{Facts, ProgramUnit}
 use Rattle.named_units.specs.f_tree.Setting.{IsIn, first_in, later_in}
 use Rattle.named_units.specs.f_tree.Meaning.{facts_at}
-use Rattle.named_units.specs.l_core.Steps.{Step, Halt}
+use Rattle.named_units.specs.l_core.Steps.{Step, Halt, Text}
 use Rattle.named_main_laws.specs.lowering.Units.{lines_code, lowered_unit}
 use Rattle.unit_translation_laws.specs.unit_forms.OwnSetting.{own_facts}
 use Rattle.named_units.specs.c_tree.Flat.{Flat}
@@ -14,58 +14,64 @@ use Rattle.named_units.specs.c_tree.declared.statement.CStmt.{CStmt}
 use Rattle.named_units.specs.c_structure.Expressions.{Names}
 use Rattle.named_units.specs.c_structure.Statements.{statements_for}
 use Rattle.named_units.specs.c_emit.Numbers.{Writing, is_numeric}
+use Rattle.named_units.specs.procedure_emission.bound_items.BoundItems.{Saving, saving_item}
 use Rattle.named_units.specs.procedure_emission.ProcedureItems.{procedure_item}
 use Rattle.named_units.specs.main_translation.Contents.{text_at}
 use Rattle.named_units.specs.main_translation.Outlined.{if_returned}
 use Rattle.named_main_laws.proofs.main_translation_laws.Lists.{at_in}
 use Rattle.named_main_laws.proofs.main_translation_laws.FlowLaws.{in_front, in_back}
-use Rattle.named_units.specs.unit_file.UnitFile.{Inventory, WrittenUnit, object_count, writing_of}
+use Rattle.named_units.specs.unit_file.UnitFile.{KeptBound, Inventory, WrittenUnit, object_count, first_bound, writing_of}
 use Rattle.named_units.specs.unit_file.UnitNames.{names_of}
-use Rattle.named_units.specs.unit_file.UnitItems.{unit_items}
+use Rattle.named_units.specs.unit_file.UnitItems.{unit_items, whole_items}
+use Rattle.named_units.specs.unit_file.UnitSavings.{savings_of}
 use Rattle.named_units.specs.unit_sites.UnitSites.{UnitsOfFile, Site, behind as number_behind}
 use Rattle.named_units.specs.unit_file_laws.KnownUnits.{NamesAreListed}
 use Rattle.named_units.specs.unit_translation.UnitFlow.{kind_before, are_in_place}
-use Rattle.named_units.specs.unit_translation.UnitContents.{LoweredUnit, program_units, unit_numbers, constants_passed, inventory_of, inventories_of}
+use Rattle.named_units.specs.unit_translation.UnitContents.{LoweredUnit, program_units, bounds_kept, whole_text, unit_numbers, constants_passed, inventory_of, inventories_of}
 use Rattle.named_units.specs.unit_translation.UnitBodies.{all_lowered, unit_outline, items_of, body_of, written_before, written_from, file_before, files_from, written_files}
 use Rattle.unit_translation_laws.specs.PlainUnits.{IsPlainUnit, ArePlainUnits}
 use Rattle.unit_translation_laws.proofs.Listed.{names_listed}
 use Rattle.unit_translation_laws.proofs.Renderings.{split}
 use Rattle.named_units.specs.named_items.declared.item.Item.{Item}
 use Rattle.named_units.specs.named_items.Agreement.{TellsPlaces}
+use Rattle.named_units.specs.named_items.Items.{item_for}
 use Rattle.named_units.specs.named_items.Structured.{structured}
 use Rattle.named_units.proofs.named_items.Agreeing.{items_are_structured}
 use Rattle.named_units.proofs.named_items.NamedItems.{some_same, items_length}
-use Rattle.named_units.specs.item_emission.NamedEmission.{item_step}
+use Rattle.named_units.specs.item_emission.NamedEmission.{Knowledge, item_step}
 use Rattle.named_units.specs.named_mains.NamedMains.{items_from, statements_of}
-use Rattle.named_units.specs.NamedUnits.{known_for, layout_for, named_body_of, named_from, named_file_of, named_files_from, named_files}
-use Rattle.named_units.specs.unit_item_laws.AgreeingUnits.{IsListed}
-use Rattle.named_units.proofs.unit_item_laws.UnitStepsAgree.{unit_emissions_agree}
-use Rattle.named_main_laws.proofs.NamedPlaces.{tells_places}
-use Rattle.named_main_laws.proofs.NamedValues.{EmitsEach, all_set}
+use Rattle.named_units.specs.NamedUnits.{known_for, layout_for, items_behind, named_items_of, named_body_of, named_from, named_file_of, named_files_from, named_files}
+use Rattle.named_units.specs.unit_item_laws.AgreeingUnits.{bound_step, IsListed}
+use Rattle.named_units.proofs.unit_item_laws.UnitStepsAgree.{unit_emissions_agree, unit_bounds_agree}
+use Rattle.named_main_laws.proofs.NamedPlaces.{Reach, SetsObjects, tells_places}
+use Rattle.named_main_laws.proofs.NamedValues.{EmitsEach, WritesObjects, all_set}
 use Rattle.named_main_laws.proofs.NamedNames.{stored_named}
-use Rattle.named_main_laws.proofs.NamedSteps.{AreFlat, are_flat}
+use Rattle.named_main_laws.proofs.NamedSteps.{are_flat}
 use Rattle.named_main_laws.proofs.NamedBodies.{facts_by, behind, if_some}
 use Rattle.named_unit_laws.specs.NamedBodies.{EachNamedUnitIsAUnit}
-use Rattle.named_unit_laws.proofs.UnitReaches.{IsUnitObject, reaches_told, HaveNames, writes_objects}
-use Rattle.named_unit_laws.proofs.UnitSteps.{unit_items_each, unit_step_sets, step_listed}
+use Rattle.named_unit_laws.proofs.UnitReaches.{IsUnitObject, of_bound, reaches_told, HaveNames, writes_objects}
+use Rattle.named_unit_laws.proofs.UnitSteps.{unit_items_each, unit_step_sets, savings_set, step_listed}
+use Rattle.named_unit_laws.proofs.UnitSaved.{savings_count, behind_at, AreNamed, bounds_are_flat}
+use Rattle.named_unit_laws.proofs.UnitBoundNames.{bounds_told}
 
 -- ## What a body by names was made by
 
 record HasItems (constants : List ℤ) (us : List LoweredUnit) (u : LoweredUnit) (body : List CStmt) : Type 0 where
-  in_place : are_in_place u.text 0 u.text.steps ≡ true
+  in_place : are_in_place (whole_text u) 0 (whole_text u).steps ≡ true
   items : List Item
-  given : items_from (known_for constants us u) (kind_before u.text) 0 u.text.steps ≡ Some items
+  given : named_items_of constants us u ≡ Some items
   statements : List CStmt
-  structure : structured (layout_for u.text) (length items) 0 items ≡ Some statements
+  structure : structured (layout_for (whole_text u)) (length items) 0 items ≡ Some statements
   returned : if_returned statements ≡ Some body
 
 has_items : (constants : List ℤ) (us : List LoweredUnit) (u : LoweredUnit) (body : List CStmt) → named_body_of constants us u ≡ Some body → HasItems constants us u body
 unfolding named_body_of statements_of
 has_items constants us u body h =
-    let items = items_from (known_for constants us u) (kind_before u.text) 0 u.text.steps in
-    let made = if_some (are_in_place u.text 0 u.text.steps) (option_and_then (statements_of (layout_for u.text)) items) body h in
-    let found = behind (statements_of (layout_for u.text)) items body made.1 in
-    let last = behind if_returned (structured (layout_for u.text) (length found.one) 0 found.one) body found.gives in
+    let layout = layout_for (whole_text u) in
+    let items = named_items_of constants us u in
+    let made = if_some (are_in_place (whole_text u) 0 (whole_text u).steps) (option_and_then (statements_of layout) items) body h in
+    let found = behind (statements_of layout) items body made.1 in
+    let last = behind if_returned (structured layout (length found.one) 0 found.one) body found.gives in
     record { in_place = made.0; items = found.one; given = found.is; statements = last.one; structure = last.is; returned = last.gives }
 
 program_of : (us : List ProgramUnit) (j : ℕ) (unit : ProgramUnit) → (own_facts us j unit).program ≡ unit
@@ -83,17 +89,32 @@ module _ (us : List LoweredUnit) (j : ℕ) (s : Site) (owned : s.bases.own ≡ l
   abbrev v : Inventory
   v = inventory_of us u
 
+  abbrev its_text : Text
+  its_text = whole_text u
+
+  abbrev kept : List KeptBound
+  kept = bounds_kept u.unit
+
+  abbrev savings : List Saving
+  savings = savings_of v s.bases
+
   abbrev w : Writing
-  w = writing_of s.constants v s.bases u.text.facts (kind_before u.text)
+  w = writing_of s.constants v s.bases u.text.facts (kind_before its_text)
 
   abbrev names : Names
   names = names_of s.constants vs v s.bases
 
+  abbrev known : Knowledge
+  known = known_for s.constants us u
+
   abbrev emit : ℕ → Step → Option Flat
-  emit = procedure_item (unit_numbers us) w (λ m. m) u.text.position
+  emit = procedure_item (unit_numbers us) w (λ m. m) its_text.position
 
   abbrev emits : ℕ → List Step → Option (List Flat)
-  emits = unit_items (unit_numbers us) w u.text.position
+  emits = unit_items (unit_numbers us) w its_text.position
+
+  abbrev IsObject : Reach → ℕ → Type 0
+  IsObject = IsUnitObject vs s v u.text.facts
 
   facts_are : u.text.facts ≡ own_facts (program_units us) j u.unit
   unfolding lowered_unit
@@ -114,28 +135,49 @@ module _ (us : List LoweredUnit) (j : ℕ) (s : Site) (owned : s.bases.own ≡ l
         plain.dummies.named x (plain.dummies.variables x (sym (ap (λ (p : ProgramUnit). (p.attribute x).class) program_is) ∙ own) (sym (ap (λ (p : ProgramUnit). is_numeric (p.attribute x).basic) program_is) ∙ numeric));
   }
 
-  text_there : (n : ℕ) (text : Bytes) → slice_get u.text.steps n ≡ Some (Halt text) → text_at (slice_get u.text.steps n) ≡ text
+  text_there : (n : ℕ) (text : Bytes) → slice_get its_text.steps n ≡ Some (Halt text) → text_at (slice_get its_text.steps n) ≡ text
   unfolding text_at
   text_there n text at = ap text_at at
 
-  step_is_listed : (i k : ℕ) (st : Step) (item : Item) → k ≡ 0 + i → slice_get u.text.steps i ≡ Some st → item_step (known_for s.constants us u) (kind_before u.text k) k st ≡ Some item → IsListed v k st
+  step_is_listed : (i k : ℕ) (st : Step) (item : Item) → k ≡ length kept + i → slice_get (drop (length kept) its_text.steps) i ≡ Some st → item_step known (kind_before its_text k) k st ≡ Some item → IsListed v k st
   step_is_listed i k st item at got is =
-      let same : k ≡ i = omega (arith, at) in
-      step_listed s.constants vs v u.text.facts (unit_numbers us) (kind_before u.text) u.text.position k u.text.steps st item refl (text_there k) (ap (slice_get u.text.steps) same ∙ got) is
+      step_listed s.constants vs v u.text.facts (unit_numbers us) (kind_before its_text) its_text.position k its_text.steps st item refl (text_there k) (behind_at (length kept) its_text.steps i k st at got) is
 
   each : EmitsEach emit emits
-  each = unit_items_each (unit_numbers us) w u.text.position
+  each = unit_items_each (unit_numbers us) w its_text.position
 
-  flat : AreFlat emits names 0 u.text.steps made.items
+  as_many : s.bases.own ≡ length vs
+  as_many = owned ∙ sym (length-map us (inventory_of us))
+
+  -- the items of its steps, and those by which its bounds are kept
+  steps_flat : (later : List Item) → items_from known (kind_before its_text) (length kept) (drop (length kept) its_text.steps) ≡ Some later → AreNamed (emits (length savings) (drop (length savings) its_text.steps)) names later
+  steps_flat later given =
+      let flat = are_flat emit emits each names known (kind_before its_text) (length kept) (drop (length kept) its_text.steps) later
+      (λ i k st item at got is. unit_emissions_agree vs s v u.text.facts (unit_numbers us) (kind_before its_text) its_text.position k st as_many constants_before listed (step_is_listed i k st item at got is)) given in
+      record { flats = flat.flats; emitted = ap (λ n. emits n (drop n its_text.steps)) (savings_count (first_bound v s.bases) kept) ∙ flat.emitted; named = flat.named }
+
+  bound_agrees : (i : ℕ) (one : KeptBound) → slice_get kept i ≡ Some one → option_and_then (item_for names) (saving_item w (record { object = first_bound v s.bases + i; value = one.value })) ≡ bound_step known one
+  bound_agrees i one at = unit_bounds_agree vs s v u.text.facts (unit_numbers us) (kind_before its_text) its_text.position i one as_many constants_before listed at
+
+  flat : AreNamed (items_of us s u) names made.items
+  unfolding items_behind whole_items
   flat =
-      are_flat emit emits each names (known_for s.constants us u) (kind_before u.text) 0 u.text.steps made.items
-      (λ i k st item at got is. unit_emissions_agree vs s v u.text.facts (unit_numbers us) (kind_before u.text) u.text.position k st (owned ∙ sym (length-map us (inventory_of us))) constants_before listed (step_is_listed i k st item at got is)) made.given
+      bounds_are_flat w names known (first_bound v s.bases) kept (items_from known (kind_before its_text) (length kept) (drop (length kept) its_text.steps)) (emits (length savings) (drop (length savings) its_text.steps)) made.items
+      bound_agrees steps_flat made.given
+
+  writes : WritesObjects IsObject w
+  writes = writes_objects vs s v u.text.facts listed have_names (kind_before its_text)
+
+  steps_set : (fs : List Flat) → emits (length savings) (drop (length savings) its_text.steps) ≡ Some fs → (i : ℕ) (item : Flat) → slice_get fs i ≡ Some item → SetsObjects IsObject item
+  steps_set = all_set IsObject emit emits each (unit_step_sets IsObject (unit_numbers us) w writes its_text.position) (length savings) (drop (length savings) its_text.steps)
+
+  items_set : (i : ℕ) (item : Flat) → slice_get flat.flats i ≡ Some item → SetsObjects IsObject item
+  unfolding whole_items
+  items_set =
+      savings_set IsObject w writes (first_bound v s.bases) kept (emits (length savings) (drop (length savings) its_text.steps)) flat.flats (λ i one at. of_bound (first_bound v s.bases + i) i one at refl) steps_set flat.emitted
 
   tells : TellsPlaces names flat.flats
-  tells =
-      tells_places (IsUnitObject vs s v u.text.facts) names (reaches_told vs s v u.text.facts plain.text.temporaries) flat.flats
-      (all_set (IsUnitObject vs s v u.text.facts) emit emits each
-      (unit_step_sets (IsUnitObject vs s v u.text.facts) (unit_numbers us) w (writes_objects vs s v u.text.facts listed have_names (kind_before u.text)) u.text.position) 0 u.text.steps flat.flats flat.emitted)
+  tells = tells_places IsObject names (reaches_told vs s v u.text.facts plain.text.temporaries (bounds_told us j u plain)) flat.flats items_set
 
   statements_are : statements_for (unit_outline us s u) (length flat.flats) 0 flat.flats ≡ Some made.statements
   statements_are =

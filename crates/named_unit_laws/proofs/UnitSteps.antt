@@ -1,6 +1,6 @@
 -- What the items of a unit's steps set, and that what they take is listed. ANSI X3.9-1978, sections 10 to 12 and 15; C89, 3.6.
-use Rattle.std.specs.Prelude.{◌≡◌, ℕ, nat_eq, ℤ, List, position, Option, Some, None, option_map, slice_get}
-use Rattle.std.proofs.Common.{refl, ap, ◌∙◌, arith}
+use Rattle.std.specs.Prelude.{◌≡◌, ℕ, suc, ◌+◌, nat_eq, ℤ, List, [], ◌∷◌, position, Option, Some, None, option_map, slice_get}
+use Rattle.std.proofs.Common.{refl, ap, ◌∙◌, subst, arith}
 use Rattle.named_units.specs.f_tree.declared.names.Basic.{Basic}
 use Rattle.named_units.specs.f_tree.Values.{Bytes}
 use Rattle.named_units.specs.f_tree.Facts.{Facts, Output, Listed, UnitKind, MainProgram, SubroutineUnit, FunctionUnit, BlockDataUnit}
@@ -10,17 +10,19 @@ use Rattle.named_units.specs.l_core.Steps.{Step, Halt}
 use Rattle.named_units.specs.c_tree.Terms.{Term, Variable}
 use Rattle.named_units.specs.c_tree.Access.{ToNumber}
 use Rattle.named_units.specs.c_tree.Flat as flat
-use Rattle.named_units.specs.c_tree.Flat.{Flat, Use, Return, Ignored, Kept}
+use Rattle.named_units.specs.c_tree.Flat.{Flat, Assign, Use, Return, Ignored, Kept}
 use Rattle.named_units.specs.c_emit.Numbers.{Writing, if_number, value_term}
 use Rattle.named_units.specs.main_file.MainItems.{stops_from}
+use Rattle.named_units.specs.procedure_emission.bound_items.BoundItems.{Saving, saving_item}
 use Rattle.named_units.specs.procedure_emission.ProcedureItems.{Numbers, argument_terms, function_called, call_item, basic_wanted, kept_item, call_for_item, result_term, back_item, back_by_item, procedure_item}
-use Rattle.named_units.specs.unit_file.UnitFile.{Inventory}
-use Rattle.named_units.specs.unit_file.UnitItems.{unit_items}
+use Rattle.named_units.specs.unit_file.UnitFile.{KeptBound, Inventory}
+use Rattle.named_units.specs.unit_file.UnitItems.{unit_items, saving_items}
+use Rattle.named_units.specs.unit_file.UnitSavings.{savings_from}
 use Rattle.named_units.specs.named_items.declared.item.Item.{Item}
 use Rattle.named_units.specs.item_emission.NamedEmission.{Kinds, acting_step, item_step}
 use Rattle.named_units.specs.unit_item_laws.AgreeingUnits.{known_of_unit, IsListed}
-use Rattle.named_main_laws.proofs.NamedPlaces.{Reach}
-use Rattle.named_main_laws.proofs.NamedValues.{EmitsEach, WritesObjects, MaySet, return_sets, step_sets}
+use Rattle.named_main_laws.proofs.NamedPlaces.{Reach, Own, SetsObjects}
+use Rattle.named_main_laws.proofs.NamedValues.{EmitsEach, split, WritesObjects, MayName, MaySet, return_sets, value_names, step_sets, later_sets}
 use Rattle.named_main_laws.proofs.NamedSteps.{stop_placed, start_listed}
 
 pub unit_items_each : (numbers : Numbers) (w : Writing) (label : ℕ → Option ℕ) → EmitsEach (procedure_item numbers w (λ m. m) label) (unit_items numbers w label)
@@ -67,6 +69,29 @@ module _ (IsObject : Reach → ℕ → Type 0) where
     unit_step_sets n step.Back = back_sets w.facts.program.kind
     unit_step_sets n (step.BackBy p) = alternate_sets p w.facts.program.kind
     unit_step_sets n st = step_sets IsObject w writes label n st
+
+  -- ### Bounds that are kept
+
+  kept_by : (k : ℕ) (o : Option Term) → IsObject Own k → MayName IsObject o → MaySet IsObject (option_map (Assign (Variable k ToNumber)) o)
+  kept_by k (Some t) own known = (own, known)
+  kept_by k None own known = tt
+
+  module _ (w : Writing) (writes : WritesObjects IsObject w) where
+    saving_sets : (one : Saving) → IsObject Own one.object → MaySet IsObject (saving_item w one)
+    unfolding saving_item
+    saving_sets one own = kept_by one.object (value_term w one.value) own (value_names IsObject w writes one.value)
+
+    pub savings_set : (first : ℕ) (bounds : List KeptBound) (behind : Option (List Flat)) (flats : List Flat) → ((i : ℕ) (one : KeptBound) → slice_get bounds i ≡ Some one → IsObject Own (first + i))
+        → ((fs : List Flat) → behind ≡ Some fs → (i : ℕ) (item : Flat) → slice_get fs i ≡ Some item → SetsObjects IsObject item) → saving_items w (savings_from first bounds) behind ≡ Some flats
+        → (i : ℕ) (item : Flat) → slice_get flats i ≡ Some item → SetsObjects IsObject item
+    unfolding savings_from saving_items
+    savings_set first [] behind flats own later h i item at = later flats h i item at
+    savings_set first (one ∷ bounds) behind flats own later h i item at =
+        let saving : Saving = record { object = first; value = one.value } in
+        let s = split (saving_item w saving) (saving_items w (savings_from (suc first) bounds) behind) flats h in
+        let here : IsObject Own first = subst (IsObject Own) {x = first + 0} {y = first} (omega arith) (own 0 one refl) in
+        later_sets IsObject s.first s.rest (subst (MaySet IsObject) s.first_is (saving_sets saving here))
+        (savings_set (suc first) bounds behind s.rest (λ k other there. subst (IsObject Own) {x = first + suc k} {y = suc first + k} (omega arith) (own (suc k) other there)) later s.rest_is) i item (ap (λ fs. slice_get fs i) s.is ∙ at)
 
 -- ## What is listed
 

@@ -18,7 +18,7 @@ use Rattle.step_bounds.specs.translated_files.c_tree.declared.statement.CStmt.{C
 use Rattle.step_bounds.specs.translated_files.main_translation.Contents.{with_new}
 use Rattle.step_bounds.specs.translated_files.unit_file.UnitFile.{Inventory, WrittenUnit}
 use Rattle.step_bounds.specs.translated_files.unit_sites.UnitSites.{UnitsOfFile, files_of as c_files}
-use Rattle.step_bounds.specs.translated_files.unit_translation.UnitContents.{LoweredUnit, values_from, constants_passed, inventory_of}
+use Rattle.step_bounds.specs.translated_files.unit_translation.UnitContents.{LoweredUnit, whole_text, values_from, constants_passed, inventory_of}
 use Rattle.step_bounds.specs.translated_files.unit_translation.UnitBodies.{all_lowered, written_before}
 use Rattle.step_bounds.specs.translated_files.named_units.NamedUnits.{named_body_of, named_from, named_file_of, named_files_from, named_files}
 use Rattle.step_bounds.specs.translated_files.TranslatedFiles.{lowered_at, lowered_before, lowered_from, files_before, lowered_files, each_has_units, made_files, files_of}
@@ -141,7 +141,7 @@ once (z ∷ zs) known =
 
 -- the values that units pass
 abbrev values_of : LoweredUnit → List ℤ
-values_of u = values_from u.text 0 u.text.steps
+values_of u = values_from (whole_text u) 0 (whole_text u).steps
 
 constants_within : (us : List LoweredUnit) → length (constants_passed us) ≤ length (flat_map values_of us)
 unfolding constants_passed

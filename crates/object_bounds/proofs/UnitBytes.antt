@@ -24,16 +24,17 @@ use Rattle.step_bounds.specs.translated_files.c_tree.declared.statement.CStmt.{C
 use Rattle.step_bounds.specs.translated_files.c_tree.FlatForm.{whole_body}
 use Rattle.step_bounds.specs.translated_files.main_translation.Contents.{count_by, variable_of}
 use Rattle.step_bounds.specs.translated_files.unit_file.UnitFile.{Parameter, WrittenUnit, result_count}
-use Rattle.step_bounds.specs.translated_files.unit_translation.UnitContents.{LoweredUnit, values_from, parameter_for, formals_in, parameters_in, returned_by, basic_given, temporaries_kept, inventory_of}
+use Rattle.step_bounds.specs.translated_files.unit_translation.UnitContents.{LoweredUnit, bounds_kept, whole_text, values_from, parameter_for, formals_in, parameters_in, returned_by, basic_given, temporaries_kept, inventory_of}
 use Rattle.step_bounds.specs.translated_files.named_units.NamedUnits.{named_body_of}
 use Rattle.step_bounds.specs.translated_files.unit_forms.OwnSetting.{own_facts}
 use Rattle.step_bounds.specs.translated_files.unit_forms.PlainProcedures.{is_plain_unit}
 use Rattle.step_bounds.specs.translated_files.unit_forms.SpellableUnits.{is_spellable_unit}
 use Rattle.step_bounds.specs.translated_files.translated_forms.LoweredForms.{statements_lower}
-use Rattle.step_bounds.specs.translated_files.TranslatedFiles.{text_fits, procedure_names, procedures_are_defined, passes_tests, lowered_by, lowered_at}
+use Rattle.step_bounds.specs.translated_files.TranslatedFiles.{text_fits, unit_with, procedure_names, procedures_are_defined, passes_tests, lowered_by, lowered_at}
 use Rattle.step_bounds.specs.read_sizes.ReadUnits.{EachUnitIsReadWithin}
 use Rattle.step_bounds.specs.read_sizes.lowered_sizes.ReadNodes.{lines_nodes}
 use Rattle.step_bounds.proofs.References.{statements}
+use Rattle.step_bounds.proofs.KeptCounts.{few_kept}
 use Rattle.plain_units.specs.unit_programs.OwnStorage.{bytes_in}
 use Rattle.plain_units.specs.PlainParts.{PlainUnitsAreTold}
 use Rattle.built_strings.specs.BuiltStrings.{texts_bytes, EachStructureHasItsStrings}
@@ -67,8 +68,7 @@ of_text : (options : Options) (given : GivenUnit) (found : Option Text) (u : Low
 unfolding lowered_by
 of_text options given None u h = absurd (cc)
 of_text options given (Some text) u h =
-    let own : LoweredUnit = record { unit = unit_read options given; text = text; use_of = λ x. (dummy_of (uses_of_statements (arrays_of given) given.statements) (unit_read options given).attribute x).use_of } in
-    let same : own ≡ u = if_some (text_fits text) own u h in
+    let same = if_some (text_fits (whole_text (unit_with options given text))) (unit_with options given text) u h in
     subst (IsOf options given (Some text)) same (record { text = refl; unit = refl; uses = λ x. refl })
 
 of_tests : (options : Options) (units : List GivenUnit) (j : ℕ) (given : GivenUnit) (u : LoweredUnit) (b : Bool) → passes_tests options (procedure_names units) given ≡ b
@@ -150,9 +150,9 @@ nodes_apart : (given : GivenUnit) → suc (length given.dummies + statements_nod
 unfolding unit_nodes
 nodes_apart given = omega arith
 
-bound : (variables texts parameters result temporaries stored lines stops nodes dummies n : ℕ) → variables ≤ stored → texts ≤ lines + stops → parameters ≤ dummies → result ≤ 1 → temporaries ≤ 2 * lines → lines ≤ 4 * nodes → suc (dummies + nodes) ≤ n
-    → variables + (texts + 4 * (parameters + (result + temporaries))) ≤ stored + (stops + 100 * n)
-bound variables texts parameters result temporaries stored lines stops nodes dummies n a b c d e f g = omega (arith, a, b, c, d, e, f, g)
+bound : (variables texts parameters result temporaries bounds stored lines stops nodes dummies n : ℕ) → variables ≤ stored → texts ≤ lines + stops → parameters ≤ dummies → result ≤ 1 → temporaries ≤ 2 * lines → bounds ≤ 2 * nodes → lines ≤ 4 * nodes
+    → suc (dummies + nodes) ≤ n → variables + (texts + 4 * (parameters + (result + (temporaries + bounds)))) ≤ stored + (stops + 100 * n)
+bound variables texts parameters result temporaries bounds stored lines stops nodes dummies n a b c d e k f g = omega (arith, a, b, c, d, e, k, f, g)
 
 few_values : (values lines nodes dummies n : ℕ) → values ≤ 3 * lines → lines ≤ 4 * nodes → suc (dummies + nodes) ≤ n → values ≤ 12 * n
 few_values values lines nodes dummies n a b c = omega (arith, a, b, c)
@@ -160,7 +160,7 @@ few_values values lines nodes dummies n a b c = omega (arith, a, b, c)
 -- what the function of a unit has, and what it passes
 pub record IsSmall (options : Options) (given : GivenUnit) (u : LoweredUnit) (w : WrittenUnit) : Type 0 where
   pub bytes : unit_bytes w ≤ sizes (unit_read options given).stored + (unit_stops given + 100 * unit_nodes given)
-  pub values : length (values_from u.text 0 u.text.steps) ≤ 12 * unit_nodes given
+  pub values : length (values_from (whole_text u) 0 (whole_text u).steps) ≤ 12 * unit_nodes given
 
 pub unit_within : PlainUnitsAreTold → EachUnitIsReadWithin → EachTextNeedsFewObjects → EachStructureHasItsStrings → EachItemHasTheStringOfItsStep → (options : Options) (units : List GivenUnit) (j : ℕ) (given : GivenUnit) (constants : List ℤ) (all : List LoweredUnit)
     (u : LoweredUnit) (body : List CStmt) → lowered_at options units j given ≡ Some u → named_body_of constants all u ≡ Some body → IsSmall options given u (record { inventory = inventory_of all u; body = body })
@@ -169,7 +169,9 @@ unit_within told within few built each options units j given constants all u bod
     let made = is_lowered options units j given u lowered in
     let c = own_facts (map (unit_read options) units) j (unit_read options given) in
     let read = within options given (statements (given_names given) given.statements made.lowers) in
-    let needs : NeedsFew (unit_read options given).lines u.text = subst (λ (p : ProgramUnit). NeedsFew p.lines u.text) (own_program (map (unit_read options) units) j (unit_read options given)) (few c u.text made.text) in
+    let needs : NeedsFew (unit_read options given).lines (whole_text u) =
+    subst (λ (p : ProgramUnit). NeedsFew p.lines (whole_text u)) (own_program (map (unit_read options) units) j (unit_read options given)) (few c u.text made.text (length (bounds_kept u.unit))) in
+    let kept = subst (λ (p : ProgramUnit). length (bounds_kept p) ≤ 2 * statements_nodes (functions_of given) given.statements) (sym made.unit) (few_kept options given made.plain) in
     let plain = told options given all j u made.plain made.unit made.uses in
     let stored : variables_bytes (map (variable_of u.unit) u.unit.stored) ≤ sizes (unit_read options given).stored =
     subst (λ (p : ProgramUnit). variables_bytes (map (variable_of u.unit) u.unit.stored) ≤ sizes p.stored) made.unit (variables_within u.unit u.unit.stored plain.storage.sized) in
@@ -177,8 +179,8 @@ unit_within told within few built each options units j given constants all u bod
     let strings = needs.strings in
     let own = body_within built each constants all u body is in
     record {
-      bytes = bound (variables_bytes (map (variable_of u.unit) u.unit.stored)) (texts_bytes (whole_body body).items.strings) (length (parameters_in u)) (result_count (returned_by (basic_given u.unit u.unit.kind))) (temporaries_kept u.text.steps)
+      bytes = bound (variables_bytes (map (variable_of u.unit) u.unit.stored)) (texts_bytes (whole_body body).items.strings) (length (parameters_in u)) (result_count (returned_by (basic_given u.unit u.unit.kind))) (temporaries_kept (whole_text u).steps) (length (bounds_kept u.unit))
           (sizes (unit_read options given).stored) (lines_nodes (unit_read options given).lines) (unit_stops given) (statements_nodes (functions_of given) given.statements) (length given.dummies) (unit_nodes given) stored
-          (omega (arith, own, strings, stops)) (parameters_within options given u made.unit) (result_once (basic_given u.unit u.unit.kind)) needs.temporaries read.nodes (nodes_apart given);
-      values = few_values (length (values_from u.text 0 u.text.steps)) (lines_nodes (unit_read options given).lines) (statements_nodes (functions_of given) given.statements) (length given.dummies) (unit_nodes given) needs.constants read.nodes (nodes_apart given);
+          (omega (arith, own, strings, stops)) (parameters_within options given u made.unit) (result_once (basic_given u.unit u.unit.kind)) needs.temporaries kept read.nodes (nodes_apart given);
+      values = few_values (length (values_from (whole_text u) 0 (whole_text u).steps)) (lines_nodes (unit_read options given).lines) (statements_nodes (functions_of given) given.statements) (length given.dummies) (unit_nodes given) needs.constants read.nodes (nodes_apart given);
     }

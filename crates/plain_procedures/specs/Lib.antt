@@ -1,2 +1,3 @@
 pub mod ToldHeadings
 pub mod ToldProcedures
+pub mod ToldNames

@@ -5,7 +5,8 @@ ghost use Rattle.name_facts.specs.GivenFacts.{fact_in};
 ghost use Rattle.unit_forms.specs.PlainProcedures as procedures;
 ghost use Rattle.plain_procedures.specs.ToldProcedures as spec;
 
-use f_tree::Class;
+use bound_values::has_adjustable_bounds;
+use f_tree::{Class, Dimension};
 use name_facts::{NameFact, NameFacts};
 use plain_names::{has_constant_bounds, has_plain_bounds, is_name, is_number, is_plain_variable};
 
@@ -33,12 +34,15 @@ pub(crate) fn is_result_class(class: Class) -> bool
     }
 }
 
-/// Whether a dummy argument is a variable of numbers, or an array of them with constant bounds, but for a last one `*`. Sections 4.1, 5.1.2 and 5.5.
+/// Whether a dummy argument is a variable of numbers, or an array of them whose bounds are constant but for a last one `*`, or are fixed by each call.
+/// Sections 4.1, 5.1.1, 5.1.2 and 5.5.
 #[tactic(auto, unfolding(crate::specs::ToldProcedures::is_plain_dummy))]
-fn is_plain_dummy(name: &[u8], fact: &NameFact) -> bool
-    ensures { result ≡ spec.is_plain_dummy name.now fact.now }
+fn is_plain_dummy(table: &NameFacts, name: &[u8], dimensions: &[Dimension], fact: &NameFact) -> bool
+    ensures { result ≡ spec.is_plain_dummy table.now name.now dimensions.now fact.now }
 {
-    is_name(name) && is_number(fact) && has_plain_bounds(fact)
+    is_name(name)
+        && is_number(fact)
+        && (has_plain_bounds(fact) || has_adjustable_bounds(table, fact, dimensions))
 }
 
 /// Whether a dummy argument is a procedure, and no array.
@@ -65,14 +69,21 @@ fn is_plain_stored(name: &[u8], fact: &NameFact) -> bool
     has_constant_bounds(fact) && is_plain_variable(name, fact)
 }
 
-/// Whether a name is plain, given its class and what it is.
+/// Whether a name is plain, given its class, its dimensions and what it is.
 #[tactic(auto, unfolding(crate::specs::ToldProcedures::is_plain_as))]
-fn is_plain_as(function: bool, class: Class, name: &[u8], fact: &NameFact) -> bool
-    ensures { result ≡ spec.is_plain_as function class name.now fact.now }
+fn is_plain_as(
+    table: &NameFacts,
+    function: bool,
+    class: Class,
+    name: &[u8],
+    dimensions: &[Dimension],
+    fact: &NameFact,
+) -> bool
+    ensures { result ≡ spec.is_plain_as table.now function class name.now dimensions.now fact.now }
 {
     match class {
         Class::Stored => is_plain_stored(name, fact),
-        Class::Dummy => is_plain_dummy(name, fact),
+        Class::Dummy => is_plain_dummy(table, name, dimensions, fact),
         Class::DummyProcedure => is_plain_procedure(name, fact),
         Class::Result => is_plain_result(function, fact),
         Class::Constant | Class::Procedure | Class::StatementFunction => has_plain_bounds(fact),
@@ -80,13 +91,18 @@ fn is_plain_as(function: bool, class: Class, name: &[u8], fact: &NameFact) -> bo
     }
 }
 
-/// Whether a name is plain, by what the table tells of it.
+/// Whether a name is plain, by its dimensions and what the table tells of it.
 #[tactic(auto, using(crate::proofs::ToldLaws::unknown_is_plain), unfolding(name_facts::specs::GivenFacts::fact_or, crate::specs::ToldProcedures::is_plain))]
-pub(crate) fn is_plain_name(function: bool, table: &NameFacts, name: &[u8]) -> bool
-    ensures { result ≡ spec.is_plain function name.now (fact_in table.now name.now) }
+pub(crate) fn is_plain_name(
+    table: &NameFacts,
+    function: bool,
+    name: &[u8],
+    dimensions: &[Dimension],
+) -> bool
+    ensures { result ≡ spec.is_plain table.now function name.now dimensions.now (fact_in table.now name.now) }
 {
     match table.get(name) {
-        Some(fact) => is_plain_as(function, fact.class, name, fact),
+        Some(fact) => is_plain_as(table, function, fact.class, name, dimensions, fact),
         None => true,
     }
 }

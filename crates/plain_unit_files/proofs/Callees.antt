@@ -22,7 +22,7 @@ use Rattle.plain_files.proofs.main_file_texts.Files.{is_in, apart_told, all_name
 use Rattle.plain_units.specs.unit_file.UnitFile.{Callee}
 use Rattle.plain_units.specs.unit_file.UnitNames.{called_names}
 use Rattle.plain_units.proofs.unit_programs.Objects.{found_back}
-use Rattle.plain_units.specs.unit_translation.UnitContents.{LoweredUnit, program_units, unit_numbers, library_callee, procedures_by, with_name, procedures_in, unit_callee, procedure_callee, inventory_of}
+use Rattle.plain_units.specs.unit_translation.UnitContents.{LoweredUnit, whole_text, program_units, unit_numbers, library_callee, procedures_by, with_name, procedures_in, unit_callee, procedure_callee, inventory_of}
 use Rattle.plain_unit_files.proofs.Words.{closes, is_underscored, external_closes}
 
 -- ## Names, each once
@@ -148,20 +148,20 @@ module _ (us : List LoweredUnit) (single : HaveOneEntry us) where
 
   module _ (u : LoweredUnit) where
     abbrev library : List Callee
-    library = map library_callee (calls_of u.text.steps)
+    library = map library_callee (calls_of (whole_text u).steps)
 
-    pub called_are : called_names (inventory_of us u) ≡ map (λ (call : Called). call.name) (calls_of u.text.steps) ++ names_in (all_callees (procedures_in u.text))
-    called_are = map-append (λ (call : Callee). call.name) library (all_callees (procedures_in u.text)) ∙ ap (λ names. names ++ names_in (all_callees (procedures_in u.text))) (library_names (calls_of u.text.steps))
+    pub called_are : called_names (inventory_of us u) ≡ map (λ (call : Called). call.name) (calls_of (whole_text u).steps) ++ names_in (all_callees (procedures_in (whole_text u)))
+    called_are = map-append (λ (call : Callee). call.name) library (all_callees (procedures_in (whole_text u))) ∙ ap (λ names. names ++ names_in (all_callees (procedures_in (whole_text u)))) (library_names (calls_of (whole_text u).steps))
 
-    no_library : (x y : List ℕ) → IsIn x (map (λ (call : Called). call.name) (calls_of u.text.steps)) → IsIn y (names_in (all_callees (procedures_in u.text))) → x ≢ y
+    no_library : (x y : List ℕ) → IsIn x (map (λ (call : Called). call.name) (calls_of (whole_text u).steps)) → IsIn y (names_in (all_callees (procedures_in (whole_text u)))) → x ≢ y
     no_library x y o p same =
-        let one : not (closes x) ≡ true = each_of (λ name. not (closes name)) all_names x none_closes (in_part x (map (λ (call : Called). call.name) (calls_of u.text.steps)) all_names (names_part u.text.steps) o) in
-        let other = callees_of (procedures_in u.text) y p in
+        let one : not (closes x) ≡ true = each_of (λ name. not (closes name)) all_names x none_closes (in_part x (map (λ (call : Called). call.name) (calls_of (whole_text u).steps)) all_names (names_part (whole_text u).steps) o) in
+        let other = callees_of (procedures_in (whole_text u)) y p in
         let no : true ≡ false = sym one ∙ ap (λ name. not (closes name)) (same ∙ other.2.external) ∙ ap not (external_closes other.0) in absurd (cc)
 
     pub called_apart : AreApart (called_names (inventory_of us u))
     called_apart =
         subst AreApart (sym called_are)
-        (apart_append (map (λ (call : Called). call.name) (calls_of u.text.steps)) (names_in (all_callees (procedures_in u.text)))
-        (part_apart (map (λ (call : Called). call.name) (calls_of u.text.steps)) all_names (names_part u.text.steps) (apart_told all_names all_apart_there))
-        (callees_apart (procedures_in u.text) (procedures_apart u.text)) no_library)
+        (apart_append (map (λ (call : Called). call.name) (calls_of (whole_text u).steps)) (names_in (all_callees (procedures_in (whole_text u))))
+        (part_apart (map (λ (call : Called). call.name) (calls_of (whole_text u).steps)) all_names (names_part (whole_text u).steps) (apart_told all_names all_apart_there))
+        (callees_apart (procedures_in (whole_text u)) (procedures_apart (whole_text u))) no_library)

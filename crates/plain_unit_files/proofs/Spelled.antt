@@ -1,7 +1,7 @@
 -- What C asks besides of the functions of plain units, and of their files: names and labels are names of C, what is called is declared once, an array has an
 -- element, and units of outputs have 32 bits. ANSI X3.9-1978, sections 2.2 and 5.1; C89, 3.1.2 and 3.5.
 use Rattle.std.specs.List.{list_all}
-use Rattle.std.specs.Prelude.{◌≡◌, ℕ, suc, ◌+◌, ◌≤◌, ◌^◌, nat_le, ℤ, Bool, true, false, ◌&&◌, List, [], ◌∷◌, ◌++◌, map, length, Option, Some, None, unwrap_or, slice_get}
+use Rattle.std.specs.Prelude.{◌≡◌, ℕ, zero, suc, ◌+◌, ◌<◌, ◌≤◌, ◌^◌, nat_le, ℤ, Bool, true, false, ◌&&◌, List, [], ◌∷◌, ◌++◌, map, length, Option, Some, None, unwrap_or, slice_get}
 use Rattle.std.proofs.Common.{refl, sym, ap, ◌∙◌, subst, arith}
 use Rattle.fortran_totality.specs.f_tree.CNames.{variable_name, made_name, FunctionResult, ConstantOf}
 use Rattle.fortran_totality.specs.f_tree.CNames as c_names
@@ -9,7 +9,7 @@ use Rattle.fortran_totality.specs.f_tree.Facts.{Bounds, Formal, UnitKind, MainPr
 use Rattle.fortran_totality.specs.f_tree.Valuing.{elements_of}
 use Rattle.fortran_totality.specs.f_tree.Setting.{IsIn, first_in, later_in}
 use Rattle.fortran_totality.specs.f_tree.Values.{in_range}
-use Rattle.plain_files.specs.l_core.Steps.{Starts, Step, Acts, Text}
+use Rattle.plain_files.specs.l_core.Steps.{Starts, Step, Acts}
 use Rattle.plain_files.specs.c_tree.declared.types.NumberType.{NumberType}
 use Rattle.plain_files.specs.c_tree.CWords.{is_name}
 use Rattle.plain_files.specs.c_tree.Flat.{Flat}
@@ -32,19 +32,27 @@ use Rattle.plain_files.proofs.main_file_texts.Files.{label_word, started_fits, s
 use Rattle.plain_files.specs.plain_forms.SpellableNames.{has_element, is_spellable_name}
 use Rattle.plain_files.proofs.Composed.{named}
 use Rattle.plain_units.specs.procedure_emission.ProcedureItems.{Numbers, procedure_item}
-use Rattle.plain_units.specs.unit_file.UnitFile.{Variable, Parameter, Inventory, result_names, lasting_names}
-use Rattle.plain_units.specs.unit_file.UnitItems.{unit_items}
+use Rattle.plain_units.specs.unit_file.UnitFile.{Variable, Parameter, KeptBound, Inventory, bound_name, first_bound, result_names, lasting_names}
+use Rattle.plain_units.specs.unit_file.UnitItems.{unit_items, whole_items}
+use Rattle.plain_units.specs.unit_file.UnitSavings.{savings_of}
 use Rattle.plain_units.specs.unit_file.UnitNames.{constant_names, called_names, own_names}
 use Rattle.plain_files.proofs.linking_laws.Places.{some_at}
 use Rattle.plain_units.specs.unit_sites.UnitSites.{UnitsOfFile, inventories}
 use Rattle.plain_units.specs.unit_file_laws.KnownUnits.{unit_writing}
 use Rattle.plain_units.specs.unit_forms.SpellableUnits.{is_called_well, is_spellable_unit}
 use Rattle.plain_units.specs.unit_programs.TranslatedUnits.{Rendering, written_of, numbers_of}
-use Rattle.plain_units.specs.unit_translation.UnitContents.{LoweredUnit, parameter_for, formals_in, parameters_in, procedures_in, inventory_of}
+use Rattle.plain_units.specs.unit_programs.TranslatedUnits.{whole_text as rendered_text}
+use Rattle.plain_units.specs.unit_translation.behind_bounds.BehindBounds.{steps_behind}
+use Rattle.plain_units.proofs.unit_programs.Objects.{whole_by}
+use Rattle.plain_units.proofs.unit_programs.unit_file_laws.Passed.{savings_count}
+use Rattle.plain_units.specs.unit_translation.UnitContents.{LoweredUnit, bounds_kept, whole_text, parameter_for, formals_in, parameters_in, procedures_in, inventory_of}
 use Rattle.plain_units.specs.unit_translation.UnitBodies.{all_lowered}
 use Rattle.plain_units.specs.unit_translation_laws.PlainUnits.{IsPlainUnit, ArePlainUnits}
 use Rattle.plain_units.specs.unit_translation_laws.RenderedUnits.{AreRendered}
 use Rattle.unit_file_texts.specs.WellFormedUnits.{parameter_words, local_words, has_elements, is_short, IsSpellable, AreSpellable, AreOfOneFile}
+use Rattle.plain_units.proofs.unit_translation_laws.KeptBounds.{dummy_is, kept_in, place_below}
+use Rattle.plain_units.proofs.unit_translation_laws.Listed.{pure_dimensions}
+use Rattle.unit_file_texts.proofs.BoundWords.{bounds_are_named}
 use Rattle.unit_file_texts.proofs.UnitTexts.{stands_in}
 use Rattle.plain_unit_files.proofs.ToldApart.{called_well, formals_spelled, stored_spelled, kind_named}
 use Rattle.plain_unit_files.proofs.Words.{closes, external_closes, constant_closes, external_word, main_word, main_closes}
@@ -75,6 +83,28 @@ unit_listings_fit numbers w label n (Acts (Starts way layout controls) ps m ∷ 
     listing_fits n (unit_of ps) (listings_from (suc n) later) (started_fits w label n way layout controls ps m s.item s.item_is) (unit_listings_fit numbers w label (suc n) later s.later s.later_is) l o
 unit_listings_fit numbers w label n (st ∷ later) items h l o =
     let s = split (procedure_item numbers w (λ k. k) label n st) (unit_items numbers w label (suc n) later) items h in unit_listings_fit numbers w label (suc n) later s.later s.later_is l o
+
+-- ## Behind what is kept
+
+many_behind : (first : ℕ) (steps : List Step) → length (steps_behind first steps) ≡ first + length steps
+unfolding steps_behind
+many_behind zero steps = let same : length steps ≡ 0 + length steps = omega arith in same
+many_behind (suc first) steps = let rest = many_behind first steps in omega (arith, rest)
+
+listings_behind : (first n m : ℕ) (steps : List Step) → m ≡ n + first → listings_from n (steps_behind first steps) ≡ listings_from m steps
+unfolding listings_from steps_behind
+listings_behind zero n m steps there = ap (λ k. listings_from k steps) {x = n} {y = m} (omega (arith, there))
+listings_behind (suc first) n m steps there = listings_behind first (suc n) m steps (omega (arith, there))
+
+-- the units of the outputs of a rendering have 32 bits
+outputs_short : (numbers : Numbers) (x : Rendering) → whole_items numbers (unit_writing x.site x.written x.text.facts x.kind) (rendered_text x).position (savings_of x.written.inventory x.site.bases) (rendered_text x).steps ≡ Some x.items
+    → list_all is_short (listings_from (length x.written.inventory.bounds) x.text.steps) ≡ true
+outputs_short numbers x emitted =
+    let w = unit_writing x.site x.written x.text.facts x.kind in
+    let v = x.written.inventory in
+    let first = length v.bounds in
+    let whole = whole_by numbers w (rendered_text x).position first (savings_of v x.site.bases) x.text.steps x.items (savings_count (first_bound v x.site.bases) v.bounds) emitted in
+    each_told is_short (listings_from first x.text.steps) (unit_listings_fit numbers w (rendered_text x).position first x.text.steps whole.later whole.emitted)
 
 -- ## Arrays
 
@@ -164,12 +194,12 @@ module _ (lfs : List (List LoweredUnit)) (plain : ArePlainUnits (all_lowered lfs
     result_named (Some type) name (later_in o) = elim o [ ]
 
     called_named : (name : List ℕ) → IsIn name (called_names v) → is_name name ≡ true
-    called_named name o = by (in_either name (map (λ (call : Called). call.name) (calls_of u.text.steps)) (names_in (all_callees us single (procedures_in u.text))) (subst (IsIn name) (called_are us single u) o))
+    called_named name o = by (in_either name (map (λ (call : Called). call.name) (calls_of (whole_text u).steps)) (names_in (all_callees us single (procedures_in (whole_text u)))) (subst (IsIn name) (called_are us single u) o))
       where
-        by : InEither name (map (λ (call : Called). call.name) (calls_of u.text.steps)) (names_in (all_callees us single (procedures_in u.text))) → is_name name ≡ true
-        by (in_one p) = all_words all_names all_words_there name (in_part name (map (λ (call : Called). call.name) (calls_of u.text.steps)) all_names (names_part u.text.steps) p)
+        by : InEither name (map (λ (call : Called). call.name) (calls_of (whole_text u).steps)) (names_in (all_callees us single (procedures_in (whole_text u)))) → is_name name ≡ true
+        by (in_one p) = all_words all_names all_words_there name (in_part name (map (λ (call : Called). call.name) (calls_of (whole_text u).steps)) all_names (names_part (whole_text u).steps) p)
         by (in_other p) =
-            let found = callees_of us single (procedures_in u.text) name p in
+            let found = callees_of us single (procedures_in (whole_text u)) name p in
             let own = found.2 in ap is_name own.own ∙ function_word own.place own.unit own.at
 
     variable_named : (name : List ℕ) → IsIn name (map (λ (one : Variable). variable_name one.name) v.variables) → is_name name ≡ true
@@ -182,8 +212,8 @@ module _ (lfs : List (List LoweredUnit)) (plain : ArePlainUnits (all_lowered lfs
         subst (λ x. is_name x ≡ true) (ap variable_name (sym called) ∙ found.is)
         (variable_word from.from.name (and-first (begins_with is_letter from.from.name) (has_element (elements_of (u.unit.attribute from.from.name).bounds)) both) (one.storage.named from.from from.among))
 
-    lists_few : 1 + length (listings_from 0 u.text.steps) ≤ 2 ^ 64
-    lists_few = let few = listings_count 0 u.text.steps in let fits = one.text.steps in omega (arith, few, fits)
+    lists_few : 1 + length (listings_from 0 (whole_text u).steps) ≤ 2 ^ 64
+    lists_few = let few = listings_count 0 (whole_text u).steps in let fits = one.text.steps in omega (arith, few, fits)
 
     lasting_named : (name : List ℕ) → IsIn name (lasting_names v) → is_name name ≡ true
     lasting_named name o = by (in_either name (map (λ (one : Variable). variable_name one.name) v.variables) (list_names 1 v.lists) o)
@@ -192,20 +222,47 @@ module _ (lfs : List (List LoweredUnit)) (plain : ArePlainUnits (all_lowered lfs
         by (in_one p) = variable_named name p
         by (in_other p) = lists_words 1 v.lists lists_few name p
 
+    -- what is kept of a dummy array goes by its name
+    kept_small : (kept : KeptBound) → IsIn kept v.bounds → suc kept.place < 2 ^ 64
+    kept_small kept o =
+        let below = place_below u.unit kept (pure_dimensions us j u one.name one.formals one.entry one.dummies) o in
+        let long = many_behind (length (bounds_kept u.unit)) u.text.steps in
+        let fits = one.text.steps in omega (arith, below, long, fits)
+
+    its_formals : named_formals (formals_in u.unit.entries) ≡ named_formals one.formals
+    unfolding formals_in
+    its_formals = ap (λ (entries : List EntryPoint). named_formals (formals_in entries)) one.entry
+
+    kept_named : (kept : KeptBound) → IsIn kept v.bounds → is_name (bound_name kept) ≡ true
+    kept_named kept o =
+        let found = kept_in u.unit kept o in
+        let among : IsIn found.array (named_formals one.formals) = subst (IsIn found.array) its_formals found.among in
+        let dummy = dummy_is found.array found.index found.dimension kept found.bound in
+        let letters = formals_spelled u.unit (record { name = one.name; formals = one.formals; start = 0 }) one.entry (spelled j u at) in
+        bounds_are_named kept (subst (λ x. begins_with is_letter x ≡ true) (sym dummy) (each_of (begins_with is_letter) (named_formals one.formals) found.array letters among))
+        (subst (λ x. c_names.is_name x ≡ true) (sym dummy) (one.dummies.named found.array among)) (kept_small kept o)
+
+    bound_named : (name : List ℕ) → IsIn name (map bound_name v.bounds) → is_name name ≡ true
+    bound_named name o = let found = in_map bound_name v.bounds name o in subst (λ x. is_name x ≡ true) found.is (kept_named found.from found.among)
+
     local_named : (name : List ℕ) → IsIn name (local_words v) → is_name name ≡ true
-    local_named name o = first (in_either name (result_names v.returned) (temporary_names 1 v.temporaries ++ (called_names v ++ lasting_names v)) o)
+    local_named name o = first (in_either name (result_names v.returned) (temporary_names 1 v.temporaries ++ (map bound_name v.bounds ++ (called_names v ++ lasting_names v))) o)
       where
-        third : InEither name (called_names v) (lasting_names v) → is_name name ≡ true
-        third (in_one p) = called_named name p
-        third (in_other p) = lasting_named name p
+        fourth : InEither name (called_names v) (lasting_names v) → is_name name ≡ true
+        fourth (in_one p) = called_named name p
+        fourth (in_other p) = lasting_named name p
 
-        second : InEither name (temporary_names 1 v.temporaries) (called_names v ++ lasting_names v) → is_name name ≡ true
+        third : InEither name (map bound_name v.bounds) (called_names v ++ lasting_names v) → is_name name ≡ true
+        third (in_one p) = bound_named name p
+        third (in_other p) = fourth (in_either name (called_names v) (lasting_names v) p)
+
+        second : InEither name (temporary_names 1 v.temporaries) (map bound_name v.bounds ++ (called_names v ++ lasting_names v)) → is_name name ≡ true
         second (in_one p) = temporaries_words 1 v.temporaries one.text.temporaries name p
-        second (in_other p) = third (in_either name (called_names v) (lasting_names v) p)
+        second (in_other p) = third (in_either name (map bound_name v.bounds) (called_names v ++ lasting_names v) p)
 
-        first : InEither name (result_names v.returned) (temporary_names 1 v.temporaries ++ (called_names v ++ lasting_names v)) → is_name name ≡ true
+        first : InEither name (result_names v.returned) (temporary_names 1 v.temporaries ++ (map bound_name v.bounds ++ (called_names v ++ lasting_names v))) → is_name name ≡ true
         first (in_one p) = result_named v.returned name p
-        first (in_other p) = second (in_either name (temporary_names 1 v.temporaries) (called_names v ++ lasting_names v) p)
+        first (in_other p) = second (in_either name (temporary_names 1 v.temporaries) (map bound_name v.bounds ++ (called_names v ++ lasting_names v)) p)
 
     words_named : list_all is_name (parameter_words v ++ local_words v) ≡ true
     words_named = each_told is_name (parameter_words v ++ local_words v) (λ name o. by name (in_either name (parameter_words v) (local_words v) o))
@@ -244,12 +301,13 @@ module _ (lfs : List (List LoweredUnit)) (plain : ArePlainUnits (all_lowered lfs
         let own = r.each j x (there i x at) in
         let u = own.unit in
         let text = (plain.units j u own.at).text in
-        let emitted = subst (λ (t : Text). unit_items (numbers_of r.renderings) (unit_writing x.site x.written x.text.facts x.kind) t.position 0 t.steps ≡ Some x.items) own.text (r.translated.units j x (there i x at)).built.emitted in
-        let short = each_told is_short (listings_from 0 u.text.steps)
-        (unit_listings_fit (numbers_of r.renderings) (unit_writing x.site x.written x.text.facts x.kind) u.text.position 0 u.text.steps x.items emitted) in
+        let first = length (bounds_kept u.unit) in
+        let same : listings_from (length x.written.inventory.bounds) x.text.steps ≡ listings_from 0 (whole_text u).steps =
+        (λ i. listings_from (length (own.inventory i).bounds) (own.text i).steps) ∙ sym (listings_behind first 0 first u.text.steps (omega arith)) in
+        let short = subst (λ ls. list_all is_short ls ≡ true) same (outputs_short (numbers_of r.renderings) x (r.translated.units j x (there i x at)).built.emitted) in
         record {
           names = subst (λ (v : Inventory). list_all is_name (parameter_words v ++ local_words v) ≡ true) (sym own.inventory) (words_named j u own.at);
-          labels = λ n name h. label_word u.text text.labels text.marks n name (ap (λ (o : Outline). o.label n) (sym own.outline) ∙ h);
+          labels = λ n name h. label_word (whole_text u) text.labels text.marks n name (ap (λ (o : Outline). o.label n) (sym own.outline) ∙ h);
           calls = subst (λ (v : Inventory). AreDistinct (called_names v)) (sym own.inventory) (calls_distinct j u own.at);
           elements = subst (λ (v : Inventory). list_all has_elements v.variables ≡ true) (sym own.inventory) (elements_there j u own.at);
           outputs = subst (λ (v : Inventory). list_all is_short v.lists ≡ true) (sym own.inventory) short;

@@ -15,7 +15,7 @@ use Rattle.plain_units.specs.unit_forms.OwnSetting.{own_facts}
 use Rattle.plain_units.specs.unit_forms.PlainProcedures.{is_plain_unit}
 use Rattle.plain_units.specs.unit_forms.SpellableUnits.{is_spellable_unit}
 use Rattle.plain_units.specs.unit_sites.UnitSites.{UnitsOfFile, file_for}
-use Rattle.plain_units.specs.unit_translation.UnitContents.{LoweredUnit, program_units}
+use Rattle.plain_units.specs.unit_translation.UnitContents.{LoweredUnit, program_units, whole_text}
 use Rattle.plain_units.specs.unit_translation.UnitBodies.{all_lowered, written_files}
 use Rattle.plain_units.specs.unit_translation_laws.PlainUnits.{IsPlainUnitText}
 use Rattle.unit_faithfulness.specs.UnitsFaithful.{AreOfFiles}
@@ -25,7 +25,7 @@ pub record IsFaultless (options : Options) (trees : List File) : Type 0 where
   pub declared : (r : Refusal) → Faults options (record { files = trees }) r → ⊥
   pub named : (r : Refusal) → IsIn r (units_global_rows (all_units trees)) → ⊥
 
--- each file has a unit, each unit passes the tests, and is lowered to its text
+-- each file has a unit, each unit passes the tests, and is lowered to its text, which fits behind what is kept of dummy arrays
 pub record AreMadeOf (options : Options) (trees : List File) (lfs : List (List LoweredUnit)) : Type 0 where
   pub of_files : AreOfFiles options trees lfs
   pub some : 1 ≤ length lfs
@@ -33,7 +33,7 @@ pub record AreMadeOf (options : Options) (trees : List File) (lfs : List (List L
   pub plain : (j : ℕ) (given : GivenUnit) → slice_get (all_units trees) j ≡ Some given → is_plain_unit options given ≡ true
   pub spellable : (j : ℕ) (given : GivenUnit) → slice_get (all_units trees) j ≡ Some given → is_spellable_unit (unit_read options given) ≡ true
   pub lowered : (j : ℕ) (u : LoweredUnit) → slice_get (all_lowered lfs) j ≡ Some u → lowered_unit (own_facts (program_units (all_lowered lfs)) j u.unit) ≡ Some u.text
-  pub short : (j : ℕ) (u : LoweredUnit) → slice_get (all_lowered lfs) j ≡ Some u → IsPlainUnitText u.text
+  pub short : (j : ℕ) (u : LoweredUnit) → slice_get (all_lowered lfs) j ≡ Some u → IsPlainUnitText (whole_text u)
 
 -- LAW
 -- files of such units that break no row: where their functions are made, their printed C files are faithful to them

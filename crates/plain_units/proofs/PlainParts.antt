@@ -2,7 +2,7 @@
 use Rattle.std.specs.List.{list_all}
 use Rattle.std.specs.Prelude.{◌≡◌, ◌≢◌, ℕ, Bool, true, false, not, ◌&&◌, ◌||◌, List, [], ◌∷◌, length, Option, Some, None, is_some, if◌then◌else◌}
 use Rattle.std.proofs.Common.{refl, sym, ap, ◌∙◌, subst}
-use Rattle.std.proofs.lemmas.Bool.{and_parts}
+use Rattle.std.proofs.lemmas.Bool.{and_parts, eq-eqb}
 use Rattle.plain_mains.specs.f_tree.declared.names.Basic.{Basic}
 use Rattle.plain_mains.specs.f_tree.declared.names.Basic.TheVariants.{Integer, Logical, Character, Untyped}
 use Rattle.plain_mains.specs.f_tree.declared.names.Class.{Class}
@@ -32,12 +32,14 @@ use Rattle.plain_mains.proofs.Described.{all_in, all_at, each_told, constant_att
 use Rattle.plain_mains.proofs.StoredNames.{four_units, TellsStored, told_member, stored_member, distinct_stored}
 use Rattle.plain_mains.proofs.PlainUnits.{none_is, own_storage, plain_lines, AreWhole, whole_by, bound_is}
 use Rattle.unit_translation_laws.specs.procedure_emission.EmittedUnits.{is_number_pointer, is_function_pointer}
+use Rattle.unit_translation_laws.specs.procedure_emission.kept_bounds.KeptBounds.{is_adjustable, dimension_is_pure, only_last_assumes, has_adjustable_bounds}
 use Rattle.unit_translation_laws.specs.unit_forms.OwnSetting.{own_facts}
 use Rattle.unit_translation_laws.specs.unit_forms.PlainProcedures.{may_run, is_function, heading_fits, has_no_entries, is_plain_dummy, is_plain_result, is_plain_as, is_plain_name, each_name_is_plain, each_stands_once, is_dummy_class, is_result_class, class_in, names_dummies, names_its_result, has_plain_heading, is_plain_unit}
 use Rattle.unit_translation_laws.specs.unit_programs.OwnStorage as unit
 use Rattle.unit_translation_laws.specs.unit_programs.TranslatedUnits.{AreFixed}
 use Rattle.unit_translation_laws.specs.unit_translation.UnitContents.{LoweredUnit, program_units, parameter_for}
-use Rattle.unit_translation_laws.specs.PlainUnits.{HasPlainDummies, IsPlainDummy, is_number, is_procedure, HasPlainResult, HasPlainStorage, HasPlainBounds}
+use Rattle.unit_translation_laws.specs.PlainUnits as asked
+use Rattle.unit_translation_laws.specs.PlainUnits.{HasDummyBounds, HasPlainDummies, IsPlainDummy, is_number, is_procedure, HasPlainResult, HasPlainStorage, HasPlainBounds}
 use Rattle.plain_units.specs.PlainParts.{HasPlainParts, PlainUnitsAreTold}
 use Rattle.plain_units.proofs.Fixed.{fixed_bounds}
 use Rattle.plain_units.proofs.Dummies.{dummies_named, once_apart, dummy_listed}
@@ -98,6 +100,16 @@ tells_stored : (kind : UnitKind) → TellsStored (is_plain_name kind)
 unfolding is_plain_as
 tells_stored kind d plain stored = by_class kind class.Stored d (stored_is d.attribute stored) plain
 
+-- ## Numbers
+
+record IsNumber (a : Attribute) : Type 0 where
+  numeric : is_numeric a.basic ≡ true
+  wide : a.width ≡ Some 4
+
+number_by : (a : Attribute) → plain_form.is_number a ≡ true → IsNumber a
+unfolding Rattle.plain_mains.specs.plain_forms.PlainUnits.is_number
+number_by a is = let parts = and_parts (is_numeric a.basic) (has_four_units a.width) is in record { numeric = parts.0; wide = four_units a.width parts.1 }
+
 -- ## Bounds
 
 no_bounds : (a : Attribute) → a.bounds ≡ constant_bounds a.dimensions → has_none a.dimensions ≡ true → a.bounds ≡ []
@@ -115,37 +127,72 @@ none_whole a constant none = let empty = no_bounds a constant none in record {
   closed = ap only_last_is_assumed empty ∙ none_assumed;
 }
 
-whole_as : (kind : UnitKind) (k : Class) (d : Described) → d.attribute.bounds ≡ constant_bounds d.attribute.dimensions → is_plain_as kind k d ≡ true → AreWhole d.attribute
-unfolding is_plain_as is_plain_dummy is_plain_result has_constant_bounds
-whole_as kind class.Stored d constant plain =
-    let parts = and_parts (has_plain_bounds d.attribute && is_some (elements_of d.attribute.bounds)) (is_plain_variable d) plain in
-    whole_by d.attribute (and_parts (has_plain_bounds d.attribute) (is_some (elements_of d.attribute.bounds)) parts.0).0
-whole_as kind class.Dummy d constant plain =
-    let parts = and_parts (is_name d.name) (plain_form.is_number d.attribute && has_plain_bounds d.attribute) plain in
-    whole_by d.attribute (and_parts (plain_form.is_number d.attribute) (has_plain_bounds d.attribute) parts.1).1
-whole_as kind class.DummyProcedure d constant plain = none_whole d.attribute constant (and_parts (is_name d.name) (has_none d.attribute.dimensions) plain).1
-whole_as kind class.Result d constant plain =
-    let parts = and_parts (is_function kind) (plain_form.is_number d.attribute && has_none d.attribute.dimensions) plain in
-    none_whole d.attribute constant (and_parts (plain_form.is_number d.attribute) (has_none d.attribute.dimensions) parts.1).1
-whole_as kind class.Constant d constant plain = whole_by d.attribute plain
-whole_as kind class.Procedure d constant plain = whole_by d.attribute plain
-whole_as kind class.StatementFunction d constant plain = whole_by d.attribute plain
-whole_as kind class.Intrinsic d constant plain = whole_by d.attribute plain
-whole_as kind class.Unit d constant plain = whole_by d.attribute plain
+-- bounds that are constant and fit, or those of a dummy of numbers that a call fixes
+data HasBounds (a : Attribute) : Type 0 where
+  are_whole : AreWhole a → HasBounds a
+  are_adjustable : a.class ≡ class.Dummy → is_numeric a.basic ≡ true → has_adjustable_bounds a ≡ true → HasBounds a
 
-each_whole : (u : WrittenUnit) → each_name_is_plain u ≡ true → (x : Bytes) → AreWhole (named_in u x)
-each_whole u plain x =
+dummy_as_number : (a : Attribute) → a.class ≡ class.Dummy → (plain_form.is_number a && (has_plain_bounds a || has_adjustable_bounds a)) ≡ true → HasBounds a
+dummy_as_number a own plain =
+    let parts = and_parts (plain_form.is_number a) (has_plain_bounds a || has_adjustable_bounds a) plain in
+    by (has_plain_bounds a) refl (number_by a parts.0).numeric parts.1
+  where
+    by : (t : Bool) → has_plain_bounds a ≡ t → is_numeric a.basic ≡ true → (t || has_adjustable_bounds a) ≡ true → HasBounds a
+    by true whole numeric either = are_whole (whole_by a whole)
+    by false other numeric either = are_adjustable own numeric either
+
+bounds_as : (kind : UnitKind) (k : Class) (d : Described) → d.attribute.class ≡ k → d.attribute.bounds ≡ constant_bounds d.attribute.dimensions → is_plain_as kind k d ≡ true → HasBounds d.attribute
+unfolding is_plain_as is_plain_dummy is_plain_result has_constant_bounds
+bounds_as kind class.Stored d own constant plain =
+    let parts = and_parts (has_plain_bounds d.attribute && is_some (elements_of d.attribute.bounds)) (is_plain_variable d) plain in
+    are_whole (whole_by d.attribute (and_parts (has_plain_bounds d.attribute) (is_some (elements_of d.attribute.bounds)) parts.0).0)
+bounds_as kind class.Dummy d own constant plain =
+    dummy_as_number d.attribute own (and_parts (is_name d.name) (plain_form.is_number d.attribute && (has_plain_bounds d.attribute || has_adjustable_bounds d.attribute)) plain).1
+bounds_as kind class.DummyProcedure d own constant plain = are_whole (none_whole d.attribute constant (and_parts (is_name d.name) (has_none d.attribute.dimensions) plain).1)
+bounds_as kind class.Result d own constant plain =
+    let parts = and_parts (is_function kind) (plain_form.is_number d.attribute && has_none d.attribute.dimensions) plain in
+    are_whole (none_whole d.attribute constant (and_parts (plain_form.is_number d.attribute) (has_none d.attribute.dimensions) parts.1).1)
+bounds_as kind class.Constant d own constant plain = are_whole (whole_by d.attribute plain)
+bounds_as kind class.Procedure d own constant plain = are_whole (whole_by d.attribute plain)
+bounds_as kind class.StatementFunction d own constant plain = are_whole (whole_by d.attribute plain)
+bounds_as kind class.Intrinsic d own constant plain = are_whole (whole_by d.attribute plain)
+bounds_as kind class.Unit d own constant plain = are_whole (whole_by d.attribute plain)
+
+each_bounded : (u : WrittenUnit) → each_name_is_plain u ≡ true → (x : Bytes) → HasBounds (named_in u x)
+each_bounded u plain x =
     let own : Described = record { name = x; attribute = named_in u x } in
-    whole_as (unit_kind u) (named_in u x).class own (constant_attribute u x) (by_class (unit_kind u) (named_in u x).class own refl (told u plain x))
+    bounds_as (unit_kind u) (named_in u x).class own refl (constant_attribute u x) (by_class (unit_kind u) (named_in u x).class own refl (told u plain x))
+
+-- what is whole is not adjustable, and all else is
+not_adjustable : (a : Attribute) → AreWhole a → is_adjustable a ≡ false
+unfolding is_adjustable
+not_adjustable a whole = ap not (eq-eqb (length a.bounds) (length a.dimensions) whole.many)
+
+adjustable_is : (a : Attribute) → has_adjustable_bounds a ≡ true → is_adjustable a ≡ true
+unfolding has_adjustable_bounds
+adjustable_is a h = (and_parts (is_adjustable a) (list_all dimension_is_pure a.dimensions && only_last_assumes a.dimensions) h).0
+
+whole_unless : (a : Attribute) → HasBounds a → is_adjustable a ≡ false → AreWhole a
+whole_unless a (are_whole whole) constant = whole
+whole_unless a (are_adjustable own numeric h) constant = let no : true ≡ false = sym (adjustable_is a h) ∙ constant in absurd (cc)
+
+whole_stored : (a : Attribute) → HasBounds a → a.class ≡ class.Stored → AreWhole a
+whole_stored a (are_whole whole) stored = whole
+whole_stored a (are_adjustable own numeric h) stored = let no : class.Dummy ≡ class.Stored = sym own ∙ stored in absurd (cc)
+
+dummy_of_numbers : (a : Attribute) → HasBounds a → is_adjustable a ≡ true → (a.class ≡ class.Dummy) × (is_numeric a.basic ≡ true)
+dummy_of_numbers a (are_whole whole) is = let no : false ≡ true = sym (not_adjustable a whole) ∙ is in absurd (cc)
+dummy_of_numbers a (are_adjustable own numeric h) is = (own, numeric)
 
 plain_bounds : (options : Options) (u : WrittenUnit) → each_name_is_plain u ≡ true → HasPlainBounds (unit_read options u)
 unfolding unit_read with_ties program_of each_name_is_plain
 plain_bounds options u plain = record {
-  ranked = λ m o. (each_whole u plain m.name).many;
+  ranked = λ m o. (whole_stored (named_in u m.name) (each_bounded u plain m.name) (stored_is (named_in u m.name) (stored_member u m o))).many;
   counted = λ m b bs o is.
       subst (λ c. (n : ℕ) × (elements_of c ≡ Some n)) is (counted_elements _ (told_member (is_plain_name (unit_kind u)) (tells_stored (unit_kind u)) u plain m o).counted);
-  fits = λ x k b at. bound_is b (all_at bound_fits _ k b (each_whole u plain x).fit at);
-  closed = λ x k b at behind. last_of _ (each_whole u plain x).closed k b at behind;
+  fits = λ x k b constant at. bound_is b (all_at bound_fits _ k b (whole_unless (named_in u x) (each_bounded u plain x) constant).fit at);
+  closed = λ x k b constant at behind. last_of _ (whole_unless (named_in u x) (each_bounded u plain x) constant).closed k b at behind;
+  adjustable = λ x is. dummy_of_numbers (named_in u x) (each_bounded u plain x) is;
 }
 
 -- ## Storage
@@ -173,16 +220,6 @@ plain_storage options u storage plain =
       within = λ m o. (member m o).within;
       small = λ m o. (member m o).small;
     }
-
--- ## Numbers
-
-record IsNumber (a : Attribute) : Type 0 where
-  numeric : is_numeric a.basic ≡ true
-  wide : a.width ≡ Some 4
-
-number_by : (a : Attribute) → plain_form.is_number a ≡ true → IsNumber a
-unfolding Rattle.plain_mains.specs.plain_forms.PlainUnits.is_number
-number_by a is = let parts = and_parts (is_numeric a.basic) (has_four_units a.width) is in record { numeric = parts.0; wide = four_units a.width parts.1 }
 
 -- ## The result
 
@@ -260,17 +297,22 @@ lowered_as options u l = record { unit = unit_read options u; text = l.text; use
 abbrev AreItsUses : WrittenUnit → LoweredUnit → Type 0
 AreItsUses u l = (x : Bytes) → l.use_of x ≡ (dummy_of (uses_of_statements (arrays_of u) u.statements) l.unit.attribute x).use_of
 
+dummy_bounds : (options : Options) (u : WrittenUnit) (us : List LoweredUnit) (j : ℕ) (l : LoweredUnit) (x : Bytes) → HasBounds (named_in u x) → HasDummyBounds us j (lowered_as options u l) x
+unfolding unit_read with_ties program_of
+dummy_bounds options u us j l x (are_whole whole) = asked.constant (not_adjustable (named_in u x) whole) (fixed (program_units us) j (unit_read options u) x (constant_attribute u x) whole.many)
+dummy_bounds options u us j l x (are_adjustable own numeric h) = asked.adjustable h
+
 dummy_as : (options : Options) (u : WrittenUnit) (us : List LoweredUnit) (j : ℕ) (l : LoweredUnit) → AreItsUses u (lowered_as options u l) → each_name_is_plain u ≡ true → (x : Bytes) (k : Class) →
     (named_in u x).class ≡ k → is_dummy_class k ≡ true → IsPlainDummy us j (lowered_as options u l) x
 unfolding unit_read with_ties program_of is_dummy_class is_plain_as is_plain_dummy
 dummy_as options u us j l uses plain x class.Dummy is dummy =
     let a : Attribute = named_in u x in
-    let parts = and_parts (is_name x) (plain_form.is_number a && has_plain_bounds a) (by_class (unit_kind u) class.Dummy (record { name = x; attribute = a }) is (told u plain x)) in
-    let number = number_by a (and_parts (plain_form.is_number a) (has_plain_bounds a) parts.1).0 in
-    is_number is number.numeric number.wide (fixed (program_units us) j (unit_read options u) x (constant_attribute u x) (each_whole u plain x).many)
+    let parts = and_parts (is_name x) (plain_form.is_number a && (has_plain_bounds a || has_adjustable_bounds a)) (by_class (unit_kind u) class.Dummy (record { name = x; attribute = a }) is (told u plain x)) in
+    let number = number_by a (and_parts (plain_form.is_number a) (has_plain_bounds a || has_adjustable_bounds a) parts.1).0 in
+    is_number is number.numeric number.wide (dummy_bounds options u us j l x (each_bounded u plain x))
     (subst (λ way. is_number_pointer (parameter_for way) ≡ true) (sym (uses x ∙ variable_use (uses_of_statements (arrays_of u) u.statements) (named_in u) x is)) (number_pointer a.basic number.numeric))
 dummy_as options u us j l uses plain x class.DummyProcedure is dummy =
-    is_procedure is (fixed (program_units us) j (unit_read options u) x (constant_attribute u x) (each_whole u plain x).many)
+    is_procedure is (dummy_bounds options u us j l x (each_bounded u plain x))
     (subst (λ way. is_function_pointer (parameter_for way) ≡ true) (sym (uses x ∙ procedure_use (uses_of_statements (arrays_of u) u.statements) (named_in u) x is))
     (function_pointer (uses_of_statements (arrays_of u) u.statements) (named_in u x).basic x))
 dummy_as options u us j l uses plain x class.Stored is dummy = absurd (cc)
@@ -284,7 +326,7 @@ dummy_as options u us j l uses plain x class.Unit is dummy = absurd (cc)
 -- the name of a dummy has letters and digits
 name_as : (kind : UnitKind) (k : Class) (d : Described) → is_dummy_class k ≡ true → is_plain_as kind k d ≡ true → is_name d.name ≡ true
 unfolding is_dummy_class is_plain_as is_plain_dummy
-name_as kind class.Dummy d is plain = (and_parts (is_name d.name) (plain_form.is_number d.attribute && has_plain_bounds d.attribute) plain).0
+name_as kind class.Dummy d is plain = (and_parts (is_name d.name) (plain_form.is_number d.attribute && (has_plain_bounds d.attribute || has_adjustable_bounds d.attribute)) plain).0
 name_as kind class.DummyProcedure d is plain = (and_parts (is_name d.name) (has_none d.attribute.dimensions) plain).0
 name_as kind class.Stored d is plain = absurd (cc)
 name_as kind class.Result d is plain = absurd (cc)

@@ -1,6 +1,6 @@
--- Functions and a subroutine that are plain, and the function with one thing more or another, by which it is not. ANSI X3.9-1978, sections 4.1, 5.1.2.2, 5.5,
--- 8.6, 15.5.1, 15.6, 15.7 and 15.9.2.
-use Rattle.std.specs.Prelude.{◌≡◌, false, true, List, [], ◌∷◌, ◌++◌, codes, Some, None}
+-- Functions and a subroutine that are plain, and the function with one thing more or another, by which it is not. ANSI X3.9-1978, sections 4.1, 5.1.1.1,
+-- 5.1.2.2, 5.5, 8.6, 15.5.1, 15.6, 15.7 and 15.9.2.
+use Rattle.std.specs.Prelude.{◌≡◌, pos, false, true, List, [], ◌∷◌, ◌++◌, codes, Some, None}
 use Rattle.plain_mains.specs.f_tree.declared.expressions.Expr as expr
 use Rattle.plain_mains.specs.f_tree.declared.expressions.BinaryOp.TheVariants as op
 use Rattle.plain_mains.specs.f_tree.declared.names.Basic.TheVariants.{Integer, Character}
@@ -13,6 +13,12 @@ use Rattle.plain_mains.specs.f_tree.declared.statements.Stmt.{Stmt}
 use Rattle.plain_mains.specs.f_tree.declared.statements.UnitKind.TheVariants as kind
 use Rattle.plain_mains.specs.f_tree.declared.statements.UpperBound.TheVariants as upper
 use Rattle.plain_mains.specs.f_tree.declared.units.Unit.{Unit as WrittenUnit}
+use Rattle.plain_mains.specs.f_tree.Terms.{Add, Subtract}
+use Rattle.plain_mains.specs.f_tree.Values.{IsInt}
+use Rattle.plain_mains.specs.f_tree.Lines.{unit_read}
+use Rattle.unit_translation_laws.specs.unit_translation.l_core.Pures.{Constant, Load, Name, Operated}
+use Rattle.unit_translation_laws.specs.unit_file.UnitFile.{LowerOf, SizeOf, KeptBound}
+use Rattle.unit_translation_laws.specs.unit_translation.UnitBounds.{bounds_kept}
 use Rattle.plain_mains.specs.Examples.{on_card, number, element, array_up_to}
 use Rattle.unit_translation_laws.specs.unit_forms.PlainProcedures.{is_plain_unit}
 
@@ -94,16 +100,53 @@ array_of_any_length = with_dimensions (assumed ∷ [])
 unfoldable pub first_bound_assumed : WrittenUnit
 first_bound_assumed = with_dimensions (assumed ∷ record { lower = None; upper = upper.Value (number 2) } ∷ [])
 
+-- from 1 up to a bound that is written
+abbrev pub up_to : expr.Expr → WrittenDimension
+up_to e = record { lower = None; upper = upper.Value e }
+
+-- with `INTEGER A(N)`
+unfoldable pub array_of_given_length : WrittenUnit
+array_of_given_length = with_dimensions (up_to (expr.Name (codes "n")) ∷ [])
+
+-- with `INTEGER A(0:N+1,*)`
+unfoldable pub array_of_given_columns : WrittenUnit
+array_of_given_columns =
+    with_dimensions (record { lower = Some (number 0); upper = upper.Value (expr.Binary op.Plus (expr.Name (codes "n")) (number 1)) } ∷ assumed ∷ [])
+
+-- with `INTEGER A(N**2)`
+unfoldable pub bound_with_power : WrittenUnit
+bound_with_power = with_dimensions (up_to (expr.Binary op.Power (expr.Name (codes "n")) (number 2)) ∷ [])
+
+-- with `DIMENSION B(N)`, which is no dummy
+unfoldable pub stored_of_given_length : WrittenUnit
+stored_of_given_length =
+    function_of its_dummies (declared ++ on_card 3 (body.Dimension (record { name = codes "b"; dimensions = up_to (expr.Name (codes "n")) ∷ [] } ∷ [])) ∷ valued)
+
 -- with `DIMENSION B(*)`, which is no dummy
 unfoldable pub stored_of_any_length : WrittenUnit
 stored_of_any_length =
     function_of its_dummies (declared ++ on_card 3 (body.Dimension (record { name = codes "b"; dimensions = assumed ∷ [] } ∷ [])) ∷ valued)
 
--- the first three are plain, and the others are not
+-- what is kept of `A(0:N+1,*)`: the lower bound of each dimension, and the size of the first
+abbrev pub kept_of_columns : List KeptBound
+kept_of_columns =
+    record { dummy = codes "a"; place = 0; kind = LowerOf; value = Constant (IsInt (pos 0)) }
+    ∷ record {
+      dummy = codes "a";
+      place = 0;
+      kind = SizeOf;
+      value = Operated Add (Operated Subtract (Operated Add (Load (Name (codes "n"))) (Constant (IsInt (pos 1)))) (Constant (IsInt (pos 0)))) (Constant (IsInt (pos 1)));
+    }
+    ∷ record { dummy = codes "a"; place = 1; kind = LowerOf; value = Constant (IsInt (pos 1)) }
+    ∷ []
+
+-- the first five are plain, and the others are not; of arrays whose bounds are constant or assumed nothing is kept
 pub record ExamplesAreTold : Type 0 where
   pub function : (options : Options) → is_plain_unit options element_and_function ≡ true
   pub subroutine : (options : Options) → is_plain_unit options variable_stepped ≡ true
   pub any_length : (options : Options) → is_plain_unit options array_of_any_length ≡ true
+  pub given_length : (options : Options) → is_plain_unit options array_of_given_length ≡ true
+  pub given_columns : (options : Options) → is_plain_unit options array_of_given_columns ≡ true
   pub text : (options : Options) → is_plain_unit options dummy_of_text ≡ false
   pub many : (options : Options) → is_plain_unit options result_of_many ≡ false
   pub twice : (options : Options) → is_plain_unit options dummy_twice ≡ false
@@ -112,7 +155,11 @@ pub record ExamplesAreTold : Type 0 where
   pub result : (options : Options) → is_plain_unit options result_as_dummy ≡ false
   pub first_assumed : (options : Options) → is_plain_unit options first_bound_assumed ≡ false
   pub stored_assumed : (options : Options) → is_plain_unit options stored_of_any_length ≡ false
+  pub power : (options : Options) → is_plain_unit options bound_with_power ≡ false
+  pub stored_given : (options : Options) → is_plain_unit options stored_of_given_length ≡ false
+  pub nothing_kept : (options : Options) → bounds_kept (unit_read options array_of_any_length) ≡ []
+  pub columns_kept : (options : Options) → bounds_kept (unit_read options array_of_given_columns) ≡ kept_of_columns
 
 unfoldable pub examples_opened : Unit {0}
-unfolding element_and_function variable_stepped dummy_of_text result_of_many dummy_twice entered_twice constant_as_dummy result_as_dummy array_of_any_length first_bound_assumed stored_of_any_length
+unfolding element_and_function variable_stepped dummy_of_text result_of_many dummy_twice entered_twice constant_as_dummy result_as_dummy array_of_any_length first_bound_assumed array_of_given_length array_of_given_columns bound_with_power stored_of_given_length stored_of_any_length
 examples_opened = tt

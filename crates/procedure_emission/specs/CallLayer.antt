@@ -13,6 +13,7 @@ use Rattle.emitted_texts.specs.f_tree.Setting.{IsIn}
 use Rattle.emitted_texts.specs.f_tree.World as fortran
 use Rattle.emitted_texts.specs.f_tree.World.{Called, Procedure, Passed}
 use Rattle.emitted_texts.specs.f_tree.Association.{serves, alternate_of}
+use Rattle.emitted_texts.specs.l_core.Pures.{none_kept}
 use Rattle.emitted_texts.specs.l_core.Steps.{Text}
 use Rattle.emitted_texts.specs.l_core.Machine.{View, lowered}
 use Rattle.emitted_texts.specs.l_core.Costs.{cost}
@@ -30,6 +31,8 @@ use Rattle.emitted_texts.specs.c_emit_laws.EmittedNumbers.{IsKnown}
 use Rattle.emitted_texts.specs.c_emit_laws.EmittedTypes.{AreTyped}
 use Rattle.emitted_texts.specs.SecondLayer.{Surroundings, Emission, IsFree, BothStand, lengths_of, IsTemporary, OutputIsOn}
 use Rattle.emitted_texts.specs.SecondLayer as second
+use Rattle.late_starts.specs.LateStarts.{late}
+use Rattle.kept_bounds.specs.KeptBounds.{without_bounds}
 use Rattle.procedure_emission.specs.Reading.{IsPlain, numbers_kept}
 
 -- ## The world of a call
@@ -194,3 +197,17 @@ call_couple s number u costs e = record {
   wrapper = λ n. None;
   inner = e.number;
 }
+
+-- ## Where the function keeps bounds before its first statement
+
+-- the function has begun, and is at the first of the items that keep its bounds: of the bounds of its arrays nothing is known yet
+pub record IsEarly (s : Surroundings) (number : ℕ) (e : Emission) (μ : CallWorld) (v : View) (x : fortran.World) (w : c_steps.View) (y : c.World) : Type 0 where
+  pub now : World
+  pub both : BothStand s μ.image now x y
+  pub frame : IsFrameOf e.writing.facts.program μ v.frame
+  pub known : IsKnown now e.writing (without_bounds v.frame) none_kept
+  pub procedures : AreProceduresHeld s e now v.frame
+
+-- a step of the text may cost what is said later, with what is kept before the first
+abbrev pub entered_couple : (s : Surroundings) → ℕ → Text → (costs later : List ℕ) → Emission → Couple (call_kit s)
+entered_couple s number u costs later e = late (call_couple s number u costs e) (IsEarly s number e) (λ v. cost later v.at)

@@ -1,18 +1,16 @@
 -- When the lowered text of a main program, a subroutine, or a function of numbers is emitted as a C function: what stands at each position, its frame,
--- its parameters and its result. It has one entry, and its dummies are variables and arrays of numbers whose bounds are constant or assumed, and
--- procedures.
+-- its parameters and its result. It has one entry, and its dummies are variables and arrays of numbers, and procedures. Before its first statement it
+-- keeps the bounds of its dummy arrays that a call fixes.
 -- ANSI X3.9-1978, sections 5.5, 14, 15.5, 15.6, 15.8 and 15.9; C89, 3.1.2.4, 3.6.6.4 and 3.7.1.
-use Rattle.std.specs.Prelude.{◌≡◌, ◌≢◌, ℕ, suc, ◌+◌, ◌<◌, ◌≤◌, nat_eq, nat_lt, ℤ, pos, Bool, true, false, List, [], ◌∷◌, length, Some, None, slice_get}
+use Rattle.std.specs.Prelude.{◌≡◌, ◌≢◌, ℕ, suc, ◌+◌, ◌<◌, ◌≤◌, nat_eq, nat_lt, ℤ, Bool, true, false, List, [], ◌∷◌, length, Some, None, slice_get}
 use Rattle.emitted_texts.specs.f_tree.declared.names.Basic.{Basic}
 use Rattle.emitted_texts.specs.f_tree.declared.names.Basic.TheVariants.{Logical}
 use Rattle.emitted_texts.specs.f_tree.declared.names.Class.TheVariants as class
 use Rattle.emitted_texts.specs.f_tree.Values.{Bytes, Spot, IsInt, IsText, IsSpot, Gives}
-use Rattle.emitted_texts.specs.f_tree.Store.{Store}
-use Rattle.emitted_texts.specs.f_tree.Facts.{Direction, Layout, Controls, Bounds, Formal, Named, Alternate, FunctionUnit, BlockDataUnit, EntryPoint, Frame}
+use Rattle.emitted_texts.specs.f_tree.Facts.{Direction, Layout, Controls, Formal, Named, Alternate, FunctionUnit, BlockDataUnit, EntryPoint, Frame}
 use Rattle.emitted_texts.specs.f_tree.Setting.{IsIn}
-use Rattle.emitted_texts.specs.f_tree.Valuing.{whole, size_of_dimension}
+use Rattle.emitted_texts.specs.f_tree.Valuing.{whole}
 use Rattle.emitted_texts.specs.f_tree.World.{Called}
-use Rattle.emitted_texts.specs.f_tree.Association.{dimensions_by}
 use Rattle.emitted_texts.specs.l_core.Pures.{Pure, Pures}
 use Rattle.emitted_texts.specs.l_core.Steps.{Starts, Step, Keep, Back, BackBy, Halt, Acts, Text}
 use Rattle.emitted_texts.specs.l_core.Costs.{cost}
@@ -24,16 +22,16 @@ use Rattle.emitted_texts.specs.c_tree.Access.{ToNumber, ToPointer, ToFunction}
 use Rattle.emitted_texts.specs.c_tree.Declarations.{unset_values}
 use Rattle.emitted_texts.specs.c_tree.Flat.{Flat}
 use Rattle.emitted_texts.specs.c_image.Addresses.{Alone, Through, Reaches, IsSound}
-use Rattle.emitted_texts.specs.c_image.Elements.{Written}
 use Rattle.emitted_texts.specs.c_image.Held.{Holds}
 use Rattle.emitted_texts.specs.c_image.Knowing.{IsApart}
 use Rattle.emitted_texts.specs.c_emit.Numbers.{is_numeric}
 use Rattle.emitted_texts.specs.c_emit.Types.{type_of}
 use Rattle.emitted_texts.specs.c_emit.Calls.{unit_of}
-use Rattle.emitted_texts.specs.c_emit_laws.EmittedNumbers.{BoundFits}
 use Rattle.emitted_texts.specs.output_laws.ListedOutputs.{list_object}
 use Rattle.emitted_texts.specs.SecondLayer.{Room, Surroundings, Emission}
-use Rattle.emitted_texts.specs.Emitted.{IsInFrame, leads, stage_behind, is_of_output}
+use Rattle.emitted_texts.specs.Emitted.{leads, stage_behind, is_of_output}
+use Rattle.bound_items.specs.BoundItems.{Saving}
+use Rattle.procedure_emission.specs.DummyBounds.{IsMadeAnew, BoundsAreKnown}
 use Rattle.procedure_emission.specs.ProcedureItems.{procedure_item}
 use Rattle.procedure_emission.specs.Reading.{kind_after}
 
@@ -72,11 +70,6 @@ pub record StepsFit (s : Surroundings) (u : Text) (e : Emission) (entry : EntryP
 
 -- ## Frames
 
--- an object of the frame behind the parameters, made anew at each call
-pub record IsMadeAnew (e : Emission) (object : ℕ) : Type 0 where
-  pub in_frame : IsInFrame e object
-  pub behind : length e.function.parameters ≤ in_frame.index
-
 abbrev pub IsOfRoom : Room → ℕ → Type 0
 IsOfRoom room object = (room.first ≤ object) × (object < room.first + room.count)
 
@@ -98,8 +91,6 @@ pub record IsParameter (u : Text) (e : Emission) (at : ℕ) (x : Bytes) (type : 
   pub dummy : (u.facts.program.attribute x).class ≡ class.Dummy
   pub numeric : is_numeric (u.facts.program.attribute x).basic ≡ true
   pub width : (u.facts.program.attribute x).width ≡ Some 4
-  -- its bounds are the same at each call
-  pub fixed : (f : Frame) (store : Store) (bounds : List Bounds) → dimensions_by u.facts f store (u.facts.program.attribute x).dimensions ≡ Gives bounds → bounds ≡ (u.facts.program.attribute x).bounds
   pub pointer : is_number_pointer type ≡ true
   pub address : e.writing.naming.address x ≡ Through (e.function.frame + at)
   pub fresh : slice_get e.function.fresh at ≡ Some (unset_values (ToPointer ToNumber) 1)
@@ -112,7 +103,6 @@ is_function_pointer type = false
 -- a dummy procedure, and its parameter
 pub record IsProcedureParameter (u : Text) (e : Emission) (at : ℕ) (x : Bytes) (type : ParameterType) : Type 0 where
   pub dummy : (u.facts.program.attribute x).class ≡ class.DummyProcedure
-  pub fixed : (f : Frame) (store : Store) (bounds : List Bounds) → dimensions_by u.facts f store (u.facts.program.attribute x).dimensions ≡ Gives bounds → bounds ≡ (u.facts.program.attribute x).bounds
   pub pointer : is_function_pointer type ≡ true
   pub address : e.writing.naming.address x ≡ Through (e.function.frame + at)
   pub fresh : slice_get e.function.fresh at ≡ Some (unset_values ToFunction 1)
@@ -153,7 +143,6 @@ pub record IsEmittedUnit (s : Surroundings) (number : ℕ) (u : Text) (costs : L
   -- it has one name
   pub entry : EntryPoint
   pub only : u.facts.program.entries ≡ entry ∷ []
-  pub begins : e.place (u.begins entry.start) ≡ 0
   pub room : s.rooms number ≡ record { first = e.function.frame; count = length e.function.fresh }
   pub inside : e.function.frame + length e.function.fresh ≤ s.objects
   pub apart_rooms : RoomIsApart s number e
@@ -169,11 +158,15 @@ pub record IsEmittedUnit (s : Surroundings) (number : ℕ) (u : Text) (costs : L
   -- names that have storage for the whole run
   pub sound : (f : Frame) (x : Bytes) (p : Spot) → (e.writing.facts.program.attribute x).class ≡ class.Stored → whole e.writing.facts f x ≡ Gives (IsSpot p) → IsSound s.first p
   pub reached : (f : Frame) (x : Bytes) (p : Spot) → (e.writing.facts.program.attribute x).class ≡ class.Stored → whole e.writing.facts f x ≡ Gives (IsSpot p) → Reaches s.first p (e.writing.naming.address x)
-  -- bounds that are constant
-  pub fits : (x : Bytes) (k : ℕ) (b : Bounds) → slice_get (e.writing.facts.program.attribute x).bounds k ≡ Some b → BoundFits b
-  pub closed : (x : Bytes) (k : ℕ) (b : Bounds) → slice_get (e.writing.facts.program.attribute x).bounds k ≡ Some b → suc k < length (e.writing.facts.program.attribute x).bounds → (last : ℤ) × (b.upper ≡ Some last)
-  pub lowers : (x : Bytes) (k : ℕ) (b : Bounds) → slice_get (e.writing.facts.program.attribute x).bounds k ≡ Some b → e.writing.naming.lower x k ≡ Written b.lower
-  pub sizes : (x : Bytes) (k : ℕ) (b : Bounds) (last : ℤ) → slice_get (e.writing.facts.program.attribute x).bounds k ≡ Some b → b.upper ≡ Some last → e.writing.naming.size x k ≡ Written (pos (size_of_dimension b))
+  -- what is kept before the first statement, and how bounds are known
+  pub savings : List Saving
+  pub bounds : BoundsAreKnown e entry.formals savings
+  pub begins : e.place (u.begins entry.start) ≡ length savings
+
+-- A step may cost more than the items for it: the first one also what is kept before it.
+pub record IsCosted (u : Text) (costs later : List ℕ) (entry : EntryPoint) (savings : List Saving) : Type 0 where
+  pub more : (n : ℕ) → cost costs n ≤ cost later n
+  pub first : length savings + cost costs (u.begins entry.start) ≤ cost later (u.begins entry.start)
 
 unfoldable pub units_opened : Unit {0}
 unfolding leads_on is_return is_number_pointer is_function_pointer number_result

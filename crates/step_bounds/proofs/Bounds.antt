@@ -71,11 +71,11 @@ named_parts all us lfs fs h = by (named_file_of all us) (named_files_from all lf
 module _ (sized : EachStructureHasASize) (bounded : EachTextIsBounded) (within : EachUnitIsReadWithin) (options : Options) (units : List GivenUnit) (all : List LoweredUnit) (most : ℕ) where
   -- the longest of some functions
   abbrev AreShort : List CFunction → Type 0
-  AreShort functions = most_steps functions ≤ 22 * (most * most)
+  AreShort functions = most_steps functions ≤ 24 * (most * most)
 
   -- ## Units of a file
 
-  one_within : (constants : List ℤ) (j : ℕ) (given : GivenUnit) (u : LoweredUnit) (body : List CStmt) → lowered_at options units j given ≡ Some u → named_body_of constants all u ≡ Some body → unit_nodes given ≤ most → (whole_body body).size ≤ 22 * (most * most)
+  one_within : (constants : List ℤ) (j : ℕ) (given : GivenUnit) (u : LoweredUnit) (body : List CStmt) → lowered_at options units j given ≡ Some u → named_body_of constants all u ≡ Some body → unit_nodes given ≤ most → (whole_body body).size ≤ 24 * (most * most)
   one_within constants j given u body lowered is h =
       let own = unit_within sized bounded within options units j given constants all u body lowered is in
       let square = squares (unit_nodes given) most h in
@@ -94,7 +94,7 @@ module _ (sized : EachStructureHasASize) (bounded : EachTextIsBounded) (within :
       let written = written_parts (inventory_of all parts.first) (named_body_of constants all parts.first) (named_from constants all parts.others) ws (ap (named_from constants all) parts.is ∙ named) in
       let one = one_within constants j first parts.first written.statements parts.first_is written.body_is (omega (arith, h)) in
       let more = units_within constants (suc j) later parts.others written.others parts.others_are written.others_are (omega (arith, h)) in
-      subst (λ (xs : List WrittenUnit). AreShort (map unit_function xs)) written.is (let both : max (whole_body written.statements).size (most_steps (map unit_function written.others)) ≤ 22 * (most * most) = omega (arith, one, more) in both)
+      subst (λ (xs : List WrittenUnit). AreShort (map unit_function xs)) written.is (let both : max (whole_body written.statements).size (most_steps (map unit_function written.others)) ≤ 24 * (most * most) = omega (arith, one, more) in both)
 
   -- ## Files
 
@@ -121,7 +121,7 @@ module _ (sized : EachStructureHasASize) (bounded : EachTextIsBounded) (within :
       let one = file_within j first.units parts.first names.first parts.first_is names.first_is (omega (arith, h)) in
       let more = files_within (j + length first.units) later parts.others names.others parts.others_are names.others_are (omega (arith, h)) in
       subst (λ (xs : List UnitsOfFile). AreShort (all_functions (c_files xs))) names.is
-      (most_of_both (map unit_function names.first.units) (all_functions (c_files names.others)) (22 * (most * most)) one more)
+      (most_of_both (map unit_function names.first.units) (all_functions (c_files names.others)) (24 * (most * most)) one more)
 
 -- ## The whole
 
@@ -150,7 +150,7 @@ filled false x fs h = absurd (cc)
 itself : (n : ℕ) → n ≤ n
 itself n = omega arith
 
-enough : (factor n : ℕ) → factor ≤ 22 * (n * n) + 22 * (n * n) → factor ≤ 1000 * n * n
+enough : (factor n : ℕ) → factor ≤ 24 * (n * n) + 24 * (n * n) → factor ≤ 1000 * n * n
 enough factor n h = omega (arith, h)
 
 pub each_translation_is_bounded : EachStructureHasASize → EachTextIsBounded → EachUnitIsReadWithin → EachTranslationIsBounded
@@ -161,5 +161,5 @@ each_translation_is_bounded sized bounded within options files cs h =
     let lowered = from_option named_files (lowered_files options (all_units files) 0 files) source.from made in
     let short = files_within sized bounded within options (all_units files) (all_lowered lowered.from) (greatest_nodes files) 0 files lowered.from source.from lowered.was lowered.gives (itself (greatest_nodes files)) in
     enough (step_factor cs) (greatest_nodes files)
-    (factor_within cs (22 * (greatest_nodes files * greatest_nodes files))
-    (subst (λ (xs : List CFile). most_steps (all_functions xs) ≤ 22 * (greatest_nodes files * greatest_nodes files)) source.gives short))
+    (factor_within cs (24 * (greatest_nodes files * greatest_nodes files))
+    (subst (λ (xs : List CFile). most_steps (all_functions xs) ≤ 24 * (greatest_nodes files * greatest_nodes files)) source.gives short))

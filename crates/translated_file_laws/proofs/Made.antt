@@ -25,7 +25,7 @@ use Rattle.translated_files.specs.unit_forms.OwnSetting.{own_facts}
 use Rattle.translated_files.specs.unit_forms.PlainProcedures.{is_plain_unit}
 use Rattle.translated_files.specs.unit_forms.SpellableUnits.{is_spellable_unit}
 use Rattle.translated_files.specs.unit_sites.UnitSites.{UnitsOfFile, file_for, files_of as c_files}
-use Rattle.translated_files.specs.unit_translation.UnitContents.{LoweredUnit, program_units, temporaries_kept}
+use Rattle.translated_files.specs.unit_translation.UnitContents.{LoweredUnit, program_units, whole_text, temporaries_kept}
 use Rattle.translated_files.specs.unit_translation.UnitBodies.{all_lowered}
 use Rattle.named_unit_laws.specs.unit_translation_laws.PlainUnits.{IsPlainUnitText}
 use Rattle.plain_unit_files.specs.unit_faithfulness.UnitsFaithful as faithful
@@ -37,7 +37,7 @@ use Rattle.named_unit_laws.specs.NamedBodies.{EachNamedUnitIsAUnit}
 use Rattle.translated_files.specs.translated_forms.LoweredForms.{statements_lower}
 use Rattle.translated_files.specs.translated_forms.TranslatedForms.{stop_fits}
 use Rattle.translated_laws.proofs.Translated.{left, right, each_of, mapped, stops}
-use Rattle.translated_files.specs.TranslatedFiles.{text_fits, procedure_names, procedures_are_defined, passes_tests, lowered_by, lowered_at, lowered_before, lowered_from, files_before, lowered_files, has_units, each_has_units, made_files, files_of}
+use Rattle.translated_files.specs.TranslatedFiles.{text_fits, unit_with, procedure_names, procedures_are_defined, passes_tests, lowered_by, lowered_at, lowered_before, lowered_from, files_before, lowered_files, has_units, each_has_units, made_files, files_of}
 use Rattle.translated_file_laws.specs.FaithfulFiles.{translations_of, EachTranslationIsFaithful, EachTranslationHasSignatures}
 use Rattle.unit_faithfulness.proofs.Signed.{files_have_signatures}
 
@@ -71,27 +71,25 @@ record IsLowered (options : Options) (units : List GivenUnit) (j : ℕ) (given :
   unit : u.unit ≡ unit_read options given
   uses : (x : Bytes) → u.use_of x ≡ (dummy_of (uses_of_statements (arrays_of given) given.statements) (unit_read options given).attribute x).use_of
   text : lowered_unit (own_facts (map (unit_read options) units) j (unit_read options given)) ≡ Some u.text
-  short : text_fits u.text ≡ true
+  short : text_fits (whole_text u) ≡ true
 
 record IsOfText (options : Options) (given : GivenUnit) (found : Option Text) (u : LoweredUnit) : Type 0 where
   unit : u.unit ≡ unit_read options given
   uses : (x : Bytes) → u.use_of x ≡ (dummy_of (uses_of_statements (arrays_of given) given.statements) (unit_read options given).attribute x).use_of
   text : found ≡ Some u.text
-  short : text_fits u.text ≡ true
+  short : text_fits (whole_text u) ≡ true
 
-abbrev lowered_unit_by : (options : Options) (given : GivenUnit) (text : Text) → LoweredUnit
-lowered_unit_by options given text = record { unit = unit_read options given; text = text; use_of = λ x. (dummy_of (uses_of_statements (arrays_of given) given.statements) (unit_read options given).attribute x).use_of }
-
-of_fitting : (options : Options) (given : GivenUnit) (text : Text) (u : LoweredUnit) (b : Bool) → text_fits text ≡ b → (if b then Some (lowered_unit_by options given text) else None) ≡ Some u → IsOfText options given (Some text) u
+of_fitting : (options : Options) (given : GivenUnit) (text : Text) (u : LoweredUnit) (b : Bool) → text_fits (whole_text (unit_with options given text)) ≡ b → (if b then Some (unit_with options given text) else None) ≡ Some u
+    → IsOfText options given (Some text) u
 of_fitting options given text u false short h = absurd (cc)
 of_fitting options given text u true short h =
-    let same : lowered_unit_by options given text ≡ u = cc in
+    let same : unit_with options given text ≡ u = cc in
     subst (λ (v : LoweredUnit). IsOfText options given (Some text) v) same (record { unit = refl; uses = λ x. refl; text = refl; short = short })
 
 of_text : (options : Options) (given : GivenUnit) (found : Option Text) (u : LoweredUnit) → lowered_by options given found ≡ Some u → IsOfText options given found u
 unfolding lowered_by
 of_text options given None u h = absurd (cc)
-of_text options given (Some text) u h = of_fitting options given text u (text_fits text) refl h
+of_text options given (Some text) u h = of_fitting options given text u (text_fits (whole_text (unit_with options given text))) refl h
 
 of_tests : (options : Options) (units : List GivenUnit) (j : ℕ) (given : GivenUnit) (u : LoweredUnit) (b : Bool) → passes_tests options (procedure_names units) given ≡ b →
     (if b then lowered_by options given (lowered_unit (own_facts (map (unit_read options) units) j (unit_read options given))) else None) ≡ Some u → IsLowered options units j given u
@@ -297,7 +295,7 @@ made_of options trees lfs lowered filled some =
           let is = at j g.0 u g.1 v in
           subst (λ (unit : ProgramUnit). lowered_unit (own_facts (program_units us) j unit) ≡ Some u.text) (sym is.unit)
           (subst (λ (all : List ProgramUnit). lowered_unit (own_facts all j (unit_read options g.0)) ≡ Some u.text) same is.text));
-      short = λ j u v. (let g = given_at options units 0 units us flat j u v in plain_text u.text (at j g.0 u g.1 v).short);
+      short = λ j u v. (let g = given_at options units 0 units us flat j u v in plain_text (whole_text u) (at j g.0 u g.1 v).short);
     }
 
 -- ## The whole

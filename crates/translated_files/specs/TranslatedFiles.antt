@@ -32,7 +32,7 @@ use Rattle.unit_forms.specs.main_translation.Outlined.{labels_in}
 use Rattle.unit_forms.specs.OwnSetting.{own_facts}
 use Rattle.unit_forms.specs.PlainProcedures.{is_plain_unit}
 use Rattle.unit_forms.specs.SpellableUnits.{is_spellable_unit}
-use Rattle.named_units.specs.unit_translation.UnitContents.{LoweredUnit, temporaries_kept, constants_passed}
+use Rattle.named_units.specs.unit_translation.UnitContents.{LoweredUnit, whole_text, temporaries_kept, constants_passed}
 use Rattle.named_units.specs.unit_sites.UnitSites.{UnitsOfFile, files_of as c_files}
 use Rattle.named_units.specs.unit_translation.UnitBodies.{all_lowered}
 use Rattle.named_units.specs.NamedUnits.{named_body_of, named_files}
@@ -71,12 +71,13 @@ unfoldable pub passes_tests : Options → List Bytes → GivenUnit → Bool
 passes_tests options procedures u =
     is_plain_unit options u && (is_spellable_unit (unit_read options u) && (procedures_are_defined procedures u && statements_lower (given_names u) u.statements))
 
+-- with its lowered text
+abbrev pub unit_with : Options → GivenUnit → Text → LoweredUnit
+unit_with options u text = record { unit = unit_read options u; text = text; use_of = λ x. (dummy_of (uses_of_statements (arrays_of u) u.statements) (unit_read options u).attribute x).use_of }
+
 unfoldable pub lowered_by : Options → GivenUnit → Option Text → Option LoweredUnit
 lowered_by options u None = None
-lowered_by options u (Some text) =
-    if text_fits text then
-    Some (record { unit = unit_read options u; text = text; use_of = λ x. (dummy_of (uses_of_statements (arrays_of u) u.statements) (unit_read options u).attribute x).use_of })
-    else None
+lowered_by options u (Some text) = if text_fits (whole_text (unit_with options u text)) then Some (unit_with options u text) else None
 
 -- a unit among those of all files, by its number
 unfoldable pub lowered_at : Options → List GivenUnit → ℕ → GivenUnit → Option LoweredUnit

@@ -2,8 +2,9 @@ pub mod FormLemmas
 pub mod Agreement
 pub mod NameLemmas
 pub mod HeadingLemmas
+pub mod BoundLemmas
 pub mod ToldUnits
-mod RankedNames
+mod FewBounds
 pub mod FitLemmas
 pub mod RowLemmas
 pub mod TestLemmas

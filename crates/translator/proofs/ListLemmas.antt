@@ -17,7 +17,7 @@ use Rattle.c_tree.specs.declared.file.CFunction.{CFunction}
 use Rattle.unit_forms.specs.main_translation.Contents.{with_new}
 use Rattle.unit_contents.specs.ContentsOf.{TellsNames, AreContentsOf, AreMoreConstants}
 use Rattle.unit_translation.specs.unit_file.UnitFile.{WrittenUnit, unit_function}
-use Rattle.unit_translation.specs.UnitContents.{LoweredUnit, values_from, constants_passed, inventory_of}
+use Rattle.unit_translation.specs.UnitContents.{LoweredUnit, whole_text, values_from, constants_passed, inventory_of}
 use Rattle.unit_translation.specs.UnitBodies.{written_before}
 use Rattle.unit_writer.specs.named_units.NamedUnits.{named_body_of, named_from}
 use Rattle.unit_writer.specs.declared.heading.Procedure.{Procedure}
@@ -66,15 +66,15 @@ contents_known plains i plain d known h is = (told_at known.units plains i plain
 -- ## Constants
 
 abbrev pub values_passed_by : List LoweredUnit → List ℤ
-values_passed_by us = flat_map (λ (u : LoweredUnit). values_from u.text 0 u.text.steps) us
+values_passed_by us = flat_map (λ (u : LoweredUnit). values_from (whole_text u) 0 (whole_text u).steps) us
 
 pub more_constants : (us : List LoweredUnit) (plains : List PlainUnit) (i : ℕ) (plain d : PlainUnit) (before after all : List ℤ) → AreTold us plains → i < length plains → plain ≡ get_or plains i d
     → AreMoreConstants plain.table plain.text before after → all ≡ fold with_new before (values_passed_by (drop i us)) → all ≡ fold with_new after (values_passed_by (drop (i + 1) us))
 more_constants us plains i plain d before after all told h is more so_far =
     let at : ToldAt us i plain = told_at us plains i plain d told h is in
     so_far ∙ ap (λ vs. fold with_new before (values_passed_by vs)) at.rest
-    ∙ fold-append with_new before (values_from at.one.text 0 at.one.text.steps) (values_passed_by (drop (i + 1) us))
-    ∙ ap (λ zs. fold with_new zs (values_passed_by (drop (i + 1) us))) (sym (more.meant at.one.text at.told.text (names_told at.one plain at.told)))
+    ∙ fold-append with_new before (values_from (whole_text at.one) 0 (whole_text at.one).steps) (values_passed_by (drop (i + 1) us))
+    ∙ ap (λ zs. fold with_new zs (values_passed_by (drop (i + 1) us))) (sym (more.meant (whole_text at.one) at.told.text (names_told at.one plain at.told)))
 
 pub no_constants_yet : (us : List LoweredUnit) (keys : List ℤ) → keys ≡ [] → constants_passed us ≡ fold with_new keys (values_passed_by us)
 unfolding constants_passed
@@ -91,7 +91,7 @@ all_constants us plains i keys told h so_far =
 pub is_function : (plain : PlainUnit) (procedures : Bytes → Option Procedure) (constants : List ℤ) (function : Option CFunction)
     → IsWrittenUnit plain.table (map (λ name. name.now) plain.names.items) plain.heading procedures constants plain.text plain.contents function → IsFunctionOf plain procedures constants function
 is_function plain procedures constants function written = record {
-  meant = λ all u told tells. written.meant all u told.program told.told tells told.text (told.contents.meant u.text told.text (names_told u plain told));
+  meant = λ all u told tells. written.meant all u told.program told.told tells told.text (told.contents.meant (whole_text u) told.text (names_told u plain told));
 }
 
 abbrev made_of : List LoweredUnit → LoweredUnit → List CStmt → CFunction

@@ -1,5 +1,5 @@
 -- The lowered text of a unit.
-use Rattle.std.specs.Prelude.{◌≡◌, ℕ, Bool, true, false, ◌&&◌, List, map, Option, Some, None, Result, Ok, Err, IfOk, if◌then◌else◌}
+use Rattle.std.specs.Prelude.{◌≡◌, ℕ, Bool, true, false, ◌&&◌, List, map, length, Option, Some, None, Result, Ok, Err, IfOk, if◌then◌else◌}
 use Rattle.std.proofs.Common.{refl, sym, ap, subst, ◌∙◌}
 use Rattle.std.proofs.lemmas.Bool.{and_parts}
 use Rattle.f_tree.specs.declared.names.Options.{Options}
@@ -20,12 +20,14 @@ use Rattle.unit_forms.specs.OwnSetting.{own_setting}
 use Rattle.unit_forms.specs.PlainProcedures.{is_plain_unit}
 use Rattle.unit_forms.specs.SpellableUnits.{is_spellable_unit}
 use Rattle.unit_lowering.specs.LoweredUnits.{IsTextOf, IsLoweredUnit}
-use Rattle.unit_translation.specs.UnitContents.{LoweredUnit}
+use Rattle.unit_translation.specs.behind_bounds.BehindBounds.{behind}
+use Rattle.unit_translation.specs.UnitContents.{LoweredUnit, whole_text}
+use Rattle.lowered_text.specs.Texts.{IsText}
 use Rattle.translated_files.specs.TranslatedFiles.{procedure_names, procedures_are_defined, passes_tests, lowered_by, lowered_at}
 use Rattle.translator.specs.FittingSteps.{FitsIf}
-use Rattle.translator.specs.UnitFiles.{use_in, IsPlainIf, IsLoweredIf, IsFittingIf, IsTextAt, IsTextIf}
+use Rattle.translator.specs.UnitFiles.{use_in, kept_among, unit_by, IsPlainIf, IsLoweredIf, IsFittingIf, IsWholeIf, IsTextAt, IsTextIf}
 use Rattle.translator.proofs.Agreement.{same_statements}
-use Rattle.translator.proofs.ToldUnits.{facts_given, lines_read}
+use Rattle.translator.proofs.ToldUnits.{facts_given, lines_read, bounds_read}
 
 -- what follows of what a call gives
 pub if_ok : {A E : Type 0} (P Q : A → Type 0) (r : Result A E) → ((a : A) → P a → Q a) → IfOk r P → IfOk r Q
@@ -118,34 +120,36 @@ module _ (options : Options) (procedures : List Bytes) (u : GivenUnit) where
         ∙ ap (lowered_by options u) text.lowered
 
     abbrev made : LoweredUnit
-    made = record { unit = unit_read options u; text = text.text; use_of = use_in u }
+    made = unit_by options u text.text
 
-    unfit : FitsIf t false → lowered_at options units j u ≡ None
-    unfolding lowered_by use_in unit_read with_ties program_of given_names
-    unfit fits = by_text ∙ ap (λ b. if b then Some made else None) (sym (fits.is text.text text.is))
+    is_plain : is_plain_unit options u ≡ true
+    is_plain = (and_parts (is_plain_unit options u) (is_spellable_unit (unit_read options u) && procedures_are_defined procedures u) (sym (plain.is options))).0
 
-    fit : FitsIf t true → lowered_at options units j u ≡ Some (record { unit = unit_read options u; text = text.text; use_of = use_in u })
-    unfolding lowered_by use_in unit_read with_ties program_of given_names
-    fit fits = by_text ∙ ap (λ b. if b then Some made else None) (sym (fits.is text.text text.is))
+    -- behind so many bounds as the unit keeps
+    module _ (first : ℕ) (as_many : first ≡ length (kept_among u u.dummies)) (whole : LoweredText) (is : (x : Text) → IsText t x → IsText whole (behind first x)) where
+      whole_is : IsText whole (whole_text made)
+      whole_is =
+          subst (λ n. IsText whole (behind n text.text)) (as_many ∙ sym (ap length (bounds_read options u is_plain)))
+          (is text.text text.is)
 
-    at_text : FitsIf t true → IsTextAt options u t (lowered_at options units j u)
-    at_text fits = record {
-      plain = (and_parts (is_plain_unit options u) (is_spellable_unit (unit_read options u) && procedures_are_defined procedures u) (sym (plain.is options))).0;
-      text = text.text;
-      found = fit fits;
-      is = text.is;
-      program = program;
-    }
+      by_fit : (b : Bool) → FitsIf whole b → lowered_at options units j u ≡ (if b then Some made else None)
+      unfolding lowered_by use_in unit_read with_ties program_of given_names
+      by_fit b fits = by_text ∙ ap (λ c. if c then Some made else None) (sym (fits.is (whole_text made) whole_is))
 
-  by_fitting : (table : NameFacts) (t : LoweredText) (found : Option LoweredText) → AreNameFacts u table → IsPlainIf procedures u true → IsLoweredUnit table options.onetrip u.statements t
-      → IsFittingIf t found → IsTextIf options procedures u found
+      at_text : FitsIf whole true → IsTextAt options u whole (lowered_at options units j u)
+      at_text fits = record { plain = is_plain; text = text.text; found = by_fit true fits; is = whole_is; program = program }
+
+  by_fitting : (table : NameFacts) (t : LoweredText) (first : ℕ) (whole : LoweredText) (found : Option LoweredText) → AreNameFacts u table → IsPlainIf procedures u true →
+      IsLoweredUnit table options.onetrip u.statements t → first ≡ length (kept_among u u.dummies) → ((x : Text) → IsText t x → IsText whole (behind first x)) → IsFittingIf whole found →
+      IsTextIf options procedures u found
   unfolding IsFittingIf IsTextIf
-  by_fitting table t None are plain lowered fitting = λ units j names. unfit table t are plain lowered units j names fitting
-  by_fitting table t (Some other) are plain lowered fitting = λ units j names.
-      subst (λ s. IsTextAt options u s (lowered_at options units j u)) (sym fitting.same) (at_text table t are plain lowered units j names fitting.fits)
+  by_fitting table t first whole None are plain lowered as_many is fitting = λ units j names. by_fit table t are plain lowered units j names first as_many whole is false fitting
+  by_fitting table t first whole (Some other) are plain lowered as_many is fitting = λ units j names.
+      subst (λ s. IsTextAt options u s (lowered_at options units j u)) (sym fitting.same) (at_text table t are plain lowered units j names first as_many whole is fitting.fits)
 
-  pub text_of_lowered : (table : NameFacts) (b : Bool) (lowering : Option LoweredText) (t : LoweredText) (found : Option LoweredText) → AreNameFacts u table → b ≡ true → IsPlainIf procedures u b
-      → lowering ≡ Some t → IsLoweredIf table options.onetrip u.statements lowering → IsFittingIf t found → IsTextIf options procedures u found
+  pub text_of_lowered : (table : NameFacts) (b : Bool) (lowering : Option LoweredText) (t : LoweredText) (first : ℕ) (found : Option LoweredText) → AreNameFacts u table → b ≡ true →
+      IsPlainIf procedures u b → lowering ≡ Some t → IsLoweredIf table options.onetrip u.statements lowering → first ≡ length (kept_among u u.dummies) → IsWholeIf first t found →
+      IsTextIf options procedures u found
   unfolding IsLoweredIf
-  text_of_lowered table b lowering t found are is plain some lowered fitting =
-      by_fitting table t found are (subst (IsPlainIf procedures u) is plain) (subst (IsLoweredIf table options.onetrip u.statements) some lowered) fitting
+  text_of_lowered table b lowering t first found are is plain some lowered as_many all =
+      by_fitting table t first all.whole found are (subst (IsPlainIf procedures u) is plain) (subst (IsLoweredIf table options.onetrip u.statements) some lowered) as_many all.is all.fitting

@@ -1,5 +1,5 @@
 -- What the table of a unit's names tells of the unit as the meaning takes it.
-use Rattle.std.specs.List.{list_any}
+use Rattle.std.specs.List.{list_any, flat_map}
 use Rattle.std.specs.Prelude.{◌≡◌, Bool, true, false, ◌&&◌, List, [], ◌∷◌, map, bytes_eq, None, if◌then◌else◌}
 use Rattle.std.proofs.Common.{refl, sym, ap, ◌∙◌}
 use Rattle.std.proofs.lemmas.Bool.{and_parts, or_left, or_right}
@@ -24,13 +24,14 @@ use Rattle.faithful.specs.Signatures.{named_formals}
 use Rattle.lowered_tree.specs.l_core.Steps.{Text}
 use Rattle.unit_forms.specs.plain_forms.PlainUnits.{has_none, has_own_storage, has_plain_lines}
 use Rattle.unit_forms.specs.PlainProcedures.{may_run, heading_fits, has_no_entries, has_plain_heading, each_name_is_plain, is_plain_unit}
-use Rattle.unit_translation.specs.UnitContents.{formals_in, parameters_in}
+use Rattle.unit_translation.specs.UnitBounds.{formals_in, array_kept, bounds_kept}
+use Rattle.unit_translation.specs.UnitContents.{parameters_in}
 use Rattle.unit_writer.specs.declared.heading.Heading.{Heading}
 use Rattle.unit_writer.specs.ToldUnits.{is_stored_class, stored_names, IsNoName, IsToldUnit}
-use Rattle.translator.specs.UnitFiles.{use_in, dummy_in, IsHeading}
+use Rattle.translator.specs.UnitFiles.{use_in, dummy_in, kept_among, IsHeading}
 use Rattle.translator.proofs.NameLemmas.{among_any, formals_named}
 use Rattle.translator.proofs.TestLemmas.{no_entries}
-use Rattle.translator.proofs.RankedNames.{plain_ranked}
+use Rattle.translator.proofs.FewBounds.{few-bounds}
 
 -- the table tells what the names of the unit are
 pub facts_given : (u : GivenUnit) (table : NameFacts) → AreNameFacts u table → AreFactsOf (given_names u) table
@@ -45,7 +46,7 @@ lines_read options u = record { onetrip = refl; lines = refl }
 
 bare_is_none : (a : Attribute) → a ≡ bare class.Unit None → IsNoName a
 unfolding bare
-bare_is_none a is = record { class = ap (λ (b : Attribute). b.class) is; basic = ap (λ (b : Attribute). b.basic) is; bounds = ap (λ (b : Attribute). b.bounds) is }
+bare_is_none a is = record { class = ap (λ (b : Attribute). b.class) is; basic = ap (λ (b : Attribute). b.basic) is; dimensions = ap (λ (b : Attribute). b.dimensions) is; bounds = ap (λ (b : Attribute). b.bounds) is }
 
 -- ## Stored names
 
@@ -110,6 +111,13 @@ module _ (options : Options) (u : GivenUnit) (plain : is_plain_unit options u �
   abbrev own_entry : EntryPoint
   own_entry = record { name = name_or_none u.name; formals = formals_of u.dummies; start = 0 }
 
+  -- what it keeps of its dummies
+  pub bounds_read : bounds_kept (unit_read options u) ≡ kept_among u u.dummies
+  unfolding unit_read with_ties program_of given_names bounds_kept formals_in kept_among
+  bounds_read =
+      ap (λ es. flat_map (λ x. array_kept x (given_names u x)) (named_formals (formals_in (own_entry ∷ es)))) one_entry
+      ∙ ap (flat_map (λ x. array_kept x (given_names u x))) (formals_named u.dummies)
+
   -- the table and the heading tell of the unit what its function is written from
   pub unit_told : (table : NameFacts) (heading : Heading) (text : Text) → AreNameFacts u table → IsHeading u heading
       → IsToldUnit table (all_names u) heading (record { unit = unit_read options u; text = text; use_of = use_in u })
@@ -122,6 +130,7 @@ module _ (options : Options) (u : GivenUnit) (plain : is_plain_unit options u �
         ∙ ap (λ es. map (dummy_in u) (named_formals (formals_in (own_entry ∷ es)))) (sym one_entry);
     facts = are.facts;
     others = λ x other. none_among table u _ _ _ (all_names u) x other;
-    ranked = plain_ranked options u plain;
+    few = few-bounds options u;
+    bounds = is.bounds ∙ sym bounds_read;
     stored = stored_described table u _ _ _ (all_names u) (class_among table u _ _ _ (all_names u) are.facts);
   }

@@ -1,9 +1,11 @@
-//! The heading of a unit: what it is, its name, and its dummy arguments with the types of their parameters. Sections 2.4, 15.5 to 15.7 and 15.9.
+//! The heading of a unit: what it is, its name, its dummy arguments with the types of their parameters, and what it keeps of them. Sections 2.4, 5.5.1,
+//! 15.5 to 15.7 and 15.9.
 
 ghost use Rattle.std.specs.Prelude.{◌≡◌, IfOk, map, true};
 ghost use Rattle.f_tree.specs.declared.units.Unit.{Unit as GivenUnit};
 ghost use Rattle.f_tree.specs.Attributes.{named_dummies};
 ghost use Rattle.f_tree.specs.Lines.{unit_kind};
+ghost use Rattle.declared_types.specs.TypeTables.{AreShapes};
 ghost use Rattle.faithful.specs.Signatures as signatures;
 ghost use Rattle.name_classes.specs.KnownSigns.{AreSigns, AreSignSets, unit_uses};
 ghost use Rattle.name_facts.specs.GivenFacts.{AreNameFacts};
@@ -12,8 +14,10 @@ ghost use Rattle.unit_translation.specs.UnitContents.{parameter_for};
 ghost use Rattle.unit_writer.specs.ToldUnits.{kind_told, dummy_told};
 ghost use Rattle.translator.specs.UnitFiles.{IsHeading, parameter_in, dummy_in};
 
+use crate::bounds::bounds_kept;
 use crate::procedures::own_name;
 use c_tree::types::{FunctionType, ParameterType};
+use declared_types::Shapes;
 use f_tree::{Basic, Class, DummyArgument, Unit, UnitKind};
 use name_classes::Signs;
 use name_facts::NameFacts;
@@ -109,9 +113,11 @@ pub(crate) fn heading<'a>(
     alloc: Global,
     unit: &'a Unit,
     signs: &Signs,
+    shapes: &Shapes,
     table: &NameFacts,
 ) -> Result<Heading<'a>, AllocError>
     requires signs { AreSigns unit.now signs.now }
+    requires shapes { AreShapes unit.now shapes.now }
     requires table { AreNameFacts unit.now table.now }
     ensures { IfOk result (λ heading. IsHeading unit.now heading) }
 {
@@ -119,5 +125,6 @@ pub(crate) fn heading<'a>(
         role: role_of(unit),
         name: own_name(unit),
         dummies: dummies(alloc, unit.dummies.as_slice(), signs, table)?,
+        bounds: bounds_kept(alloc, unit, shapes, table, unit.dummies.as_slice())?,
     })
 }

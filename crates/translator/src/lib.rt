@@ -2,6 +2,7 @@
 //! standard, ANSI X3.9-1978; CSTR 149.
 #![tactic(auto)]
 
+mod bounds;
 mod files;
 mod fitting;
 mod forms;

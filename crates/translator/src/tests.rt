@@ -8,6 +8,7 @@ ghost use Rattle.translator.specs.UnitFiles.{IsPlainIf};
 
 use crate::procedures::procedures_are_defined;
 use crate::spelling::is_spelled_heading;
+use declared_types::unit_shapes;
 use direct_lines::are_lines_direct;
 use f_tree::Unit;
 use loop_entries::do_loops_fit;
@@ -30,7 +31,8 @@ pub(crate) fn is_plain(
     requires names { map (λ name. name.now) names.now ≡ all_names unit.now }
     ensures { IfOk result (IsPlainIf (names_in procedures.now) unit.now) }
 {
-    if !has_plain_parts(unit, table, names) {
+    let shapes = unit_shapes(alloc, unit)?;
+    if !has_plain_parts(unit, &shapes, table, names) {
         return Ok(false);
     }
     if !is_spellable(unit, table, names) {

@@ -12,6 +12,7 @@ use crate::heading::heading;
 use crate::rows::form_row;
 use crate::texts::text_of;
 use decl_table::name_facts;
+use declared_types::unit_shapes;
 use f_tree::{Fail, File, Options, Refusal, Unit};
 use lowered_text::LoweredText;
 use name_classes::{Signs, unit_signs};
@@ -32,6 +33,7 @@ pub(crate) struct PlainUnit<'a> {
     /// The names in their order.
     pub names: Vec<&'a [u8]>,
     pub heading: Heading<'a>,
+    /// Its lowered text behind what it keeps of its dummy arrays.
     pub text: LoweredText,
     pub contents: Contents,
 }
@@ -55,7 +57,8 @@ fn named_by<'a>(
     ensures { IfOk result (λ named. IsNamed unit.now named) }
 {
     let names = all_names(alloc, &signs.arrays, unit)?;
-    let heading = heading(alloc, unit, signs, table)?;
+    let shapes = unit_shapes(alloc, unit)?;
+    let heading = heading(alloc, unit, signs, &shapes, table)?;
     Ok(NamedUnit { names, heading })
 }
 
@@ -80,7 +83,17 @@ fn plain_unit<'a>(
 {
     let table = name_facts(alloc, unit)?;
     let NamedUnit { names, heading } = named(alloc, unit, &table)?;
-    let Some(text) = text_of(alloc, options, procedures, unit, &table, names.as_slice())? else {
+    let first = heading.bounds.len();
+    let found = text_of(
+        alloc,
+        options,
+        procedures,
+        unit,
+        &table,
+        names.as_slice(),
+        first,
+    )?;
+    let Some(text) = found else {
         return Ok(None);
     };
     let contents = contents_of(alloc, &table, &text)?;

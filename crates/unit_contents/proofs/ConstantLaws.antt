@@ -30,7 +30,7 @@ use Rattle.lowered_text.specs.Texts.{IsText, kinds_of}
 use Rattle.c_emit.specs.Calls.{kind_number}
 use Rattle.main_translation.specs.Contents.{with_new, own_value, own_values, kind_value}
 use Rattle.unit_translation.specs.UnitFlow.{kind_before}
-use Rattle.unit_translation.specs.UnitContents.{LoweredUnit, values_passed, values_from, constants_passed}
+use Rattle.unit_translation.specs.UnitContents.{LoweredUnit, whole_text, values_passed, values_from, constants_passed}
 use Rattle.name_facts.specs.declared.table.NameFacts.{NameFacts}
 use Rattle.unit_contents.specs.declared.contents.Contents.{Contents}
 use Rattle.unit_contents.specs.ContentsOf.{TellsNames, AreContentsOf, AreMoreConstants}
@@ -231,9 +231,9 @@ pub no_unit : (values : List ℤ) → values ≡ [] → values ≡ constants_pas
 unfolding constants_passed
 no_unit values none = none
 
-pub unit_added : (us : List LoweredUnit) (u : LoweredUnit) (before after : List ℤ) → before ≡ constants_passed us → after ≡ fold with_new before (values_from u.text 0 u.text.steps)
+pub unit_added : (us : List LoweredUnit) (u : LoweredUnit) (before after : List ℤ) → before ≡ constants_passed us → after ≡ fold with_new before (values_from (whole_text u) 0 (whole_text u).steps)
     → after ≡ constants_passed (us ++ u ∷ [])
 unfolding constants_passed
 unit_added us u before after so_far added =
-    let values = λ (v : LoweredUnit). values_from v.text 0 v.text.steps in
+    let values = λ (v : LoweredUnit). values_from (whole_text v) 0 (whole_text v).steps in
     added ∙ ap (λ zs. fold with_new zs (values u)) so_far ∙ sym (fold-append with_new [] (flat_map values us) (values u)) ∙ ap (fold with_new []) (sym (flat-more values us u))

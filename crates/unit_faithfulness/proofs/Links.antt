@@ -28,10 +28,10 @@ use Rattle.main_faithfulness.specs.main_file.MainFile.{Called, call_for, variabl
 use Rattle.main_faithfulness.specs.main_translation.Contents.{calls_of}
 use Rattle.main_faithfulness.proofs.main_translation_laws.Lists.{at_in, in_at}
 use Rattle.main_faithfulness.proofs.LinkRules.{is_missing, names_called, none_of_both, none_by_each, found_among, calls_there, past_temporaries, past_calls, extern_temporaries, extern_calls, none_mentioned, fourth_only}
-use Rattle.unit_translation_laws.specs.unit_file.UnitFile.{Parameter, Callee, Inventory, WrittenUnit, parameter_for, result_local, extern_for, unit_locals, unit_function}
+use Rattle.unit_translation_laws.specs.unit_file.UnitFile.{Parameter, KeptBound, Callee, Inventory, WrittenUnit, parameter_for, result_local, bound_for, extern_for, unit_locals, unit_function}
 use Rattle.unit_translation_laws.specs.unit_file.UnitNames.{called_names, own_names}
 use Rattle.unit_translation_laws.specs.unit_sites.UnitSites.{UnitsOfFile, inventories, all_units, files_of}
-use Rattle.unit_translation_laws.specs.unit_translation.UnitContents.{LoweredUnit, program_units, parameter_for as parameter_type, formals_in, parameters_in, library_callee, unit_callee, procedure_callee, procedures_in, unit_numbers, inventory_of, inventories_of}
+use Rattle.unit_translation_laws.specs.unit_translation.UnitContents.{LoweredUnit, program_units, whole_text, parameter_for as parameter_type, formals_in, parameters_in, library_callee, unit_callee, procedure_callee, procedures_in, unit_numbers, inventory_of, inventories_of}
 use Rattle.unit_translation_laws.specs.unit_translation.UnitBodies.{all_lowered, written_files}
 use Rattle.unit_translation_laws.specs.PlainUnits.{IsPlainUnit, ArePlainUnits}
 use Rattle.unit_translation_laws.proofs.Functions.{own_apart}
@@ -139,13 +139,21 @@ extern_result : (returned : Option NumberType) (later : List CLocal) → declare
 extern_result None later = refl
 extern_result (Some type) later = refl
 
+past_bounds : (known : List (List ℕ)) (bounds : List KeptBound) (later : List CLocal) → functions_in_lists known (map bound_for bounds ++ later) ≡ functions_in_lists known later
+past_bounds known [] later = refl
+past_bounds known (one ∷ bounds) later = past_bounds known bounds later
+
+extern_bounds : (bounds : List KeptBound) (later : List CLocal) → declared_externs (map bound_for bounds ++ later) ≡ declared_externs later
+extern_bounds [] later = refl
+extern_bounds (one ∷ bounds) later = extern_bounds bounds later
+
 no_functions_listed : (v : Inventory) → functions_in_lists [] (unit_locals v) ≡ []
 no_functions_listed v =
-    past_result [] v.returned _ ∙ past_temporaries [] 1 v.temporaries _ ∙ ap (λ calls. functions_in_lists [] (calls ++ (map variable_for v.variables ++ lists_from 1 v.lists))) (externs_as v.calls) ∙ past_calls [] (map as_called v.calls) v.variables v.lists
+    past_result [] v.returned _ ∙ past_temporaries [] 1 v.temporaries _ ∙ past_bounds [] v.bounds _ ∙ ap (λ calls. functions_in_lists [] (calls ++ (map variable_for v.variables ++ lists_from 1 v.lists))) (externs_as v.calls) ∙ past_calls [] (map as_called v.calls) v.variables v.lists
 
 externs_are : (v : Inventory) → declared_externs (unit_locals v) ≡ called_names v
 externs_are v =
-    extern_result v.returned _ ∙ extern_temporaries 1 v.temporaries _ ∙ ap (λ calls. declared_externs (calls ++ (map variable_for v.variables ++ lists_from 1 v.lists))) (externs_as v.calls) ∙ extern_calls (map as_called v.calls) v.variables v.lists ∙ names_as v.calls
+    extern_result v.returned _ ∙ extern_temporaries 1 v.temporaries _ ∙ extern_bounds v.bounds _ ∙ ap (λ calls. declared_externs (calls ++ (map variable_for v.variables ++ lists_from 1 v.lists))) (externs_as v.calls) ∙ extern_calls (map as_called v.calls) v.variables v.lists ∙ names_as v.calls
 
 -- ## What is called is there
 
@@ -179,10 +187,10 @@ module _ (us : List LoweredUnit) where
 
   all_there : (u : LoweredUnit) → any_of is_lost (called_names (inventory_of us u)) ≡ false
   all_there u =
-      let library = map library_callee (calls_of u.text.steps) in
-      let procedures = flat_map (procedure_callee us) (procedures_in u.text) in
+      let library = map library_callee (calls_of (whole_text u).steps) in
+      let procedures = flat_map (procedure_callee us) (procedures_in (whole_text u)) in
       ap (any_of is_lost) (map-append (λ (call : Callee). call.name) library procedures)
-      ∙ none_of_both is_lost (names_in library) (names_in procedures) (ap (any_of is_lost) (library_names (calls_of u.text.steps)) ∙ calls_there (defined_by us) u.text.steps) (procedures_there (procedures_in u.text))
+      ∙ none_of_both is_lost (names_in library) (names_in procedures) (ap (any_of is_lost) (library_names (calls_of (whole_text u).steps)) ∙ calls_there (defined_by us) (whole_text u).steps) (procedures_there (procedures_in (whole_text u)))
 
   nothing_misses : (w : WrittenUnit) (u : LoweredUnit) → inventory_of us u ≡ w.inventory → misses (routines (defined_by us)) (unit_function w) ≡ false
   nothing_misses w u is =

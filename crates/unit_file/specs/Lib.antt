@@ -1,6 +1,7 @@
 pub mod UnitFile
 pub mod UnitNames
 pub mod UnitItems
+pub mod UnitSavings
 pub use Rattle.procedure_emission.specs.c_emit_laws
 pub use Rattle.main_file.specs.c_tree
 pub use Rattle.procedure_emission.specs.emitted_texts

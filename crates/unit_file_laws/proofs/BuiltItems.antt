@@ -1,5 +1,5 @@
--- The function of a unit has its items and its strings.
-use Rattle.std.specs.Prelude.{◌≡◌, ℕ, suc, ◌+◌, ◌-◌, ◌≤◌, nat_eq, nat_le, nat_lt, Bool, true, false, not, ◌&&◌, List, [], ◌∷◌, ◌++◌, map, length, position, Option, Some, None, option_map, unwrap_or, slice_get, codes}
+-- The function of a unit has its items, those of what it keeps first, and its strings.
+use Rattle.std.specs.Prelude.{◌≡◌, ℕ, suc, ◌+◌, ◌-◌, ◌≤◌, nat_eq, nat_le, nat_lt, Bool, true, false, not, ◌&&◌, List, [], ◌∷◌, ◌++◌, map, length, drop, position, Option, Some, None, option_map, unwrap_or, slice_get, codes}
 use Rattle.std.proofs.Common.{refl, sym, ap, ◌∙◌, subst, arith}
 use Rattle.std.proofs.lemmas.Bool.{and_from, lt-ltb, le-leb}
 use Rattle.std.proofs.lemmas.List.{append_assoc, length-append}
@@ -25,8 +25,8 @@ use Rattle.unit_places.specs.c_structure.Expressions.{Names, strings_in, strings
 use Rattle.unit_places.specs.c_structure.Expressions as written
 use Rattle.unit_places.specs.c_structure.Statements.{Outline, strings_of_item, strings_of_items}
 use Rattle.unit_places.specs.c_structure_laws.Fitting.{KnowsCallee, KnowsItems, KnowsArray, AreNumbered as AreInOrder, AreBytesOf}
-use Rattle.unit_places.proofs.c_structure_laws.DrawnExpressions.{mapped_by}
-use Rattle.unit_places.specs.c_emit.Numbers.{Writing, one_more, has_number, has_shape, is_scalar, is_array, place_term}
+use Rattle.unit_places.proofs.c_structure_laws.DrawnExpressions.{bytes_count, mapped_by}
+use Rattle.unit_places.specs.c_emit.Numbers.{Writing, one_more, has_number, has_shape, is_scalar, is_array, value_term, place_term}
 use Rattle.unit_places.specs.c_emit.LibraryFunctions.{library_function}
 use Rattle.unit_places.specs.c_emit.Calls.{held_term, address_of}
 use Rattle.unit_places.specs.linking_laws.Linked as linked
@@ -34,21 +34,24 @@ use Rattle.unit_places.specs.linking_laws.Linked.{IsBuilt, scope_of}
 use Rattle.unit_places.proofs.linking_laws.Places.{some_same, taken, within}
 use Rattle.unit_places.proofs.linking_laws.BuiltCode.{whole_is, built_fit, code_is_theirs, strings_are_theirs}
 use Rattle.unit_places.specs.emitted_names.KnownNames.{IsPlain, array_of, StartIsPlain, CallsFunction}
-use Rattle.unit_places.proofs.emitted_names.TermNames.{target_plain}
-use Rattle.unit_places.proofs.emitted_names.ItemNames.{address_plain, held_is}
+use Rattle.unit_places.proofs.emitted_names.TermNames.{value_plain, target_plain}
+use Rattle.unit_places.proofs.emitted_names.ItemNames.{IsPlainItem, address_plain, held_is}
+use Rattle.unit_places.specs.procedure_emission.bound_items.BoundItems.{saving_item}
 use Rattle.unit_places.specs.procedure_emission.ProcedureItems.{Numbers, pointer_term, procedure_argument, routine_term, name_argument, argument_term, argument_terms, callee_for, function_called, procedure_item}
 use Rattle.unit_places.specs.main_file.MainItems.{stops_from}
 use Rattle.unit_places.proofs.main_file_laws.BuiltItems.{AreBelow, none_below, below_next, below_both, place_behind, before_by}
-use Rattle.unit_places.specs.unit_file.UnitFile.{Inventory, Bases, WrittenUnit, unit_function, first_string, first_parameter, parameter_object, result_object, place_or_none, place_of_variable, place_of_string, address_in}
+use Rattle.unit_places.specs.unit_file.UnitFile.{KeptBound, Inventory, Bases, WrittenUnit, unit_function, first_string, first_parameter, first_bound, parameter_object, result_object, place_or_none, place_of_variable, place_of_string, address_in}
 use Rattle.unit_places.specs.unit_file.UnitNames.{string_at}
+use Rattle.unit_places.specs.unit_file.UnitSavings.{savings_from, savings_of}
 use Rattle.unit_places.specs.unit_sites.UnitSites.{inventories, Site}
 use Rattle.unit_places.specs.UnitPlaces.{file_with}
 use Rattle.unit_places.proofs.Declared.{unit_strings, unit_statics_count}
 use Rattle.unit_file_laws.specs.KnownUnits.{NamesDiffer, NamesAreListed, unit_writing, unit_names, scope_in, UnitIsKnown}
 use Rattle.unit_file_laws.specs.ProcedureNames.{ArePlain, KnowsCall, KnowsUnitStep}
-use Rattle.unit_file_laws.specs.BuiltUnits.{unit_items, procedure_called, procedure_passed, procedures_passed, procedures_named, AreDeclared, FunctionIsCalled, IsListed, AreListed, IsUnitBuilt, AreNumbered, HasItsItems, UnitsHaveTheirItems}
-use Rattle.unit_file_laws.proofs.Known.{unit_files_are_known}
+use Rattle.unit_file_laws.specs.BuiltUnits.{unit_items, saving_items, whole_items, procedure_called, procedure_passed, procedures_passed, procedures_named, AreDeclared, FunctionIsCalled, IsListed, AreListed, IsUnitBuilt, AreNumbered, HasItsItems, UnitsHaveTheirItems}
+use Rattle.unit_file_laws.proofs.Known.{bound_plain, unit_files_are_known}
 use Rattle.unit_file_laws.proofs.CallNames.{procedure_names_are_known}
+use Rattle.unit_file_laws.proofs.Passed.{passed, listed_behind}
 
 -- ## Strings
 
@@ -100,7 +103,7 @@ pub record AreEmitted (numbers : Numbers) (ws : List WrittenUnit) (s : Site) (w 
   pub names_listed : NamesAreListed w.inventory u.facts
   pub listed : AreListed numbers (inventories ws) u.facts w.inventory 0 u.steps
   pub stops : w.inventory.strings ≡ stops_from 0 u.steps
-  pub emitted : unit_items numbers (unit_writing s w u.facts kind) u.position 0 u.steps ≡ Some all
+  pub emitted : whole_items numbers (unit_writing s w u.facts kind) u.position (savings_of w.inventory s.bases) u.steps ≡ Some all
   pub as_many : length (whole_body w.body).items.strings ≡ length w.inventory.strings
 
 module _ (routines : Routines) (objects : List ℕ → Option ℕ) (functions : List CFunction) (numbers : Numbers) (ws : List WrittenUnit) (s : Site) (w : WrittenUnit) (u : Text) (kind : ℕ → ℕ → Option Basic) (all : List Flat)
@@ -348,10 +351,51 @@ module _ (routines : Routines) (objects : List ℕ → Option ℕ) (functions : 
       subst (AreNumberedItems before n (st ∷ later)) m.is
       (step_known n before st later m.item m.later strings below listed.0 m.item_is (λ more again further. items_known (suc n) more later m.later again further listed.1 m.later_is))
 
+  -- ## What is kept
+
+  saving_plain : (object : ℕ) (value : Pure) (item : Flat) → IsPlain scope names (c.Variable object ToNumber) → saving_item writing (record { object = object; value = value }) ≡ Some item → IsPlainItem scope names item
+  unfolding saving_item strings_of_item
+  saving_plain object value item target h =
+      let m = mapped_by (flat.Assign (c.Variable object ToNumber)) (value_term writing value) item h in
+      let given = value_plain scope names writing known.names value m.one m.one_is in
+      subst (IsPlainItem scope names) m.is (record { knows = (target.knows, given.knows); no_strings = (λ i. target.no_strings i ++ given.no_strings i) })
+
+  -- items that keep bounds pass no strings
+  saved_known : (first : ℕ) (bounds : List KeptBound) (rest : Option (List Flat)) (items : List Flat) (before : List ℕ) (n : ℕ) (steps : List Step) → ((i : ℕ) (one : KeptBound) → slice_get bounds i ≡ Some one → IsPlain scope names (c.Variable (first + i) ToNumber))
+      → saving_items writing (savings_from first bounds) rest ≡ Some items → ((later : List Flat) → rest ≡ Some later → AreNumberedItems before n steps later) → AreNumberedItems before n steps items
+  unfolding saving_items savings_from strings_of_items
+  saved_known first [] rest items before n steps plain h others = others items h
+  saved_known first (one ∷ bounds) rest items before n steps plain h others =
+      let m = before_by (saving_item writing (record { object = first; value = one.value })) (saving_items writing (savings_from (suc first) bounds) rest) items h in
+      let here = saving_plain first one.value m.item (subst (λ k. IsPlain scope names (c.Variable k ToNumber)) {x = first + 0} {y = first} (omega arith) (plain 0 one refl)) m.item_is in
+      let r = saved_known (suc first) bounds rest m.later before n steps
+      (λ i other at. subst (λ k. IsPlain scope names (c.Variable k ToNumber)) {x = first + suc i} {y = suc first + i} (omega arith) (plain (suc i) other at)) m.later_is others in
+      subst (AreNumberedItems before n steps) m.is
+      (record {
+        knows = (here.knows, r.knows);
+        in_order = subst (λ ks. AreInOrder (first_string v b + length before) (ks ++ strings_of_items names m.later)) (sym here.no_strings) r.in_order;
+        counted = (λ i. length (here.no_strings i ++ strings_of_items names m.later)) ∙ r.counted;
+      })
+
   -- ## The whole
 
-  pub every : AreNumberedItems [] 0 u.steps all
-  every = items_known 0 [] u.steps all is.stops none_below is.listed is.emitted
+  abbrev kept : ℕ
+  kept = length (savings_of v b)
+
+  pub behind_kept : (before : List ℕ) → v.strings ≡ before ++ stops_from kept (drop kept u.steps) → AreBelow kept before → AreNumberedItems before kept (drop kept u.steps) all
+  unfolding whole_items
+  behind_kept before strings below =
+      saved_known (first_bound v b) v.bounds (unit_items numbers writing u.position kept (drop kept u.steps)) all before kept (drop kept u.steps)
+      (bound_plain routines objects functions ws s w u.facts kind owned constants_before is.differ is.names_listed is.as_many) is.emitted
+      (λ later h. items_known kept before (drop kept u.steps) later strings below (listed_behind numbers vs u.facts v kept 0 kept u.steps (omega arith) is.listed) h)
+
+  -- where no step that stands for what is kept passes a string
+  pub every : stops_from 0 u.steps ≡ stops_from kept (drop kept u.steps) → AreNumberedItems [] 0 u.steps all
+  every none = let r = behind_kept [] (is.stops ∙ none) none_below in record { knows = r.knows; in_order = r.in_order; counted = r.counted ∙ ap length (sym none) }
+
+none_left : (ks : List ℕ) → length ks ≡ 0 → ks ≡ []
+none_left [] h = refl
+none_left (k ∷ ks) h = let no : ⊥ = omega (arith, h) in absurd no
 
 -- the function in its file
 module _ (routines : Routines) (objects : List ℕ → Option ℕ) (own : ℕ) (numbers : Numbers) (ws : List WrittenUnit) (s : Site) (w : WrittenUnit) (u : Text) (kind : ℕ → ℕ → Option Basic) (o : Outline) (all : List Flat) (owned : s.bases.own ≡ length ws)
@@ -359,13 +403,32 @@ module _ (routines : Routines) (objects : List ℕ → Option ℕ) (own : ℕ) (
   emitted : AreEmitted numbers ws s w u kind all
   emitted = record { differ = is.differ; names_listed = is.names_listed; listed = is.listed; stops = is.stops; emitted = is.emitted; as_many = is.as_many }
 
+  abbrev saved : ℕ
+  saved = length (savings_of w.inventory s.bases)
+
+  abbrev rest : List ℕ
+  rest = stops_from saved (drop saved u.steps)
+
+  -- the statements have as many strings as are listed, and all are those of the steps behind what is kept
+  none_passed : stops_from 0 u.steps ≡ rest
+  none_passed =
+      let p = passed saved 0 saved u.steps (omega arith) in
+      let outer = file_scope routines objects s.bases.file (file_with s.constants []) in
+      let r = behind_kept routines objects [] numbers ws s w u kind all owned constants_before numbered emitted p.before (is.stops ∙ p.is) p.below in
+      let theirs =
+      strings_are_theirs routines outer s.bases.function (unit_function w) o all is.built (subst (λ ns. KnowsItems (scope_in routines objects [] s w) ns all) (sym is.names) r.knows) in
+      let listed : length (whole_body w.body).items.strings ≡ length p.before + length rest = is.as_many ∙ ap length (is.stops ∙ p.is) ∙ length-append p.before rest in
+      let counted : length (whole_body w.body).items.strings ≡ length rest =
+      bytes_count o.names (whole_body w.body).items.strings (strings_of_items o.names all) theirs ∙ ap (λ ns. length (strings_of_items ns all)) is.names ∙ r.counted in
+      p.is ∙ ap (λ ks. ks ++ rest) (none_left p.before (omega (arith, listed, counted)))
+
   all_known : (functions : List CFunction) → KnowsItems (scope_in routines objects functions s w) o.names all
-  all_known functions = subst (λ ns. KnowsItems (scope_in routines objects functions s w) ns all) (sym is.names) (every routines objects functions numbers ws s w u kind all owned constants_before numbered emitted).knows
+  all_known functions = subst (λ ns. KnowsItems (scope_in routines objects functions s w) ns all) (sym is.names) (every routines objects functions numbers ws s w u kind all owned constants_before numbered emitted none_passed).knows
 
   ordered : AreInOrder (first_string w.inventory s.bases) (strings_of_items (unit_names ws s w) all)
   ordered =
       subst (λ k. AreInOrder k (strings_of_items (unit_names ws s w) all)) {x = first_string w.inventory s.bases + 0} {y = first_string w.inventory s.bases} (omega arith)
-      (every routines objects [] numbers ws s w u kind all owned constants_before numbered emitted).in_order
+      (every routines objects [] numbers ws s w u kind all owned constants_before numbered emitted none_passed).in_order
 
   code_is : (functions : List CFunction) → (linked_function routines own (file_scope routines objects s.bases.file (file_with s.constants functions)) s.bases.function (unit_function w)).function.code ≡ all
   code_is functions =
@@ -389,7 +452,7 @@ module _ (routines : Routines) (objects : List ℕ → Option ℕ) (own : ℕ) (
         size = ap (λ body. body.size) (whole_is o all (unit_function w) is.built) ∙ (built_fit (scope_of routines outer s.bases.function (unit_function w)) o all (unit_function w) is.built known).size;
         strings = strings_same names.string v.texts (first_string v s.bases) (whole_body w.body).items.strings (strings_of_items names all) v.strings
             (subst (λ ns. AreBytesOf ns (whole_body w.body).items.strings (strings_of_items ns all)) is.names theirs) ordered
-            ((every routines objects [] numbers ws s w u kind all owned constants_before numbered emitted).counted ∙ ap length (sym is.stops))
+            ((every routines objects [] numbers ws s w u kind all owned constants_before numbered emitted none_passed).counted ∙ ap length (sym is.stops))
             (string_told routines objects [] numbers ws s w u kind all owned constants_before numbered emitted);
       }
 

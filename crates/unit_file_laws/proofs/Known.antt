@@ -25,7 +25,7 @@ use Rattle.unit_places.specs.c_tree.Drafts.{Scope}
 use Rattle.unit_places.specs.c_tree.FlatForm.{whole_body}
 use Rattle.unit_places.specs.c_tree.Linking.{Routines, routine, declared_constants, file_scope}
 use Rattle.unit_places.specs.c_image.Addresses.{Through, number_term}
-use Rattle.unit_places.specs.c_image.Elements.{quantity_term}
+use Rattle.unit_places.specs.c_image.Elements.{Quantity, quantity_term}
 use Rattle.unit_places.specs.c_structure.Expressions.{Names, strings_in}
 use Rattle.unit_places.specs.c_structure.Expressions as written
 use Rattle.unit_places.specs.c_emit.Numbers.{is_numeric, is_variable, has_number, has_shape, is_scalar, is_array}
@@ -41,11 +41,11 @@ use Rattle.unit_places.specs.main_file.MainFile.{list_names}
 use Rattle.unit_places.proofs.main_file_laws.Listed.{stands_by, declared_variable, declared_listing, declared_temporary}
 use Rattle.unit_places.proofs.main_file_laws.Known.{position_finds}
 use Rattle.unit_places.specs.unit_file.UnitFile as file
-use Rattle.unit_places.specs.unit_file.UnitFile.{Listing, Parameter, Inventory, Bases, WrittenUnit, constant_for, parameter_for, unit_locals, unit_function, units_file, result_count, frame_count, first_list, first_string, first_parameter, result_object, first_temporary, place_or_none, place_of_constant, place_of_variable, place_of_parameter, place_of_list, lasting_names, framed_names, parameter_object, address_in, lower_of, size_of, writing_of}
+use Rattle.unit_places.specs.unit_file.UnitFile.{Listing, Parameter, BoundKind, LowerOf, SizeOf, KeptBound, Inventory, Bases, WrittenUnit, constant_for, parameter_for, unit_locals, unit_function, units_file, result_count, frame_count, first_list, first_string, first_parameter, result_object, first_temporary, first_bound, is_bound, place_of_bound, quantity_in, place_or_none, place_of_constant, place_of_variable, place_of_parameter, place_of_list, lasting_names, framed_names, parameter_object, address_in, lower_of, size_of, writing_of}
 use Rattle.unit_places.specs.unit_file.UnitNames.{constant_names, called_names, object_names, object_name, string_at, own_names, routine_name}
 use Rattle.unit_places.specs.unit_sites.UnitSites.{inventories, Site}
 use Rattle.unit_places.specs.UnitPlaces.{file_with}
-use Rattle.unit_places.proofs.Declared.{unit_strings, unit_statics_count, unit_lasting_names, unit_variable, unit_listing, framed_by, framed_are, framed_parameter, framed_result, framed_temporary}
+use Rattle.unit_places.proofs.Declared.{unit_strings, unit_statics_count, unit_lasting_names, unit_variable, unit_listing, framed_by, framed_are, framed_parameter, framed_result, framed_temporary, declared_bound, framed_bound}
 use Rattle.unit_file_laws.specs.KnownUnits.{NamesDiffer, IsVariable, IsParameter, NamesAreListed, unit_writing, unit_names, scope_in, UnitIsKnown, UnitFilesAreKnown}
 use Rattle.unit_file_laws.proofs.Listed.{framed_names_are, framed_names_by, externs_are, number_access, function_access}
 
@@ -314,13 +314,28 @@ module _ (numbers : Routines) (objects : List ℕ → Option ℕ) (functions : L
       (ap scope (lasting_name there name (get_back (map (λ (z : file.Variable). variable_name z.name) v.variables) (list_names 1 v.lists) there i name (omega (arith, count)) (list_named 1 v.lists i found.one found.at)))
       ∙ inner.lasting there (declared_listing (1 + i) found.one) distinct_lasting (unit_listing v i found.one found.at))))
 
-  quantity_plain : (o : Option Bounds) → IsPlain scope names (quantity_term (lower_of o))
-  quantity_plain None = number_plain scope names (pos 0)
-  quantity_plain (Some bounds) = number_plain scope names bounds.lower
+  pub bound_plain : (i : ℕ) (one : KeptBound) → slice_get v.bounds i ≡ Some one → IsPlain scope names (Variable (first_bound v b + i) ToNumber)
+  bound_plain i one at =
+      let index = length v.parameters + (result_count v.returned + (v.temporaries + i)) in
+      subst (λ n. IsPlain scope names (Variable n ToNumber)) {x = first_parameter v b + index} {y = first_bound v b + i} (omega arith)
+      (plain_variable (first_parameter v b + index) ToNumber (framed_stands index (declared_bound one) (framed_bound v i one at)))
+
+  lower_plain : (o : Option Bounds) → IsPlain scope names (quantity_term (lower_of o))
+  lower_plain None = number_plain scope names (pos 0)
+  lower_plain (Some bounds) = number_plain scope names bounds.lower
 
   size_plain : (o : Option Bounds) → IsPlain scope names (quantity_term (size_of o))
   size_plain None = number_plain scope names (pos 0)
   size_plain (Some bounds) = number_plain scope names (pos (size_of_dimension bounds))
+
+  -- a bound that is kept, or another
+  quantity_plain : (x : Bytes) (k : ℕ) (which : BoundKind) (written : Quantity) → IsPlain scope names (quantity_term written) → IsPlain scope names (quantity_term (quantity_in v b (place_of_bound v x k which) written))
+  unfolding quantity_in
+  quantity_plain x k which written other = by (place_of_bound v x k which) refl
+    where
+      by : (found : Option ℕ) → place_of_bound v x k which ≡ found → IsPlain scope names (quantity_term (quantity_in v b found written))
+      by None is = other
+      by (Some i) is = let found = position_finds (is_bound x k which) v.bounds i is in bound_plain i found.one found.at
 
   -- ## Functions
 
@@ -345,8 +360,8 @@ module _ (numbers : Routines) (objects : List ℕ → Option ℕ) (functions : L
     names = record {
       scalars = scalar_plain;
       arrays = array_plain;
-      lowers = λ x k holds. quantity_plain (slice_get (facts.program.attribute x).bounds k);
-      sizes = λ x k holds. size_plain (slice_get (facts.program.attribute x).bounds k);
+      lowers = λ x k holds. quantity_plain x k LowerOf (lower_of (slice_get (facts.program.attribute x).bounds k)) (lower_plain (slice_get (facts.program.attribute x).bounds k));
+      sizes = λ x k holds. quantity_plain x k SizeOf (size_of (slice_get (facts.program.attribute x).bounds k)) (size_plain (slice_get (facts.program.attribute x).bounds k));
       temporaries = temporary_plain;
       constants = constant_plain;
     };

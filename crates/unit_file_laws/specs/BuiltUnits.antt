@@ -18,7 +18,8 @@ use Rattle.unit_places.specs.main_file.MainItems.{stops_from}
 use Rattle.unit_places.specs.procedure_emission.ProcedureItems.{Numbers}
 use Rattle.unit_places.specs.unit_file.UnitFile.{Inventory, WrittenUnit, unit_function, place_of_list}
 use Rattle.unit_places.specs.unit_file.UnitNames.{called_names, routine_name}
-unfoldable pub use Rattle.unit_places.specs.unit_file.UnitItems.{unit_items, procedure_called, procedure_passed, procedures_passed, procedures_named, unit_items_opened}
+unfoldable pub use Rattle.unit_places.specs.unit_file.UnitItems.{unit_items, saving_items, whole_items, procedure_called, procedure_passed, procedures_passed, procedures_named, unit_items_opened}
+use Rattle.unit_places.specs.unit_file.UnitSavings.{savings_of}
 use Rattle.unit_places.specs.unit_sites.UnitSites.{inventories, Site}
 use Rattle.unit_places.specs.UnitPlaces.{file_with}
 use Rattle.unit_file_laws.specs.KnownUnits.{NamesDiffer, NamesAreListed, unit_writing, unit_names, scope_in}
@@ -61,7 +62,7 @@ pub record IsUnitBuilt (numbers : Numbers) (ws : List WrittenUnit) (s : Site) (w
   pub listed : AreListed numbers (inventories ws) u.facts w.inventory 0 u.steps
   pub stops : w.inventory.strings ≡ stops_from 0 u.steps
   pub names : o.names ≡ unit_names ws s w
-  pub emitted : unit_items numbers (unit_writing s w u.facts kind) u.position 0 u.steps ≡ Some items
+  pub emitted : whole_items numbers (unit_writing s w u.facts kind) u.position (savings_of w.inventory s.bases) u.steps ≡ Some items
   pub built : IsBuilt o items (unit_function w)
   pub as_many : length (whole_body w.body).items.strings ≡ length w.inventory.strings
 

@@ -1,3 +1,4 @@
+pub mod BoundWords
 pub mod UnitFieldless
 pub mod UnitParts
 pub mod UnitTexts

@@ -1,5 +1,5 @@
--- The items for calls and returns take no fields of lists.
-use Rattle.std.specs.Prelude.{◌≡◌, ℕ, suc, Bool, true, false, List, [], ◌∷◌, Option, Some, None, option_map}
+-- The items for calls and returns, and those that keep bounds, take no fields of lists.
+use Rattle.std.specs.Prelude.{◌≡◌, ℕ, suc, Bool, true, false, List, [], ◌∷◌, length, drop, Option, Some, None, option_map}
 use Rattle.std.proofs.Common.{refl, subst}
 use Rattle.main_file_texts.specs.f_tree.declared.names.Basic.{Basic}
 use Rattle.main_file_texts.specs.f_tree.declared.names.Class.{Class}
@@ -14,14 +14,15 @@ use Rattle.main_file_texts.specs.l_core.Steps.{Step}
 use Rattle.c_spelling.specs.c_tree.Access.{ToNumber, ToFunction}
 use Rattle.c_spelling.specs.c_tree.Terms as c
 use Rattle.c_spelling.specs.c_tree.Terms.{Term}
-use Rattle.c_spelling.specs.c_tree.Flat.{Flat, Invoke, Ignored, Kept, Return, Callee}
+use Rattle.c_spelling.specs.c_tree.Flat.{Flat, Assign, Invoke, Ignored, Kept, Return, Callee}
 use Rattle.main_file_texts.specs.c_image.Addresses.{Address, Alone, Inside, InTexts, Through}
 use Rattle.main_file_texts.proofs.c_structure_laws.DrawnExpressions.{mapped_by}
 use Rattle.main_file_texts.specs.c_emit.Numbers.{Writing, if_number, value_term, place_term, has_number, has_shape}
 use Rattle.main_file_texts.specs.c_emit.Calls.{held_term, address_of}
 use Rattle.main_file_texts.proofs.linking_laws.Places.{some_same}
+use Rattle.unit_programs.specs.procedure_emission.bound_items.BoundItems.{Saving, saving_item}
 use Rattle.unit_programs.specs.procedure_emission.ProcedureItems.{Numbers, pointer_term, procedure_argument, routine_term, name_argument, argument_term, argument_terms, function_called, call_item, basic_wanted, kept_item, call_for_item, result_term, back_item, back_by_item, procedure_item}
-use Rattle.unit_programs.specs.unit_file_laws.BuiltUnits.{unit_items}
+use Rattle.unit_programs.specs.unit_file_laws.BuiltUnits.{unit_items, saving_items, whole_items}
 use Rattle.main_file_texts.specs.WellFormedMains.{HasNoField, HaveNoField, no_terms, ItemHasNoField, ItemsHaveNoField}
 use Rattle.main_file_texts.proofs.Fieldless.{more_fieldless, address_fieldless, held_fieldless, value_fieldless, target_fieldless}
 use Rattle.main_file_texts.proofs.FieldlessItems.{held_is, return_fieldless, flat_fieldless, before_fieldless}
@@ -114,8 +115,23 @@ module _ (w : Writing) (numbers : Numbers) where
   step_fieldless place label n (step.BackBy p) item h = back_by_fieldless p w.facts.program.kind item h
   step_fieldless place label n st item h = flat_fieldless w place label n st item h
 
-  pub unit_items_fieldless : (label : ℕ → Option ℕ) (n : ℕ) (steps : List Step) (items : List Flat) → unit_items numbers w label n steps ≡ Some items → ItemsHaveNoField items
+  unit_items_fieldless : (label : ℕ → Option ℕ) (n : ℕ) (steps : List Step) (items : List Flat) → unit_items numbers w label n steps ≡ Some items → ItemsHaveNoField items
   unfolding unit_items
   unit_items_fieldless label n [] items h = subst ItemsHaveNoField (some_same [] items h) tt
   unit_items_fieldless label n (st ∷ later) items h =
       before_fieldless w (procedure_item numbers w (λ m. m) label n st) (unit_items numbers w label (suc n) later) items h (step_fieldless (λ m. m) label n st) (unit_items_fieldless label (suc n) later)
+
+  saving_fieldless : (one : Saving) (item : Flat) → saving_item w one ≡ Some item → ItemHasNoField item
+  unfolding saving_item
+  saving_fieldless one item h = let m = mapped_by (Assign (c.Variable one.object ToNumber)) (value_term w one.value) item h in subst ItemHasNoField m.is (tt, value_fieldless w one.value m.one m.one_is)
+
+  savings_fieldless : (savings : List Saving) (rest : Option (List Flat)) (items : List Flat) → saving_items w savings rest ≡ Some items → ((later : List Flat) → rest ≡ Some later → ItemsHaveNoField later) → ItemsHaveNoField items
+  unfolding saving_items
+  savings_fieldless [] rest items h are = are items h
+  savings_fieldless (one ∷ savings) rest items h are =
+      before_fieldless w (saving_item w one) (saving_items w savings rest) items h (saving_fieldless one) (λ later is. savings_fieldless savings rest later is are)
+
+  pub whole_items_fieldless : (label : ℕ → Option ℕ) (savings : List Saving) (steps : List Step) (items : List Flat) → whole_items numbers w label savings steps ≡ Some items → ItemsHaveNoField items
+  unfolding whole_items
+  whole_items_fieldless label savings steps items h =
+      savings_fieldless savings (unit_items numbers w label (length savings) (drop (length savings) steps)) items h (unit_items_fieldless label (length savings) (drop (length savings) steps))

@@ -6,6 +6,7 @@ use Rattle.main_file_texts.specs.f_tree.Setting.{IsIn}
 use Rattle.main_file_texts.specs.f_tree.Values.{in_range}
 use Rattle.main_file_texts.specs.f_tree.CNames.{variable_name, made_name, FunctionResult}
 use Rattle.c_spelling.specs.c_tree.declared.types.NumberType.{NumberType}
+use Rattle.c_spelling.specs.c_tree.declared.types.NumberType.TheVariants as number_type
 use Rattle.c_spelling.specs.c_tree.declared.declaration.CParam.{CParam}
 use Rattle.c_spelling.specs.c_tree.declared.file.CConstant.{CConstant}
 use Rattle.c_spelling.specs.c_tree.Tokens.{Token, Word, Sign, Including}
@@ -16,7 +17,7 @@ use Rattle.c_spelling.specs.c_tree.CStatementText.{ReadsStmts}
 use Rattle.c_spelling.specs.c_tree.CDeclarationText.{IsLength, with_function, with_parameter, ReadsParams, no_parameter, last_parameter, one_parameter}
 use Rattle.c_spelling.specs.c_tree.CText.{no_names, ReadsFunction, a_function, ReadsFunctions, no_function, one_function, WellFormed}
 use Rattle.main_file_texts.specs.main_file.MainFile.{temporary_names}
-use Rattle.unit_programs.specs.unit_file.UnitFile.{Variable, Listing, Parameter, Callee, Inventory, WrittenUnit, constant_for, variable_for, lists_from, temporaries_from, parameter_for, result_local, extern_for, unit_locals, unit_function, units_file, result_names}
+use Rattle.unit_programs.specs.unit_file.UnitFile.{Variable, Listing, Parameter, KeptBound, Callee, Inventory, WrittenUnit, constant_for, variable_for, lists_from, temporaries_from, parameter_for, result_local, bound_name, bound_for, extern_for, unit_locals, unit_function, units_file, result_names}
 use Rattle.unit_programs.specs.unit_file.UnitNames.{called_names, own_names}
 use Rattle.unit_programs.specs.unit_sites.UnitSites.{inventories}
 use Rattle.main_file_texts.specs.WellFormedMains.{IsSpelled}
@@ -67,20 +68,29 @@ result_readable : (returned : Option NumberType) → AreReadable (result_local r
 result_readable None = tt
 result_readable (Some type) = ((λ scope. temporary_spelled scope type (made_name FunctionResult)), tt)
 
+bounds_readable : (bounds : List KeptBound) → AreReadable (map bound_for bounds)
+bounds_readable [] = tt
+bounds_readable (one ∷ bounds) = ((λ scope. temporary_spelled scope number_type.Integer (bound_name one)), bounds_readable bounds)
+
 calls_readable : (calls : List Callee) → AreReadable (map extern_for calls)
 calls_readable [] = tt
 calls_readable (call ∷ calls) = ((λ scope. extern_spelled scope call.result call.name call.arguments), calls_readable calls)
 
 pub locals_readable : (v : Inventory) → ((one : Variable) (n : ℕ) → IsIn one v.variables → one.count ≡ Some n → IsLength n) → ((l : Listing) → IsIn l v.lists → in_range l.unit ≡ true) → AreReadable (unit_locals v)
 locals_readable v long short =
-    readable_both (result_local v.returned) (temporaries_from 1 v.temporaries ++ (map extern_for v.calls ++ (map variable_for v.variables ++ lists_from 1 v.lists))) (result_readable v.returned)
-    (readable_both (temporaries_from 1 v.temporaries) (map extern_for v.calls ++ (map variable_for v.variables ++ lists_from 1 v.lists)) (temporaries_readable 1 v.temporaries)
+    readable_both (result_local v.returned) (temporaries_from 1 v.temporaries ++ (map bound_for v.bounds ++ (map extern_for v.calls ++ (map variable_for v.variables ++ lists_from 1 v.lists)))) (result_readable v.returned)
+    (readable_both (temporaries_from 1 v.temporaries) (map bound_for v.bounds ++ (map extern_for v.calls ++ (map variable_for v.variables ++ lists_from 1 v.lists))) (temporaries_readable 1 v.temporaries)
+    (readable_both (map bound_for v.bounds) (map extern_for v.calls ++ (map variable_for v.variables ++ lists_from 1 v.lists)) (bounds_readable v.bounds)
     (readable_both (map extern_for v.calls) (map variable_for v.variables ++ lists_from 1 v.lists) (calls_readable v.calls)
-    (readable_both (map variable_for v.variables) (lists_from 1 v.lists) (variables_readable v.variables long) (lists_readable 1 v.lists short))))
+    (readable_both (map variable_for v.variables) (lists_from 1 v.lists) (variables_readable v.variables long) (lists_readable 1 v.lists short)))))
 
 result_named : (returned : Option NumberType) → local_names (result_local returned) ≡ result_names returned
 result_named None = refl
 result_named (Some type) = refl
+
+bounds_named : (bounds : List KeptBound) → local_names (map bound_for bounds) ≡ map bound_name bounds
+bounds_named [] = refl
+bounds_named (one ∷ bounds) = ap (λ names. bound_name one ∷ names) (bounds_named bounds)
 
 calls_named : (calls : List Callee) → local_names (map extern_for calls) ≡ map (λ (call : Callee). call.name) calls
 calls_named [] = refl
@@ -88,11 +98,12 @@ calls_named (call ∷ calls) = ap (λ names. call.name ∷ names) (calls_named c
 
 pub locals_named : (v : Inventory) → local_names (unit_locals v) ≡ local_words v
 locals_named v =
-    map-append local_name (result_local v.returned) (temporaries_from 1 v.temporaries ++ (map extern_for v.calls ++ (map variable_for v.variables ++ lists_from 1 v.lists)))
-    ∙ (λ i. result_named v.returned i ++ map-append local_name (temporaries_from 1 v.temporaries) (map extern_for v.calls ++ (map variable_for v.variables ++ lists_from 1 v.lists)) i)
-    ∙ (λ i. result_names v.returned ++ (temporaries_named 1 v.temporaries i ++ map-append local_name (map extern_for v.calls) (map variable_for v.variables ++ lists_from 1 v.lists) i))
-    ∙ (λ i. result_names v.returned ++ (temporary_names 1 v.temporaries ++ (calls_named v.calls i ++ map-append local_name (map variable_for v.variables) (lists_from 1 v.lists) i)))
-    ∙ (λ i. result_names v.returned ++ (temporary_names 1 v.temporaries ++ (called_names v ++ (variables_named v.variables i ++ lists_named 1 v.lists i))))
+    map-append local_name (result_local v.returned) (temporaries_from 1 v.temporaries ++ (map bound_for v.bounds ++ (map extern_for v.calls ++ (map variable_for v.variables ++ lists_from 1 v.lists))))
+    ∙ (λ i. result_named v.returned i ++ map-append local_name (temporaries_from 1 v.temporaries) (map bound_for v.bounds ++ (map extern_for v.calls ++ (map variable_for v.variables ++ lists_from 1 v.lists))) i)
+    ∙ (λ i. result_names v.returned ++ (temporaries_named 1 v.temporaries i ++ map-append local_name (map bound_for v.bounds) (map extern_for v.calls ++ (map variable_for v.variables ++ lists_from 1 v.lists)) i))
+    ∙ (λ i. result_names v.returned ++ (temporary_names 1 v.temporaries ++ (bounds_named v.bounds i ++ map-append local_name (map extern_for v.calls) (map variable_for v.variables ++ lists_from 1 v.lists) i)))
+    ∙ (λ i. result_names v.returned ++ (temporary_names 1 v.temporaries ++ (map bound_name v.bounds ++ (calls_named v.calls i ++ map-append local_name (map variable_for v.variables) (lists_from 1 v.lists) i))))
+    ∙ (λ i. result_names v.returned ++ (temporary_names 1 v.temporaries ++ (map bound_name v.bounds ++ (called_names v ++ (variables_named v.variables i ++ lists_named 1 v.lists i)))))
 
 -- ## A function
 

@@ -15,9 +15,9 @@ use Rattle.c_spelling.proofs.Files.{file_spelled}
 use Rattle.main_file_texts.specs.faithful.UnitsAtStart.{AreBytes}
 use Rattle.main_file_texts.specs.main_file.MainFile.{variable_by}
 use Rattle.main_file_texts.specs.main_file.MainItems.{stops_from}
-use Rattle.unit_programs.specs.unit_file.UnitFile.{Variable, Listing, Callee, Inventory, variable_for, lists_from, temporaries_from, result_local, extern_for, unit_locals, unit_function, units_file}
+use Rattle.unit_programs.specs.unit_file.UnitFile.{Variable, Listing, KeptBound, Callee, Inventory, variable_for, lists_from, temporaries_from, result_local, bound_for, extern_for, unit_locals, unit_function, units_file}
 use Rattle.unit_programs.specs.unit_sites.UnitSites.{file_for}
-use Rattle.unit_programs.specs.TranslatedUnits.{Rendering, written_of}
+use Rattle.unit_programs.specs.TranslatedUnits.{Rendering, written_of, whole_text}
 use Rattle.unit_programs.proofs.Objects.{its_items}
 use Rattle.unit_file_texts.specs.SpelledUnits.{UnitFilesAreOfBytes, UnitFilesAreSpelled}
 use Rattle.unit_file_texts.proofs.TreeStrings.{all_of_bytes, in_whole}
@@ -48,6 +48,10 @@ temporaries_of_bytes : (k n : ℕ) → list_all local_of_bytes (temporaries_from
 temporaries_of_bytes k zero = refl
 temporaries_of_bytes k (suc n) = temporaries_of_bytes (suc k) n
 
+bounds_of_bytes : (bounds : List KeptBound) → list_all local_of_bytes (map bound_for bounds) ≡ true
+bounds_of_bytes [] = refl
+bounds_of_bytes (one ∷ bounds) = bounds_of_bytes bounds
+
 calls_of_bytes : (calls : List Callee) → list_all local_of_bytes (map extern_for calls) ≡ true
 calls_of_bytes [] = refl
 calls_of_bytes (call ∷ calls) = calls_of_bytes calls
@@ -66,10 +70,11 @@ lists_of_bytes k (l ∷ ls) = lists_of_bytes (suc k) ls
 
 locals_of_bytes : (v : Inventory) → list_all local_of_bytes (unit_locals v) ≡ true
 locals_of_bytes v =
-    both_of_bytes (result_local v.returned) (temporaries_from 1 v.temporaries ++ (map extern_for v.calls ++ (map variable_for v.variables ++ lists_from 1 v.lists))) (result_of_bytes v.returned)
-    (both_of_bytes (temporaries_from 1 v.temporaries) (map extern_for v.calls ++ (map variable_for v.variables ++ lists_from 1 v.lists)) (temporaries_of_bytes 1 v.temporaries)
+    both_of_bytes (result_local v.returned) (temporaries_from 1 v.temporaries ++ (map bound_for v.bounds ++ (map extern_for v.calls ++ (map variable_for v.variables ++ lists_from 1 v.lists)))) (result_of_bytes v.returned)
+    (both_of_bytes (temporaries_from 1 v.temporaries) (map bound_for v.bounds ++ (map extern_for v.calls ++ (map variable_for v.variables ++ lists_from 1 v.lists))) (temporaries_of_bytes 1 v.temporaries)
+    (both_of_bytes (map bound_for v.bounds) (map extern_for v.calls ++ (map variable_for v.variables ++ lists_from 1 v.lists)) (bounds_of_bytes v.bounds)
     (both_of_bytes (map extern_for v.calls) (map variable_for v.variables ++ lists_from 1 v.lists) (calls_of_bytes v.calls)
-    (both_of_bytes (map variable_for v.variables) (lists_from 1 v.lists) (variables_of_bytes v.variables) (lists_of_bytes 1 v.lists))))
+    (both_of_bytes (map variable_for v.variables) (lists_from 1 v.lists) (variables_of_bytes v.variables) (lists_of_bytes 1 v.lists)))))
 
 -- ## The file
 
@@ -90,7 +95,7 @@ unit_files_are_of_bytes fs rs is f part of = subst (λ units. file_of_bytes (uni
         let unit = is.units j r stands in
         let v = r.written.inventory in
         sym (in_whole r.written.body) ∙ ap all_of_bytes ((its_items fs rs is j r stands).strings ∙ ap (map v.texts) unit.built.stops)
-        ∙ stops_of_bytes v.texts 0 r.text.steps
+        ∙ stops_of_bytes v.texts 0 (whole_text r).steps
         (λ n m text same there.
         let here : m ≡ n = omega (arith, same) in subst (λ k. of_bytes (v.texts k) ≡ true) (sym here) (ap of_bytes (unit.passes.texts n text there) ∙ text_of_bytes text (unit.passes.short n text there).0))
 

@@ -23,13 +23,14 @@ use Rattle.main_file_texts.proofs.linking_laws.Places.{some_same, get_front, get
 use Rattle.main_file_texts.specs.main_file.MainFile.{temporary_names}
 use Rattle.main_file_texts.proofs.main_programs.MainStorage.{map_back}
 use Rattle.main_file_texts.proofs.main_translation_laws.Lists.{AreApart, none_apart, one_apart, at_in, in_either, InEither, in_one, in_other, apart_append}
-use Rattle.unit_programs.specs.unit_file.UnitFile.{Variable, Inventory, WrittenUnit, constant_for, unit_locals, unit_function, units_file, result_names, lasting_names, framed_names}
+use Rattle.unit_programs.specs.unit_file.UnitFile.{Variable, Inventory, WrittenUnit, constant_for, bound_name, unit_locals, unit_function, units_file, result_names, lasting_names, framed_names}
 use Rattle.unit_programs.specs.unit_file.UnitNames.{constant_names, called_names}
+use Rattle.unit_programs.specs.unit_file.UnitSavings.{savings_of}
 use Rattle.unit_programs.specs.unit_sites.UnitSites.{UnitsOfFile, files_of}
 use Rattle.unit_programs.specs.unit_places.UnitPlaces.{file_with}
 use Rattle.unit_programs.specs.unit_file_laws.KnownUnits.{NamesDiffer, unit_writing}
 use Rattle.unit_programs.specs.OwnStorage.{bytes_in, HasOwnStorage}
-use Rattle.unit_programs.specs.TranslatedUnits.{Rendering, written_of, numbers_of, IsTranslatedUnit, IsTranslatedSet}
+use Rattle.unit_programs.specs.TranslatedUnits.{Rendering, written_of, numbers_of, whole_text, IsTranslatedUnit, IsTranslatedSet}
 use Rattle.unit_programs.proofs.Objects.{its_items}
 use Rattle.main_file_texts.specs.WellFormedMains.{Agrees, AreSpelled, IsSpelled}
 use Rattle.main_file_texts.proofs.Declared.{same_text, none_among, none_in_first, local_names, with_all, with_constants, constant_texts, parameter_names, with_params, with_functions, names_agree, around_units}
@@ -38,7 +39,7 @@ use Rattle.main_file_texts.proofs.MeetingLabels.{labels_do_meet}
 use Rattle.main_file_texts.proofs.Declarations.{AreReadable, AllNew, all_new}
 use Rattle.main_file_texts.proofs.Files.{apart_by, all_words, constants_named, declared_named, constant_fit}
 use Rattle.unit_file_texts.specs.WellFormedUnits.{parameter_words, local_words, has_elements, is_short, IsSpellable, AreSpellable, AreOfOneFile, UnitFilesAreWellFormed}
-use Rattle.unit_file_texts.proofs.UnitFieldless.{unit_items_fieldless}
+use Rattle.unit_file_texts.proofs.UnitFieldless.{whole_items_fieldless}
 use Rattle.unit_file_texts.proofs.UnitParts.{new_first, new_last, params_named, locals_readable, locals_named, params_of, scope_within, function_spelled, names_in, file_spelled}
 
 -- ## Lists
@@ -112,8 +113,10 @@ module _ (zs : List ℤ) (v : Inventory) (differ : NamesDiffer zs v) (calls : Ar
   words_apart : AreApart (parameter_words v ++ local_words v)
   words_apart =
       subst AreApart
-      (append_assoc (parameter_words v) (result_names v.returned ++ temporary_names 1 v.temporaries) (called_names v ++ lasting_names v)
-      ∙ ap (λ names. parameter_words v ++ names) (append_assoc (result_names v.returned) (temporary_names 1 v.temporaries) (called_names v ++ lasting_names v)))
+      (append_assoc (parameter_words v) (result_names v.returned ++ (temporary_names 1 v.temporaries ++ map bound_name v.bounds)) (called_names v ++ lasting_names v)
+      ∙ ap (λ names. parameter_words v ++ names)
+      (append_assoc (result_names v.returned) (temporary_names 1 v.temporaries ++ map bound_name v.bounds) (called_names v ++ lasting_names v)
+      ∙ ap (λ names. result_names v.returned ++ names) (append_assoc (temporary_names 1 v.temporaries) (map bound_name v.bounds) (called_names v ++ lasting_names v))))
       framed_apart
 
 length_is : (unit : ProgramUnit) (v : Inventory) → HasOwnStorage unit v → list_all has_elements v.variables ≡ true → (one : Variable) (n : ℕ) → IsIn one v.variables → one.count ≡ Some n → IsLength n
@@ -237,7 +240,7 @@ module _ (fs : List UnitsOfFile) (rs : List Rendering) (is : IsTranslatedSet fs 
     spelled : AreSpelled r.outline inner r.written.body
     spelled =
         statements_are_spelled r.outline links inner unit.built.built.turns 0 r.items r.written.body agrees fine.labels unit.built.built.statements known
-        (unit_items_fieldless (unit_writing r.site r.written r.text.facts r.kind) (numbers_of rs) r.text.position 0 r.text.steps r.items unit.built.emitted)
+        (whole_items_fieldless (unit_writing r.site r.written r.text.facts r.kind) (numbers_of rs) (whole_text r).position (savings_of v r.site.bases) (whole_text r).steps r.items unit.built.emitted)
 
     meet : labels_meet r.written.body ≡ true
     meet =

@@ -1,23 +1,25 @@
 -- That the C files of units that call each other are well formed: some tokens spell each. C89, 3.1.2, 3.5, 3.6 and 3.7.
 use Rattle.std.specs.List.{list_all}
-use Rattle.std.specs.Prelude.{◌≡◌, ◌≤◌, ℕ, nat_le, ℤ, Bool, true, List, ◌++◌, map, length, Some, unwrap_or, slice_get}
+use Rattle.std.specs.Prelude.{◌≡◌, ◌<◌, ◌≤◌, ◌^◌, ℕ, suc, nat_le, ℤ, Bool, true, List, ◌++◌, map, length, Some, unwrap_or, slice_get}
 use Rattle.main_file_texts.specs.f_tree.Values.{in_range}
+use Rattle.main_file_texts.specs.f_tree.CNames as fortran
 use Rattle.main_file_texts.specs.f_tree.CNames.{variable_name}
+use Rattle.c_spelling.specs.c_tree.Tokens.{begins_with, is_letter}
 use Rattle.c_spelling.specs.c_tree.CWords.{is_name}
 use Rattle.c_spelling.specs.c_tree.CText.{WellFormed}
 use Rattle.main_file_texts.specs.linking_laws.Linked.{AreDistinct, IsNone}
 use Rattle.main_file_texts.specs.main_file.MainFile.{temporary_names}
-use Rattle.unit_programs.specs.unit_file.UnitFile.{Variable, Listing, Parameter, Inventory, result_names, lasting_names}
+use Rattle.unit_programs.specs.unit_file.UnitFile.{Variable, Listing, Parameter, KeptBound, Inventory, bound_name, result_names, lasting_names}
 use Rattle.unit_programs.specs.unit_file.UnitNames.{constant_names, called_names, own_names}
 use Rattle.unit_programs.specs.unit_sites.UnitSites.{UnitsOfFile, file_for, inventories}
 use Rattle.unit_programs.specs.TranslatedUnits.{Rendering, written_of, IsTranslatedSet}
 
--- the names that a function declares, in their order: its parameters, then the variable for its result, temporaries, functions, variables and control lists
+-- the names that a function declares, in their order: its parameters, then the variable for its result, temporaries, kept bounds, functions, variables and control lists
 abbrev pub parameter_words : Inventory → List (List ℕ)
 parameter_words v = map (λ (p : Parameter). variable_name p.name) v.parameters
 
 abbrev pub local_words : Inventory → List (List ℕ)
-local_words v = result_names v.returned ++ (temporary_names 1 v.temporaries ++ (called_names v ++ lasting_names v))
+local_words v = result_names v.returned ++ (temporary_names 1 v.temporaries ++ (map bound_name v.bounds ++ (called_names v ++ lasting_names v)))
 
 -- an array has an element
 abbrev pub has_elements : Variable → Bool
@@ -49,6 +51,11 @@ pub record AreOfOneFile (rs : List Rendering) (f : UnitsOfFile) (part : List Ren
   pub some : 1 ≤ length part
   pub written : written_of part ≡ f.units
   pub constants : (i : ℕ) (r : Rendering) → slice_get part i ≡ Some r → r.site.constants ≡ f.constants
+
+-- LAW
+-- the name of what is kept of a dummy array is one of C, where that of the array is one of FORTRAN
+abbrev pub BoundsAreNamed : Type 0
+BoundsAreNamed = (one : KeptBound) → begins_with is_letter one.dummy ≡ true → fortran.is_name one.dummy ≡ true → suc one.place < 2 ^ 64 → is_name (bound_name one) ≡ true
 
 -- LAW
 -- each file of translated units is well formed

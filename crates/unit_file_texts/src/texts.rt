@@ -5,9 +5,14 @@ ghost use Rattle.c_spelling.specs.c_tree.CText.{CText, WellFormed};
 ghost use Rattle.c_spelling.specs.c_text.Printed.{printed};
 ghost use Rattle.unit_programs.specs.unit_sites.UnitSites.{file_for};
 ghost use Rattle.unit_programs.specs.Example.{its_constants};
-ghost use Rattle.unit_file_texts.specs.WellFormedUnits.{AreSpellable, UnitFilesAreWellFormed};
+ghost use Rattle.unit_file_texts.specs.WellFormedUnits.{AreSpellable, BoundsAreNamed, UnitFilesAreWellFormed};
 ghost use Rattle.unit_file_texts.specs.SpelledUnits.{UnitFilesAreOfBytes, UnitFilesAreSpelled};
 ghost use Rattle.unit_file_texts.specs.ExampleText.{main_file, procedures_file, main_part, procedures_part, main_text, procedures_text};
+
+/// The name of what a function keeps of a dummy array, its lower bound or the size of a dimension, is a name of C.
+pub fn bounds_are_named()
+    ensures { BoundsAreNamed }
+{}
 
 /// Each C file of units that call each other is well formed: some tokens spell it, each name in it is declared before it is used and once in its scope, and
 /// each label that is named stands once. Besides what makes the units run as their file does, each name and each label is one of C, an array has an element,

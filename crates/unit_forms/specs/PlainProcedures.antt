@@ -13,6 +13,7 @@ use Rattle.plain_forms.specs.f_tree.Facts.{Attribute, UnitKind, MainProgram, Sub
 use Rattle.plain_forms.specs.f_tree.Reading.{name_or_none}
 use Rattle.plain_forms.specs.f_tree.Attributes.{named_dummies, Described, attribute_in, all_described}
 use Rattle.plain_forms.specs.f_tree.Lines.{entries_from, unit_kind, unit_read}
+use Rattle.kept_bounds.specs.KeptBounds.{has_adjustable_bounds}
 use Rattle.plain_forms.specs.PlainUnits.{has_none, has_own_storage, has_plain_lines, has_plain_bounds, has_constant_bounds, is_number, is_plain_variable}
 
 -- ## The unit
@@ -39,9 +40,9 @@ has_no_entries u = has_none (entries_from 0 u.statements)
 
 -- ## The names
 
--- a dummy variable, or a dummy array with constant bounds, but for a last one that is assumed
+-- a dummy variable, or a dummy array whose bounds are constant but for a last one that is assumed, or are fixed by each call
 unfoldable pub is_plain_dummy : Described → Bool
-is_plain_dummy d = is_name d.name && (is_number d.attribute && has_plain_bounds d.attribute)
+is_plain_dummy d = is_name d.name && (is_number d.attribute && (has_plain_bounds d.attribute || has_adjustable_bounds d.attribute))
 
 -- the result of a function is one number
 unfoldable pub is_plain_result : UnitKind → Attribute → Bool

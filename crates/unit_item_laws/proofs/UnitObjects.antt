@@ -1,5 +1,5 @@
 -- What the objects of a unit are called.
-use Rattle.std.specs.Prelude.{◌≡◌, ℕ, zero, suc, ◌+◌, ◌-◌, ◌<◌, ◌≤◌, nat_le, nat_lt, nat_eq, ℤ, true, ◌&&◌, List, [], ◌∷◌, ◌++◌, map, length, replicate, Option, Some, None, is_some, unwrap_or, slice_get, bytes_eq}
+use Rattle.std.specs.Prelude.{◌≡◌, ℕ, zero, suc, ◌+◌, ◌-◌, ◌<◌, ◌≤◌, nat_le, nat_lt, nat_eq, ℤ, Bool, true, false, ◌&&◌, List, [], ◌∷◌, ◌++◌, map, length, replicate, Option, Some, None, is_some, unwrap_or, slice_get, bytes_eq}
 use Rattle.std.specs.Ordering.{int_eq}
 use Rattle.std.proofs.Common.{refl, sym, ap, ◌∙◌, arith}
 use Rattle.std.proofs.lemmas.Bool.{ltb-true, lt-ltb, le-leb, lt-leb}
@@ -11,7 +11,7 @@ use Rattle.item_emission.specs.c_tree.declared.types.NumberType.{NumberType}
 use Rattle.item_emission.specs.c_tree.Builtins.{builtin_names}
 use Rattle.item_emission.specs.main_file.MainFile.{list_names, temporary_names}
 use Rattle.unit_file_laws.specs.unit_file.UnitFile as file
-use Rattle.unit_file_laws.specs.unit_file.UnitFile.{Listing, Inventory, Bases, result_count, frame_count, first_list, first_string, first_parameter, result_object, first_temporary, place_or_none, place_of_constant, place_of_variable, place_of_parameter, place_of_list, place_of_string, lasting_names, result_names, framed_names, parameter_object}
+use Rattle.unit_file_laws.specs.unit_file.UnitFile.{Listing, BoundKind, LowerOf, SizeOf, KeptBound, Inventory, Bases, name_of_bound, bound_name, result_count, frame_count, first_list, first_string, first_parameter, result_object, first_temporary, first_bound, is_same_kind, is_bound, place_or_none, place_of_constant, place_of_variable, place_of_parameter, place_of_list, place_of_string, lasting_names, result_names, framed_names, parameter_object}
 use Rattle.unit_file_laws.specs.unit_file.UnitNames.{constant_names, object_names, object_name, string_at, own_names, routine_name}
 use Rattle.unit_file_laws.specs.unit_sites.UnitSites.{Site}
 use Rattle.item_emission.proofs.ObjectNames.{get_front, get_back, map_at, chosen, other, and_false, and_true, position_finds, within, some_place, temporary_named, list_named, list_names_count, equal_is, same_number}
@@ -20,9 +20,40 @@ result_names_count : (returned : Option NumberType) → length (result_names ret
 result_names_count None = refl
 result_names_count (Some type) = refl
 
+temporary_names_count : (k n : ℕ) → length (temporary_names k n) ≡ n
+temporary_names_count k zero = refl
+temporary_names_count k (suc n) = ap suc (temporary_names_count (suc k) n)
+
+same_kind : (one other : BoundKind) → is_same_kind one other ≡ true → one ≡ other
+unfolding is_same_kind
+same_kind LowerOf LowerOf h = refl
+same_kind SizeOf SizeOf h = refl
+same_kind LowerOf SizeOf h = absurd (cc)
+same_kind SizeOf LowerOf h = absurd (cc)
+
+both_are : (a b : Bool) → a && b ≡ true → (a ≡ true) × (b ≡ true)
+both_are true true h = (refl, refl)
+both_are true false h = absurd (cc)
+both_are false b h = absurd (cc)
+
+-- a bound that is found has the name that is looked for
+pub found_name : (x : Bytes) (place : ℕ) (kind : BoundKind) (one : KeptBound) → is_bound x place kind one ≡ true → bound_name one ≡ name_of_bound x place kind
+unfolding is_bound
+found_name x place kind one h =
+    let first = both_are (bytes_eq x one.dummy) (nat_eq place one.place && is_same_kind kind one.kind) h in
+    let second = both_are (nat_eq place one.place) (is_same_kind kind one.kind) first.1 in
+    let name : x ≡ one.dummy = (bytes_eq-Decides x one.dummy).0 first.0 in
+    let number : place ≡ one.place = sym (same_number place one.place second.0) in
+    let same : kind ≡ one.kind = same_kind kind one.kind second.1 in
+    sym (λ i. name_of_bound (name i) (number i) (same i))
+
 module _ (s : Site) (v : Inventory) where
   abbrev b : Bases
   b = s.bases
+
+  -- what stands in the frame behind the result
+  abbrev its_kept : List (List ℕ)
+  its_kept = temporary_names 1 v.temporaries ++ map bound_name v.bounds
 
   own_name : (i : ℕ) (name : List ℕ) → slice_get (object_names v) i ≡ Some name → object_name s.constants v b (b.function + i) ≡ name
   unfolding object_name
@@ -84,7 +115,7 @@ module _ (s : Site) (v : Inventory) where
       let same : x ≡ found.one.name = (bytes_eq-Decides x found.one.name).0 found.passes in
       ap (λ o. object_name s.constants v b (first_parameter v b + unwrap_or o (frame_count v))) is
       ∙ framed_name i (variable_name found.one.name)
-      (get_front (map (λ (one : file.Parameter). variable_name one.name) v.parameters) (result_names v.returned ++ temporary_names 1 v.temporaries) i (variable_name found.one.name)
+      (get_front (map (λ (one : file.Parameter). variable_name one.name) v.parameters) (result_names v.returned ++ its_kept) i (variable_name found.one.name)
       (map_at (λ (one : file.Parameter). variable_name one.name) v.parameters i found.one found.at))
       ∙ ap variable_name (sym same)
 
@@ -95,8 +126,8 @@ module _ (s : Site) (v : Inventory) where
   result_is type is =
       let count = parameters_count in
       framed_name (length v.parameters) (made_name FunctionResult)
-      (get_back (map (λ (one : file.Parameter). variable_name one.name) v.parameters) (result_names v.returned ++ temporary_names 1 v.temporaries) (length v.parameters) 0 (made_name FunctionResult) (omega (arith, count))
-      (ap (λ returned. slice_get (result_names returned ++ temporary_names 1 v.temporaries) 0) is))
+      (get_back (map (λ (one : file.Parameter). variable_name one.name) v.parameters) (result_names v.returned ++ its_kept) (length v.parameters) 0 (made_name FunctionResult) (omega (arith, count))
+      (ap (λ returned. slice_get (result_names returned ++ its_kept) 0) is))
 
   -- ## Temporaries, constants, control lists and texts
 
@@ -108,9 +139,23 @@ module _ (s : Site) (v : Inventory) where
       let name = made_name (NumberTemporary (1 + k)) in
       ap (object_name s.constants v b) {x = first_temporary v b + k} {y = first_parameter v b + index} (omega arith)
       ∙ framed_name index name
-      (get_back (map (λ (one : file.Parameter). variable_name one.name) v.parameters) (result_names v.returned ++ temporary_names 1 v.temporaries) index (result_count v.returned + k) name (omega (arith, count))
-      (get_back (result_names v.returned) (temporary_names 1 v.temporaries) (result_count v.returned + k) k name (omega (arith, results)) (temporary_named 1 v.temporaries k (ltb-true k v.temporaries h))))
+      (get_back (map (λ (one : file.Parameter). variable_name one.name) v.parameters) (result_names v.returned ++ its_kept) index (result_count v.returned + k) name (omega (arith, count))
+      (get_back (result_names v.returned) its_kept (result_count v.returned + k) k name (omega (arith, results))
+      (get_front (temporary_names 1 v.temporaries) (map bound_name v.bounds) k name (temporary_named 1 v.temporaries k (ltb-true k v.temporaries h)))))
       ∙ ap (λ n. made_name (NumberTemporary n)) {x = 1 + k} {y = suc k} (omega arith)
+
+  pub bound_is : (i : ℕ) (one : KeptBound) → slice_get v.bounds i ≡ Some one → object_name s.constants v b (first_bound v b + i) ≡ bound_name one
+  bound_is i one at =
+      let count = parameters_count in
+      let results = result_names_count v.returned in
+      let kept = temporary_names_count 1 v.temporaries in
+      let index = length v.parameters + (result_count v.returned + (v.temporaries + i)) in
+      let name = bound_name one in
+      ap (object_name s.constants v b) {x = first_bound v b + i} {y = first_parameter v b + index} (omega arith)
+      ∙ framed_name index name
+      (get_back (map (λ (one : file.Parameter). variable_name one.name) v.parameters) (result_names v.returned ++ its_kept) index (result_count v.returned + (v.temporaries + i)) name (omega (arith, count))
+      (get_back (result_names v.returned) its_kept (result_count v.returned + (v.temporaries + i)) (v.temporaries + i) name (omega (arith, results))
+      (get_back (temporary_names 1 v.temporaries) (map bound_name v.bounds) (v.temporaries + i) i name (omega (arith, kept)) (map_at bound_name v.bounds i one at))))
 
   pub constant_is : s.bases.file + length s.constants ≤ s.bases.function → (z : ℤ) → is_some (place_of_constant s.constants z) ≡ true → object_name s.constants v b (b.file + place_or_none (place_of_constant s.constants z)) ≡ made_name (ConstantOf z)
   constant_is before z h =

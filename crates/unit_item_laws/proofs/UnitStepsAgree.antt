@@ -1,5 +1,5 @@
 -- The items of a unit's steps by names are those of its flat items.
-use Rattle.std.specs.Prelude.{◌≡◌, ℕ, ◌+◌, ◌≤◌, Bool, true, false, not, ◌&&◌, List, [], ◌∷◌, length, Option, Some, None, is_some, option_map, option_and_then, if◌then◌else◌}
+use Rattle.std.specs.Prelude.{◌≡◌, ℕ, ◌+◌, ◌≤◌, Bool, true, false, not, ◌&&◌, List, [], ◌∷◌, map, length, slice_get, Option, Some, None, is_some, option_map, option_and_then, if◌then◌else◌}
 use Rattle.std.proofs.Common.{refl, sym, ap, ◌∙◌}
 use Rattle.item_emission.specs.f_tree.declared.names.Basic.{Basic}
 use Rattle.item_emission.specs.f_tree.declared.names.Basic.TheVariants.{Integer, Logical, Character, Untyped}
@@ -21,25 +21,31 @@ use Rattle.item_emission.specs.c_tree.Access.{ToNumber, ToFunction}
 use Rattle.item_emission.specs.c_tree.Terms as c
 use Rattle.item_emission.specs.c_tree.Terms.{Term}
 use Rattle.item_emission.specs.c_tree.Flat as flat
-use Rattle.item_emission.specs.c_tree.Flat.{Invoke, Return, Ignored, Kept}
+use Rattle.item_emission.specs.c_tree.Flat.{Assign, Invoke, Return, Ignored, Kept}
 use Rattle.item_emission.specs.c_structure.Expressions.{Names, with_two, number_expr, array_expr, expr_for, one_more, exprs_for}
 use Rattle.item_emission.specs.c_image.Addresses.{number_term, element_term}
+use Rattle.item_emission.specs.c_image.Elements.{quantity_term}
 use Rattle.item_emission.specs.c_emit.Numbers.{Writing, is_numeric, is_variable, has_number, has_shape, is_scalar, is_array, if_number, value_term, place_term}
 use Rattle.item_emission.specs.c_emit.Calls.{address_of, held_term}
 use Rattle.item_emission.specs.c_emit.Flats.{returned_by}
+use Rattle.unit_file_laws.specs.procedure_emission.bound_items.BoundItems.{saving_item}
 use Rattle.unit_file_laws.specs.procedure_emission.ProcedureItems.{Numbers, pointer_term, routine_term, name_argument, argument_term, argument_terms, callee_for, function_called, call_item, basic_wanted, kept_item, call_for_item, result_term, back_item, back_by_item, procedure_item}
-use Rattle.unit_file_laws.specs.unit_file.UnitFile.{Inventory, Bases, place_of_parameter, parameter_object, address_in, writing_of}
+use Rattle.unit_file_laws.specs.unit_file.UnitFile.{BoundKind, LowerOf, SizeOf, KeptBound, Inventory, Bases, name_of_bound, first_bound, is_bound, place_of_bound, quantity_in, place_of_parameter, parameter_object, address_in, lower_of, size_of, writing_of}
 use Rattle.unit_file_laws.specs.unit_file.UnitNames.{object_name, routine_name, names_of}
 use Rattle.unit_file_laws.specs.unit_sites.UnitSites.{Site}
 use Rattle.unit_file_laws.specs.KnownUnits.{NamesAreListed}
 use Rattle.item_emission.specs.named_items.declared.item.Callee.{Callee}
 use Rattle.item_emission.specs.named_items.declared.item.Item.TheVariants as item
-use Rattle.item_emission.specs.named_items.Items.{by_name, through, call_by, set_call_by, item_for}
-use Rattle.item_emission.specs.NamedEmission.{Knowledge, address_expr, variable_expr, result_object, scalar_expr, value_expr, held_expr, scalar_passed, procedure_expr, procedure_passed, name_passed, argument_expr, argument_exprs, call_step, wants_number, call_for_step, return_step, given_expr, alternate_step, item_step}
+use Rattle.item_emission.specs.named_items.Items.{by_name, through, assign_by, call_by, set_call_by, item_for}
+use Rattle.item_emission.specs.declared.known.LowerBound.TheVariants as low
+use Rattle.item_emission.specs.declared.known.Size.TheVariants as many
+use Rattle.item_emission.specs.Agreeing.{dimension_of}
+use Rattle.item_emission.specs.NamedEmission.{Knowledge, dimension_at, lower_expr, size_expr, address_expr, variable_expr, result_object, scalar_expr, value_expr, held_expr, scalar_passed, procedure_expr, procedure_passed, name_passed, argument_expr, argument_exprs, call_step, wants_number, call_for_step, return_step, given_expr, alternate_step, item_step}
+use Rattle.item_emission.proofs.ObjectNames.{position_finds}
 use Rattle.item_emission.proofs.ValuesAgree.{IsKnownBy, expr_of, exprs_of, more-agrees}
 use Rattle.item_emission.proofs.KnownSteps.{StepsAreKnownBy, lower-agrees, size-agrees, value-known, place-known, temporary-known, held-known, step-known}
-use Rattle.unit_item_laws.specs.AgreeingUnits.{standing_in, is_procedure_in, routine_in, result_in, giving_of_unit, known_of_unit, IsListed, UnitEmissionsAgree}
-use Rattle.unit_item_laws.proofs.UnitObjects.{variable_is, variable_is_no_string, parameter_is, result_is, temporary_is, constant_is, list_is, text_is, library_is}
+use Rattle.unit_item_laws.specs.AgreeingUnits.{lower_in, size_in, standing_in, is_procedure_in, routine_in, result_in, giving_of_unit, known_of_unit, bound_step, IsListed, UnitEmissionsAgree, UnitBoundsAgree}
+use Rattle.unit_item_laws.proofs.UnitObjects.{variable_is, variable_is_no_string, parameter_is, result_is, temporary_is, found_name, bound_is, constant_is, list_is, text_is, library_is}
 
 -- ## Forms of options
 
@@ -52,6 +58,14 @@ indexed : (e : CExpr) (o : Option CExpr) → with_two expr.Index (Some e) o ≡ 
 unfolding with_two
 indexed e None = refl
 indexed e (Some i) = refl
+
+-- ## Assignments
+
+-- to a variable, by its name
+assigned-agrees : (names : Names) (k : ℕ) (o : Option Term) → option_and_then (item_for names) (option_map (Assign (c.Variable k ToNumber)) o) ≡ assign_by (Some (expr.Name (names.object k))) (expr_of names o)
+unfolding item_for expr_for assign_by
+assigned-agrees names k None = refl
+assigned-agrees names k (Some t) = refl
 
 -- ## Calls
 
@@ -191,6 +205,37 @@ module _ (vs : List Inventory) (s : Site) (v : Inventory) (facts : Facts) (numbe
       let number = both_hold (is_variable (facts.program.attribute x).class) (is_numeric (facts.program.attribute x).basic) both.0 in
       element-by x (facts.program.attribute x).class refl number.0 number.1 both.1 index
 
+  -- the object of a bound that is kept
+  kept-name : (x : Bytes) (k : ℕ) (kind' : BoundKind) (i : ℕ) → place_of_bound v x k kind' ≡ Some i → object_name s.constants v b (first_bound v b + i) ≡ name_of_bound x k kind'
+  kept-name x k kind' i is = let found = position_finds (is_bound x k kind') v.bounds i is in bound_is s v i found.one found.at ∙ found_name x k kind' found.one found.passes
+
+  lower-kept : (x : Bytes) (k i : ℕ) → place_of_bound v x k LowerOf ≡ Some i → expr_for names (c.Variable (first_bound v b + i) ToNumber) ≡ lower_expr x k low.Kept
+  unfolding expr_for lower_expr name_of_bound
+  lower-kept x k i is = ap (λ name. Some (expr.Name name)) (kept-name x k LowerOf i is)
+
+  size-kept : (x : Bytes) (k i : ℕ) → place_of_bound v x k SizeOf ≡ Some i → expr_for names (c.Variable (first_bound v b + i) ToNumber) ≡ size_expr x k many.Kept
+  unfolding expr_for size_expr name_of_bound
+  size-kept x k i is = ap (λ name. Some (expr.Name name)) (kept-name x k SizeOf i is)
+
+  -- a bound that is kept, or is constant
+  lower-known : (x : Bytes) (k : ℕ) → expr_for names (quantity_term (w.naming.lower x k)) ≡ lower_expr x k (known.dimension x k).lower
+  unfolding quantity_in lower_in
+  lower-known x k = by (place_of_bound v x k LowerOf) refl
+    where
+      by : (found : Option ℕ) → place_of_bound v x k LowerOf ≡ found
+          → expr_for names (quantity_term (quantity_in v b found (lower_of (slice_get (facts.program.attribute x).bounds k)))) ≡ lower_expr x k (lower_in found (dimension_at (map dimension_of (facts.program.attribute x).bounds) k).lower)
+      by None is = lower-agrees names x (facts.program.attribute x).bounds k
+      by (Some i) is = lower-kept x k i is
+
+  size-known : (x : Bytes) (k : ℕ) → expr_for names (quantity_term (w.naming.size x k)) ≡ size_expr x k (known.dimension x k).size
+  unfolding quantity_in size_in
+  size-known x k = by (place_of_bound v x k SizeOf) refl
+    where
+      by : (found : Option ℕ) → place_of_bound v x k SizeOf ≡ found
+          → expr_for names (quantity_term (quantity_in v b found (size_of (slice_get (facts.program.attribute x).bounds k)))) ≡ size_expr x k (size_in found (dimension_at (map dimension_of (facts.program.attribute x).bounds) k).size)
+      by None is = size-agrees names x (facts.program.attribute x).bounds k
+      by (Some i) is = size-kept x k i is
+
   values-known : IsKnownBy names w known
   unfolding is_scalar is_array has_number
   values-known = record {
@@ -200,8 +245,8 @@ module _ (vs : List Inventory) (s : Site) (v : Inventory) (facts : Facts) (numbe
     scalar_names = scalar-name;
     array_names = array-name;
     temporary_names = λ k there. temporary_is s v k there;
-    lowers = λ x k. lower-agrees names (facts.program.attribute x).bounds k;
-    sizes = λ x k. size-agrees names (facts.program.attribute x).bounds k;
+    lowers = lower-known;
+    sizes = size-known;
   }
 
   steps-known : StepsAreKnownBy names w known label
@@ -330,5 +375,16 @@ module _ (vs : List Inventory) (s : Site) (v : Inventory) (facts : Facts) (numbe
   unit-step n (step.Halt text) there = step-known names w known label steps-known n (step.Halt text) (text_is s v n there.0 there.1 ∙ ap Some there.2)
   unit-step n st there = step-known names w known label steps-known n st tt
 
+  -- ## Bounds that are kept
+
+  pub bound-saved : (i : ℕ) (one : KeptBound) → slice_get v.bounds i ≡ Some one → option_and_then (item_for names) (saving_item w (record { object = first_bound v b + i; value = one.value })) ≡ bound_step known one
+  unfolding saving_item bound_step
+  bound-saved i one at =
+      assigned-agrees names (first_bound v b + i) (value_term w one.value)
+      ∙ (λ j. assign_by (Some (expr.Name (bound_is s v i one at j))) (value-known names w known label steps-known one.value j))
+
 pub unit_emissions_agree : UnitEmissionsAgree
 unit_emissions_agree vs s v facts numbers kind label n st owned before listed there = unit-step vs s v facts numbers kind label owned before listed n st there
+
+pub unit_bounds_agree : UnitBoundsAgree
+unit_bounds_agree vs s v facts numbers kind label i one owned before listed at = bound-saved vs s v facts numbers kind label owned before listed i one at

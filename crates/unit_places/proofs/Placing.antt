@@ -20,7 +20,7 @@ use Rattle.main_file_laws.proofs.Listed.{object_by, declared_variable, declared_
 use Rattle.unit_sites.specs.unit_file.UnitFile.{Variable, Listing, WrittenUnit, constant_for, unit_locals, unit_function, result_count, frame_count, object_count, first_object, first_list, first_string, first_parameter}
 use Rattle.unit_sites.specs.UnitSites.{UnitsOfFile, file_for, files_of, all_units, inventories, contents_of, all_inventories, Site, behind, sites_of}
 use Rattle.unit_places.specs.UnitPlaces.{HaveTheirStrings, variable_object, StandsAs, FunctionStands, FunctionsHavePlaces}
-use Rattle.unit_places.proofs.Declared.{unit_strings, unit_statics_count, unit_variable, unit_listing, framed_by, framed_are, framed_many, framed_parameter, framed_result, framed_temporary, types_are}
+use Rattle.unit_places.proofs.Declared.{unit_strings, unit_statics_count, unit_variable, unit_listing, framed_by, framed_are, framed_many, framed_parameter, framed_result, framed_temporary, framed_bound, types_are}
 use Rattle.unit_places.proofs.Sites.{first_behind, ends_before, inventory_at, file_end, file_start, site_in, placed}
 
 -- ## One function
@@ -289,6 +289,7 @@ module _ (fs : List UnitsOfFile) (have : HaveTheirStrings (all_units fs)) where
         parameter = λ n one got. fresh_at n _ (parameter_object one.type) (framed_parameter w.inventory n one got) (λ scope first. refl);
         result = λ type is. fresh_at (length w.inventory.parameters) _ (unset 4) (framed_result w.inventory type is) (λ scope first. refl);
         temporary = λ n below. fresh_at (length w.inventory.parameters + (result_count w.inventory.returned + n)) _ (unset 4) (framed_temporary w.inventory n below) (λ scope first. refl);
+        bound = λ n one got. fresh_at (length w.inventory.parameters + (result_count w.inventory.returned + (w.inventory.temporaries + n))) _ (unset 4) (framed_bound w.inventory n one got) (λ scope first. refl);
         variable = variable_there;
         list = list_there;
         string = string_there;

@@ -10,7 +10,7 @@ use Rattle.main_file_laws.specs.c_tree.Linking as linking
 use Rattle.main_file_laws.specs.c_image.Held.{number_object}
 use Rattle.unit_sites.specs.output_laws.ListedOutputs.{list_object}
 use Rattle.main_file_laws.specs.linking_laws.Linked.{routines_of, outside_of, own_of}
-use Rattle.unit_sites.specs.unit_file.UnitFile.{Variable, Listing, Parameter, WrittenUnit, constant_for, unit_function, result_count, frame_count, first_list, first_string, first_parameter}
+use Rattle.unit_sites.specs.unit_file.UnitFile.{Variable, Listing, Parameter, KeptBound, WrittenUnit, constant_for, unit_function, result_count, frame_count, first_list, first_string, first_parameter}
 use Rattle.unit_sites.specs.UnitSites.{UnitsOfFile, files_of, all_units, Site, sites_of}
 
 -- a file of constants and of some functions: those of all its units, or those that stand before one
@@ -43,13 +43,15 @@ pub record FunctionStands (fs : List UnitsOfFile) (j : ℕ) (s : Site) (w : Writ
   pub written : slice_get (linking.all_functions (files_of fs)) j ≡ Some (unit_function w)
   pub own : (linked_unit fs functions s w).own ≡ length (all_units fs)
   pub parameters_are : (linked_unit fs functions s w).parameters ≡ map (λ (p : Parameter). p.type) w.inventory.parameters
-  -- its frame: parameters, the result, and temporaries
+  -- its frame: parameters, the result, temporaries, and kept bounds
   pub frame : (linked_unit fs functions s w).frame ≡ first_parameter w.inventory s.bases
   pub inside : first_parameter w.inventory s.bases + frame_count w.inventory ≤ length (linking.program (files_of fs)).objects
   pub as_many : length (linked_unit fs functions s w).fresh ≡ frame_count w.inventory
   pub parameter : (i : ℕ) (one : Parameter) → slice_get w.inventory.parameters i ≡ Some one → slice_get (linked_unit fs functions s w).fresh i ≡ Some (parameter_object one.type)
   pub result : (type : NumberType) → w.inventory.returned ≡ Some type → slice_get (linked_unit fs functions s w).fresh (length w.inventory.parameters) ≡ Some (unset 4)
   pub temporary : (k : ℕ) → k < w.inventory.temporaries → slice_get (linked_unit fs functions s w).fresh (length w.inventory.parameters + (result_count w.inventory.returned + k)) ≡ Some (unset 4)
+  pub bound : (i : ℕ) (one : KeptBound) → slice_get w.inventory.bounds i ≡ Some one
+      → slice_get (linked_unit fs functions s w).fresh (length w.inventory.parameters + (result_count w.inventory.returned + (w.inventory.temporaries + i))) ≡ Some (unset 4)
   -- its objects among those of the program
   pub variable : (i : ℕ) (one : Variable) → slice_get w.inventory.variables i ≡ Some one → StandsAs fs (s.bases.function + i) (variable_object one.count)
   pub list : (i : ℕ) (l : Listing) → slice_get w.inventory.lists i ≡ Some l → StandsAs fs (first_list w.inventory s.bases + i) (list_object l.unit)

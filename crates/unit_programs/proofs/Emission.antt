@@ -1,46 +1,64 @@
 -- Each function of the files is one of which all is so that is asked.
-use Rattle.std.specs.Prelude.{◌≡◌, ℕ, suc, ◌+◌, ◌-◌, ◌<◌, ◌≤◌, nat_eq, nat_lt, ℤ, true, false, List, [], ◌∷◌, ◌++◌, map, length, replicate, Option, Some, None, is_some, unwrap_or, slice_get, bytes_eq}
+use Rattle.std.specs.Prelude.{◌≡◌, ℕ, suc, ◌+◌, ◌-◌, ◌<◌, ◌≤◌, nat_eq, nat_lt, ℤ, true, false, List, [], ◌∷◌, ◌++◌, map, length, replicate, Option, Some, None, is_some, option_map, unwrap_or, slice_get}
 use Rattle.std.specs.Ordering.{int_eq}
 use Rattle.std.proofs.Common.{refl, sym, ap, ◌∙◌, subst, arith}
 use Rattle.std.proofs.lemmas.Bool.{ltb-true, lt-ltb, eq-eqb}
 use Rattle.std.proofs.lemmas.Bool.Decides.{Decides-int_eq}
 use Rattle.std.proofs.lemmas.List.{length-map}
-use Rattle.emitted_procedures.specs.f_tree.declared.names.Class.{Class}
 use Rattle.emitted_procedures.specs.f_tree.declared.names.Class.TheVariants as class
 use Rattle.emitted_procedures.specs.f_tree.CNames.{variable_name}
 use Rattle.emitted_procedures.specs.f_tree.Values.{Bytes, Spot, IsInt, IsText, IsSpot, Gives}
 use Rattle.emitted_procedures.specs.f_tree.Facts.{Direction, Layout, Controls, Formal, Named, Alternate, FunctionUnit, Frame}
+use Rattle.emitted_procedures.specs.f_tree.Setting.{IsIn, first_in, later_in}
 use Rattle.emitted_procedures.specs.f_tree.Valuing.{whole}
 use Rattle.emitted_procedures.specs.f_tree.World.{Called}
-use Rattle.emitted_procedures.specs.l_core.Pures.{Pures}
+use Rattle.emitted_procedures.specs.l_core.Pures.{Pure, Pures}
 use Rattle.emitted_procedures.specs.l_core.Steps.{Starts, Step, Acts, Halt, Text}
+use Rattle.emitted_procedures.specs.l_core.Costs.{cost}
 use Rattle.emitted_procedures.specs.c_tree.declared.types.ParameterType.{ParameterType}
 use Rattle.emitted_procedures.specs.c_tree.declared.types.ParameterType.TheVariants as parameter
 use Rattle.emitted_procedures.specs.c_tree.Access.{ToNumber, ToPointer, ToFunction}
 use Rattle.emitted_procedures.specs.c_tree.Objects.{bytes_of_number}
+use Rattle.emitted_procedures.specs.c_tree.Terms.{Variable}
+use Rattle.emitted_procedures.specs.c_tree.Flat.{Assign}
 use Rattle.emitted_procedures.specs.c_tree.Declarations as declared
 use Rattle.emitted_procedures.specs.c_tree.Declarations.{string_object, unset_values}
-use Rattle.emitted_procedures.specs.c_image.Addresses.{Through, Reaches}
+use Rattle.emitted_procedures.specs.c_image.Addresses.{Alone, Through, Reaches}
+use Rattle.emitted_procedures.specs.c_image.Elements.{Quantity}
 use Rattle.emitted_procedures.specs.c_image.Held.{Holds}
 use Rattle.emitted_procedures.specs.c_image.Knowing.{IsApart}
+use Rattle.emitted_procedures.specs.c_emit.Numbers.{Writing}
 use Rattle.emitted_procedures.specs.c_emit.Calls.{unit_of}
 use Rattle.emitted_procedures.specs.output_laws.ListedOutputs.{list_object}
 use Rattle.unit_file_laws.proofs.linking_laws.Places.{get_front, map_at, within}
 use Rattle.emitted_procedures.specs.emitted_texts.SecondLayer.{Surroundings, Emission}
-use Rattle.emitted_procedures.specs.procedure_emission.EmittedUnits.{IsItem, StepsFit, IsMadeAnew, IsOfRoom, RoomIsApart, is_number_pointer, is_function_pointer, AreParameters, no_parameters, named, named_procedure, alternate, ResultIsMade, IsEmittedUnit}
+use Rattle.emitted_procedures.specs.procedure_emission.kept_bounds.KeptBounds.{size_pure}
+use Rattle.emitted_procedures.specs.procedure_emission.bound_items.BoundItems.{Saving, saving_item}
+use Rattle.emitted_procedures.specs.procedure_emission.DummyBounds.{IsMadeAnew, IsKeptAt, IsBoundValue, HasConstantBounds, IsQuantityOf, kept, HasAdjustableBounds, HasDummyBounds, constant, adjustable, BoundsAreKnown}
+use Rattle.emitted_procedures.specs.procedure_emission.EmittedUnits.{IsItem, StepsFit, IsOfRoom, RoomIsApart, is_number_pointer, is_function_pointer, AreParameters, no_parameters, named, named_procedure, alternate, ResultIsMade, IsEmittedUnit, IsCosted}
 use Rattle.unit_file_laws.proofs.main_file_laws.Known.{position_finds}
 use Rattle.main_programs.proofs.Emission.{lower_written, size_written}
 use Rattle.main_programs.proofs.MainRuns.{ones_cost}
 use Rattle.main_programs.proofs.MainStrings.{front_is, string_of}
-use Rattle.unit_file_laws.specs.unit_file.UnitFile.{Parameter, Inventory, Bases, result_count, frame_count, first_list, first_string, first_parameter, result_object, first_temporary, place_or_none, place_of_constant, place_of_list, place_of_parameter, place_of_string, framed_names, result_names, parameter_object, address_in, lower_of, size_of}
+use Rattle.ways_back.proofs.UnitWays.{ways_back, ways_back_if}
+use Rattle.behind_bounds.specs.BehindBounds.{GoesBackWithin}
+use Rattle.behind_bounds.proofs.StepsBehind.{steps_stand_behind}
+use Rattle.behind_bounds.proofs.ValuesBehind.{value_same}
+use Rattle.behind_bounds.proofs.ItemsBehind.{items_stand_behind}
+use Rattle.unit_file_laws.specs.unit_file.UnitFile.{Parameter, BoundKind, LowerOf, SizeOf, Inventory, Bases, bound_name, result_count, frame_count, first_list, first_string, first_parameter, result_object, first_temporary, first_bound, place_of_bound, quantity_in, place_or_none, place_of_constant, place_of_list, place_of_parameter, place_of_string, framed_names, result_names, parameter_object, address_in, lower_of, size_of}
+use Rattle.unit_file_laws.specs.unit_file.UnitSavings.{savings_of}
 use Rattle.unit_forms.specs.main_file.MainFile.{temporary_names}
 use Rattle.unit_file_laws.specs.unit_sites.UnitSites.{UnitsOfFile, all_units, sites_of}
+use Rattle.unit_file_laws.specs.KnownUnits.{unit_writing}
 use Rattle.unit_file_laws.proofs.unit_places.Declared.{as_main}
 use Rattle.unit_file_laws.proofs.unit_places.Sites.{owned, AreApart, constants_first, objects_first, constants_apart}
-use Rattle.unit_programs.specs.TranslatedUnits.{Rendering, units_of, dummies_named, IsDummy, is_number, is_procedure, IsTranslatedUnit, IsTranslatedSet}
-use Rattle.unit_programs.specs.EmittedFile.{room_at, surroundings_of, emission_of, costs_of, UnitsAreEmitted}
+use Rattle.unit_programs.specs.TranslatedUnits.{Rendering, units_of, facts_of, whole_text, dummies_named, BoundsAreWritten, IsKept, BoundsAreKept, DummyBounds, are_written, are_kept, IsDummy, is_number, is_procedure, IsTranslatedUnit, IsTranslatedSet}
+use Rattle.unit_programs.specs.EmittedFile.{room_at, surroundings_of, emission_of, costs_of, costs_behind, UnitsAreEmitted}
 use Rattle.unit_programs.proofs.Pieces.{placed_by}
+use Rattle.unit_programs.proofs.Costs.{costs_more, costs_first}
 use Rattle.unit_programs.proofs.Sequences.{same_unit}
+use Rattle.unit_programs.proofs.Savings.{saving_for, savings_many, saving_there, saving_back}
+use Rattle.unit_programs.proofs.Apart as apart_in
 use Rattle.unit_programs.proofs.Held as held
 use Rattle.unit_programs.proofs.Objects as objects_of
 use Rattle.unit_programs.proofs.Objects.{found_back, IsFunctionOf}
@@ -82,6 +100,13 @@ module _ (fs : List UnitsOfFile) (rs : List Rendering) (is : IsTranslatedSet fs 
   abbrev e : Emission
   e = emission_of fs j r
 
+  -- how many bounds are kept, and what the function goes by where steps are numbered behind those
+  abbrev first : ℕ
+  first = length v.bounds
+
+  abbrev own_writing : Writing
+  own_writing = unit_writing r.site r.written u.facts r.kind
+
   one : IsTranslatedUnit rs j r
   one = is.units j r at
 
@@ -99,10 +124,24 @@ module _ (fs : List UnitsOfFile) (rs : List Rendering) (is : IsTranslatedSet fs 
 
   -- ## Steps
 
+  goes_back : (n : ℕ) (st : Step) → slice_get u.steps n ≡ Some st → GoesBackWithin n st
+  goes_back n st there = record {
+    again = λ m same. ways_back (facts_of rs j r) u one.lowered n m (there ∙ ap Some same);
+    again_if = λ p m same. ways_back_if (facts_of rs j r) u one.lowered n p m (there ∙ ap Some same);
+  }
+
   item_of : (n : ℕ) (st : Step) → slice_get u.steps n ≡ Some st → IsItem s u e n st
   item_of n st there =
       let i = objects_of.item_at fs rs is j r at n st there in
-      record { item = i.item; emitted = i.emitted; stands = ap (λ xs. slice_get xs n) function_is.code ∙ i.at }
+      record {
+        item = i.item;
+        emitted = sym (items_stand_behind s.numbers own_writing u.position first n st (goes_back n st there)) ∙ i.emitted;
+        stands = ap (λ xs. slice_get xs (first + n)) function_is.code ∙ i.at;
+      }
+
+  -- a step of the text, behind what is kept
+  step_behind : (n : ℕ) (st : Step) → slice_get u.steps n ≡ Some st → slice_get (whole_text r).steps (first + n) ≡ Some st
+  step_behind n st there = (steps_stand_behind first u).places n ∙ there
 
   -- ## The frame
 
@@ -150,7 +189,7 @@ module _ (fs : List UnitsOfFile) (rs : List Rendering) (is : IsTranslatedSet fs 
     where
       framed : (n : ℕ) (z : Parameter) → slice_get v.parameters n ≡ Some z → slice_get (framed_names v) n ≡ Some (variable_name z.name)
       framed n z there =
-          get_front (map (λ (p : Parameter). variable_name p.name) v.parameters) (result_names v.returned ++ temporary_names 1 v.temporaries) n (variable_name z.name) (map_at (λ (p : Parameter). variable_name p.name) v.parameters n z there)
+          get_front (map (λ (p : Parameter). variable_name p.name) v.parameters) (result_names v.returned ++ (temporary_names 1 v.temporaries ++ map bound_name v.bounds)) n (variable_name z.name) (map_at (λ (p : Parameter). variable_name p.name) v.parameters n z there)
 
   pub parameter_placed : (i : ℕ) (p : Parameter) → slice_get v.parameters i ≡ Some p → place_of_parameter v p.name ≡ Some i
   parameter_placed i p at' = placed_by (λ (z : Parameter). z.name) v.parameters i p (λ m q other same. parameter_alone i m p q at' other same) at'
@@ -166,13 +205,12 @@ module _ (fs : List UnitsOfFile) (rs : List Rendering) (is : IsTranslatedSet fs 
   unfolding address_in
   procedure_address x i own placed = ap (address_in v b x) own ∙ parameter_there x i placed
 
-  with_parameter : (i : ℕ) (formals : List Formal) (p : Parameter) (types : List ParameterType) → slice_get v.parameters i ≡ Some p → IsDummy u.facts p → AreParameters u e (suc i) formals types → AreParameters u e i (Named p.name ∷ formals) (p.type ∷ types)
+  with_parameter : (i : ℕ) (formals : List Formal) (p : Parameter) (types : List ParameterType) → slice_get v.parameters i ≡ Some p → IsDummy u.facts v p → AreParameters u e (suc i) formals types → AreParameters u e i (Named p.name ∷ formals) (p.type ∷ types)
   with_parameter i formals p types at' (is_number own numeric width fixed pointer) later =
       named i p.name formals p.type types (record {
         dummy = own;
         numeric = numeric;
         width = width;
-        fixed = fixed;
         pointer = pointer;
         address = dummy_address p.name i own (parameter_placed i p at');
         fresh = function_is.parameter i p at' ∙ ap Some (number_parameter p.type pointer);
@@ -180,7 +218,6 @@ module _ (fs : List UnitsOfFile) (rs : List Rendering) (is : IsTranslatedSet fs 
   with_parameter i formals p types at' (is_procedure own fixed pointer) later =
       named_procedure i p.name formals p.type types (record {
         dummy = own;
-        fixed = fixed;
         pointer = pointer;
         address = procedure_address p.name i own (parameter_placed i p at');
         fresh = function_is.parameter i p at' ∙ ap Some (function_parameter p.type pointer);
@@ -249,36 +286,15 @@ module _ (fs : List UnitsOfFile) (rs : List Rendering) (is : IsTranslatedSet fs 
         behind = omega (arith, many);
       }
 
-  -- a parameter that is passed, or none of the frame
-  through_parameter : (x : Bytes) (k : Class) (object : ℕ) → address_in v b x k ≡ Through object → object ≡ parameter_object v b x
-  unfolding address_in
-  through_parameter x class.Dummy object h = through_same object (parameter_object v b x) (sym h)
-    where
-      through_same : (m n : ℕ) → Through m ≡ Through n → m ≡ n
-      through_same m n g = cc
-  through_parameter x class.DummyProcedure object h = through_same object (parameter_object v b x) (sym h)
-    where
-      through_same : (m n : ℕ) → Through m ≡ Through n → m ≡ n
-      through_same m n g = cc
-  through_parameter x class.Result object h = absurd (cc)
-  through_parameter x other object h = absurd (cc)
-
-  no_temporary : (k : ℕ) → k < v.temporaries → (x : Bytes) (place : Option ℕ) → place_of_parameter v x ≡ place → first_parameter v b + unwrap_or place (frame_count v) ≡ first_temporary v b + k → ⊥
-  no_temporary k below x None placed same = omega (arith, same, below)
-  no_temporary k below x (Some i) placed same =
-      let f = position_finds (λ (p : Parameter). bytes_eq x p.name) v.parameters i placed in
-      let few = within v.parameters i f.one f.at in
-      omega (arith, same, few)
-
   apart : (k : ℕ) → nat_lt k v.temporaries ≡ true → IsApart e.writing.naming k
   apart k h =
       let below = ltb-true k v.temporaries h in
       record {
         temporaries = λ i same. omega (arith, same);
-        addresses = λ x object there same. no_temporary k below x (place_of_parameter v x) refl (sym (through_parameter x (u.facts.program.attribute x).class object there) ∙ same);
+        addresses = λ x object there same. apart_in.no_temporary v b k below x (place_of_parameter v x) refl (sym (apart_in.through_parameter v b x (u.facts.program.attribute x).class object there) ∙ same);
         lengths = λ x same. (let no : ⊥ = omega (arith, same, below) in no);
-        lowers = λ x i saved there. lower_written (slice_get (u.facts.program.attribute x).bounds i) saved there;
-        sizes = λ x i saved there. size_written (slice_get (u.facts.program.attribute x).bounds i) saved there;
+        lowers = λ x i saved there. apart_in.kept_behind v b k below (place_of_bound v x i LowerOf) (lower_of (slice_get (u.facts.program.attribute x).bounds i)) saved (λ other. lower_written (slice_get (u.facts.program.attribute x).bounds i) saved other) there;
+        sizes = λ x i saved there. apart_in.kept_behind v b k below (place_of_bound v x i SizeOf) (size_of (slice_get (u.facts.program.attribute x).bounds i)) saved (λ other. size_written (slice_get (u.facts.program.attribute x).bounds i) saved other) there;
       }
 
   -- ## What is passed to the library
@@ -300,17 +316,18 @@ module _ (fs : List UnitsOfFile) (rs : List Rendering) (is : IsTranslatedSet fs 
   list_held : (n : ℕ) (way : Direction) (layout : Layout) (controls : Controls) (ps : Pures) (m : ℕ) (unit : ℤ) → slice_get u.steps n ≡ Some (Acts (Starts way layout controls) ps m) → unit_of ps ≡ Some unit
       → s.first.frozen (e.writing.library.list n) ≡ Some (list_object unit)
   list_held n way layout controls ps m unit there of =
-      let l = one.passes.units n way layout controls ps m unit there of in
-      held.held_list fs j r.site r.written site_there written_there l.0 (first_list v b + place_or_none (place_of_list v n)) l.1 (ap (λ found. first_list v b + place_or_none found) l.2) l.3 ∙ ap (λ z. Some (list_object z)) l.4
+      let l = one.passes.units (first + n) way layout controls ps m unit (step_behind n (Acts (Starts way layout controls) ps m) there) of in
+      held.held_list fs j r.site r.written site_there written_there l.0 (first_list v b + place_or_none (place_of_list v (first + n))) l.1 (ap (λ found. first_list v b + place_or_none found) l.2) l.3 ∙ ap (λ z. Some (list_object z)) l.4
 
   text_held : (n : ℕ) (text : Bytes) → slice_get u.steps n ≡ Some (Halt text) → Holds (s.first.frozen (e.writing.library.text n)) (IsText text)
   text_held n text there =
-      let string = string_of (as_main v) u.steps n text one.built.stops there in
-      let short = one.passes.short n text there in
+      let behind' = step_behind n (Halt text) there in
+      let string = string_of (as_main v) (whole_text r).steps (first + n) text one.built.stops behind' in
+      let short = one.passes.short (first + n) text behind' in
       record {
         bytes = map Some (text ++ replicate (length text + 1 - length text) 0);
-        is = held.held_string fs j r.site r.written site_there written_there string.place (first_string v b + place_or_none (place_of_string v n)) n (ap (λ found. first_string v b + place_or_none found) string.placed) string.at
-            ∙ ap (λ bytes. Some (string_object bytes)) (one.passes.texts n text there);
+        is = held.held_string fs j r.site r.written site_there written_there string.place (first_string v b + place_or_none (place_of_string v (first + n))) (first + n) (ap (λ found. first_string v b + place_or_none found) string.placed) string.at
+            ∙ ap (λ bytes. Some (string_object bytes)) (one.passes.texts (first + n) text behind');
         begins = (short.1, short.0, front_is text (replicate (length text + 1 - length text) 0));
       }
 
@@ -326,6 +343,130 @@ module _ (fs : List UnitsOfFile) (rs : List Rendering) (is : IsTranslatedSet fs 
     constants = constant_held;
     lists = list_held;
     texts = text_held;
+  }
+
+  -- ## Bounds
+
+  -- what is written for a value does not depend on how steps are numbered
+  saving_same : (saving : Saving) → saving_item e.writing saving ≡ saving_item own_writing saving
+  unfolding saving_item
+  saving_same saving = ap (option_map (Assign (Variable saving.object ToNumber))) (sym (value_same own_writing first saving.value))
+
+  -- a dummy is one of the parameters
+  parameter_named : (x : Bytes) (ps : List Parameter) → IsIn x (map (λ (p : Parameter). p.name) ps) → (i : ℕ) × (p : Parameter) × (slice_get ps i ≡ Some p) × (p.name ≡ x)
+  parameter_named x [] among = elim among [ ]
+  parameter_named _ (p ∷ ps) first_in = (0, p, refl, refl)
+  parameter_named x (p ∷ ps) (later_in among) = let found = parameter_named x ps among in (suc found.0, found.1, found.2, found.3)
+
+  abbrev savings : List Saving
+  savings = savings_of v b
+
+  saved_many : length savings ≡ first
+  saved_many = savings_many (first_bound v b) v.bounds
+
+  -- the object of a bound that is kept
+  bound_made : (i : ℕ) (saving : Saving) → slice_get savings i ≡ Some saving → IsMadeAnew e saving.object
+  bound_made i saving there =
+      let found = saving_back (first_bound v b) v.bounds i saving there in
+      let object = found.object in
+      let many = parameters_many in
+      let frame = function_is.frame in
+      record {
+        in_frame = record {
+          index = length v.parameters + (result_count v.returned + (v.temporaries + i));
+          at = omega (arith, frame, object);
+          bytes = None ∷ None ∷ None ∷ None ∷ [];
+          is = function_is.bound i found.one found.at;
+          room = omega arith;
+        };
+        behind = omega (arith, many);
+      }
+
+  -- a unit with a result has an object for it
+  no_result : (x : Bytes) (object i : ℕ) → (u.facts.program.attribute x).class ≡ class.Result → e.writing.naming.address x ≡ Alone object → object ≡ first_bound v b + i → ⊥
+  no_result x object i own there same =
+      let res = one.result (one.results x own) in
+      let counted = ap result_count res.returned in
+      let place = apart_in.result_alone v b x (u.facts.program.attribute x).class object own there in
+      omega (arith, counted, place, same)
+
+  -- no parameter is the object of a bound
+  no_parameter : (x : Bytes) (object i : ℕ) → i < first → e.writing.naming.address x ≡ Through object → object ≡ first_bound v b + i → ⊥
+  no_parameter x object i below there same =
+      apart_in.no_bound v b i below x (place_of_parameter v x) refl (sym (apart_in.through_parameter v b x (u.facts.program.attribute x).class object there) ∙ same)
+
+  kept_at : (i : ℕ) (saving : Saving) → slice_get savings i ≡ Some saving → IsKeptAt e i saving
+  kept_at i saving there =
+      let item = objects_of.saving_at fs rs is j r at i saving there in
+      let found = saving_back (first_bound v b) v.bounds i saving there in
+      let object = found.object in
+      let below = within v.bounds i found.one found.at in
+      record {
+        item = item.item;
+        emitted = saving_same saving ∙ item.emitted;
+        stands = ap (λ xs. slice_get xs i) function_is.code ∙ item.at;
+        made = bound_made i saving there;
+        temporaries = λ k numeric same. (let few = ltb-true k v.temporaries numeric in let no : ⊥ = omega (arith, few, object, same) in no);
+        results = λ x k own address same. no_result x k i own address (same ∙ object);
+        addresses = λ x k address same. no_parameter x k i below address (same ∙ object);
+        lengths = λ x same. (let no : ⊥ = omega (arith, object, below, same) in no);
+      }
+
+  -- no two are kept by one object
+  kept_alone : (i k : ℕ) (saving other : Saving) → slice_get savings i ≡ Some saving → slice_get savings k ≡ Some other → saving.object ≡ other.object → i ≡ k
+  kept_alone i k saving other there there' same =
+      let object = (saving_back (first_bound v b) v.bounds i saving there).object in
+      let object' = (saving_back (first_bound v b) v.bounds k other there').object in
+      omega (arith, object, object', same)
+
+  kept_value : (i : ℕ) (saving : Saving) → slice_get savings i ≡ Some saving → IsBoundValue u.facts one.entry.formals saving.value
+  kept_value i saving there =
+      let found = saving_back (first_bound v b) v.bounds i saving there in
+      subst (IsBoundValue u.facts one.entry.formals) found.value (one.values i found.one found.at)
+
+  -- bounds that are written
+  constants : (x : Bytes) → BoundsAreWritten u.facts v x → HasConstantBounds e x
+  constants x written = record {
+    fits = written.fits;
+    closed = written.closed;
+    lowers = λ k bound there. apart_in.quantity_written v b (place_of_bound v x k LowerOf) (lower_of (slice_get (u.facts.program.attribute x).bounds k)) (written.unkept k LowerOf) ∙ ap lower_of there;
+    sizes = λ k bound last there upper. apart_in.quantity_written v b (place_of_bound v x k SizeOf) (size_of (slice_get (u.facts.program.attribute x).bounds k)) (written.unkept k SizeOf) ∙ ap size_of there;
+  }
+
+  -- bounds that are kept
+  quantity_of : (x : Bytes) (k : ℕ) (kind : BoundKind) (p : Pure) (written : Quantity) → IsKept v x k kind p → IsQuantityOf savings (quantity_in v b (place_of_bound v x k kind) written) p
+  quantity_of x k kind p written is =
+      kept is.place (saving_for (first_bound v b + is.place) is.one) (apart_in.quantity_kept v b (place_of_bound v x k kind) is.place written is.placed)
+      (saving_there (first_bound v b) v.bounds is.place is.one is.at) is.value
+
+  adjusted : (x : Bytes) → BoundsAreKept u.facts v x → HasAdjustableBounds e savings x
+  adjusted x are = record {
+    lowers = λ k d there.
+        let l = are.lowers k d there in
+        record { value = l.0; is = l.1; known = quantity_of x k LowerOf l.0 (lower_of (slice_get (u.facts.program.attribute x).bounds k)) l.2 };
+    sizes = λ k d last there upper.
+        let z = are.sizes k d last there upper in
+        record { lower = z.0; upper = z.1; lower_is = z.2; upper_is = z.3; known = quantity_of x k SizeOf (size_pure z.0 z.1) (size_of (slice_get (u.facts.program.attribute x).bounds k)) z.4 };
+    closed = are.closed;
+  }
+
+  dummy_known : (x : Bytes) → DummyBounds u.facts v x → HasDummyBounds e savings x
+  dummy_known x (are_written fixed written) = constant fixed (constants x written)
+  dummy_known x (are_kept are) = adjustable (adjusted x are)
+
+  dummy_bounds : (p : Parameter) → IsDummy u.facts v p → DummyBounds u.facts v p.name
+  dummy_bounds p (is_number own numeric width bounds pointer) = bounds
+  dummy_bounds p (is_procedure own bounds pointer) = bounds
+
+  bounds_known : BoundsAreKnown e one.entry.formals savings
+  bounds_known = record {
+    saved = kept_at;
+    alone = kept_alone;
+    values = kept_value;
+    others = λ x other. constants x (one.bounds x other);
+    dummies = λ x among.
+        let found = parameter_named x v.parameters (subst (IsIn x) one.dummies among) in
+        subst (HasDummyBounds e savings) found.3 (dummy_known found.1.name (dummy_bounds found.1 (one.parameters found.0 found.1 found.2)));
   }
 
   -- ## The unit
@@ -345,33 +486,46 @@ module _ (fs : List UnitsOfFile) (rs : List Rendering) (is : IsTranslatedSet fs 
   unfolding address_in
   reached f x p own h = subst (λ k. Reaches s.first p (address_in v b x k)) (sym own) (stored_of.reached fs rs is j r at f x p own h)
 
-  pub emitted : IsEmittedUnit s j u (costs_of u) e
-  emitted = record {
-    facts = refl;
-    runs = λ data'. one.runs (sym (ap (λ p. p.kind) program_is) ∙ data');
-    items = item_of;
-    in_order = λ n st there. omega arith;
-    positive = λ n st there. ones_cost (length u.steps) n (within u.steps n st there);
-    entry = one.entry;
-    only = ap (λ p. p.entries) program_is ∙ one.only;
-    begins = one.begins;
-    room = room_is;
-    inside = inside;
-    apart_rooms = rooms_apart;
-    parameters = parameters_are;
-    gives = λ other. function_is.gives ∙ one.gives (λ function. other (ap (λ p. p.kind) program_is ∙ function));
-    result = λ function. result_made (sym (ap (λ p. p.kind) program_is) ∙ function);
-    temporaries = temporary_made;
-    apart = apart;
-    fit = fit;
-    calls = calls;
-    sound = stored_of.sound fs rs is j r at;
-    reached = reached;
-    fits = one.fits;
-    closed = one.closed;
-    lowers = λ x k bound there. ap lower_of there;
-    sizes = λ x k bound last there upper. ap size_of there;
-  }
+  -- the first step is the first that stands behind what is kept
+  first_place : first + u.begins one.entry.start ≡ length savings
+  first_place = let start = one.begins in let many = saved_many in omega (arith, start, many)
+
+  more_behind : (n : ℕ) → cost (costs_of u) n ≤ cost (costs_behind first (costs_of u)) n
+  more_behind n = costs_more first (costs_of u) n
+
+  first_cost : length savings + cost (costs_of u) (u.begins one.entry.start) ≤ cost (costs_behind first (costs_of u)) (u.begins one.entry.start)
+  first_cost =
+      subst (λ start. length savings + cost (costs_of u) start ≤ cost (costs_behind first (costs_of u)) start) (sym one.begins)
+      (let many = saved_many in let costs = costs_first first (costs_of u) in omega (arith, many, costs))
+
+  pub emitted : (is : IsEmittedUnit s j u (costs_of u) e) × IsCosted u (costs_of u) (costs_behind first (costs_of u)) is.entry is.savings
+  emitted = (
+    record {
+      facts = refl;
+      runs = λ data'. one.runs (sym (ap (λ p. p.kind) program_is) ∙ data');
+      items = item_of;
+      in_order = λ n st there. omega arith;
+      positive = λ n st there. ones_cost (length u.steps) n (within u.steps n st there);
+      entry = one.entry;
+      only = ap (λ p. p.entries) program_is ∙ one.only;
+      room = room_is;
+      inside = inside;
+      apart_rooms = rooms_apart;
+      parameters = parameters_are;
+      gives = λ other. function_is.gives ∙ one.gives (λ function. other (ap (λ p. p.kind) program_is ∙ function));
+      result = λ function. result_made (sym (ap (λ p. p.kind) program_is) ∙ function);
+      temporaries = temporary_made;
+      apart = apart;
+      fit = fit;
+      calls = calls;
+      sound = stored_of.sound fs rs is j r at;
+      reached = reached;
+      savings = savings;
+      bounds = bounds_known;
+      begins = first_place;
+    },
+    record { more = more_behind; first = first_cost },
+  )
 
 pub units_are_emitted : UnitsAreEmitted
 units_are_emitted fs rs is j r at = emitted fs rs is j r at

@@ -1,5 +1,5 @@
 -- The example is translated.
-use Rattle.std.specs.Prelude.{◌≡◌, ◌≢◌, ℕ, zero, suc, nat_eq, ℤ, pos, Bool, true, false, [], ◌∷◌, Some, None, length, slice_get, bytes_eq, if◌then◌else◌}
+use Rattle.std.specs.Prelude.{◌≡◌, ◌≢◌, ℕ, zero, suc, ◌+◌, nat_eq, ℤ, pos, Bool, true, false, [], ◌∷◌, Some, None, length, slice_get, bytes_eq, if◌then◌else◌}
 use Rattle.std.proofs.Common.{refl, sym, ap, ◌∙◌, subst, arith}
 use Rattle.std.proofs.lemmas.Slice.Eq.{bytes_eq-Decides}
 use Rattle.emitted_procedures.specs.f_tree.declared.names.Basic.{Basic}
@@ -19,14 +19,15 @@ use Rattle.emitted_procedures.specs.c_tree.FlatForm.{whole_body}
 use Rattle.emitted_procedures.specs.c_emit.Numbers.{Writing, is_numeric, has_shape}
 use Rattle.unit_file_laws.proofs.linking_laws.Places.{some_same}
 use Rattle.emitted_procedures.specs.procedure_emission.EmittedUnits.{is_number_pointer}
+use Rattle.behind_bounds.specs.BehindBounds.{behind, writing_behind}
 use Rattle.unit_file_laws.specs.unit_file.UnitNames.{own_names, routine_name}
 use Rattle.unit_file_laws.specs.KnownUnits.{IsVariable, IsParameter, NamesAreListed, unit_writing}
 use Rattle.unit_file_laws.specs.BuiltUnits.{IsCalled, AreListed, IsUnitBuilt}
 use Rattle.unit_programs.specs.OwnStorage.{HasOwnStorage}
-use Rattle.unit_programs.specs.TranslatedUnits.{Rendering, written_of, numbers_of, IsDummy, is_number, Flows, Passes, IsTranslatedUnit, IsTranslatedSet}
+use Rattle.unit_programs.specs.TranslatedUnits.{Rendering, written_of, numbers_of, are_written, IsDummy, is_number, Flows, Passes, IsTranslatedUnit, IsTranslatedSet}
 use Rattle.unit_programs.specs.Example.{the_variable, the_dummy, the_function, the_subroutine, an_integer, no_name, main_attribute, function_attribute, subroutine_attribute, main_unit, function_unit, subroutine_unit, its_facts, text_with, main_steps, function_steps, subroutine_steps, main_kind, main_stage, its_constants, main_inventory, function_inventory, subroutine_inventory, its_inventories, main_site, function_site, subroutine_site, main_items, function_items, subroutine_items, main_body, function_body, subroutine_body, outline_for, main_written, function_written, subroutine_written, its_files, main_rendering, function_rendering, subroutine_rendering, its_renderings, example_opened}
 use Rattle.unit_programs.proofs.Told.{differ_by, distinct_by, apart_by, EachAt, each_at}
-use Rattle.unit_programs.proofs.ExampleParts.{none_led, led_to, nothing_at_all, no_some, bare_bounds, KindsFit, IsKept, StageFits, OutputFits, flows_by, passes_by, storage_by, fixed_by}
+use Rattle.unit_programs.proofs.ExampleParts.{none_led, led_to, nothing_at_all, no_some, written_by, KindsFit, IsKept, StageFits, OutputFits, flows_by, passes_by, storage_by, fixed_by}
 
 -- ## Names of the main program
 
@@ -77,7 +78,7 @@ no_strings : length (whole_body main_body).items.strings ≡ 0
 unfolding trees_opened
 no_strings = refl
 
-main_is_built : IsUnitBuilt (numbers_of its_renderings) (written_of its_renderings) main_site main_written (text_with 0 main_unit main_steps) main_kind (outline_for main_site main_inventory) main_items
+main_is_built : IsUnitBuilt (numbers_of its_renderings) (written_of its_renderings) main_site main_written (behind 0 (text_with 0 main_unit main_steps)) main_kind (outline_for main_site main_inventory) main_items
 unfolding example_opened
 main_is_built = record {
   differ = differ_by its_constants main_inventory refl refl refl refl refl refl refl refl refl;
@@ -90,30 +91,30 @@ main_is_built = record {
   as_many = no_strings;
 }
 
-no_truth : {A : Type 0} → false ≡ true → A
+pub no_truth : {A : Type 0} → false ≡ true → A
 no_truth h = absurd (cc)
 
 first_kind : (k : ℕ) (b : Basic) → main_kind 1 k ≡ Some b → (if nat_eq k 0 then Some basic.Integer else main_kind 0 k) ≡ Some b
 first_kind zero b h = h
 first_kind (suc k) b h = no_some b h
 
-main_flows : Flows (unit_writing main_site main_written (its_facts 0 main_unit) main_kind) (text_with 0 main_unit main_steps) main_stage
+main_flows : Flows (writing_behind 0 (unit_writing main_site main_written (its_facts 0 main_unit) main_kind)) (text_with 0 main_unit main_steps) (λ n. main_stage (0 + n))
     (record { name = []; formals = []; start = 0 })
 unfolding example_opened
 main_flows =
-    flows_by (unit_writing main_site main_written (its_facts 0 main_unit) main_kind) (text_with 0 main_unit main_steps) main_stage
+    flows_by (writing_behind 0 (unit_writing main_site main_written (its_facts 0 main_unit) main_kind)) (text_with 0 main_unit main_steps) (λ n. main_stage (0 + n))
     (record { name = []; formals = []; start = 0 }) (
-      (λ m among k b is. first_kind k b (ap (λ i. main_kind i k) (led_to m 1 among) ∙ is)),
+      (λ m among k b is. first_kind k b (ap (λ i. main_kind (0 + i) k) (led_to m 1 among) ∙ is)),
       (
-        (λ m among k b is. no_some b (ap (λ i. main_kind i k) (led_to m 2 among) ∙ is)),
+        (λ m among k b is. no_some b (ap (λ i. main_kind (0 + i) k) (led_to m 2 among) ∙ is)),
         (
-          (λ m among k b is. no_some b (ap (λ i. main_kind i k) (led_to m 3 among) ∙ is)),
+          (λ m among k b is. no_some b (ap (λ i. main_kind (0 + i) k) (led_to m 3 among) ∙ is)),
           (
-            (λ m among k b is. no_some b (ap (λ i. main_kind i k) (led_to m 4 among) ∙ is)),
+            (λ m among k b is. no_some b (ap (λ i. main_kind (0 + i) k) (led_to m 4 among) ∙ is)),
             (
-              (λ m among k b is. no_some b (ap (λ i. main_kind i k) (led_to m 5 among) ∙ is)),
+              (λ m among k b is. no_some b (ap (λ i. main_kind (0 + i) k) (led_to m 5 among) ∙ is)),
               (
-                (λ m among k b is. no_some b (ap (λ i. main_kind i k) (led_to m 6 among) ∙ is)),
+                (λ m among k b is. no_some b (ap (λ i. main_kind (0 + i) k) (led_to m 6 among) ∙ is)),
                 ((λ m among k b is. none_led m among), tt),
               ),
             ),
@@ -122,17 +123,17 @@ main_flows =
       ),
     )
     (tt, (tt, (tt, (tt, (tt, (tt, (tt, tt))))))) (
-      (λ m among. ap main_stage (sym (led_to m 1 among))),
+      (λ m among. ap (λ i. main_stage (0 + i)) (sym (led_to m 1 among))),
       (
-        (λ m among. ap main_stage (sym (led_to m 2 among))),
+        (λ m among. ap (λ i. main_stage (0 + i)) (sym (led_to m 2 among))),
         (
-          (λ m among. ap main_stage (sym (led_to m 3 among))),
+          (λ m among. ap (λ i. main_stage (0 + i)) (sym (led_to m 3 among))),
           (
-            (λ m among. ap main_stage (sym (led_to m 4 among))),
+            (λ m among. ap (λ i. main_stage (0 + i)) (sym (led_to m 4 among))),
             (
-              (λ m among. ap main_stage (sym (led_to m 5 among))),
+              (λ m among. ap (λ i. main_stage (0 + i)) (sym (led_to m 5 among))),
               (
-                (λ m among. ap main_stage (sym (led_to m 6 among))),
+                (λ m among. ap (λ i. main_stage (0 + i)) (sym (led_to m 6 among))),
                 ((λ m among. none_led m among), tt),
               ),
             ),
@@ -164,9 +165,9 @@ main_flows =
 six_only : (unit : ℤ) → Some (pos 6) ≡ Some unit → pos 6 ≡ unit
 six_only unit h = some_same (pos 6) unit h
 
-main_passes : Passes main_inventory (text_with 0 main_unit main_steps)
+main_passes : Passes main_inventory (behind 0 (text_with 0 main_unit main_steps))
 unfolding example_opened
-main_passes = passes_by main_inventory (text_with 0 main_unit main_steps) (tt, (tt, (tt, ((λ unit is. (0, record { step = 3; unit = pos 6 }, refl, refl, six_only unit is)), (tt, (tt, (tt, tt)))))))
+main_passes = passes_by main_inventory (behind 0 (text_with 0 main_unit main_steps)) (tt, (tt, (tt, ((λ unit is. (0, record { step = 3; unit = pos 6 }, refl, refl, six_only unit is)), (tt, (tt, (tt, tt)))))))
 
 main_storage : HasOwnStorage main_unit main_inventory
 unfolding example_opened
@@ -196,9 +197,10 @@ main_translated = record {
   parameters = λ i p at. nothing_at_all i p at;
   gives = λ other. refl;
   result = λ function. absurd (main_none function);
+  results = λ x own. no_other x class.Result (λ h. absurd (cc)) (λ h. absurd (cc)) (λ h. absurd (cc)) own;
   storage = main_storage;
-  fits = λ x k b at. bare_bounds (main_attribute x).bounds k b (main_bare x) at;
-  closed = λ x k b at more. bare_bounds (main_attribute x).bounds k b (main_bare x) at;
+  bounds = λ x other. written_by (its_facts 0 main_unit) main_inventory x refl (main_bare x);
+  values = λ i one at. nothing_at_all i one at;
   built = main_is_built;
   flows = main_flows;
   passes = main_passes;
@@ -240,7 +242,7 @@ no_function_strings : length (whole_body function_body).items.strings ≡ 0
 unfolding trees_opened
 no_function_strings = refl
 
-function_is_built : IsUnitBuilt (numbers_of its_renderings) (written_of its_renderings) function_site function_written (text_with 1 function_unit function_steps) (λ n k. None) (outline_for function_site function_inventory) function_items
+function_is_built : IsUnitBuilt (numbers_of its_renderings) (written_of its_renderings) function_site function_written (behind 0 (text_with 1 function_unit function_steps)) (λ n k. None) (outline_for function_site function_inventory) function_items
 unfolding example_opened
 function_is_built = record {
   differ = differ_by [] function_inventory refl refl refl refl refl refl refl refl refl;
@@ -254,7 +256,7 @@ function_is_built = record {
 }
 
 -- two steps, a store and a return, over no temporaries and no output
-two_flow : (w : Writing) (u : Text) (entry : EntryPoint) (target value : Pure) → ((n k : ℕ) → w.kind n k ≡ None) → u.steps ≡ Put target value ∷ Back ∷ [] → Flows w u (λ n. None) entry
+pub two_flow : (w : Writing) (u : Text) (entry : EntryPoint) (target value : Pure) → ((n k : ℕ) → w.kind n k ≡ None) → u.steps ≡ Put target value ∷ Back ∷ [] → Flows w u (λ n. None) entry
 unfolding example_opened
 two_flow w u entry target value none steps =
     flows_by w u (λ n. None) entry
@@ -278,7 +280,7 @@ function_translated = record {
   begins = refl;
   named = refl;
   dummies = refl;
-  parameters = each_at (λ i p. IsDummy (its_facts 1 function_unit) p) function_inventory.parameters (is_number refl refl refl (fixed_by (its_facts 1 function_unit) the_dummy refl refl) refl, tt);
+  parameters = each_at (λ i p. IsDummy (its_facts 1 function_unit) function_inventory p) function_inventory.parameters (is_number refl refl refl (are_written (fixed_by (its_facts 1 function_unit) the_dummy refl refl) (written_by (its_facts 1 function_unit) function_inventory the_dummy refl refl)) refl, tt);
   gives = λ other. absurd (other refl);
   result = λ function. record {
     type = number_type.Integer;
@@ -287,12 +289,13 @@ function_translated = record {
     numeric = λ x. function_names x (λ a. a.class ≡ class.Result → is_numeric a.basic ≡ true) (λ same. refl) (λ h same. absurd (cc)) (λ same. absurd (cc));
     gives = refl;
   };
+  results = λ x own. refl;
   storage = storage_by function_unit function_inventory refl refl refl refl tt;
-  fits = λ x k b at. bare_bounds (function_attribute x).bounds k b (function_bare x) at;
-  closed = λ x k b at more. bare_bounds (function_attribute x).bounds k b (function_bare x) at;
+  bounds = λ x other. written_by (its_facts 1 function_unit) function_inventory x refl (function_bare x);
+  values = λ i one at. nothing_at_all i one at;
   built = function_is_built;
   flows = two_flow _ (text_with 1 function_unit function_steps) _ (Name the_function) (Load (Name the_dummy)) (λ n k. refl) refl;
-  passes = passes_by function_inventory (text_with 1 function_unit function_steps) (tt, (tt, tt));
+  passes = passes_by function_inventory (behind 0 (text_with 1 function_unit function_steps)) (tt, (tt, tt));
   no_wrapper = refl;
 }
 
@@ -327,7 +330,7 @@ no_subroutine_strings : length (whole_body subroutine_body).items.strings ≡ 0
 unfolding trees_opened
 no_subroutine_strings = refl
 
-subroutine_is_built : IsUnitBuilt (numbers_of its_renderings) (written_of its_renderings) subroutine_site subroutine_written (text_with 2 subroutine_unit subroutine_steps) (λ n k. None) (outline_for subroutine_site subroutine_inventory)
+subroutine_is_built : IsUnitBuilt (numbers_of its_renderings) (written_of its_renderings) subroutine_site subroutine_written (behind 0 (text_with 2 subroutine_unit subroutine_steps)) (λ n k. None) (outline_for subroutine_site subroutine_inventory)
     subroutine_items
 unfolding example_opened
 subroutine_is_built = record {
@@ -355,15 +358,16 @@ subroutine_translated = record {
   begins = refl;
   named = refl;
   dummies = refl;
-  parameters = each_at (λ i p. IsDummy (its_facts 2 subroutine_unit) p) subroutine_inventory.parameters (is_number refl refl refl (fixed_by (its_facts 2 subroutine_unit) the_dummy refl refl) refl, tt);
+  parameters = each_at (λ i p. IsDummy (its_facts 2 subroutine_unit) subroutine_inventory p) subroutine_inventory.parameters (is_number refl refl refl (are_written (fixed_by (its_facts 2 subroutine_unit) the_dummy refl refl) (written_by (its_facts 2 subroutine_unit) subroutine_inventory the_dummy refl refl)) refl, tt);
   gives = λ other. refl;
   result = λ function. absurd (cc);
+  results = λ x own. nothing_else x class.Result (λ h. absurd (cc)) (λ h. absurd (cc)) own;
   storage = storage_by subroutine_unit subroutine_inventory refl refl refl refl tt;
-  fits = λ x k b at. bare_bounds (subroutine_attribute x).bounds k b (subroutine_bare x) at;
-  closed = λ x k b at more. bare_bounds (subroutine_attribute x).bounds k b (subroutine_bare x) at;
+  bounds = λ x other. written_by (its_facts 2 subroutine_unit) subroutine_inventory x refl (subroutine_bare x);
+  values = λ i one at. nothing_at_all i one at;
   built = subroutine_is_built;
   flows = two_flow _ (text_with 2 subroutine_unit subroutine_steps) _ (Name the_dummy) (Operated Add (Load (Name the_dummy)) (Constant (IsInt (pos 1)))) (λ n k. refl) refl;
-  passes = passes_by subroutine_inventory (text_with 2 subroutine_unit subroutine_steps) (tt, (tt, tt));
+  passes = passes_by subroutine_inventory (behind 0 (text_with 2 subroutine_unit subroutine_steps)) (tt, (tt, tt));
   no_wrapper = refl;
 }
 

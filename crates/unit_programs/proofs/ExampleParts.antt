@@ -1,5 +1,5 @@
 -- What is asked of the steps of the example's units, of their storage and of their bounds, each part alone.
-use Rattle.std.specs.Prelude.{◌≡◌, ℕ, zero, suc, ◌<◌, ◌≤◌, ℤ, true, List, [], ◌∷◌, Option, Some, None, length, slice_get}
+use Rattle.std.specs.Prelude.{◌≡◌, ℕ, zero, suc, ◌<◌, ◌≤◌, ℤ, true, List, [], ◌∷◌, Option, Some, None, length, position, slice_get}
 use Rattle.std.proofs.Common.{refl, sym, ap, ◌∙◌}
 use Rattle.emitted_procedures.specs.f_tree.declared.names.Basic.{Basic}
 use Rattle.emitted_procedures.specs.f_tree.Values.{Bytes, Gives}
@@ -15,9 +15,9 @@ use Rattle.emitted_procedures.specs.c_emit.Calls.{unit_of}
 use Rattle.emitted_procedures.specs.emitted_texts.Emitted.{stage_behind, is_of_output}
 use Rattle.emitted_procedures.specs.procedure_emission.Reading.{kind_after}
 use Rattle.emitted_procedures.specs.procedure_emission.EmittedUnits.{leads_on, is_return}
-use Rattle.unit_file_laws.specs.unit_file.UnitFile.{Variable, Listing, Inventory, place_of_list, place_of_variable}
+use Rattle.unit_file_laws.specs.unit_file.UnitFile.{Variable, Listing, Inventory, is_bound, place_of_list, place_of_variable}
 use Rattle.unit_programs.specs.OwnStorage.{bytes_in, HasOwnStorage}
-use Rattle.unit_programs.specs.TranslatedUnits.{AreFixed, Flows, Passes}
+use Rattle.unit_programs.specs.TranslatedUnits.{AreFixed, BoundsAreWritten, Flows, Passes}
 use Rattle.unit_programs.proofs.Told.{EachAt, each_at}
 
 pub none_led : {A : Type 0} (m : ℕ) → IsIn m [] → A
@@ -37,6 +37,14 @@ no_some a h = absurd (cc)
 -- without bounds
 pub bare_bounds : {A : Type 0} (bs : List Bounds) (k : ℕ) (b : Bounds) → bs ≡ [] → slice_get bs k ≡ Some b → A
 bare_bounds bs k b none at = nothing_at_all k b (ap (λ xs. slice_get xs k) (sym none) ∙ at)
+
+-- without dimensions none is kept
+pub written_by : (c : Facts) (v : Inventory) (x : Bytes) → v.bounds ≡ [] → (c.program.attribute x).bounds ≡ [] → BoundsAreWritten c v x
+written_by c v x unkept none = record {
+  unkept = λ k kind. ap (position (is_bound x k kind)) unkept;
+  fits = λ k b at. bare_bounds (c.program.attribute x).bounds k b none at;
+  closed = λ k b at more. bare_bounds (c.program.attribute x).bounds k b none at;
+}
 
 -- ## Steps
 

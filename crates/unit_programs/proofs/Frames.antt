@@ -193,7 +193,7 @@ module _ (fs : List UnitsOfFile) (rs : List Rendering) (is : IsTranslatedSet fs 
     procedure_stands x k (IsLabel l) own bound address = tt
     procedure_stands x k Nothing own bound address = tt
 
-    dummy_stands : (i : ℕ) (p : Parameter) → slice_get v.parameters i ≡ Some p → IsDummy u.facts p → FormalStands (files_of fs) ν.homes objects j r.unit f (Named p.name)
+    dummy_stands : (i : ℕ) (p : Parameter) → slice_get v.parameters i ≡ Some p → IsDummy u.facts v p → FormalStands (files_of fs) ν.homes objects j r.unit f (Named p.name)
     unfolding HasLength
     dummy_stands i p there (is_number own numeric width fixed pointer) = record {
       parameter = λ d bound. subst (λ o. StandsFor (files_of fs) ν.homes objects o d) (sym (framed_object i (declared_parameter (parameter_for p)) (framed_parameter v i p there)))

@@ -1,5 +1,5 @@
 -- The functions of the files by their numbers, and what linking makes of each.
-use Rattle.std.specs.Prelude.{◌≡◌, ℕ, zero, suc, ◌+◌, ◌<◌, ◌≤◌, Bool, true, false, List, [], ◌∷◌, ◌++◌, map, length, position, Option, Some, None, unwrap_or, slice_get, bytes_eq, if◌then◌else◌}
+use Rattle.std.specs.Prelude.{◌≡◌, ℕ, zero, suc, ◌+◌, ◌<◌, ◌≤◌, Bool, true, false, List, [], ◌∷◌, ◌++◌, map, length, drop, position, Option, Some, None, unwrap_or, slice_get, bytes_eq, if◌then◌else◌}
 use Rattle.std.proofs.Common.{refl, sym, ap, ◌∙◌, subst, arith}
 use Rattle.std.proofs.lemmas.List.{length-map, map-append}
 use Rattle.std.proofs.lemmas.Slice.Eq.{bytes_eq-Decides}
@@ -28,17 +28,22 @@ use Rattle.emitted_procedures.specs.procedure_emission.ProcedureItems.{Numbers, 
 use Rattle.unit_file_laws.proofs.main_file_laws.Known.{position_finds}
 use Rattle.unit_file_laws.proofs.main_file_laws.BuiltItems.{before_by}
 use Rattle.main_programs.proofs.MainStorage.{map_back}
-use Rattle.unit_file_laws.specs.unit_file.UnitFile.{Parameter, Inventory, WrittenUnit, unit_function, result_count, frame_count, first_parameter}
+use Rattle.emitted_procedures.specs.procedure_emission.bound_items.BoundItems.{Saving}
+use Rattle.behind_bounds.specs.BehindBounds.{steps_behind, position_behind}
+use Rattle.behind_bounds.proofs.StepsBehind.{dropped_behind}
+use Rattle.unit_file_laws.specs.unit_file.UnitFile.{Parameter, KeptBound, Inventory, WrittenUnit, unit_function, result_count, frame_count, first_parameter, first_bound}
+use Rattle.unit_file_laws.specs.unit_file.UnitSavings.{savings_of}
 use Rattle.unit_file_laws.specs.unit_file.UnitNames.{own_names, routine_name}
 use Rattle.unit_file_laws.specs.unit_sites.UnitSites.{UnitsOfFile, files_of, all_units, inventories, sites_of}
 use Rattle.unit_file_laws.specs.unit_places.UnitPlaces.{linked_unit, HaveTheirStrings, FunctionStands, HasPlaces}
 use Rattle.unit_file_laws.proofs.unit_places.Sites.{owned, constants_before}
 use Rattle.unit_file_laws.proofs.unit_places.Placing.{functions_have_places}
 use Rattle.unit_file_laws.specs.KnownUnits.{unit_writing}
-use Rattle.unit_file_laws.specs.BuiltUnits.{unit_items, AreNumbered, HasItsItems}
+use Rattle.unit_file_laws.specs.BuiltUnits.{unit_items, whole_items, AreNumbered, HasItsItems}
 use Rattle.unit_file_laws.proofs.BuiltItems.{units_have_their_items}
-use Rattle.unit_programs.specs.TranslatedUnits.{Rendering, units_of, written_of, numbers_of, IsTranslatedSet}
+use Rattle.unit_programs.specs.TranslatedUnits.{Rendering, units_of, written_of, numbers_of, whole_text, IsTranslatedSet}
 use Rattle.unit_programs.proofs.Pieces.{placed_by}
+use Rattle.unit_programs.proofs.Savings.{savings_many, IsSavedAt, saved_at, behind_savings}
 
 -- ## Units that are found
 
@@ -124,6 +129,32 @@ items_many numbers w label n (st ∷ later) items h =
     let parts = before_by (procedure_item numbers w (λ k. k) label n st) (unit_items numbers w label (suc n) later) items h in
     ap length (sym parts.is) ∙ ap suc (items_many numbers w label (suc n) later parts.later parts.later_is)
 
+-- the items of the steps behind those for what is kept
+pub record IsWhole (numbers : Numbers) (w : Writing) (label : ℕ → Option ℕ) (first : ℕ) (steps : List Step) (items : List Flat) : Type 0 where
+  pub later : List Flat
+  pub emitted : unit_items numbers w label first steps ≡ Some later
+  pub many : length items ≡ first + length later
+  pub at : (n : ℕ) → slice_get items (first + n) ≡ slice_get later n
+
+pub whole_by : (numbers : Numbers) (w : Writing) (label : ℕ → Option ℕ) (first : ℕ) (savings : List Saving) (steps : List Step) (items : List Flat) → length savings ≡ first → whole_items numbers w label savings (steps_behind first steps) ≡ Some items
+    → IsWhole numbers w label first steps items
+unfolding whole_items
+whole_by numbers w label first savings steps items many h =
+    let is = behind_savings w savings (unit_items numbers w label (length savings) (drop (length savings) (steps_behind first steps))) items h in
+    let emitted : unit_items numbers w label first steps ≡ Some is.later =
+    ap (unit_items numbers w label first) (sym (dropped_behind first steps)) ∙ ap (λ n. unit_items numbers w label n (drop n (steps_behind first steps))) (sym many) ∙ is.is in
+    record {
+      later = is.later;
+      emitted = emitted;
+      many = is.many ∙ ap (λ n. n + length is.later) many;
+      at = λ n. ap (λ m. slice_get items (m + n)) (sym many) ∙ is.at n;
+    }
+
+pub saved_in : (numbers : Numbers) (w : Writing) (label : ℕ → Option ℕ) (savings : List Saving) (steps : List Step) (items : List Flat) (i : ℕ) (one : Saving) → whole_items numbers w label savings steps ≡ Some items → slice_get savings i ≡ Some one
+    → IsSavedAt w one items i
+unfolding whole_items
+saved_in numbers w label savings steps items i one h at = saved_at w savings (unit_items numbers w label (length savings) (drop (length savings) steps)) items i one h at
+
 -- ## Steps of functions
 
 counted_by : (all : List CFunction) (f : CFunction) (found : Option (List ℕ)) → found ≡ None → steps_of f ≤ counted_steps all f found
@@ -151,6 +182,7 @@ pub record IsFunctionOf (fs : List UnitsOfFile) (r : Rendering) (function : link
   pub parameter : (i : ℕ) (one : Parameter) → slice_get r.written.inventory.parameters i ≡ Some one → slice_get function.fresh i ≡ Some (parameter_object one.type)
   pub result : (type : NumberType) → r.written.inventory.returned ≡ Some type → slice_get function.fresh (length r.written.inventory.parameters) ≡ Some (unset 4)
   pub temporary : (k : ℕ) → k < r.written.inventory.temporaries → slice_get function.fresh (length r.written.inventory.parameters + (result_count r.written.inventory.returned + k)) ≡ Some (unset 4)
+  pub bound : (i : ℕ) (one : KeptBound) → slice_get r.written.inventory.bounds i ≡ Some one → slice_get function.fresh (length r.written.inventory.parameters + (result_count r.written.inventory.returned + (r.written.inventory.temporaries + i))) ≡ Some (unset 4)
   pub code : function.code ≡ r.items
 
 module _ (fs : List UnitsOfFile) (rs : List Rendering) (is : IsTranslatedSet fs rs) where
@@ -224,7 +256,7 @@ module _ (fs : List UnitsOfFile) (rs : List Rendering) (is : IsTranslatedSet fs 
 
   pub its_items : (j : ℕ) (r : Rendering) → slice_get rs j ≡ Some r → HasItsItems (routines_of (files_of fs)) (outside_of (files_of fs)) (own_of (files_of fs)) r.site r.written r.outline r.items
   its_items j r at =
-      units_have_their_items (routines_of (files_of fs)) (outside_of (files_of fs)) (own_of (files_of fs)) (numbers_of rs) ws r.site r.written r.text r.kind r.outline r.items
+      units_have_their_items (routines_of (files_of fs)) (outside_of (files_of fs)) (own_of (files_of fs)) (numbers_of rs) ws r.site r.written (whole_text r) r.kind r.outline r.items
       (owned fs j r.site (site_at j r at) ∙ sym (ap length is.written)) (constants_before fs j r.site (site_at j r at)) (numbered j r) (is.units j r at).built
 
   have : HaveTheirStrings (all_units fs)
@@ -250,6 +282,7 @@ module _ (fs : List UnitsOfFile) (rs : List Rendering) (is : IsTranslatedSet fs 
         parameter = stands.parameter;
         result = stands.result;
         temporary = stands.temporary;
+        bound = stands.bound;
         code = (its_items j r at).code stands.functions;
       })
 
@@ -276,16 +309,44 @@ module _ (fs : List UnitsOfFile) (rs : List Rendering) (is : IsTranslatedSet fs 
       ap (λ n. unwrap_or (position (λ (g : linking.Function). bytes_eq n g.name) (linking.program (files_of fs)).functions) 0) (sym name)
       ∙ ap (λ o. unwrap_or o 0) (placed_by (λ (g : linking.Function). g.name) (linking.program (files_of fs)).functions f.place function alone stands.function_is) ∙ place
 
-  -- ## Steps
+  -- ## Items
 
-  pub item_at : (j : ℕ) (r : Rendering) → slice_get rs j ≡ Some r → (n : ℕ) (st : Step) → slice_get r.text.steps n ≡ Some st → IsEmittedAt (numbers_of rs) (unit_writing r.site r.written r.text.facts r.kind) r.text.position n st r.items n
-  item_at j r at n st there = emitted_at (numbers_of rs) (unit_writing r.site r.written r.text.facts r.kind) r.text.position 0 n n r.text.steps r.items st (omega arith) (is.units j r at).built.emitted there
+  -- what is kept, one item for each, and behind those the items of the steps
+  abbrev writing_in : Rendering → Writing
+  writing_in r = unit_writing r.site r.written r.text.facts r.kind
 
-  pub factor : (j : ℕ) (r : Rendering) → slice_get rs j ≡ Some r → length r.text.steps ≤ step_factor (files_of fs)
+  abbrev kept_in : Rendering → ℕ
+  kept_in r = length r.written.inventory.bounds
+
+  its_whole : (j : ℕ) (r : Rendering) → slice_get rs j ≡ Some r → IsWhole (numbers_of rs) (writing_in r) (position_behind (kept_in r) r.text.position) (kept_in r) r.text.steps r.items
+  its_whole j r at =
+      whole_by (numbers_of rs) (writing_in r) (position_behind (kept_in r) r.text.position) (kept_in r) (savings_of r.written.inventory r.site.bases) r.text.steps r.items
+      (savings_many (first_bound r.written.inventory r.site.bases) r.written.inventory.bounds) (is.units j r at).built.emitted
+
+  pub saving_at : (j : ℕ) (r : Rendering) → slice_get rs j ≡ Some r → (i : ℕ) (one : Saving) → slice_get (savings_of r.written.inventory r.site.bases) i ≡ Some one → IsSavedAt (writing_in r) one r.items i
+  saving_at j r at i one there =
+      saved_in (numbers_of rs) (writing_in r) (position_behind (kept_in r) r.text.position) (savings_of r.written.inventory r.site.bases) (whole_text r).steps r.items i one (is.units j r at).built.emitted there
+
+  pub item_at : (j : ℕ) (r : Rendering) → slice_get rs j ≡ Some r → (n : ℕ) (st : Step) → slice_get r.text.steps n ≡ Some st
+      → IsEmittedAt (numbers_of rs) (unit_writing r.site r.written r.text.facts r.kind) (position_behind (length r.written.inventory.bounds) r.text.position) (length r.written.inventory.bounds + n) st r.items (length r.written.inventory.bounds + n)
+  item_at j r at n st there =
+      let whole = its_whole j r at in
+      let i = emitted_at (numbers_of rs) (writing_in r) (position_behind (kept_in r) r.text.position) (kept_in r) n (kept_in r + n) r.text.steps whole.later st refl whole.emitted there in
+      record { item = i.item; emitted = i.emitted; at = whole.at n ∙ i.at }
+
+  -- a function takes as many steps as it has items, and the program at least as many
+  pub items_few : (j : ℕ) (r : Rendering) → slice_get rs j ≡ Some r → length r.items ≤ step_factor (files_of fs)
   unfolding step_factor
-  factor j r at =
+  items_few j r at =
       let one = is.units j r at in
       let size = (its_items j r at).size in
-      let many = items_many (numbers_of rs) _ r.text.position 0 r.text.steps r.items one.built.emitted in
       let most = greatest (all_functions (files_of fs)) (all_functions (files_of fs)) j (unit_function r.written) (function_stands j r at).written one.no_wrapper in
-      omega (arith, size, many, most)
+      omega (arith, size, most)
+
+  pub factor : (j : ℕ) (r : Rendering) → slice_get rs j ≡ Some r → length r.written.inventory.bounds + length r.text.steps ≤ step_factor (files_of fs)
+  factor j r at =
+      let whole = its_whole j r at in
+      let all = whole.many in
+      let many = items_many (numbers_of rs) _ (position_behind (kept_in r) r.text.position) (kept_in r) r.text.steps whole.later whole.emitted in
+      let most = items_few j r at in
+      omega (arith, all, many, most)

@@ -21,10 +21,8 @@ use Rattle.emitted_procedures.specs.c_tree.Meaning.{wrapped_by, step_factor}
 use Rattle.emitted_procedures.specs.faithful.SameState.{is_inner}
 use Rattle.emitted_procedures.specs.c_image.World.{IsIdle}
 use Rattle.unit_forms.specs.c_structure.Statements.{Outline, statements_for}
-use Rattle.emitted_procedures.specs.c_emit.Numbers.{Writing}
 use Rattle.unit_file_laws.proofs.linking_laws.Places.{some_same, within, some_at}
-use Rattle.emitted_procedures.specs.procedure_emission.ProcedureItems.{Numbers}
-use Rattle.emitted_procedures.specs.procedure_emission.CallLayer.{call_couple}
+use Rattle.emitted_procedures.specs.procedure_emission.CallLayer.{entered_couple}
 use Rattle.emitted_procedures.proofs.Simulated.{units_are_simulated}
 use Rattle.call_bridge.specs.CallBridge.{Translation, MayRun, is_wrapper, UnitIsTranslated, IsTranslated}
 use Rattle.call_bridge.proofs.Together.{calls_run_alike}
@@ -33,11 +31,11 @@ use Rattle.main_programs.proofs.MainStorage.{map_back}
 use Rattle.unit_file_laws.specs.unit_file.UnitFile.{WrittenUnit, unit_function}
 use Rattle.unit_file_laws.specs.unit_sites.UnitSites.{UnitsOfFile, files_of, all_units, Site}
 use Rattle.unit_file_laws.specs.unit_places.UnitPlaces.{linked_unit}
-use Rattle.unit_file_laws.specs.BuiltUnits.{unit_items}
 use Rattle.unit_programs.specs.OwnStorage.{own_setting}
-use Rattle.unit_programs.specs.TranslatedUnits.{Rendering, units_of, numbers_of, facts_of, IsTranslatedUnit, IsTranslatedSet}
-use Rattle.unit_programs.specs.EmittedFile.{room_at, surroundings_of, emission_of, costs_of}
+use Rattle.unit_programs.specs.TranslatedUnits.{Rendering, units_of, facts_of, IsTranslatedUnit, IsTranslatedSet}
+use Rattle.unit_programs.specs.EmittedFile.{room_at, surroundings_of, emission_of, costs_of, costs_behind}
 use Rattle.unit_programs.specs.UnitRuns.{UnitProgramsRunAlike}
+use Rattle.unit_programs.proofs.Costs.{costs_more, costs_rest}
 use Rattle.unit_programs.proofs.Objects as objects_of
 use Rattle.unit_programs.proofs.Objects.{found_back}
 use Rattle.unit_programs.proofs.Stored as stored_of
@@ -53,7 +51,7 @@ no_outline = record { names = record { object = λ k. []; string = λ k. None; r
 
 abbrev no_unit : WrittenUnit
 no_unit = record {
-  inventory = record { name = []; result = result.Int; parameters = []; returned = None; variables = []; lists = []; temporaries = 0; calls = []; strings = []; texts = λ n. [] };
+  inventory = record { name = []; result = result.Int; parameters = []; returned = None; variables = []; lists = []; temporaries = 0; bounds = []; calls = []; strings = []; texts = λ n. [] };
   body = [];
 }
 
@@ -63,15 +61,14 @@ no_site = record { constants = []; bases = record { own = 0; file = 0; function 
 abbrev no_rendering : Rendering
 no_rendering = record { unit = no_program; text = no_text; written = no_unit; site = no_site; kind = λ n k. None; stage = λ n. None; outline = no_outline; items = [] }
 
--- a function that ends with a return has a step
-has_steps : (numbers : Numbers) (w : Writing) (label : ℕ → Option ℕ) (steps : List Step) (items : List Flat) (o : Outline) (turns : ℕ) (body : List CStmt) → unit_items numbers w label 0 steps ≡ Some items → statements_for o turns 0 items ≡ Some body
-    → ends body ≡ true → 1 ≤ length steps
-unfolding unit_items statements_for
-has_steps numbers w label [] items o turns body emitted made ended =
-    let none : [] ≡ body = some_same [] body (ap (statements_for o turns 0) (some_same [] items emitted) ∙ made) in
+-- a function that ends with a return has an item
+has_items : (items : List Flat) (o : Outline) (turns : ℕ) (body : List CStmt) → statements_for o turns 0 items ≡ Some body → ends body ≡ true → 1 ≤ length items
+unfolding statements_for
+has_items [] o turns body made ended =
+    let none : [] ≡ body = some_same [] body made in
     let no : false ≡ true = ap ends none ∙ ended in
     absurd (cc)
-has_steps numbers w label (st ∷ later) items o turns body emitted made ended = omega arith
+has_items (item ∷ items) o turns body made ended = omega arith
 
 module _ (fs : List UnitsOfFile) (rs : List Rendering) (is : IsTranslatedSet fs rs) where
   abbrev us : List ProgramUnit
@@ -85,7 +82,8 @@ module _ (fs : List UnitsOfFile) (rs : List Rendering) (is : IsTranslatedSet fs 
   translation = record {
     surroundings = surroundings_of fs rs;
     texts = λ i. (rendering_at i).text;
-    costs = λ i. costs_of (rendering_at i).text;
+    own_costs = λ i. costs_of (rendering_at i).text;
+    costs = λ i. costs_behind (length (rendering_at i).written.inventory.bounds) (costs_of (rendering_at i).text);
     emissions = λ i. emission_of fs i (rendering_at i);
     owner = λ k. k;
   }
@@ -99,18 +97,31 @@ module _ (fs : List UnitsOfFile) (rs : List Rendering) (is : IsTranslatedSet fs 
     one : IsTranslatedUnit rs i r
     one = is.units i r at
 
-    positive : (n : ℕ) (st : Step) → slice_get r.text.steps n ≡ Some st → 1 ≤ cost (costs_of r.text) n
-    positive n st there = ones_cost (length r.text.steps) n (within r.text.steps n st there)
+    abbrev first : ℕ
+    first = length r.written.inventory.bounds
 
-    upper : Local (lower_couple i r.text (costs_of r.text))
+    abbrev costs : List ℕ
+    costs = costs_behind first (costs_of r.text)
+
+    positive : (n : ℕ) (st : Step) → slice_get r.text.steps n ≡ Some st → 1 ≤ cost costs n
+    positive n st there =
+        let one = ones_cost (length r.text.steps) n (within r.text.steps n st there) in
+        let more = costs_more first (costs_of r.text) n in
+        omega (arith, one, more)
+
+    upper : Local (lower_couple i r.text costs)
     unfolding facts_at
-    upper = simulates i r.text (costs_of r.text) (laid_out (facts_of rs i r) r.text one.lowered one.direct one.ended one.loops) positive
+    upper = simulates i r.text costs (laid_out (facts_of rs i r) r.text one.lowered one.direct one.ended one.loops) positive
 
-    lower : Local (call_couple (surroundings_of fs rs) i r.text (costs_of r.text) (emission_of fs i r))
-    lower = units_are_simulated (surroundings_of fs rs) i r.text (costs_of r.text) (emission_of fs i r) (units_are_emitted fs rs is i r at)
+    lower : Local (entered_couple (surroundings_of fs rs) i r.text (costs_of r.text) costs (emission_of fs i r))
+    lower = let emitted = units_are_emitted fs rs is i r at in units_are_simulated (surroundings_of fs rs) i r.text (costs_of r.text) costs (emission_of fs i r) emitted.0 emitted.1
 
-    narrow : rest (costs_of r.text) 0 ≤ step_factor (files_of fs)
-    narrow = let counted = ones_rest (length r.text.steps) in let most = objects_of.factor fs rs is i r at in omega (arith, counted, most)
+    narrow : rest costs 0 ≤ step_factor (files_of fs)
+    narrow =
+        let all = costs_rest first (costs_of r.text) in
+        let counted = ones_rest (length r.text.steps) in
+        let most = objects_of.factor fs rs is i r at in
+        omega (arith, all, counted, most)
 
     own : nat_lt i (length (linking.program (files_of fs)).functions) ≡ true
     own =
@@ -162,9 +173,9 @@ module _ (fs : List UnitsOfFile) (rs : List Rendering) (is : IsTranslatedSet fs 
   some_step =
       let first = some_at rs 0 (let some = is.some in omega (arith, some)) in
       let built = (is.units 0 first.0 first.1).built in
-      let steps = has_steps (numbers_of rs) _ first.0.text.position first.0.text.steps first.0.items first.0.outline built.built.turns first.0.written.body built.emitted built.built.statements built.built.ended in
-      let most = objects_of.factor fs rs is 0 first.0 first.1 in
-      omega (arith, steps, most)
+      let items = has_items first.0.items first.0.outline built.built.turns first.0.written.body built.built.statements built.built.ended in
+      let most = objects_of.items_few fs rs is 0 first.0 first.1 in
+      omega (arith, items, most)
 
   translated : IsTranslated (own_setting us) us (files_of fs) translation
   translated = record {

@@ -1,13 +1,14 @@
 -- That each function of the files of several units is one of which all is so that is asked. ANSI X3.9-1978, sections 14 and 15; C89, 3.1.2.4.
-use Rattle.std.specs.Prelude.{◌≡◌, ℕ, List, length, replicate, Option, Some, None, slice_get}
+use Rattle.std.specs.Prelude.{◌≡◌, ℕ, ◌+◌, List, [], ◌∷◌, length, replicate, Option, Some, None, slice_get}
 use Rattle.emitted_procedures.specs.l_core.Steps.{Text}
 use Rattle.emitted_procedures.specs.c_tree.Linking as linking
 use Rattle.emitted_procedures.specs.c_tree.Meaning.{text_of}
 use Rattle.emitted_procedures.specs.emitted_texts.SecondLayer.{Room, Surroundings, Emission}
-use Rattle.emitted_procedures.specs.procedure_emission.EmittedUnits.{IsEmittedUnit}
+use Rattle.emitted_procedures.specs.procedure_emission.EmittedUnits.{IsEmittedUnit, IsCosted}
 use Rattle.unit_file_laws.specs.unit_file.UnitFile.{first_parameter, frame_count}
 use Rattle.unit_file_laws.specs.unit_sites.UnitSites.{UnitsOfFile, files_of}
 use Rattle.unit_file_laws.specs.KnownUnits.{unit_writing}
+use Rattle.behind_bounds.specs.BehindBounds.{writing_behind}
 use Rattle.unit_programs.specs.OwnStorage.{own_setting, first_world}
 use Rattle.unit_programs.specs.TranslatedUnits.{Rendering, units_of, numbers_of, IsTranslatedSet}
 
@@ -24,12 +25,12 @@ surroundings_of fs rs = record {
   first = first_world fs (own_setting (units_of rs));
 }
 
--- how the function of a unit goes by its text: an item for each step; it is the function of its number in the program
+-- how the function of a unit goes by its text: an item for each step, behind those that keep bounds; it is the function of its number in the program
 abbrev pub emission_of : List UnitsOfFile → ℕ → Rendering → Emission
 emission_of fs j r = record {
-  writing = unit_writing r.site r.written r.text.facts r.kind;
-  place = λ n. n;
-  stage = r.stage;
+  writing = writing_behind (length r.written.inventory.bounds) (unit_writing r.site r.written r.text.facts r.kind);
+  place = λ n. length r.written.inventory.bounds + n;
+  stage = λ n. r.stage (length r.written.inventory.bounds + n);
   function = text_of (linking.program (files_of fs)).functions j;
   number = j;
 }
@@ -37,7 +38,17 @@ emission_of fs j r = record {
 abbrev pub costs_of : Text → List ℕ
 costs_of u = replicate (length u.steps) 1
 
+-- the first step costs also what is kept before it
+unfoldable pub costs_behind : ℕ → List ℕ → List ℕ
+costs_behind first [] = first ∷ []
+costs_behind first (cost ∷ costs) = (first + cost) ∷ costs
+
 -- LAW
+-- what a step costs is what the items for it do
 abbrev pub UnitsAreEmitted : Type 0
 UnitsAreEmitted = (fs : List UnitsOfFile) (rs : List Rendering) → IsTranslatedSet fs rs → (j : ℕ) (r : Rendering) → slice_get rs j ≡ Some r →
-    IsEmittedUnit (surroundings_of fs rs) j r.text (costs_of r.text) (emission_of fs j r)
+    (is : IsEmittedUnit (surroundings_of fs rs) j r.text (costs_of r.text) (emission_of fs j r)) × IsCosted r.text (costs_of r.text) (costs_behind (length r.written.inventory.bounds) (costs_of r.text)) is.entry is.savings
+
+unfoldable pub emitted_file_opened : Unit {0}
+unfolding costs_behind
+emitted_file_opened = tt

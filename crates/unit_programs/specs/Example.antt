@@ -53,9 +53,11 @@ use Rattle.emitted_procedures.specs.procedure_emission.Reading.{reading_opened}
 use Rattle.emitted_procedures.specs.procedure_emission.EmittedUnits.{leads_on, is_return, is_number_pointer, number_result}
 use Rattle.unit_forms.specs.main_file.MainItems.{item_before, stops_from}
 use Rattle.unit_file_laws.specs.unit_file.UnitFile.{Inventory, WrittenUnit, unit_file_opened}
+use Rattle.unit_file_laws.specs.unit_file.UnitSavings.{unit_savings_opened}
 use Rattle.unit_file_laws.specs.unit_file.UnitNames.{names_of, unit_names_opened}
 use Rattle.unit_file_laws.specs.unit_sites.UnitSites.{UnitsOfFile, Site}
 use Rattle.unit_file_laws.specs.BuiltUnits.{built_units_opened}
+use Rattle.behind_bounds.specs.BehindBounds.{behind_bounds_opened}
 use Rattle.unit_programs.specs.OwnStorage.{own_setting}
 use Rattle.unit_programs.specs.TranslatedUnits.{Rendering}
 
@@ -194,6 +196,7 @@ main_inventory = record {
   variables = record { name = the_variable; type = number_type.Integer; count = None } ∷ [];
   lists = record { step = 3; unit = pos 6 } ∷ [];
   temporaries = 1;
+  bounds = [];
   calls =
       record { name = codes "f_"; result = result.Integer; arguments = argument.Parameter parameter.Integers ∷ [] }
       ∷ record { name = codes "s_"; result = result.Int; arguments = argument.Parameter parameter.Integers ∷ [] }
@@ -218,6 +221,7 @@ function_inventory = record {
   variables = [];
   lists = [];
   temporaries = 0;
+  bounds = [];
   calls = [];
   strings = [];
   texts = λ n. [];
@@ -342,5 +346,5 @@ its_renderings = main_rendering ∷ function_rendering ∷ subroutine_rendering 
 
 -- `unfolding example_opened` opens what the example is computed by
 unfoldable pub example_opened : Unit {0}
-unfolding its_facts facts_at found_from answers_to is_main has_entry terms_opened places_opened nests_opened valuing_opened expressions_opened statements_opened units_opened layout_opened digits main_name external_name has_underscore c_keywords built_in_names field_names single_letters is_reserved takes_underscores variable_name constant_name made_name function_name written.expressions_opened built.statements_opened item_before stops_from in_range numbers_opened types_opened calls_opened flats_opened procedure_items_opened reading_opened leads leads_on is_return stage_behind is_of_output is_number_pointer number_result unit_file_opened unit_names_opened built_units_opened
+unfolding its_facts facts_at found_from answers_to is_main has_entry terms_opened places_opened nests_opened valuing_opened expressions_opened statements_opened units_opened layout_opened digits main_name external_name has_underscore c_keywords built_in_names field_names single_letters is_reserved takes_underscores variable_name constant_name made_name function_name written.expressions_opened built.statements_opened item_before stops_from in_range numbers_opened types_opened calls_opened flats_opened procedure_items_opened reading_opened leads leads_on is_return stage_behind is_of_output is_number_pointer number_result unit_file_opened unit_savings_opened unit_names_opened built_units_opened behind_bounds_opened
 example_opened = tt

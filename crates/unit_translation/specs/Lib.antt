@@ -1,6 +1,8 @@
 pub mod UnitFlow
+pub mod UnitBounds
 pub mod UnitContents
 pub mod UnitBodies
+pub use Rattle.behind_bounds.specs as behind_bounds
 pub use Rattle.main_translation.specs.c_emit
 pub use Rattle.unit_sites.specs.c_emit_laws
 pub use Rattle.main_translation.specs.c_structure

@@ -7,10 +7,11 @@ use Rattle.main_translation.specs.c_structure.Statements.{Outline, statements_fo
 use Rattle.main_translation.specs.Outlined.{label_at, passes_arms, loop_at, if_returned}
 use Rattle.unit_sites.specs.unit_file.UnitFile.{Inventory, WrittenUnit, object_count, writing_of}
 use Rattle.unit_sites.specs.unit_file.UnitNames.{names_of}
-use Rattle.unit_sites.specs.unit_file.UnitItems.{unit_items}
+use Rattle.unit_sites.specs.unit_file.UnitItems.{whole_items}
+use Rattle.unit_sites.specs.unit_file.UnitSavings.{savings_of}
 use Rattle.unit_sites.specs.UnitSites.{UnitsOfFile, Site, behind}
 use Rattle.unit_translation.specs.UnitFlow.{kind_before, are_in_place}
-use Rattle.unit_translation.specs.UnitContents.{LoweredUnit, unit_numbers, constants_passed, inventory_of, inventories_of}
+use Rattle.unit_translation.specs.UnitContents.{LoweredUnit, whole_text, unit_numbers, constants_passed, inventory_of, inventories_of}
 
 -- the units of all files, in their order
 abbrev pub all_lowered : List (List LoweredUnit) → List LoweredUnit
@@ -23,19 +24,21 @@ all_lowered (us ∷ lfs) = us ++ all_lowered lfs
 abbrev pub unit_outline : List LoweredUnit → Site → LoweredUnit → Outline
 unit_outline all s u = record {
   names = names_of s.constants (inventories_of all) (inventory_of all u) s.bases;
-  label = label_at u.text;
-  ends_arm = λ n. passes_arms (slice_get u.text.steps n) && is_none (label_at u.text n);
-  loop = loop_at u.text;
+  label = label_at (whole_text u);
+  ends_arm = λ n. passes_arms (slice_get (whole_text u).steps n) && is_none (label_at (whole_text u) n);
+  loop = loop_at (whole_text u);
 }
 
--- an item for each step; none where one is not emitted yet
+-- an item for each bound that is kept, and one for each step; none where one is not emitted
 abbrev pub items_of : List LoweredUnit → Site → LoweredUnit → Option (List Flat)
-items_of all s u = unit_items (unit_numbers all) (writing_of s.constants (inventory_of all u) s.bases u.text.facts (kind_before u.text)) u.text.position 0 u.text.steps
+items_of all s u =
+    whole_items (unit_numbers all) (writing_of s.constants (inventory_of all u) s.bases u.text.facts (kind_before (whole_text u))) (whole_text u).position (savings_of (inventory_of all u) s.bases)
+    (whole_text u).steps
 
 -- none where the steps have no structure
 unfoldable pub body_of : List LoweredUnit → Site → LoweredUnit → Option (List CStmt)
 body_of all s u =
-    if are_in_place u.text 0 u.text.steps then
+    if are_in_place (whole_text u) 0 (whole_text u).steps then
     option_and_then if_returned (option_and_then (λ items. statements_for (unit_outline all s u) (length items) 0 items) (items_of all s u))
     else None
 

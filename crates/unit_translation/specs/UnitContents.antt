@@ -1,10 +1,10 @@
 -- What the C function of each of some units has, read off their lowered texts: its name, what it gives, its parameters, its variables, control lists and
 -- temporaries, and what it calls; and the constants of the file. ANSI X3.9-1978, sections 4.1, 5.1, 8.7, 12.8, 15.5 and 15.6; C89, 3.5 and 3.5.4.3; CSTR 149.
 use Rattle.std.specs.List.{list_any, flat_map}
-use Rattle.std.specs.Prelude.{ℕ, suc, max, ℤ, pos, List, [], ◌∷◌, ◌++◌, map, fold, Option, Some, None, option_and_then, slice_get, bytes_eq, if◌then◌else◌}
+use Rattle.std.specs.Prelude.{ℕ, suc, max, ℤ, pos, List, [], ◌∷◌, ◌++◌, map, length, fold, Option, Some, None, option_and_then, slice_get, bytes_eq, if◌then◌else◌}
 use Rattle.main_translation.specs.f_tree.declared.names.Basic.{Basic}
 use Rattle.main_translation.specs.f_tree.Values.{Bytes}
-use Rattle.main_translation.specs.f_tree.Facts.{Formal, UnitKind, FunctionUnit, EntryPoint, ProgramUnit, Facts}
+use Rattle.main_translation.specs.f_tree.Facts.{UnitKind, FunctionUnit, EntryPoint, ProgramUnit, Facts}
 use Rattle.main_translation.specs.f_tree.World.{Procedure}
 use Rattle.main_translation.specs.f_tree.Meaning.{found_from}
 use Rattle.main_translation.specs.f_tree.CNames.{DummyUse, IntegerDummy, LogicalDummy, TextDummy, AlternateReturn, CalledDummy, IntegerFunctionDummy, LogicalFunctionDummy, PassedDummy}
@@ -27,7 +27,9 @@ use Rattle.unit_sites.specs.procedure_emission.EmittedUnits.{number_result}
 use Rattle.unit_sites.specs.unit_file.UnitFile.{Parameter, Callee, Inventory}
 use Rattle.unit_sites.specs.unit_file.UnitItems.{procedures_named}
 use Rattle.main_translation.specs.Contents.{with_new, own_values, own_value, kind_value, number_type_of, variable_of, listings_from, calls_of, text_at}
+use Rattle.behind_bounds.specs.BehindBounds.{behind}
 use Rattle.unit_translation.specs.UnitFlow.{item_kind}
+unfoldable pub use Rattle.unit_translation.specs.UnitBounds.{formals_in, bounds_kept, unit_bounds_opened}
 
 -- a unit with its lowered text, and what each of its dummies stands for by its uses
 pub record LoweredUnit : Type 0 where
@@ -37,6 +39,10 @@ pub record LoweredUnit : Type 0 where
 
 abbrev pub program_units : List LoweredUnit → List ProgramUnit
 program_units us = map (λ (u : LoweredUnit). u.unit) us
+
+-- its lowered text behind what it keeps of its dummy arrays
+abbrev pub whole_text : LoweredUnit → Text
+whole_text u = behind (length (bounds_kept u.unit)) u.text
 
 -- the number of each procedure is that of its unit
 abbrev pub unit_numbers : List LoweredUnit → Numbers
@@ -58,7 +64,7 @@ values_from u n (st ∷ later) = values_passed u n st ++ values_from u (suc n) l
 
 -- those of all units, each once, ascending
 unfoldable pub constants_passed : List LoweredUnit → List ℤ
-constants_passed us = fold with_new [] (flat_map (λ (u : LoweredUnit). values_from u.text 0 u.text.steps) us)
+constants_passed us = fold with_new [] (flat_map (λ (u : LoweredUnit). values_from (whole_text u) 0 (whole_text u).steps) us)
 
 -- ## Dummies and results
 
@@ -72,12 +78,6 @@ parameter_for CalledDummy = parameter.Function pointer.Subroutine
 parameter_for IntegerFunctionDummy = parameter.Function pointer.Integer
 parameter_for LogicalFunctionDummy = parameter.Function pointer.Logical
 parameter_for PassedDummy = parameter.Function pointer.Unknown
-
--- the dummies of a unit with one entry
-unfoldable pub formals_in : List EntryPoint → List Formal
-formals_in [] = []
-formals_in (entry ∷ []) = entry.formals
-formals_in (entry ∷ other ∷ later) = []
 
 unfoldable pub parameters_in : LoweredUnit → List Parameter
 parameters_in u = map (λ x. record { name = x; type = parameter_for (u.use_of x) }) (named_formals (formals_in u.unit.entries))
@@ -149,16 +149,17 @@ inventory_of us u = record {
   parameters = parameters_in u;
   returned = returned_by (basic_given u.unit u.unit.kind);
   variables = map (variable_of u.unit) u.unit.stored;
-  lists = listings_from 0 u.text.steps;
-  temporaries = temporaries_kept u.text.steps;
-  calls = map library_callee (calls_of u.text.steps) ++ flat_map (procedure_callee us) (procedures_in u.text);
-  strings = stops_from 0 u.text.steps;
-  texts = λ n. text_at (slice_get u.text.steps n);
+  lists = listings_from 0 (whole_text u).steps;
+  temporaries = temporaries_kept (whole_text u).steps;
+  bounds = bounds_kept u.unit;
+  calls = map library_callee (calls_of (whole_text u).steps) ++ flat_map (procedure_callee us) (procedures_in (whole_text u));
+  strings = stops_from 0 (whole_text u).steps;
+  texts = λ n. text_at (slice_get (whole_text u).steps n);
 }
 
 abbrev pub inventories_of : List LoweredUnit → List Inventory
 inventories_of us = map (inventory_of us) us
 
 unfoldable pub unit_contents_opened : Unit {0}
-unfolding values_passed values_from constants_passed parameter_for formals_in parameters_in type_given basic_given result_by returned_by result_given temporaries_kept procedures_by with_name procedures_in unit_callee procedure_callee
+unfolding values_passed values_from constants_passed parameter_for parameters_in type_given basic_given result_by returned_by result_given temporaries_kept procedures_by with_name procedures_in unit_callee procedure_callee
 unit_contents_opened = tt

@@ -1,7 +1,8 @@
 -- What steps call is declared: functions of the library, and each procedure as its unit defines it.
 use Rattle.std.specs.List.{list_any, flat_map}
-use Rattle.std.specs.Prelude.{◌≡◌, ℕ, zero, suc, ◌+◌, Bool, true, false, ◌||◌, List, [], ◌∷◌, ◌++◌, map, fold, Option, Some, None, option_and_then, unwrap_or, slice_get, bytes_eq, codes, if◌then◌else◌}
+use Rattle.std.specs.Prelude.{◌≡◌, ℕ, zero, suc, ◌+◌, ◌-◌, nat_lt, Bool, true, false, ◌||◌, List, [], ◌∷◌, ◌++◌, map, length, fold, Option, Some, None, option_and_then, unwrap_or, slice_get, bytes_eq, codes, if◌then◌else◌}
 use Rattle.std.proofs.Common.{refl, sym, ap, ◌∙◌, subst, arith}
+use Rattle.std.proofs.lemmas.Bool.{ltb-true, ltb-false}
 use Rattle.std.proofs.lemmas.Slice.Eq.{bytes_eq-Decides}
 use Rattle.unit_translation.specs.f_tree.declared.names.Class.{Class}
 use Rattle.unit_translation.specs.f_tree.declared.names.Class.TheVariants as class
@@ -13,7 +14,7 @@ use Rattle.unit_translation.specs.f_tree.Setting.{IsIn, first_in, later_in}
 use Rattle.unit_translation.specs.f_tree.CNames.{external_name, main_name}
 use Rattle.unit_translation.specs.f_tree.Meaning.{has_entry, answers_to}
 use Rattle.unit_translation.specs.l_core.Pures.{Name, Pures, NoPure, AndPure}
-use Rattle.unit_translation.specs.l_core.Steps.{Starts, Takes, Finishes, Step, Compute, CallFor, CallSub, Halt, Acts, Text}
+use Rattle.unit_translation.specs.l_core.Steps.{Starts, Takes, Finishes, Step, Compute, CallFor, CallSub, Halt, Pass, Acts, Text}
 use Rattle.unit_translation.specs.c_tree.Builtins.{builtin_names}
 use Rattle.unit_translation.specs.c_tree.Flat.{Flat}
 use Rattle.unit_translation.specs.c_emit.Numbers.{Writing}
@@ -29,31 +30,16 @@ use Rattle.main_translation_laws.proofs.Built.{started}
 use Rattle.main_translation_laws.proofs.FlowLaws.{in_front, in_back}
 use Rattle.unit_translation.specs.unit_file.UnitFile.{Variable, Parameter, Callee, Inventory}
 use Rattle.unit_translation.specs.unit_file.UnitNames.{own_names, routine_name}
-use Rattle.unit_translation.specs.unit_file.UnitItems.{unit_items, procedure_called, procedure_passed, procedures_passed, procedures_named}
+use Rattle.unit_translation.specs.behind_bounds.BehindBounds.{StandBehind}
+use Rattle.unit_translation.specs.procedure_emission.bound_items.BoundItems.{Saving}
+use Rattle.unit_translation.specs.unit_file.UnitItems.{unit_items, whole_items, procedure_called, procedure_passed, procedures_passed, procedures_named}
 use Rattle.unit_programs.specs.unit_file_laws.BuiltUnits.{IsCalled, FunctionIsCalled, AreDeclared, IsListed, AreListed}
-use Rattle.unit_translation.specs.UnitContents.{LoweredUnit, program_units, unit_numbers, library_callee, procedures_by, with_name, procedures_in, unit_callee, procedure_callee, inventory_of, inventories_of}
-use Rattle.unit_programs.proofs.Objects.{found_back, emitted_at}
-use Rattle.unit_translation_laws.proofs.Names.{IsOfCallee, of_library, of_procedure}
+use Rattle.unit_translation.specs.UnitContents.{LoweredUnit, program_units, bounds_kept, whole_text, unit_numbers, library_callee, procedures_by, with_name, procedures_in, unit_callee, procedure_callee, inventory_of, inventories_of}
+use Rattle.unit_programs.proofs.Objects.{found_back, emitted_at, whole_by}
+use Rattle.unit_translation_laws.proofs.FlatLists.{in_flat, of_flat}
+use Rattle.unit_translation_laws.proofs.Names.{IsOfCallee, of_library, of_procedure, IsUnnumbered}
 use Rattle.main_translation_laws.proofs.Names.{IsCalledName}
-
--- ## Parts of lists
-
-in_flat : {A B : Type 0} (f : A → List B) (x : A) (xs : List A) (y : B) → IsIn x xs → IsIn y (f x) → IsIn y (flat_map f xs)
-in_flat f x _ y (first_in {as' = xs}) o = in_front y (f x) (flat_map f xs) o
-in_flat f x _ y (later_in {b = z} {as' = xs} among) o = in_back y (f z) (flat_map f xs) (in_flat f x xs y among o)
-
-record IsFlat {A B : Type 0} (f : A → List B) (xs : List A) (y : B) : Type 0 where
-  whole : A
-  among : IsIn whole xs
-  part : IsIn y (f whole)
-
-of_flat : {A B : Type 0} (f : A → List B) (xs : List A) (y : B) → IsIn y (flat_map f xs) → IsFlat f xs y
-of_flat f [] y o = elim o [ ]
-of_flat f (x ∷ xs) y o = by (in_either y (f x) (flat_map f xs) o) (of_flat f xs y)
-  where
-    by : InEither y (f x) (flat_map f xs) → (IsIn y (flat_map f xs) → IsFlat f xs y) → IsFlat f (x ∷ xs) y
-    by (in_one p) later = record { whole = x; among = first_in; part = p }
-    by (in_other p) later = let rest = later p in record { whole = rest.whole; among = later_in rest.among; part = rest.part }
+use Rattle.unit_translation_laws.proofs.LibraryNames.{calls_unnumbered}
 
 -- ## Names, each once
 
@@ -246,51 +232,51 @@ module _ (us : List LoweredUnit) (u : LoweredUnit) where
   abbrev v : Inventory
   v = inventory_of us u
 
-  library_called : (name : List ℕ) → IsAmong name (calls_of u.text.steps) → IsCalled v name
+  library_called : (name : List ℕ) → IsAmong name (calls_of (whole_text u).steps) → IsCalled v name
   library_called name among =
-      let found = in_map (λ (call : Called). call.name) (calls_of u.text.steps) name (in_at (map (λ (call : Called). call.name) (calls_of u.text.steps)) among.index name among.at) in
+      let found = in_map (λ (call : Called). call.name) (calls_of (whole_text u).steps) name (in_at (map (λ (call : Called). call.name) (calls_of (whole_text u).steps)) among.index name among.at) in
       subst (IsCalled v) found.is
       (called_in v (library_callee found.from)
-      (in_front (library_callee found.from) (map library_callee (calls_of u.text.steps)) (flat_map (procedure_callee us) (procedures_in u.text)) (in_mapped library_callee found.from (calls_of u.text.steps) found.among)))
+      (in_front (library_callee found.from) (map library_callee (calls_of (whole_text u).steps)) (flat_map (procedure_callee us) (procedures_in (whole_text u))) (in_mapped library_callee found.from (calls_of (whole_text u).steps) found.among)))
 
   routine_is : (k : ℕ) (w : LoweredUnit) → slice_get us k ≡ Some w → routine_name (inventories_of us) k ≡ function_name w.unit
   routine_is k w at =
       ap (λ o. unwrap_or o [])
       (get_front (own_names (inventories_of us)) builtin_names k (function_name w.unit) (map_at (λ (i : Inventory). i.name) (inventories_of us) k (inventory_of us w) (map_at (inventory_of us) us k w at)))
 
-  procedure_declared : (x : Bytes) (k : ℕ) → IsIn x (procedures_in u.text) → unit_numbers us (Procedure x) ≡ Some k → IsCalled v (routine_name (inventories_of us) k)
+  procedure_declared : (x : Bytes) (k : ℕ) → IsIn x (procedures_in (whole_text u)) → unit_numbers us (Procedure x) ≡ Some k → IsCalled v (routine_name (inventories_of us) k)
   unfolding procedure_callee unit_callee
   procedure_declared x k among found =
       let own = owner us x k found in
       let it = ap (λ n. unit_callee (option_and_then (slice_get us) n)) found ∙ ap unit_callee own.at in
       subst (IsCalled v) (sym (routine_is k own.unit own.at))
       (called_in v _
-      (in_back _ (map library_callee (calls_of u.text.steps)) (flat_map (procedure_callee us) (procedures_in u.text))
-      (in_flat (procedure_callee us) x (procedures_in u.text) _ among (subst (IsIn _) (sym it) first_in))))
+      (in_back _ (map library_callee (calls_of (whole_text u).steps)) (flat_map (procedure_callee us) (procedures_in (whole_text u)))
+      (in_flat (procedure_callee us) x (procedures_in (whole_text u)) _ among (subst (IsIn _) (sym it) first_in))))
 
-  all_declared : (xs : List Bytes) → ((x : Bytes) → IsIn x xs → IsIn x (procedures_in u.text)) → AreDeclared (unit_numbers us) (inventories_of us) v xs
+  all_declared : (xs : List Bytes) → ((x : Bytes) → IsIn x xs → IsIn x (procedures_in (whole_text u))) → AreDeclared (unit_numbers us) (inventories_of us) v xs
   all_declared [] every = tt
   all_declared (x ∷ xs) every = ((λ k found. procedure_declared x k (every x first_in) found), all_declared xs (λ y o. every y (later_in o)))
 
   -- ### Steps
 
-  function_listed : (n k : ℕ) (f : Function) (ps : Pures) → slice_get u.text.steps n ≡ Some (Compute k f ps) → (found : Option LibraryFunction) → library_function f ≡ found → FunctionIsCalled v found
-  function_listed n k f ps at (Some one) is = library_called one.name (function_is_called u.text.steps n k f ps one at is)
+  function_listed : (n k : ℕ) (f : Function) (ps : Pures) → slice_get (whole_text u).steps n ≡ Some (Compute k f ps) → (found : Option LibraryFunction) → library_function f ≡ found → FunctionIsCalled v found
+  function_listed n k f ps at (Some one) is = library_called one.name (function_is_called (whole_text u).steps n k f ps one at is)
   function_listed n k f ps at None is = tt
 
-  step_listed : (w : Writing) (n : ℕ) (st : Step) (item : Flat) → slice_get u.text.steps n ≡ Some st → procedure_item (unit_numbers us) w (λ k. k) u.text.position n st ≡ Some item
+  step_listed : (w : Writing) (n : ℕ) (st : Step) (item : Flat) → slice_get (whole_text u).steps n ≡ Some st → procedure_item (unit_numbers us) w (λ k. k) (whole_text u).position n st ≡ Some item
       → IsListed (unit_numbers us) (inventories_of us) u.text.facts v n st
   unfolding procedure_item
   step_listed w n (CallFor k callee ps) item at h =
-      all_declared (procedures_named u.text.facts callee.name ps) (λ x o. text_has u.text n (CallFor k callee ps) x at (unfold procedures_by in o))
-  step_listed w n (CallSub k x ps) item at h = all_declared (procedures_named u.text.facts x ps) (λ y o. text_has u.text n (CallSub k x ps) y at (unfold procedures_by in o))
+      all_declared (procedures_named u.text.facts callee.name ps) (λ x o. text_has (whole_text u) n (CallFor k callee ps) x at (unfold procedures_by in o))
+  step_listed w n (CallSub k x ps) item at h = all_declared (procedures_named u.text.facts x ps) (λ y o. text_has (whole_text u) n (CallSub k x ps) y at (unfold procedures_by in o))
   step_listed w n (Acts (Starts way layout controls) ps m) item at h =
-      let its = started w u.text.position n way layout controls ps m item h in
-      let list = listed_at 0 u.text.steps n n way layout controls ps m its.0 (omega arith) at its.1 in
-      (library_called (codes "s_wsle") (starts_called u.text.steps n (Acts (Starts way layout controls) ps m) at (unfold begins_output in refl)), (list.index, list.place))
-  step_listed w n (Acts Takes ps m) item at h = library_called (codes "do_lio") (item_called u.text.steps n (Acts Takes ps m) at (unfold takes_item in refl))
-  step_listed w n (Acts Finishes ps m) item at h = library_called (codes "e_wsle") (ends_called u.text.steps n (Acts Finishes ps m) at (unfold ends_output in refl))
-  step_listed w n (Halt text) item at h = library_called (codes "s_stop") (stop_called u.text.steps n (Halt text) at (unfold stops_run in refl))
+      let its = started w (whole_text u).position n way layout controls ps m item h in
+      let list = listed_at 0 (whole_text u).steps n n way layout controls ps m its.0 (omega arith) at its.1 in
+      (library_called (codes "s_wsle") (starts_called (whole_text u).steps n (Acts (Starts way layout controls) ps m) at (unfold begins_output in refl)), (list.index, list.place))
+  step_listed w n (Acts Takes ps m) item at h = library_called (codes "do_lio") (item_called (whole_text u).steps n (Acts Takes ps m) at (unfold takes_item in refl))
+  step_listed w n (Acts Finishes ps m) item at h = library_called (codes "e_wsle") (ends_called (whole_text u).steps n (Acts Finishes ps m) at (unfold ends_output in refl))
+  step_listed w n (Halt text) item at h = library_called (codes "s_stop") (stop_called (whole_text u).steps n (Halt text) at (unfold stops_run in refl))
   step_listed w n (Compute k f ps) item at h = function_listed n k f ps at (library_function f) refl
   step_listed w n st item at h = tt
 
@@ -299,13 +285,31 @@ module _ (us : List LoweredUnit) (u : LoweredUnit) where
   each_listed n [] every = tt
   each_listed n (st ∷ later) every = (every 0 n st (omega arith) refl, each_listed (suc n) later (λ i k st' at stands. every (suc i) k st' (omega (arith, at)) stands))
 
-  pub all_listed : (w : Writing) (items : List Flat) → unit_items (unit_numbers us) w u.text.position 0 u.text.steps ≡ Some items → AreListed (unit_numbers us) (inventories_of us) u.text.facts v 0 u.text.steps
-  all_listed w items h =
-      each_listed 0 u.text.steps (λ i k st at stands.
-      let same : i ≡ k = omega (arith, at) in
-      let there : slice_get u.text.steps k ≡ Some st = ap (slice_get u.text.steps) (sym same) ∙ stands in
-      let item = emitted_at (unit_numbers us) w u.text.position 0 k k u.text.steps items st (omega arith) h there in
-      step_listed w k st item.item there item.emitted)
+  pass_listed : (n : ℕ) (st : Step) → Pass ≡ st → IsListed (unit_numbers us) (inventories_of us) u.text.facts v n st
+  pass_listed n st is = subst (IsListed (unit_numbers us) (inventories_of us) u.text.facts v n) is tt
+
+  -- what stands before the steps calls nothing, and each step has its item behind those of what is kept
+  listed_there : (w : Writing) (items : List Flat) → StandBehind (length (bounds_kept u.unit)) u.text → unit_items (unit_numbers us) w (whole_text u).position (length (bounds_kept u.unit)) u.text.steps ≡ Some items
+      → (k : ℕ) (st : Step) → slice_get (whole_text u).steps k ≡ Some st → IsListed (unit_numbers us) (inventories_of us) u.text.facts v k st
+  listed_there w items stand h k st there = by (nat_lt k (length (bounds_kept u.unit))) refl
+    where
+      by : (t : Bool) → nat_lt k (length (bounds_kept u.unit)) ≡ t → IsListed (unit_numbers us) (inventories_of us) u.text.facts v k st
+      by true is = pass_listed k st (some_same Pass st (sym (stand.before k (ltb-true k (length (bounds_kept u.unit)) is)) ∙ there))
+      by false is =
+          let first = length (bounds_kept u.unit) in
+          let late = ltb-false k first is in
+          let at : k ≡ first + (k - first) = omega (arith, late) in
+          let stands : slice_get u.text.steps (k - first) ≡ Some st = sym (stand.places (k - first)) ∙ ap (slice_get (whole_text u).steps) (sym at) ∙ there in
+          let item = emitted_at (unit_numbers us) w (whole_text u).position first (k - first) k u.text.steps items st at h stands in
+          step_listed w k st item.item there item.emitted
+
+  pub all_listed : (w : Writing) (savings : List Saving) (items : List Flat) → length savings ≡ length (bounds_kept u.unit) → StandBehind (length (bounds_kept u.unit)) u.text
+      → whole_items (unit_numbers us) w (whole_text u).position savings (whole_text u).steps ≡ Some items → AreListed (unit_numbers us) (inventories_of us) u.text.facts v 0 (whole_text u).steps
+  all_listed w savings items many stand h =
+      let whole = whole_by (unit_numbers us) w (whole_text u).position (length (bounds_kept u.unit)) savings u.text.steps items many h in
+      each_listed 0 (whole_text u).steps (λ i k st at stands.
+      let same : k ≡ i = omega (arith, at) in
+      listed_there w whole.later stand whole.emitted k st (ap (slice_get (whole_text u).steps) same ∙ stands))
 
   -- ### Names of what is called
 
@@ -318,7 +322,7 @@ module _ (us : List LoweredUnit) (u : LoweredUnit) where
   pub callee_sort : ((k : ℕ) (w : LoweredUnit) → slice_get us k ≡ Some w → (entry : EntryPoint) × (w.unit.entries ≡ entry ∷ [])) → ((one : Variable) → IsIn one v.variables → (u.text.facts.program.attribute one.name).class ≡ class.Stored)
       → ((p : Parameter) → IsIn p v.parameters → IsProcedure (u.text.facts.program.attribute p.name).class → ⊥) → (call : Callee) → IsIn call v.calls → IsOfCallee v call.name
   unfolding unit_callee
-  callee_sort single stored dummies call o = by (in_either call (map library_callee (calls_of u.text.steps)) (flat_map (procedure_callee us) (procedures_in u.text)) o)
+  callee_sort single stored dummies call o = by (in_either call (map library_callee (calls_of (whole_text u).steps)) (flat_map (procedure_callee us) (procedures_in (whole_text u))) o)
     where
       variables_apart : (x : Bytes) → IsProcedure (u.text.facts.program.attribute x).class → (one : Variable) → IsIn one v.variables → one.name ≡ x → ⊥
       variables_apart x is one among same = not_stored (u.text.facts.program.attribute x).class is (ap (λ y. (u.text.facts.program.attribute y).class) (sym same) ∙ stored one among)
@@ -334,10 +338,11 @@ module _ (us : List LoweredUnit) (u : LoweredUnit) where
           let same = one_callee own.unit call (subst (λ found. IsIn call (unit_callee found)) own.at p) in
           of_procedure x (same ∙ owner_named own.unit.unit entry.0 x entry.1 own.answers) (variables_apart x is) (parameters_apart x is)
 
-      by : InEither call (map library_callee (calls_of u.text.steps)) (flat_map (procedure_callee us) (procedures_in u.text)) → IsOfCallee v call.name
+      by : InEither call (map library_callee (calls_of (whole_text u).steps)) (flat_map (procedure_callee us) (procedures_in (whole_text u))) → IsOfCallee v call.name
       by (in_one p) =
-          let found = in_map library_callee (calls_of u.text.steps) call p in
-          of_library (subst (λ (c : Callee). IsCalledName c.name) found.is (calls_named u.text.steps found.from found.among))
+          let found = in_map library_callee (calls_of (whole_text u).steps) call p in
+          of_library (subst (λ (c : Callee). IsCalledName c.name) found.is (calls_named (whole_text u).steps found.from found.among))
+          (subst (λ (c : Callee). IsUnnumbered c.name) found.is (calls_unnumbered (whole_text u).steps found.from found.among))
       by (in_other p) =
-          let found = of_flat (procedure_callee us) (procedures_in u.text) call p in
-          by_owner found.whole (text_names u.text found.whole found.among) (unit_numbers us (Procedure found.whole)) refl (unfold procedure_callee in found.part)
+          let found = of_flat (procedure_callee us) (procedures_in (whole_text u)) call p in
+          by_owner found.whole (text_names (whole_text u) found.whole found.among) (unit_numbers us (Procedure found.whole)) refl (unfold procedure_callee in found.part)

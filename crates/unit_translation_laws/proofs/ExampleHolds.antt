@@ -1,5 +1,5 @@
 -- The units of the example are plain, and the functions that are said are made for them.
-use Rattle.std.specs.Prelude.{◌≡◌, ℕ, zero, suc, ◌+◌, ◌<◌, ◌≤◌, ◌^◌, Bool, true, false, List, [], ◌∷◌, map, length, Some, None, slice_get, bytes_eq, if◌then◌else◌}
+use Rattle.std.specs.Prelude.{◌≡◌, ℕ, zero, suc, ◌+◌, ◌<◌, ◌≤◌, ◌^◌, nat_eq, Bool, true, false, not, List, [], ◌∷◌, map, length, Some, None, slice_get, bytes_eq, if◌then◌else◌}
 use Rattle.std.proofs.Common.{refl, sym, ap, ◌∙◌, subst, arith}
 use Rattle.std.proofs.lemmas.Slice.Eq.{bytes_eq-Decides}
 use Rattle.unit_translation.specs.f_tree.declared.names.Class.{Class}
@@ -22,19 +22,22 @@ use Rattle.unit_translation.specs.main_translation.Outlined.{labels_in, outlined
 use Rattle.unit_translation.specs.unit_file.UnitFile.{WrittenUnit}
 use Rattle.unit_translation.specs.unit_sites.UnitSites.{UnitsOfFile}
 use Rattle.unit_translation.specs.UnitFlow.{unit_flow_opened}
-use Rattle.unit_translation.specs.UnitContents.{program_units, temporaries_kept, constants_passed, unit_contents_opened}
+use Rattle.unit_translation.specs.procedure_emission.kept_bounds.KeptBounds.{is_adjustable, kept_bounds_opened}
+use Rattle.unit_translation.specs.UnitBounds.{unit_bounds_opened}
+use Rattle.unit_translation.specs.UnitContents.{program_units, whole_text, temporaries_kept, constants_passed, unit_contents_opened}
 use Rattle.unit_translation.specs.UnitBodies.{written_files, unit_bodies_opened}
 use Rattle.main_translation_laws.proofs.linking_laws.Places.{some_same}
 use Rattle.unit_programs.specs.unit_forms.OwnSetting.{own_facts}
 use Rattle.unit_programs.specs.OwnStorage.{bytes_in}
 use Rattle.unit_programs.proofs.ExampleParts.{fixed_by}
 use Rattle.unit_programs.proofs.Told.{distinct_by, each_at}
-use Rattle.unit_programs.specs.Example.{the_variable, the_dummy, the_function, the_subroutine, an_integer, no_name, main_attribute, function_attribute, subroutine_attribute, main_unit, function_unit, subroutine_unit, text_with, its_constants, main_steps, function_steps, subroutine_steps, main_inventory, function_inventory, subroutine_inventory, main_body, function_body, subroutine_body, example_opened}
+use Rattle.unit_programs.specs.Example.{the_variable, the_dummy, the_function, the_subroutine, an_integer, no_name, main_attribute, function_attribute, subroutine_attribute, main_unit, function_unit, subroutine_unit, its_constants, main_steps, function_steps, subroutine_steps, main_inventory, function_inventory, subroutine_inventory, main_body, function_body, subroutine_body, example_opened}
 use Rattle.unit_translation_laws.specs.Example.{lowered_main, lowered_function, lowered_subroutine, its_lowered_units, its_calls, its_lowered_files, its_written_files, its_lowered_apart, its_written_apart}
+use Rattle.unit_translation_laws.specs.PlainUnits as asked
 use Rattle.unit_translation_laws.specs.PlainUnits.{is_number, IsPlainDummy, HasPlainStorage, HasPlainBounds, IsPlainUnitText, IsPlainUnit, ArePlainUnits}
 
 pub example_constants : constants_passed its_lowered_units ≡ its_constants
-unfolding example_opened flow_opened contents_opened unit_flow_opened unit_contents_opened
+unfolding example_opened flow_opened contents_opened unit_flow_opened kept_bounds_opened unit_bounds_opened unit_contents_opened named_formals
 example_constants = refl
 
 -- with the texts of STOP as they are read off the steps
@@ -57,11 +60,11 @@ abbrev apart_with : Texts → Texts → Texts → List UnitsOfFile
 apart_with a b c = record { constants = its_constants; units = main_with a ∷ [] } ∷ record { constants = []; units = function_with b ∷ subroutine_with c ∷ [] } ∷ []
 
 made_so : written_files its_lowered_files ≡ Some (together_with (λ n. text_at (slice_get main_steps n)) (λ n. text_at (slice_get function_steps n)) (λ n. text_at (slice_get subroutine_steps n)))
-unfolding example_opened flow_opened contents_opened outlined_opened unit_flow_opened unit_contents_opened unit_bodies_opened trees_opened named_formals
+unfolding example_opened flow_opened contents_opened outlined_opened unit_flow_opened kept_bounds_opened unit_bounds_opened unit_contents_opened unit_bodies_opened trees_opened named_formals
 made_so = refl
 
 apart_so : written_files its_lowered_apart ≡ Some (apart_with (λ n. text_at (slice_get main_steps n)) (λ n. text_at (slice_get function_steps n)) (λ n. text_at (slice_get subroutine_steps n)))
-unfolding example_opened flow_opened contents_opened outlined_opened unit_flow_opened unit_contents_opened unit_bodies_opened trees_opened named_formals
+unfolding example_opened flow_opened contents_opened outlined_opened unit_flow_opened kept_bounds_opened unit_bounds_opened unit_contents_opened unit_bodies_opened trees_opened named_formals
 apart_so = refl
 
 -- ## Steps without STOP
@@ -159,12 +162,17 @@ subroutine_other A x k dummy constant = subroutine_names x (λ a. a.class ≡ k 
 
 -- ## What is asked of each unit
 
+not_adjustable : (a : Attribute) → a.bounds ≡ [] → a.dimensions ≡ [] → is_adjustable a ≡ false
+unfolding is_adjustable
+not_adjustable a none flat = λ i. not (nat_eq (length (none i)) (length (flat i)))
+
 bare_bounds : (unit : ProgramUnit) → ((x : Bytes) → (unit.attribute x).bounds ≡ []) → ((x : Bytes) → (unit.attribute x).dimensions ≡ []) → HasPlainBounds unit
 bare_bounds unit none flat = record {
   ranked = λ m among. ap length (none m.name) ∙ ap length (sym (flat m.name));
   counted = λ m b bs among is. let no : [] ≡ b ∷ bs = sym (none m.name) ∙ is in absurd (cc);
-  fits = λ x k b at. let no : None ≡ Some b = ap (λ bs. slice_get bs k) (sym (none x)) ∙ at in absurd (cc);
-  closed = λ x k b at more. let no : None ≡ Some b = ap (λ bs. slice_get bs k) (sym (none x)) ∙ at in absurd (cc);
+  fits = λ x k b constant at. let no : None ≡ Some b = ap (λ bs. slice_get bs k) (sym (none x)) ∙ at in absurd (cc);
+  closed = λ x k b constant at more. let no : None ≡ Some b = ap (λ bs. slice_get bs k) (sym (none x)) ∙ at in absurd (cc);
+  adjustable = λ x is. let no : false ≡ true = sym (not_adjustable (unit.attribute x) (none x) (flat x)) ∙ is in absurd (cc);
 }
 
 nothing_stored : (unit : ProgramUnit) → unit.blocks ≡ [] → unit.ties ≡ [] → unit.images ≡ [] → unit.stored ≡ [] → ((x : Bytes) → (unit.attribute x).class ≡ class.Stored → ⊥) → HasPlainStorage unit
@@ -230,10 +238,10 @@ no_members : IsMember the_variable [] → ⊥
 no_members o = elim o [ ]
 
 main_is_plain : IsPlainUnit its_lowered_units 0 lowered_main
-unfolding example_opened contents_opened outlined_opened unit_contents_opened named_formals is_name is_name_byte
+unfolding example_opened contents_opened outlined_opened kept_bounds_opened unit_bounds_opened unit_contents_opened named_formals is_name is_name_byte
 main_is_plain = record {
   lowered = refl;
-  text = text_of (text_with 0 main_unit main_steps) (omega arith) (omega arith) (omega arith) refl main_goes_on;
+  text = text_of (whole_text lowered_main) (omega arith) (omega arith) (omega arith) refl main_goes_on;
   direct = refl;
   ended = refl;
   loops = without_loops refl;
@@ -272,10 +280,10 @@ main_is_plain = record {
 }
 
 function_is_plain : IsPlainUnit its_lowered_units 1 lowered_function
-unfolding example_opened contents_opened outlined_opened unit_contents_opened named_formals is_name is_name_byte
+unfolding example_opened contents_opened outlined_opened kept_bounds_opened unit_bounds_opened unit_contents_opened named_formals is_name is_name_byte
 function_is_plain = record {
   lowered = refl;
-  text = text_of (text_with 1 function_unit function_steps) (omega arith) (omega arith) (omega arith) refl (tt, (tt, tt));
+  text = text_of (whole_text lowered_function) (omega arith) (omega arith) (omega arith) refl (tt, (tt, tt));
   direct = refl;
   ended = refl;
   loops = without_loops refl;
@@ -285,7 +293,7 @@ function_is_plain = record {
   entry = refl;
   main = λ h. absurd (cc);
   dummies = record {
-    plain = only_one (IsPlainDummy its_lowered_units 1 lowered_function) the_dummy (is_number refl refl refl (fixed_by (own_facts (program_units its_lowered_units) 1 function_unit) the_dummy refl refl) refl);
+    plain = only_one (IsPlainDummy its_lowered_units 1 lowered_function) the_dummy (is_number refl refl refl (asked.constant refl (fixed_by (own_facts (program_units its_lowered_units) 1 function_unit) the_dummy refl refl)) refl);
     named = only_one (λ x. is_name x ≡ true) the_dummy refl;
     distinct = only_name the_dummy;
     variables = λ x own numeric. function_dummy x own;
@@ -301,10 +309,10 @@ function_is_plain = record {
 }
 
 subroutine_is_plain : IsPlainUnit its_lowered_units 2 lowered_subroutine
-unfolding example_opened contents_opened outlined_opened unit_contents_opened named_formals is_name is_name_byte
+unfolding example_opened contents_opened outlined_opened kept_bounds_opened unit_bounds_opened unit_contents_opened named_formals is_name is_name_byte
 subroutine_is_plain = record {
   lowered = refl;
-  text = text_of (text_with 2 subroutine_unit subroutine_steps) (omega arith) (omega arith) (omega arith) refl (tt, (tt, tt));
+  text = text_of (whole_text lowered_subroutine) (omega arith) (omega arith) (omega arith) refl (tt, (tt, tt));
   direct = refl;
   ended = refl;
   loops = without_loops refl;
@@ -315,7 +323,7 @@ subroutine_is_plain = record {
   main = λ h. absurd (cc);
   dummies = record {
     plain = only_one (IsPlainDummy its_lowered_units 2 lowered_subroutine) the_dummy
-        (is_number refl refl refl (fixed_by (own_facts (program_units its_lowered_units) 2 subroutine_unit) the_dummy refl refl) refl);
+        (is_number refl refl refl (asked.constant refl (fixed_by (own_facts (program_units its_lowered_units) 2 subroutine_unit) the_dummy refl refl)) refl);
     named = only_one (λ x. is_name x ≡ true) the_dummy refl;
     distinct = only_name the_dummy;
     variables = λ x own numeric. subroutine_dummy x own;

@@ -7,6 +7,8 @@ use Rattle.unit_translation.specs.f_tree.Facts.{EntryPoint, Facts}
 use Rattle.unit_translation.specs.f_tree.Setting.{IsIn, first_in, later_in}
 use Rattle.unit_translation.specs.l_core.Pures.{Pure, Temporary, Pures}
 use Rattle.unit_translation.specs.l_core.Steps.{Takes, Finishes, Step, Keep, Compute, Unless, Skip, Again, AgainIf, Jump, Select, JumpBy, CallFor, Back, BackBy, Halt, Acts, Text}
+use Rattle.unit_translation.specs.main_translation.c_image.Knowing.{Naming}
+use Rattle.unit_translation.specs.c_emit.Numbers.{Library, Writing}
 use Rattle.unit_translation.specs.c_emit.LibraryFunctions.{library_type}
 use Rattle.unit_translation.specs.c_emit.Types.{type_of}
 use Rattle.unit_translation.proofs.c_laws.TokenSpellings.{and-first, and-second}
@@ -18,9 +20,10 @@ use Rattle.unit_translation.specs.procedure_emission.EmittedUnits.{leads_on, is_
 use Rattle.unit_translation.specs.main_translation.Flow as flow
 use Rattle.unit_translation.specs.main_translation.Flow.{is_target, kept_type, stage_after, stage_at, is_on}
 use Rattle.main_translation_laws.proofs.FlowLaws.{only_behind, kept_types, IsKept, by_keep, by_compute, kept_by, kept_nowhere, same_stage, at_stage, goes_on}
-use Rattle.unit_translation.specs.unit_file.UnitFile.{Inventory, Bases, writing_of}
 use Rattle.unit_translation.specs.UnitFlow.{kept_behind, kind_before, item_kind, is_in_place, are_in_place}
 use Rattle.unit_programs.specs.TranslatedUnits.{Flows}
+use Rattle.unit_translation.specs.behind_bounds.BehindBounds.{behind, writing_behind}
+use Rattle.behind_units.specs.behind_flow.BehindFlow.{FlowsBehind}
 
 -- ## Where steps lead
 
@@ -138,24 +141,28 @@ given_nowhere : (c : Facts) (k : ℕ) (found : Option Step) (basic : Basic) → 
 unfolding kept_behind
 given_nowhere c k found basic h = kept_nowhere c k found basic h
 
-module _ (constants : List ℤ) (v : Inventory) (b : Bases) (u : Text) where
-  by_step : {found : Option Step} (n : ℕ) (st : Step) (k : ℕ) (basic : Basic) → ((it : Step) → found ≡ Some it → st ≡ it) → IsGiven u.facts k found basic → kind_after (writing_of constants v b u.facts (kind_before u)) n st k ≡ Some basic
+module _ (naming : Naming) (is_number : ℕ → Bool) (library : Library) (u : Text) where
+  -- whatever is known of names and of what the library takes
+  abbrev w : Writing
+  w = record { naming = naming; facts = u.facts; is_number = is_number; kind = kind_before u; library = library }
+
+  by_step : {found : Option Step} (n : ℕ) (st : Step) (k : ℕ) (basic : Basic) → ((it : Step) → found ≡ Some it → st ≡ it) → IsGiven u.facts k found basic → kind_after w n st k ≡ Some basic
   unfolding kind_after
   by_step n st k basic same (by_call j callee ps is equal typed) =
-      subst (λ s. kind_after (writing_of constants v b u.facts (kind_before u)) n s k ≡ Some basic) (sym (same (CallFor j callee ps) is))
+      subst (λ s. kind_after w n s k ≡ Some basic) (sym (same (CallFor j callee ps) is))
       (ap (λ t. if t then basic_wanted callee.want else kind_before u n k) equal ∙ typed)
   by_step n st k basic same (by_value (by_keep j p is equal typed)) =
-      subst (λ s. kind_after (writing_of constants v b u.facts (kind_before u)) n s k ≡ Some basic) (sym (same (Keep j p) is))
-      (ap (λ t. if t then type_of (writing_of constants v b u.facts (kind_before u)) n p else kind_before u n k) equal ∙ kept_types (writing_of constants v b u.facts (kind_before u)) n p basic typed)
+      subst (λ s. kind_after w n s k ≡ Some basic) (sym (same (Keep j p) is))
+      (ap (λ t. if t then type_of w n p else kind_before u n k) equal ∙ kept_types w n p basic typed)
   by_step n st k basic same (by_value (by_compute j f ps is equal typed)) =
-      subst (λ s. kind_after (writing_of constants v b u.facts (kind_before u)) n s k ≡ Some basic) (sym (same (Compute j f ps) is)) (ap (λ t. if t then library_type f else kind_before u n k) equal ∙ typed)
+      subst (λ s. kind_after w n s k ≡ Some basic) (sym (same (Compute j f ps) is)) (ap (λ t. if t then library_type f else kind_before u n k) equal ∙ typed)
 
-  kinds : (n : ℕ) (st : Step) (m : ℕ) → slice_get u.steps n ≡ Some st → IsIn m (leads u n st) → (k : ℕ) (basic : Basic) → kind_before u m k ≡ Some basic → kind_after (writing_of constants v b u.facts (kind_before u)) n st k ≡ Some basic
+  kinds : (n : ℕ) (st : Step) (m : ℕ) → slice_get u.steps n ≡ Some st → IsIn m (leads u n st) → (k : ℕ) (basic : Basic) → kind_before u m k ≡ Some basic → kind_after w n st k ≡ Some basic
   unfolding kind_before
   kinds n st zero stands o k basic h = absurd (cc)
   kinds n st (suc m) stands o k basic h = by (is_target u (suc m)) refl h
     where
-      by : (t : Bool) → is_target u (suc m) ≡ t → kept_behind u.facts t k (slice_get u.steps m) ≡ Some basic → kind_after (writing_of constants v b u.facts (kind_before u)) n st k ≡ Some basic
+      by : (t : Bool) → is_target u (suc m) ≡ t → kept_behind u.facts t k (slice_get u.steps m) ≡ Some basic → kind_after w n st k ≡ Some basic
       by true is g = absurd (given_nowhere u.facts k (slice_get u.steps m) basic g)
       by false is g =
           let same : suc m ≡ suc n = only_behind u n st (suc m) stands o is in
@@ -163,16 +170,16 @@ module _ (constants : List ℤ) (v : Inventory) (b : Bases) (u : Text) where
           by_step n st k basic (λ found is. some_same st found (sym stands ∙ ap (slice_get u.steps) (sym here) ∙ is)) (given_by u.facts k (slice_get u.steps m) basic g)
 
   -- the type of what is kept
-  item_types : (n : ℕ) (p : Pure) (basic : Basic) → item_kind u n p ≡ Some basic → type_of (writing_of constants v b u.facts (kind_before u)) n p ≡ Some basic
+  item_types : (n : ℕ) (p : Pure) (basic : Basic) → item_kind u n p ≡ Some basic → type_of w n p ≡ Some basic
   unfolding item_kind type_of
   item_types n (Temporary k) basic h = h
-  item_types n p basic h = kept_types (writing_of constants v b u.facts (kind_before u)) n p basic h
+  item_types n p basic h = kept_types w n p basic h
 
-  keeps_by : (n k : ℕ) (p : Pure) (stage : Option ℤ) → is_in_place u n (Keep k p) stage ≡ true → (basic : Basic) × (type_of (writing_of constants v b u.facts (kind_before u)) n p ≡ Some basic)
+  keeps_by : (n k : ℕ) (p : Pure) (stage : Option ℤ) → is_in_place u n (Keep k p) stage ≡ true → (basic : Basic) × (type_of w n p ≡ Some basic)
   unfolding is_in_place
   keeps_by n k p stage h = let kind = is_something (item_kind u n p) h in (kind.0, item_types n p kind.0 kind.1)
 
-  pub flows_fit : (entry : EntryPoint) → are_in_place u 0 u.steps ≡ true → ((n : ℕ) (st : Step) → slice_get u.steps n ≡ Some st → IsAlone u n st) → u.begins entry.start ≡ 0 → Flows (writing_of constants v b u.facts (kind_before u)) u (stage_at u) entry
+  pub flows_fit : (entry : EntryPoint) → are_in_place u 0 u.steps ≡ true → ((n : ℕ) (st : Step) → slice_get u.steps n ≡ Some st → IsAlone u n st) → u.begins entry.start ≡ 0 → Flows w u (stage_at u) entry
   unfolding stage_at
   flows_fit entry are alone first = record {
     kinds = λ n st m stands o. kinds n st m stands (leads_too u n st m o);
@@ -182,3 +189,17 @@ module _ (constants : List ℤ) (v : Inventory) (b : Bases) (u : Text) where
     returns = λ n st stands is. none_by u n st (stage_at u n) is (placed_at u 0 u.steps n n st (omega arith) are stands);
     none_at_first = ap (stage_at u) first;
   }
+
+-- ## Behind what is kept
+
+-- what is said of a text behind others is said of the text, each step so many places further on
+pub flows_behind : (first : ℕ) (w : Writing) (u : Text) (entry : EntryPoint) → w.facts ≡ u.facts → w.kind ≡ kind_before (behind first u) → FlowsBehind first u → are_in_place (behind first u) 0 (behind first u).steps ≡ true
+    → ((n : ℕ) (st : Step) → slice_get u.steps n ≡ Some st → IsAlone u n st) → u.begins entry.start ≡ 0 → Flows (writing_behind first w) u (λ n. stage_at (behind first u) (first + n)) entry
+flows_behind first w u entry facts kind flows are alone begins =
+    let its_library = record w.library { list = λ n. w.library.list (first + n); text = λ n. w.library.text (first + n) } in
+    let stages : stage_at u ≡ (λ n. stage_at (behind first u) (first + n)) = λ i n. sym (flows.stages n) i in
+    let kinds : kind_before u ≡ (λ n k. w.kind (first + n) k) = λ i n k. sym (ap (λ f. f (first + n) k) kind ∙ flows.kinds n k) i in
+    subst (λ s. Flows (writing_behind first w) u s entry) stages
+    (subst (λ ks. Flows (record { naming = w.naming; facts = w.facts; is_number = w.is_number; kind = ks; library = its_library }) u (stage_at u) entry) kinds
+    (subst (λ c. Flows (record { naming = w.naming; facts = c; is_number = w.is_number; kind = kind_before u; library = its_library }) u (stage_at u) entry) (sym facts)
+    (flows_fit w.naming w.is_number its_library u entry (sym flows.in_place ∙ are) alone begins)))

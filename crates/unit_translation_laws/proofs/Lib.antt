@@ -1,8 +1,14 @@
+pub mod FlatLists
 pub mod FlowFits
 pub mod Renderings
 pub mod Names
+pub mod LibraryNames
 pub mod Constants
 pub mod Calls
+pub mod KeptBounds
+pub mod KeptPlaces
+pub mod KeptNames
+pub mod ListedBounds
 pub mod Listed
 pub mod Functions
 pub mod OutputParts

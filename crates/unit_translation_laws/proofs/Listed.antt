@@ -1,4 +1,5 @@
 -- The names of a unit are listed, each as what it is: its variables, its dummies and its result.
+use Rattle.std.specs.List.{list_all}
 use Rattle.std.specs.Prelude.{length, ◌≡◌, ◌≢◌, ℕ, suc, Bool, true, false, List, [], ◌∷◌, map, position, Some, option_map, is_some, slice_get, bytes_eq}
 use Rattle.std.proofs.Common.{arith, refl, sym, ap, ◌∙◌, subst}
 use Rattle.std.proofs.lemmas.List.{length-map}
@@ -6,7 +7,7 @@ use Rattle.std.proofs.lemmas.Slice.Eq.{bytes_eq-Decides}
 use Rattle.unit_translation.specs.f_tree.declared.names.Class.TheVariants as class
 use Rattle.unit_translation.specs.f_tree.Values.{Bytes}
 use Rattle.unit_translation.specs.f_tree.CNames.{is_name}
-use Rattle.unit_translation.specs.f_tree.Facts.{Dimension, Bounds, Formal, Named, Alternate, UnitKind, MainProgram, SubroutineUnit, FunctionUnit, BlockDataUnit}
+use Rattle.unit_translation.specs.f_tree.Facts.{Dimension, Bounds, Formal, UnitKind, MainProgram, SubroutineUnit, FunctionUnit, BlockDataUnit}
 use Rattle.unit_translation.specs.f_tree.Setting.{IsIn, first_in, later_in}
 use Rattle.unit_translation.specs.f_tree.Valuing.{elements_of}
 use Rattle.unit_translation.specs.f_tree.Meaning.{facts_at}
@@ -18,16 +19,19 @@ use Rattle.main_translation_laws.specs.linking_laws.Linked as names
 use Rattle.main_translation_laws.proofs.linking_laws.Places.{same_bytes, taken, skipped, position_step, map_at, distinct_later}
 use Rattle.unit_programs.specs.unit_forms.OwnSetting.{own_facts}
 use Rattle.unit_translation.specs.procedure_emission.EmittedUnits.{is_number_pointer, is_function_pointer}
+use Rattle.unit_translation.specs.procedure_emission.kept_bounds.KeptBounds.{is_adjustable, dimension_is_pure}
 use Rattle.unit_translation.specs.main_translation.Contents.{count_by, number_type_of, variable_of}
 use Rattle.main_translation_laws.proofs.Lists.{AreApart, none_apart, one_apart, in_map, in_at, at_in}
 use Rattle.main_translation_laws.proofs.Storage.{name_is, count_is, placed_at, own_place}
-use Rattle.unit_translation.specs.unit_file.UnitFile.{Parameter, Inventory}
+use Rattle.unit_translation.specs.unit_file.UnitFile.{Parameter, KeptBound, Inventory}
 use Rattle.unit_programs.specs.unit_file_laws.KnownUnits.{IsVariable, IsParameter, NamesAreListed}
 use Rattle.unit_translation.specs.UnitContents.{LoweredUnit, program_units, parameter_for, formals_in, parameters_in, type_given, basic_given, result_by, returned_by, result_given, inventory_of}
 use Rattle.unit_programs.specs.OwnStorage.{bytes_in, HasOwnStorage}
-use Rattle.unit_programs.specs.TranslatedUnits.{dummies_named, IsDummy, is_number, is_procedure, IsResult}
+use Rattle.unit_programs.specs.TranslatedUnits.{dummies_named, IsBoundValue, BoundsAreWritten, DummyBounds, are_written, are_kept, IsDummy, is_number, is_procedure, IsResult}
 use Rattle.unit_translation_laws.specs.PlainUnits as plain
-use Rattle.unit_translation_laws.specs.PlainUnits.{HasPlainStorage, HasPlainBounds, IsPlainDummy, HasPlainDummies, HasPlainResult}
+use Rattle.unit_translation_laws.specs.PlainUnits.{HasPlainStorage, HasPlainBounds, HasDummyBounds, IsPlainDummy, HasPlainDummies, HasPlainResult}
+use Rattle.unit_translation_laws.proofs.KeptPlaces.{none_there}
+use Rattle.unit_translation_laws.proofs.ListedBounds.{dummies_are, adjustable_parts, bounds_are_kept, value_kept}
 
 -- ## Dummies
 
@@ -63,12 +67,6 @@ named_at u x _ (later_in {b = y} {as' = xs} o) = by (bytes_eq x y) refl (named_a
     by : (b : Bool) → bytes_eq x y ≡ b → IsNamedAt u xs x → IsNamedAt u (y ∷ xs) x
     by true same later = named_first u y xs x ((bytes_eq-Decides x y).0 same)
     by false other later = named_later u y xs x other later
-
-dummies_are : (formals : List Formal) → dummies_named formals ≡ named_formals formals
-unfolding named_formals
-dummies_are [] = refl
-dummies_are (Named x ∷ formals) = ap (λ xs. x ∷ xs) (dummies_are formals)
-dummies_are (Alternate ∷ formals) = dummies_are formals
 
 names_of_parameters : (u : LoweredUnit) (xs : List Bytes) → map (λ (p : Parameter). p.name) (map (parameter_by u) xs) ≡ xs
 names_of_parameters u [] = refl
@@ -133,22 +131,21 @@ module _ (us : List LoweredUnit) (j : ℕ) (u : LoweredUnit) where
     pub parameters_apart : names.AreDistinct (named_formals formals) → AreApart (map (λ (p : Parameter). p.name) v.parameters)
     parameters_apart distinct = subst AreApart (sym (names_of_parameters u (named_formals formals)) ∙ ap (map (λ (p : Parameter). p.name)) (sym parameters_are)) (apart_by (named_formals formals) distinct)
 
+    its_formals : named_formals (formals_in u.unit.entries) ≡ named_formals formals
+    unfolding formals_in
+    its_formals = ap (λ es. named_formals (formals_in es)) entry
+
+    pub formals_apart : names.AreDistinct (named_formals formals) → AreApart (named_formals (formals_in u.unit.entries))
+    formals_apart distinct = subst AreApart (sym its_formals) (apart_by (named_formals formals) distinct)
+
     module _ (has : HasPlainDummies us j u formals) where
       pub parameter_named : (p : Parameter) → IsIn p v.parameters → is_name p.name ≡ true
       parameter_named p o = let d = of_dummy p o in subst (λ (q : Parameter). is_name q.name ≡ true) d.is (has.named d.dummy d.among)
 
-      dummy_by : (x : Bytes) → IsPlainDummy us j u x → IsDummy (own_facts (program_units us) j u.unit) (parameter_by u x)
-      unfolding facts_at
-      dummy_by x (plain.is_number own numeric wide fixed points) = is_number own numeric wide fixed points
-      dummy_by x (plain.is_procedure own fixed points) = is_procedure own fixed points
-
-      pub parameter_is : (i : ℕ) (p : Parameter) → slice_get v.parameters i ≡ Some p → IsDummy (own_facts (program_units us) j u.unit) p
-      parameter_is i p at = let d = of_dummy p (in_at v.parameters i p at) in subst (IsDummy (own_facts (program_units us) j u.unit)) d.is (dummy_by d.dummy (has.plain d.dummy d.among))
-
       -- dummies are of no other class
       dummy_class : (A : Type 0) (x : Bytes) → IsPlainDummy us j u x → ((u.unit.attribute x).class ≡ class.Dummy → A) → ((u.unit.attribute x).class ≡ class.DummyProcedure → A) → A
-      dummy_class A x (plain.is_number own numeric wide fixed points) variable procedure = variable own
-      dummy_class A x (plain.is_procedure own fixed points) variable procedure = procedure own
+      dummy_class A x (plain.is_number own numeric wide its_bounds points) variable procedure = variable own
+      dummy_class A x (plain.is_procedure own its_bounds points) variable procedure = procedure own
 
       pub parameter_class : (A : Type 0) (p : Parameter) → IsIn p v.parameters → ((u.unit.attribute p.name).class ≡ class.Dummy → A) → ((u.unit.attribute p.name).class ≡ class.DummyProcedure → A) → A
       parameter_class A p o variable procedure =
@@ -158,12 +155,12 @@ module _ (us : List LoweredUnit) (j : ℕ) (u : LoweredUnit) where
       -- ### Names
 
       number_points : (x : Bytes) → IsPlainDummy us j u x → (u.unit.attribute x).class ≡ class.Dummy → is_number_pointer (parameter_for (u.use_of x)) ≡ true
-      number_points x (plain.is_number own numeric wide fixed points) is = points
-      number_points x (plain.is_procedure own fixed points) is = let no : class.DummyProcedure ≡ class.Dummy = sym own ∙ is in absurd (cc)
+      number_points x (plain.is_number own numeric wide its_bounds points) is = points
+      number_points x (plain.is_procedure own its_bounds points) is = let no : class.DummyProcedure ≡ class.Dummy = sym own ∙ is in absurd (cc)
 
       function_points : (x : Bytes) → IsPlainDummy us j u x → (u.unit.attribute x).class ≡ class.DummyProcedure → is_function_pointer (parameter_for (u.use_of x)) ≡ true
-      function_points x (plain.is_number own numeric wide fixed points) is = let no : class.Dummy ≡ class.DummyProcedure = sym own ∙ is in absurd (cc)
-      function_points x (plain.is_procedure own fixed points) is = points
+      function_points x (plain.is_number own numeric wide its_bounds points) is = let no : class.Dummy ≡ class.DummyProcedure = sym own ∙ is in absurd (cc)
+      function_points x (plain.is_procedure own its_bounds points) is = points
 
       listed_parameter : (x : Bytes) (points : ParameterType → Bool) → IsIn x (named_formals formals) → points (parameter_for (u.use_of x)) ≡ true → IsParameter v x points
       listed_parameter x points among typed =
@@ -175,6 +172,56 @@ module _ (us : List LoweredUnit) (j : ℕ) (u : LoweredUnit) where
             at = ap (λ ps. slice_get ps p.index) parameters_are ∙ map_at (parameter_by u) (named_formals formals) p.index x p.at;
             typed = typed;
           }
+
+      -- ### Bounds
+
+      pub pure_dimensions : (x : Bytes) → IsIn x (named_formals (formals_in u.unit.entries)) → is_adjustable (u.unit.attribute x) ≡ true → list_all dimension_is_pure (u.unit.attribute x).dimensions ≡ true
+      unfolding facts_at
+      pure_dimensions x among is = by (has.plain x (subst (IsIn x) its_formals among))
+        where
+          by_bounds : HasDummyBounds us j u x → list_all dimension_is_pure (u.unit.attribute x).dimensions ≡ true
+          by_bounds (plain.constant constant fixed) = let no : false ≡ true = sym constant ∙ is in absurd (cc)
+          by_bounds (plain.adjustable h) = (adjustable_parts (own_facts (program_units us) j u.unit) x h).pure
+
+          by : IsPlainDummy us j u x → list_all dimension_is_pure (u.unit.attribute x).dimensions ≡ true
+          by (plain.is_number own numeric wide its_bounds points) = by_bounds its_bounds
+          by (plain.is_procedure own its_bounds points) = by_bounds its_bounds
+
+      module _ (bounds : HasPlainBounds u.unit) where
+        written : (x : Bytes) → is_adjustable (u.unit.attribute x) ≡ false → BoundsAreWritten (own_facts (program_units us) j u.unit) v x
+        unfolding facts_at
+        written x constant = record {
+          unkept = none_there u.unit x (λ o adjustable. let no : false ≡ true = sym constant ∙ adjustable in absurd (cc));
+          fits = λ k b at. bounds.fits x k b constant at;
+          closed = λ k b at more. bounds.closed x k b constant at more;
+        }
+
+        dummy_bounds : (x : Bytes) → IsIn x (named_formals formals) → HasDummyBounds us j u x → DummyBounds (own_facts (program_units us) j u.unit) v x
+        unfolding facts_at
+        dummy_bounds x among (plain.constant constant fixed) = are_written fixed (written x constant)
+        dummy_bounds x among (plain.adjustable is) = are_kept (bounds_are_kept (own_facts (program_units us) j u.unit) v refl x (subst (IsIn x) (sym its_formals) among) is)
+
+        dummy_by : (x : Bytes) → IsIn x (named_formals formals) → IsPlainDummy us j u x → IsDummy (own_facts (program_units us) j u.unit) v (parameter_by u x)
+        unfolding facts_at
+        dummy_by x among (plain.is_number own numeric wide its_bounds points) = is_number own numeric wide (dummy_bounds x among its_bounds) points
+        dummy_by x among (plain.is_procedure own its_bounds points) = is_procedure own (dummy_bounds x among its_bounds) points
+
+        pub parameter_is : (i : ℕ) (p : Parameter) → slice_get v.parameters i ≡ Some p → IsDummy (own_facts (program_units us) j u.unit) v p
+        parameter_is i p at = let d = of_dummy p (in_at v.parameters i p at) in subst (IsDummy (own_facts (program_units us) j u.unit) v) d.is (dummy_by d.dummy d.among (has.plain d.dummy d.among))
+
+        -- only dummies have bounds that a call gives
+        pub others_written : (x : Bytes) → (IsIn x (dummies_named formals) → ⊥) → BoundsAreWritten (own_facts (program_units us) j u.unit) v x
+        others_written x other = by (is_adjustable (u.unit.attribute x)) refl
+          where
+            by : (t : Bool) → is_adjustable (u.unit.attribute x) ≡ t → BoundsAreWritten (own_facts (program_units us) j u.unit) v x
+            by false constant = written x constant
+            by true is = let own = bounds.adjustable x is in absurd (other (subst (IsIn x) (sym (dummies_are formals)) (has.variables x own.0 own.1)))
+
+        pub values_kept : (i : ℕ) (one : KeptBound) → slice_get v.bounds i ≡ Some one → IsBoundValue (own_facts (program_units us) j u.unit) formals one.value
+        unfolding facts_at formals_in
+        values_kept i one at =
+            subst (λ es. IsBoundValue (own_facts (program_units us) j u.unit) (formals_in es) one.value) entry
+            (value_kept (own_facts (program_units us) j u.unit) v refl one (in_at v.bounds i one at))
 
       module _ (storage : HasPlainStorage u.unit) (bounds : HasPlainBounds u.unit) (result : HasPlainResult u.unit name) where
         stored_listed : (x : Bytes) → (u.unit.attribute x).class ≡ class.Stored → is_numeric (u.unit.attribute x).basic ≡ true → IsVariable v x (has_shape (u.unit.attribute x).dimensions)

@@ -17,14 +17,14 @@ use Rattle.unit_translation.specs.unit_file.UnitFile.{Inventory, WrittenUnit, ob
 use Rattle.unit_translation.specs.unit_file.UnitItems.{unit_items}
 use Rattle.unit_translation.specs.unit_sites.UnitSites.{UnitsOfFile, all_units, inventories, contents_of, all_inventories, Site, sites_in, behind, sites_from, sites_of}
 use Rattle.unit_translation.specs.UnitFlow.{kind_before, are_in_place}
-use Rattle.unit_translation.specs.UnitContents.{LoweredUnit, program_units, constants_passed, inventory_of}
+use Rattle.unit_translation.specs.UnitContents.{LoweredUnit, program_units, whole_text, constants_passed, inventory_of}
 use Rattle.unit_translation.specs.UnitBodies.{all_lowered, unit_outline, items_of, body_of, written_before, written_from, file_before, files_from, written_files}
 use Rattle.unit_programs.specs.TranslatedUnits.{Rendering, units_of, written_of, sites_of_renderings}
 
 -- ## What a body was made by
 
 pub record HasBody (all : List LoweredUnit) (s : Site) (u : LoweredUnit) (body : List CStmt) : Type 0 where
-  pub in_place : are_in_place u.text 0 u.text.steps ≡ true
+  pub in_place : are_in_place (whole_text u) 0 (whole_text u).steps ≡ true
   pub items : List Flat
   pub emitted : items_of all s u ≡ Some items
   pub statements : statements_for (unit_outline all s u) (length items) 0 items ≡ Some body
@@ -32,21 +32,21 @@ pub record HasBody (all : List LoweredUnit) (s : Site) (u : LoweredUnit) (body :
 
 has_body : (all : List LoweredUnit) (s : Site) (u : LoweredUnit) (body : List CStmt) → body_of all s u ≡ Some body → HasBody all s u body
 unfolding body_of
-has_body all s u body h = by (are_in_place u.text 0 u.text.steps) refl h
+has_body all s u body h = by (are_in_place (whole_text u) 0 (whole_text u).steps) refl h
   where
-    with_statements : (items : List Flat) (found : Option (List CStmt)) → are_in_place u.text 0 u.text.steps ≡ true → items_of all s u ≡ Some items → statements_for (unit_outline all s u) (length items) 0 items ≡ found
+    with_statements : (items : List Flat) (found : Option (List CStmt)) → are_in_place (whole_text u) 0 (whole_text u).steps ≡ true → items_of all s u ≡ Some items → statements_for (unit_outline all s u) (length items) 0 items ≡ found
         → option_and_then if_returned found ≡ Some body → HasBody all s u body
     with_statements items (Some ss) in_place is are g =
         let last = returned_by ss body g in
         record { in_place = in_place; items = items; emitted = is; statements = are ∙ ap Some last.1; returned = ap returns_last (sym last.1) ∙ last.0 }
     with_statements items None in_place is are g = absurd (cc)
 
-    with_items : (found : Option (List Flat)) → are_in_place u.text 0 u.text.steps ≡ true → items_of all s u ≡ found
+    with_items : (found : Option (List Flat)) → are_in_place (whole_text u) 0 (whole_text u).steps ≡ true → items_of all s u ≡ found
         → option_and_then if_returned (option_and_then (λ items. statements_for (unit_outline all s u) (length items) 0 items) found) ≡ Some body → HasBody all s u body
     with_items (Some items) in_place is g = with_statements items (statements_for (unit_outline all s u) (length items) 0 items) in_place is refl g
     with_items None in_place is g = absurd (cc)
 
-    by : (b : Bool) → are_in_place u.text 0 u.text.steps ≡ b
+    by : (b : Bool) → are_in_place (whole_text u) 0 (whole_text u).steps ≡ b
         → (if b then option_and_then if_returned (option_and_then (λ items. statements_for (unit_outline all s u) (length items) 0 items) (items_of all s u)) else None) ≡ Some body → HasBody all s u body
     by true in_place g = with_items (items_of all s u) in_place refl g
     by false in_place g = absurd (cc)
@@ -59,8 +59,8 @@ rendering_of all s u body items = record {
   text = u.text;
   written = record { inventory = inventory_of all u; body = body };
   site = s;
-  kind = kind_before u.text;
-  stage = stage_at u.text;
+  kind = kind_before (whole_text u);
+  stage = stage_at (whole_text u);
   outline = unit_outline all s u;
   items = items;
 }

@@ -1,5 +1,5 @@
 -- Plain units are translated as the law of units that call each other asks, and so they run as their files do.
-use Rattle.std.specs.Prelude.{◌≡◌, ℕ, suc, ◌<◌, ℤ, true, List, [], ◌∷◌, length, Some, None, slice_get}
+use Rattle.std.specs.Prelude.{◌≡◌, ℕ, suc, ◌<◌, ◌^◌, ℤ, true, List, [], ◌∷◌, length, drop, Some, None, slice_get}
 use Rattle.std.proofs.Common.{refl, sym, ap, ◌∙◌, subst, arith}
 use Rattle.std.proofs.lemmas.List.{length-map}
 use Rattle.unit_translation.specs.f_tree.declared.names.Class.TheVariants as class
@@ -27,27 +27,35 @@ use Rattle.main_translation_laws.proofs.Storage.{variables_apart, name_is}
 use Rattle.main_translation_laws.proofs.Contents.{listings_count, listed_at, small_magnitude}
 use Rattle.main_translation_laws.proofs.Built.{built_by, no_wrapper}
 use Rattle.main_translation_laws.proofs.Translated.{text_is, first_start, other_body, body_count}
-use Rattle.unit_translation.specs.unit_file.UnitFile.{Variable, Inventory, WrittenUnit, unit_function, writing_of}
+use Rattle.unit_translation.specs.procedure_emission.bound_items.BoundItems.{Saving}
+use Rattle.unit_translation.specs.unit_file.UnitFile.{Variable, KeptBound, Inventory, WrittenUnit, unit_function, first_bound, writing_of}
+use Rattle.unit_translation.specs.unit_file.UnitSavings.{savings_of}
 use Rattle.unit_translation.specs.unit_file.UnitNames.{own_names, names_of}
 use Rattle.unit_translation.specs.unit_sites.UnitSites.{UnitsOfFile, files_of, inventories, Site}
 use Rattle.unit_programs.specs.unit_file_laws.KnownUnits.{NamesAreListed, scope_in}
 use Rattle.unit_programs.specs.unit_file_laws.BuiltUnits.{AreListed, IsUnitBuilt}
 use Rattle.unit_programs.proofs.unit_file_laws.BuiltItems.{AreEmitted, AreNumberedItems, every}
 use Rattle.unit_translation.specs.UnitFlow.{kind_before}
-use Rattle.unit_translation.specs.UnitContents.{LoweredUnit, program_units, unit_numbers, inventory_of, inventories_of}
+use Rattle.unit_translation.specs.UnitContents.{LoweredUnit, program_units, bounds_kept, whole_text, unit_numbers, inventory_of, inventories_of}
 use Rattle.unit_translation.specs.UnitBodies.{all_lowered, unit_outline}
-use Rattle.unit_programs.specs.TranslatedUnits.{Rendering, units_of, written_of, facts_of, IsDummy, IsResult, Passes, IsTranslatedUnit, IsTranslatedSet}
+use Rattle.unit_programs.specs.TranslatedUnits.{Rendering, units_of, written_of, facts_of, IsBoundValue, BoundsAreWritten, IsDummy, IsResult, Passes, IsTranslatedUnit, IsTranslatedSet}
+use Rattle.unit_programs.proofs.Objects.{whole_by}
+use Rattle.unit_programs.proofs.unit_file_laws.Passed.{savings_count, none_stops}
+use Rattle.behind_units.specs.BehindUnits.{UnitStandsBehind}
+use Rattle.behind_units.proofs.UnitsBehind.{units_stand_behind}
 use Rattle.unit_programs.proofs.Runs.{unit_programs_run_alike}
 use Rattle.unit_translation_laws.specs.PlainUnits.{IsPlainUnit, ArePlainUnits, PlainUnitsRunAlike}
 use Rattle.unit_translation_laws.specs.RenderedUnits.{IsRenderingOf, PlainUnitsAreRendered}
 use Rattle.unit_translation_laws.proofs.OutputParts.{outputs_are_whole}
-use Rattle.unit_translation_laws.proofs.FlowFits.{flows_fit}
+use Rattle.unit_translation_laws.proofs.FlowFits.{flows_behind}
 use Rattle.unit_translation_laws.proofs.OutputFlow.{steps_alone}
 use Rattle.unit_translation_laws.proofs.Renderings.{HasBody, rendering_of, IsSiteOfUnit, AreEachRendered, units_are, inventories_are, as_many, rendered_at, AreAllRendered, all_rendered, items_count}
 use Rattle.unit_translation_laws.proofs.Names.{HasUnitNames, names_differ}
 use Rattle.unit_translation_laws.proofs.Constants.{constants_fit, constants_apart}
 use Rattle.unit_translation_laws.proofs.Calls.{IsProcedure, no_dummy, no_dummy_procedure, all_listed, callee_sort}
-use Rattle.unit_translation_laws.proofs.Listed.{own_storage, dummies_listed, parameters_apart, parameter_named, parameter_is, parameter_class, names_listed, result_is, no_result}
+use Rattle.unit_translation_laws.proofs.KeptBounds.{place_below}
+use Rattle.unit_translation_laws.proofs.KeptNames.{bound_named, names_apart}
+use Rattle.unit_translation_laws.proofs.Listed.{own_storage, dummies_listed, formals_apart, pure_dimensions, parameters_apart, parameter_named, parameter_is, others_written, values_kept, parameter_class, names_listed, result_is, no_result}
 use Rattle.unit_translation_laws.proofs.Functions.{own_distinct, own_apart, numbered}
 
 program_of : (us : List ProgramUnit) (j : ℕ) (unit : ProgramUnit) → (own_facts us j unit).program ≡ unit
@@ -93,6 +101,20 @@ module _ (us : List LoweredUnit) (plain : ArePlainUnits us) (rs : List Rendering
     begins : u.text.begins 0 ≡ 0
     begins = ap (λ f. f 0) (text_is (own_facts (program_units us) j u.unit) u.text its_plain.lowered).begins ∙ first_start (own_facts (program_units us) j u.unit).program
 
+    -- ### What stands before the steps
+
+    abbrev first : ℕ
+    first = length (bounds_kept u.unit)
+
+    behind_it : UnitStandsBehind first u.text
+    behind_it = units_stand_behind (own_facts (program_units us) j u.unit) u.text its_plain.lowered first
+
+    abbrev savings : List Saving
+    savings = savings_of v s.bases
+
+    saved_many : length savings ≡ first
+    saved_many = savings_count (first_bound v s.bases) v.bounds
+
     -- ### Names
 
     apart : AreApart s.constants
@@ -111,6 +133,12 @@ module _ (us : List LoweredUnit) (plain : ArePlainUnits us) (rs : List Rendering
         let found = in_map (variable_of u.unit) u.unit.stored one o in
         ap is_name (ap (λ (x : Variable). x.name) (sym found.is) ∙ name_is u.unit found.from) ∙ its_plain.storage.named found.from found.among
 
+    kept_small : (one : KeptBound) → IsIn one (bounds_kept u.unit) → suc one.place < 2 ^ 64
+    kept_small one o =
+        let below = place_below u.unit one (pure_dimensions us j u its_plain.name its_plain.formals its_plain.entry its_plain.dummies) o in
+        let long = behind_it.steps.long in
+        let fits = its_plain.text.steps in omega (arith, below, long, fits)
+
     has_names : HasUnitNames s.constants v
     has_names = record {
       constants = apart;
@@ -123,8 +151,10 @@ module _ (us : List LoweredUnit) (plain : ArePlainUnits us) (rs : List Rendering
           parameter_class us j u its_plain.name its_plain.formals its_plain.entry its_plain.dummies ⊥ p o
           (λ dummy. let no : class.Stored ≡ class.Dummy = sym (of_variable one q) ∙ ap (λ x. (u.unit.attribute x).class) (sym same) ∙ dummy in absurd (cc))
           (λ dummy. let no : class.Stored ≡ class.DummyProcedure = sym (of_variable one q) ∙ ap (λ x. (u.unit.attribute x).class) (sym same) ∙ dummy in absurd (cc));
-      lists = (let few = listings_count 0 u.text.steps in let fits = its_plain.text.steps in omega (arith, few, fits));
+      lists = (let few = listings_count 0 (whole_text u).steps in let fits = its_plain.text.steps in omega (arith, few, fits));
       temporaries = its_plain.text.temporaries;
+      kept = names_apart u.unit (formals_apart us j u its_plain.name its_plain.formals its_plain.entry its_plain.dummies.distinct) kept_small;
+      kept_named = λ one o. bound_named one (kept_small one o);
       called = callee_sort us u single (λ one o. ap (λ (p : ProgramUnit). (p.attribute one.name).class) program_is ∙ of_variable one o) (λ p o is.
           let of : IsProcedure (u.unit.attribute p.name).class = subst (λ (q : ProgramUnit). IsProcedure (q.attribute p.name).class) program_is is in
           parameter_class us j u its_plain.name its_plain.formals its_plain.entry its_plain.dummies ⊥ p o (no_dummy (u.unit.attribute p.name).class of) (no_dummy_procedure (u.unit.attribute p.name).class of));
@@ -132,10 +162,10 @@ module _ (us : List LoweredUnit) (plain : ArePlainUnits us) (rs : List Rendering
 
     -- ### Items
 
-    its_listed : AreListed (unit_numbers us) (inventories ws) u.text.facts v 0 u.text.steps
+    its_listed : AreListed (unit_numbers us) (inventories ws) u.text.facts v 0 (whole_text u).steps
     its_listed =
-        subst (λ is. AreListed (unit_numbers us) is u.text.facts v 0 u.text.steps) (sym same_inventories)
-        (all_listed us u (writing_of s.constants v s.bases u.text.facts (kind_before u.text)) made.items made.emitted)
+        subst (λ is. AreListed (unit_numbers us) is u.text.facts v 0 (whole_text u).steps) (sym same_inventories)
+        (all_listed us u (writing_of s.constants v s.bases u.text.facts (kind_before (whole_text u))) savings made.items saved_many behind_it.steps made.emitted)
 
     its_names : NamesAreListed v u.text.facts
     its_names =
@@ -150,25 +180,36 @@ module _ (us : List LoweredUnit) (plain : ArePlainUnits us) (rs : List Rendering
 
     -- with other statements that have as many strings
     abbrev other : WrittenUnit
-    other = record { inventory = v; body = other_body u.text }
+    other = record { inventory = v; body = other_body (whole_text u) }
 
-    emitted : AreEmitted (unit_numbers us) ws s other u.text (kind_before u.text) made.items
+    emitted : AreEmitted (unit_numbers us) ws s other (whole_text u) (kind_before (whole_text u)) made.items
     emitted = record {
       differ = names_differ s.constants v has_names;
       names_listed = its_names;
       listed = its_listed;
       stops = refl;
       emitted = made.emitted;
-      as_many = body_count (length (stops_from 0 u.text.steps));
+      as_many = body_count (length (stops_from 0 (whole_text u).steps));
     }
 
-    known : AreNumberedItems (routines (own_names (inventories ws))) (λ name. None) [] (unit_numbers us) ws s other u.text (kind_before u.text) made.items owned sited.before (numbered us ws same_inventories single plain.differ v) emitted [] 0 u.text.steps made.items
-    known = every (routines (own_names (inventories ws))) (λ name. None) [] (unit_numbers us) ws s other u.text (kind_before u.text) made.items owned sited.before (numbered us ws same_inventories single plain.differ v) emitted
+    no_stops : stops_from 0 (whole_text u).steps ≡ stops_from (length savings) (drop (length savings) (whole_text u).steps)
+    no_stops = none_stops (length savings) 0 (length savings) (whole_text u).steps (omega arith) (λ k less. behind_it.steps.before k (omega (arith, less, saved_many)))
+
+    items_many : length made.items ≡ length (whole_text u).steps
+    items_many =
+        let its_writing = writing_of s.constants v s.bases u.text.facts (kind_before (whole_text u)) in
+        let whole = whole_by (unit_numbers us) its_writing (whole_text u).position first savings u.text.steps made.items saved_many made.emitted in
+        let count = items_count (unit_numbers us) its_writing (whole_text u).position first u.text.steps whole.later whole.emitted in
+        let all = whole.many in
+        let long = behind_it.steps.long in omega (arith, count, all, long)
+
+    known : AreNumberedItems (routines (own_names (inventories ws))) (λ name. None) [] (unit_numbers us) ws s other (whole_text u) (kind_before (whole_text u)) made.items owned sited.before (numbered us ws same_inventories single plain.differ v) emitted [] 0 (whole_text u).steps made.items
+    known = every (routines (own_names (inventories ws))) (λ name. None) [] (unit_numbers us) ws s other (whole_text u) (kind_before (whole_text u)) made.items owned sited.before (numbered us ws same_inventories single plain.differ v) emitted no_stops
 
     built : IsBuilt (unit_outline us s u) made.items (unit_function (record { inventory = v; body = body }))
     built =
-        built_by (unit_outline us s u).names u.text made.items (unit_function (record { inventory = v; body = body })) (record { marks = its_plain.text.marks; labels = its_plain.text.labels })
-        (items_count (unit_numbers us) (writing_of s.constants v s.bases u.text.facts (kind_before u.text)) u.text.position 0 u.text.steps made.items made.emitted) made.statements made.returned
+        built_by (unit_outline us s u).names (whole_text u) made.items (unit_function (record { inventory = v; body = body })) (record { marks = its_plain.text.marks; labels = its_plain.text.labels })
+        items_many made.statements made.returned
 
     fits : Fits (unit_outline us s u) (scope_in (routines (own_names (inventories ws))) (λ name. None) [] s other) (position_of (marks_from (unit_outline us s u).label 0 made.items)) 0 made.items (body_of_all body)
     fits =
@@ -181,7 +222,7 @@ module _ (us : List LoweredUnit) (plain : ArePlainUnits us) (rs : List Rendering
         ∙ bytes_count (unit_outline us s u).names (body_of_all body).items.strings (strings_of_items (unit_outline us s u).names made.items) fits.strings
         ∙ ap (λ ns. length (strings_of_items ns made.items)) same_names ∙ known.counted
 
-    unit_built : IsUnitBuilt (unit_numbers us) ws s (record { inventory = v; body = body }) u.text (kind_before u.text) (unit_outline us s u) made.items
+    unit_built : IsUnitBuilt (unit_numbers us) ws s (record { inventory = v; body = body }) (whole_text u) (kind_before (whole_text u)) (unit_outline us s u) made.items
     unit_built = record {
       differ = emitted.differ;
       names_listed = its_names;
@@ -201,10 +242,10 @@ module _ (us : List LoweredUnit) (plain : ArePlainUnits us) (rs : List Rendering
     same_facts : u.text.facts ≡ facts_of rs j made_rendering
     same_facts = facts_are ∙ ap (λ ps. facts_at (own_setting ps) j (Some u.unit)) (sym same_units)
 
-    passes : Passes v u.text
+    passes : Passes v (whole_text u)
     passes = record {
-      units = λ n way layout controls ps m unit stands is. let l = listed_at 0 u.text.steps n n way layout controls ps m unit (omega arith) stands is in (l.index, l.listing, l.place, l.at, l.is);
-      texts = λ n text stands. text_there u.text n text stands;
+      units = λ n way layout controls ps m unit stands is. let l = listed_at 0 (whole_text u).steps n n way layout controls ps m unit (omega arith) stands is in (l.index, l.listing, l.place, l.at, l.is);
+      texts = λ n text stands. text_there (whole_text u) n text stands;
       short = its_plain.text.stops;
     }
 
@@ -221,17 +262,18 @@ module _ (us : List LoweredUnit) (plain : ArePlainUnits us) (rs : List Rendering
       begins = begins;
       named = refl;
       dummies = dummies_listed us j u its_plain.name its_plain.formals its_plain.entry;
-      parameters = λ i p stands. subst (λ c. IsDummy c p) (sym facts_are) (parameter_is us j u its_plain.name its_plain.formals its_plain.entry its_plain.dummies i p stands);
+      parameters = λ i p stands. subst (λ c. IsDummy c v p) (sym facts_are) (parameter_is us j u its_plain.name its_plain.formals its_plain.entry its_plain.dummies its_plain.bounds i p stands);
       gives = no_result us j u;
       result = λ function.
           subst (λ c. IsResult c v (record { name = its_plain.name; formals = its_plain.formals; start = 0 })) (sym facts_are)
           (result_is us j u its_plain.name its_plain.formals its_plain.entry its_plain.dummies its_plain.storage its_plain.bounds its_plain.result function);
+      results = λ x own. (its_plain.result.numeric x (ap (λ (p : ProgramUnit). (p.attribute x).class) (sym program_is) ∙ own)).0;
       storage = own_storage us j u its_plain.storage;
-      fits = λ x k b stands. its_plain.bounds.fits x k b (ap (λ (p : ProgramUnit). slice_get (p.attribute x).bounds k) (sym program_is) ∙ stands);
-      closed = λ x k b stands more. its_plain.bounds.closed x k b (ap (λ (p : ProgramUnit). slice_get (p.attribute x).bounds k) (sym program_is) ∙ stands) (subst (λ (p : ProgramUnit). suc k < length (p.attribute x).bounds) program_is more);
-      built = subst (λ numbers. IsUnitBuilt numbers ws s (record { inventory = v; body = body }) u.text (kind_before u.text) (unit_outline us s u) made.items) (ap (found_from 0) (sym same_units)) unit_built;
-      flows = flows_fit s.constants v s.bases u.text (record { name = its_plain.name; formals = its_plain.formals; start = 0 }) made.in_place
-          (steps_alone u.text (outputs_are_whole (own_facts (program_units us) j u.unit) u.text its_plain.lowered) made.in_place) begins;
+      bounds = λ x other. subst (λ c. BoundsAreWritten c v x) (sym facts_are) (others_written us j u its_plain.name its_plain.formals its_plain.entry its_plain.dummies its_plain.bounds x other);
+      values = λ i one stands. subst (λ c. IsBoundValue c its_plain.formals one.value) (sym facts_are) (values_kept us j u its_plain.name its_plain.formals its_plain.entry its_plain.dummies its_plain.bounds i one stands);
+      built = subst (λ numbers. IsUnitBuilt numbers ws s (record { inventory = v; body = body }) (whole_text u) (kind_before (whole_text u)) (unit_outline us s u) made.items) (ap (found_from 0) (sym same_units)) unit_built;
+      flows = flows_behind first (writing_of s.constants v s.bases u.text.facts (kind_before (whole_text u))) u.text (record { name = its_plain.name; formals = its_plain.formals; start = 0 }) refl refl behind_it.flows made.in_place
+          (steps_alone u.text (outputs_are_whole (own_facts (program_units us) j u.unit) u.text its_plain.lowered) (sym behind_it.flows.in_place ∙ made.in_place)) begins;
       passes = passes;
       no_wrapper = no_wrapper body made.returned;
     }

@@ -1,6 +1,6 @@
 -- That units of numbers that call each other run as the C files that are made for them, where each is lowered, and statements are made for its text. What is
 -- asked of a unit is said of its statements and its names. ANSI X3.9-1978, sections 2.4, 5, 8, 14, 15 and 17.1; C89, 3.6 and 3.7.
-use Rattle.std.specs.Prelude.{◌≡◌, ◌≢◌, ℕ, suc, ◌+◌, ◌<◌, ◌≤◌, ◌^◌, ℤ, true, List, [], ◌∷◌, map, length, Some, slice_get}
+use Rattle.std.specs.Prelude.{◌≡◌, ◌≢◌, ℕ, suc, ◌+◌, ◌<◌, ◌≤◌, ◌^◌, ℤ, true, false, List, [], ◌∷◌, map, length, Some, slice_get}
 use Rattle.unit_translation.specs.run_state.Units.{Units}
 use Rattle.unit_translation.specs.f_tree.declared.names.Class.TheVariants as class
 use Rattle.unit_translation.specs.f_tree.Values.{Bytes, NoMeaning}
@@ -24,10 +24,11 @@ use Rattle.unit_programs.specs.unit_forms.OwnSetting.{own_setting, own_facts}
 use Rattle.unit_translation.specs.main_translation.Contents.{count_by}
 use Rattle.unit_translation.specs.main_translation.Outlined.{labels_in}
 use Rattle.unit_translation.specs.procedure_emission.EmittedUnits.{is_number_pointer, is_function_pointer}
+use Rattle.unit_translation.specs.procedure_emission.kept_bounds.KeptBounds.{is_adjustable, has_adjustable_bounds}
 use Rattle.unit_translation.specs.unit_sites.UnitSites.{UnitsOfFile, files_of}
 use Rattle.unit_programs.specs.OwnStorage.{bytes_in}
 use Rattle.unit_programs.specs.TranslatedUnits.{AreFixed}
-use Rattle.unit_translation.specs.UnitContents.{LoweredUnit, program_units, parameter_for, temporaries_kept}
+use Rattle.unit_translation.specs.UnitContents.{LoweredUnit, program_units, whole_text, parameter_for, temporaries_kept}
 use Rattle.unit_translation.specs.UnitBodies.{all_lowered, written_files}
 
 -- ## Storage and names
@@ -48,20 +49,26 @@ pub record HasPlainStorage (unit : ProgramUnit) : Type 0 where
   pub within : (m : Member) → IsIn m unit.stored → extent_of (elements_of (unit.attribute m.name).bounds) 4 ≤ m.size
   pub small : (m : Member) → IsIn m unit.stored → m.size < 2147483648
 
--- bounds are constant but for an upper bound `*` that is the last, and have 32 bits
+-- bounds are constant but for an upper bound `*` that is the last, and have 32 bits; only of dummy arrays of numbers they may be adjustable
 pub record HasPlainBounds (unit : ProgramUnit) : Type 0 where
   pub ranked : (m : Member) → IsIn m unit.stored → length (unit.attribute m.name).bounds ≡ length (unit.attribute m.name).dimensions
   pub counted : (m : Member) (b : Bounds) (bs : List Bounds) → IsIn m unit.stored → (unit.attribute m.name).bounds ≡ b ∷ bs → (n : ℕ) × (elements_of (b ∷ bs) ≡ Some n)
-  pub fits : (x : Bytes) (k : ℕ) (b : Bounds) → slice_get (unit.attribute x).bounds k ≡ Some b → BoundFits b
-  pub closed : (x : Bytes) (k : ℕ) (b : Bounds) → slice_get (unit.attribute x).bounds k ≡ Some b → suc k < length (unit.attribute x).bounds → (last : ℤ) × (b.upper ≡ Some last)
+  pub fits : (x : Bytes) (k : ℕ) (b : Bounds) → is_adjustable (unit.attribute x) ≡ false → slice_get (unit.attribute x).bounds k ≡ Some b → BoundFits b
+  pub closed : (x : Bytes) (k : ℕ) (b : Bounds) → is_adjustable (unit.attribute x) ≡ false → slice_get (unit.attribute x).bounds k ≡ Some b → suc k < length (unit.attribute x).bounds → (last : ℤ) × (b.upper ≡ Some last)
+  pub adjustable : (x : Bytes) → is_adjustable (unit.attribute x) ≡ true → ((unit.attribute x).class ≡ class.Dummy) × (is_numeric (unit.attribute x).basic ≡ true)
 
 -- ## Dummies and results
 
+-- the bounds of a dummy are constant, or a call fixes them (5.5.1)
+pub data HasDummyBounds (us : List LoweredUnit) (j : ℕ) (u : LoweredUnit) (x : Bytes) : Type 0 where
+  constant : is_adjustable (u.unit.attribute x) ≡ false → AreFixed (own_facts (program_units us) j u.unit) x → HasDummyBounds us j u x
+  adjustable : has_adjustable_bounds (u.unit.attribute x) ≡ true → HasDummyBounds us j u x
+
 -- a dummy variable or array of numbers, or a dummy procedure, and what it stands for by its uses
 pub data IsPlainDummy (us : List LoweredUnit) (j : ℕ) (u : LoweredUnit) (x : Bytes) : Type 0 where
-  is_number : (u.unit.attribute x).class ≡ class.Dummy → is_numeric (u.unit.attribute x).basic ≡ true → (u.unit.attribute x).width ≡ Some 4 → AreFixed (own_facts (program_units us) j u.unit) x →
+  is_number : (u.unit.attribute x).class ≡ class.Dummy → is_numeric (u.unit.attribute x).basic ≡ true → (u.unit.attribute x).width ≡ Some 4 → HasDummyBounds us j u x →
       is_number_pointer (parameter_for (u.use_of x)) ≡ true → IsPlainDummy us j u x
-  is_procedure : (u.unit.attribute x).class ≡ class.DummyProcedure → AreFixed (own_facts (program_units us) j u.unit) x → is_function_pointer (parameter_for (u.use_of x)) ≡ true → IsPlainDummy us j u x
+  is_procedure : (u.unit.attribute x).class ≡ class.DummyProcedure → HasDummyBounds us j u x → is_function_pointer (parameter_for (u.use_of x)) ≡ true → IsPlainDummy us j u x
 
 -- the dummies of the one entry, each once, and no others; names of C come from letters and digits
 pub record HasPlainDummies (us : List LoweredUnit) (j : ℕ) (u : LoweredUnit) (formals : List Formal) : Type 0 where
@@ -90,7 +97,8 @@ pub record IsPlainUnitText (u : Text) : Type 0 where
 -- a main program, a subroutine or a function of numbers with one entry, which is lowered to its text
 pub record IsPlainUnit (us : List LoweredUnit) (j : ℕ) (u : LoweredUnit) : Type 0 where
   pub lowered : lowered_unit (own_facts (program_units us) j u.unit) ≡ Some u.text
-  pub text : IsPlainUnitText u.text
+  -- behind what it keeps of its dummy arrays
+  pub text : IsPlainUnitText (whole_text u)
   -- its statements are lowered, END stands last, and its loops are nested and entered by their DO alone
   pub direct : are_direct u.unit.lines ≡ true
   pub ended : has_end u.unit.lines ≡ true

@@ -22,12 +22,12 @@ in_front-none (Some later) = refl
 pub in_front-start : (done : List Item) (whole : Option (List Item)) → done ≡ [] → whole ≡ in_front done whole
 in_front-start done whole is = in_front-none whole ∙ ap (λ items. in_front items whole) (sym is)
 
-in_front-more : (items : List Item) (item : Item) (later : Option (List Item)) → in_front items (item_ahead (Some item) later) ≡ in_front (items ++ item ∷ []) later
+pub in_front-more : (items : List Item) (item : Item) (later : Option (List Item)) → in_front items (item_ahead (Some item) later) ≡ in_front (items ++ item ∷ []) later
 unfolding item_ahead
 in_front-more items item None = refl
 in_front-more items item (Some later) = ap Some (sym (append_assoc items (item ∷ []) later))
 
-ahead-none : (later : Option (List Item)) → item_ahead None later ≡ None
+pub ahead-none : (later : Option (List Item)) → item_ahead None later ≡ None
 unfolding item_ahead
 ahead-none None = refl
 ahead-none (Some later) = refl
@@ -41,32 +41,31 @@ module _ (known : Knowledge) (kinds : List (Option Kept)) where
       ap (λ m. item_ahead (item_step known (kinds_at kinds n) n (step_of st)) (items_from known (kinds_at kinds) m (steps_of later))) next
 
   -- the item that is emitted at a position
-  step_at : (n p : ℕ) (kept : Option Kept) (st : Step) (item : Option Item) → p ≡ n → kept ≡ option_flatten (slice_get kinds p) → item ≡ item_step known (kinds_of kept) p (step_of st)
+  step_at : (n : ℕ) (kept : Option Kept) (st : Step) (item : Option Item) → kept ≡ option_flatten (slice_get kinds n) → item ≡ item_step known (kinds_of kept) n (step_of st)
       → item_step known (kinds_at kinds n) n (step_of st) ≡ item
   unfolding kinds_at
-  step_at n p kept st item placed kept_is emitted =
-      sym (emitted ∙ ap (λ k. item_step known (kinds_of k) p (step_of st)) kept_is ∙ ap (λ m. item_step known (kinds_of (option_flatten (slice_get kinds m))) m (step_of st)) placed)
+  step_at n kept st item kept_is emitted = sym (emitted ∙ ap (λ k. item_step known (kinds_of k) n (step_of st)) kept_is)
 
-  ahead_of : (steps : List Step) (n p : ℕ) (kept : Option Kept) (st d : Step) (item : Option Item) → n < length steps → st ≡ get_or steps n d → p ≡ n
-      → kept ≡ option_flatten (slice_get kinds p) → item ≡ item_step known (kinds_of kept) p (step_of st)
+  ahead_of : (steps : List Step) (n : ℕ) (kept : Option Kept) (st d : Step) (item : Option Item) → n < length steps → st ≡ get_or steps n d
+      → kept ≡ option_flatten (slice_get kinds n) → item ≡ item_step known (kinds_of kept) n (step_of st)
       → items_from known (kinds_at kinds) n (steps_of (drop n steps)) ≡ item_ahead item (items_from known (kinds_at kinds) (n + 1) (steps_of (drop (n + 1) steps)))
-  ahead_of steps n p kept st d item h is placed kept_is emitted =
+  ahead_of steps n kept st d item h is kept_is emitted =
       ap (λ ys. items_from known (kinds_at kinds) n (steps_of ys)) (rest_is steps n st d h is) ∙ item_first n st (drop (n + 1) steps)
-      ∙ ap (λ i. item_ahead i (items_from known (kinds_at kinds) (n + 1) (steps_of (drop (n + 1) steps)))) (step_at n p kept st item placed kept_is emitted)
+      ∙ ap (λ i. item_ahead i (items_from known (kinds_at kinds) (n + 1) (steps_of (drop (n + 1) steps)))) (step_at n kept st item kept_is emitted)
 
-  pub items_more : (steps : List Step) (n p : ℕ) (kept : Option Kept) (st d : Step) (item : Item) (whole : Option (List Item)) (done now : List Item) → n < length steps
-      → st ≡ get_or steps n d → p ≡ n → kept ≡ option_flatten (slice_get kinds p) → Some item ≡ item_step known (kinds_of kept) p (step_of st)
+  pub items_more : (steps : List Step) (n : ℕ) (kept : Option Kept) (st d : Step) (item : Item) (whole : Option (List Item)) (done now : List Item) → n < length steps
+      → st ≡ get_or steps n d → kept ≡ option_flatten (slice_get kinds n) → Some item ≡ item_step known (kinds_of kept) n (step_of st)
       → whole ≡ in_front done (items_from known (kinds_at kinds) n (steps_of (drop n steps))) → now ≡ done ++ item ∷ []
       → whole ≡ in_front now (items_from known (kinds_at kinds) (n + 1) (steps_of (drop (n + 1) steps)))
-  items_more steps n p kept st d item whole done now h is placed kept_is emitted so_far put =
+  items_more steps n kept st d item whole done now h is kept_is emitted so_far put =
       let later = items_from known (kinds_at kinds) (n + 1) (steps_of (drop (n + 1) steps)) in
-      so_far ∙ ap (in_front done) (ahead_of steps n p kept st d (Some item) h is placed kept_is emitted) ∙ in_front-more done item later ∙ ap (λ items. in_front items later) (sym put)
+      so_far ∙ ap (in_front done) (ahead_of steps n kept st d (Some item) h is kept_is emitted) ∙ in_front-more done item later ∙ ap (λ items. in_front items later) (sym put)
 
-  pub items_stop : (steps : List Step) (n p : ℕ) (kept : Option Kept) (st d : Step) (whole : Option (List Item)) (done : List Item) → n < length steps
-      → st ≡ get_or steps n d → p ≡ n → kept ≡ option_flatten (slice_get kinds p) → None ≡ item_step known (kinds_of kept) p (step_of st)
+  pub items_stop : (steps : List Step) (n : ℕ) (kept : Option Kept) (st d : Step) (whole : Option (List Item)) (done : List Item) → n < length steps
+      → st ≡ get_or steps n d → kept ≡ option_flatten (slice_get kinds n) → None ≡ item_step known (kinds_of kept) n (step_of st)
       → whole ≡ in_front done (items_from known (kinds_at kinds) n (steps_of (drop n steps))) → None ≡ whole
-  items_stop steps n p kept st d whole done h is placed kept_is emitted so_far =
-      sym (so_far ∙ ap (in_front done) (ahead_of steps n p kept st d None h is placed kept_is emitted ∙ ahead-none (items_from known (kinds_at kinds) (n + 1) (steps_of (drop (n + 1) steps)))))
+  items_stop steps n kept st d whole done h is kept_is emitted so_far =
+      sym (so_far ∙ ap (in_front done) (ahead_of steps n kept st d None h is kept_is emitted ∙ ahead-none (items_from known (kinds_at kinds) (n + 1) (steps_of (drop (n + 1) steps)))))
 
   pub items_end : (steps : List Step) (n : ℕ) (whole : Option (List Item)) (done : List Item) → length steps ≤ n
       → whole ≡ in_front done (items_from known (kinds_at kinds) n (steps_of (drop n steps))) → Some done ≡ whole

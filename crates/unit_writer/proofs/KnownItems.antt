@@ -1,5 +1,5 @@
 -- Whether a procedure may be passed makes a difference only where the name has a function.
-use Rattle.std.specs.Prelude.{◌≡◌, ℕ, suc, ◌+◌, ◌-◌, ℤ, pos, Bool, true, false, if◌then◌else◌, List, [], ◌∷◌, Option, Some, None, option_map, option_and_then}
+use Rattle.std.specs.Prelude.{◌≡◌, ℕ, suc, ◌+◌, ◌-◌, ℤ, pos, Bool, true, false, if◌then◌else◌, List, [], ◌∷◌, length, drop, Option, Some, None, option_map, option_and_then}
 use Rattle.std.proofs.Common.{refl, ap, ◌∙◌}
 use Rattle.f_tree.specs.Values.{Bytes, IsInt, IsLog}
 use Rattle.f_tree.specs.Facts.{Output, Listed, Controls}
@@ -12,11 +12,15 @@ use Rattle.named_items.specs.c_structure.Expressions.{with_two, with_three, one_
 use Rattle.c_emit.specs.c_image.Operations.{prefix_for, operator_for}
 use Rattle.c_emit.specs.LibraryFunctions.{library_function}
 use Rattle.c_emit.specs.Calls.{kind_number}
+use Rattle.named_items.specs.declared.item.Item.{Item}
 use Rattle.named_items.specs.Items.{assign_by}
 use Rattle.item_emission.specs.declared.known.Giving.{Giving}
 use Rattle.item_emission.specs.declared.known.Giving.TheVariants as giving
 use Rattle.item_emission.specs.NamedEmission.{Knowledge, Kinds, address_expr, alternate_step, acting_step, applied_expr, argument_expr, argument_exprs, branch_step, call_for_step, call_step, cases_from, computed_step, constant_expr, constant_held, datum_held, element_expr, expr_if, given_expr, held_expr, held_exprs, item_step, name_passed, output_by, output_step, place_expr, procedure_passed, return_step, scalar_passed, select_step, start_step, switch_step, temporary_expr, type_at, type_in, value_expr, value_exprs, variable_expr, wants_number}
+use Rattle.unit_translation.specs.unit_file.UnitFile.{KeptBound, bound_name}
+use Rattle.unit_item_laws.specs.AgreeingUnits.{bound_step}
 use Rattle.named_mains.specs.NamedMains.{item_ahead, items_from}
+use Rattle.named_units.specs.NamedUnits.{bound_items_from, items_behind}
 
 -- what is known, but for which names may be passed
 abbrev pub with_passed : Knowledge → (Bytes → Bool) → Knowledge
@@ -24,7 +28,7 @@ with_passed known passes = record {
   is_scalar = known.is_scalar;
   is_array = known.is_array;
   basic = known.basic;
-  dimensions = known.dimensions;
+  dimension = known.dimension;
   standing = known.standing;
   is_procedure = passes;
   routine = known.routine;
@@ -63,7 +67,7 @@ module _ (known : Knowledge) (passes : Bytes → Bool) (same : (x : Bytes) → p
 
     place_same : (p : Pure) → place_expr other p ≡ place_expr known p
     place_same (Name x) = refl
-    place_same (ElementOf x ps) = ap (λ o. expr_if (known.is_array x) (element_expr x (known.dimensions x) o)) (values_same ps)
+    place_same (ElementOf x ps) = ap (λ o. expr_if (known.is_array x) (element_expr x (known.dimension x) o)) (values_same ps)
     place_same (Constant d) = refl
     place_same (Temporary k) = refl
     place_same (Load p) = refl
@@ -163,7 +167,22 @@ module _ (known : Knowledge) (passes : Bytes → Bool) (same : (x : Bytes) → p
   step_same kind n (step.Acts step.Takes ps m) = takes_same kind ps
   step_same kind n st = refl
 
-  pub items_passed_same : (kinds : ℕ → Kinds) (n : ℕ) (steps : List Step) → items_from other kinds n steps ≡ items_from known kinds n steps
+  items_passed_same : (kinds : ℕ → Kinds) (n : ℕ) (steps : List Step) → items_from other kinds n steps ≡ items_from known kinds n steps
   unfolding items_from
   items_passed_same kinds n [] = refl
   items_passed_same kinds n (st ∷ later) = λ i. item_ahead (step_same (kinds n) n st i) (items_passed_same kinds (suc n) later i)
+
+  bound_same : (one : KeptBound) → bound_step other one ≡ bound_step known one
+  unfolding bound_step
+  bound_same one = ap (assign_by (Some (expr.Name (bound_name one)))) (value_same one.value)
+
+  bounds_same : (bounds : List KeptBound) (items : Option (List Item)) → bound_items_from other bounds items ≡ bound_items_from known bounds items
+  unfolding bound_items_from
+  bounds_same [] items = refl
+  bounds_same (one ∷ later) items = λ i. item_ahead (bound_same one i) (bounds_same later items i)
+
+  pub behind_passed_same : (kinds : ℕ → Kinds) (bounds : List KeptBound) (steps : List Step) → items_behind other kinds bounds steps ≡ items_behind known kinds bounds steps
+  unfolding items_behind
+  behind_passed_same kinds bounds steps =
+      bounds_same bounds (items_from other kinds (length bounds) (drop (length bounds) steps))
+      ∙ ap (bound_items_from known bounds) (items_passed_same kinds (length bounds) (drop (length bounds) steps))

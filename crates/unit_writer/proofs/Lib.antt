@@ -1,10 +1,15 @@
 pub mod BoundLaws
+pub mod BoundNames
+pub mod DimensionLaws
 pub mod FunctionLaws
 pub mod ItemLaws
+pub mod KeptItems
+pub mod KeptPlaces
 pub mod KnownItems
 pub mod KnownLaws
 pub mod LocalLaws
 pub mod OptionForms
+pub mod PlaceLemmas
 pub mod ReturnForms
 pub mod RoutineLaws
 pub mod TableLemmas

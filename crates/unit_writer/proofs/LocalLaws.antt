@@ -20,10 +20,11 @@ use Rattle.name_facts.specs.GivenFacts.{fact_in}
 use Rattle.main_translation.specs.Contents.{if_called, start_output, output_item, end_output, stop_run, number_arguments, function_called}
 use Rattle.unit_contents.specs.declared.contents.Calls.{Calls}
 use Rattle.unit_writer.specs.Functions.{calls_by, local_if, local_of}
-use Rattle.unit_translation.specs.unit_file.UnitFile.{extern_for}
+use Rattle.unit_translation.specs.unit_file.UnitFile.{bound_for, extern_for}
 use Rattle.f_tree.specs.Values.{Bytes}
+use Rattle.unit_writer.specs.declared.heading.KeptBound.{KeptBound}
 use Rattle.unit_writer.specs.declared.heading.Procedure.{Procedure}
-use Rattle.unit_writer.specs.ToldUnits.{callees_told, is_stored_class, stored_names}
+use Rattle.unit_writer.specs.ToldUnits.{bound_told, callees_told, is_stored_class, stored_names}
 use Rattle.unit_writer.proofs.TableLemmas.{texts}
 
 abbrev pub temporary_local : ℕ → CLocal
@@ -46,6 +47,13 @@ pub temporaries_end : (i count : ℕ) (whole done : List CLocal) → count ≤ i
 temporaries_end i count whole done h so_far =
     let none : count - i ≡ 0 = omega arith in
     sym (so_far ∙ ap (λ n. done ++ temporaries_from (i + 1) n) none ∙ append-nil done)
+
+-- what is kept of dummy arrays
+abbrev pub bounds_behind : List KeptBound → List CLocal
+bounds_behind bounds = map bound_for (map bound_told bounds)
+
+abbrev pub bound_alone : KeptBound → List CLocal
+bound_alone one = bound_for (bound_told one) ∷ []
 
 abbrev pub lists_behind : ℕ → List Listing → List CLocal
 lists_behind n ls = lists_from n (map listing_of ls)

@@ -10,6 +10,7 @@ use Rattle.std.proofs.lemmas.Slice.Eq.{bytes_eq-Decides}
 use Rattle.f_tree.specs.Values.{Bytes}
 use Rattle.name_facts.specs.declared.table.NameFacts.{NameFacts}
 use Rattle.name_facts.specs.GivenFacts.{fact_in}
+use Rattle.unit_writer.specs.declared.heading.KeptBound.{KeptBound}
 use Rattle.unit_writer.specs.Told.{Seen, put_over, seen_among, seen_by}
 use Rattle.unit_writer.proofs.Walks.{rest_is}
 
@@ -60,10 +61,10 @@ pub none_in : {K V : Type 0} (test : K → Bool) (es : List (K × V)) → es ≡
 none_in test es none = ap (lookup test) none
 
 -- before the first name is put
-pub seen_start : (table : NameFacts) (names : List Bytes) (x : Bytes) (old : Option Seen) → old ≡ None
-    → seen_among table names x ≡ (if list_any (bytes_eq x) names then Some (seen_by (fact_in table x)) else old)
+pub seen_start : (table : NameFacts) (kept : List KeptBound) (names : List Bytes) (x : Bytes) (old : Option Seen) → old ≡ None
+    → seen_among table kept names x ≡ (if list_any (bytes_eq x) names then Some (seen_by kept x (fact_in table x)) else old)
 unfolding seen_among
-seen_start table names x old none = ap (λ o. if list_any (bytes_eq x) names then Some (seen_by (fact_in table x)) else o) (sym none)
+seen_start table kept names x old none = ap (λ o. if list_any (bytes_eq x) names then Some (seen_by kept x (fact_in table x)) else o) (sym none)
 
 -- ## What is put over what was there
 

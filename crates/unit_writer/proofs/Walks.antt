@@ -45,11 +45,17 @@ put_fifth start one two three four five a b c d e first second third fourth last
     last ∙ ap (λ xs. xs ++ e) (put_four start one two three four a b c d first second third fourth) ∙ append_assoc start (a ++ (b ++ (c ++ d))) e
     ∙ ap (λ xs. start ++ xs) (append_assoc a (b ++ (c ++ d)) e) ∙ ap (λ xs. start ++ (a ++ xs)) (append_assoc b (c ++ d) e) ∙ ap (λ xs. start ++ (a ++ (b ++ xs))) (append_assoc c d e)
 
--- what six calls put one after the other
-pub put_six : {A : Type 0} (start one two three four five six a b c d e f : List A) → start ≡ [] → one ≡ start ++ a → two ≡ one ++ b → three ≡ two ++ c → four ≡ three ++ d → five ≡ four ++ e → six ≡ five ++ f
-    → six ≡ a ++ (b ++ (c ++ (d ++ (e ++ f))))
-put_six start one two three four five six a b c d e f none first second third fourth fifth last =
-    put_fifth one two three four five six b c d e f second third fourth fifth last ∙ ap (λ xs. xs ++ (b ++ (c ++ (d ++ (e ++ f))))) (first ∙ ap (λ xs. xs ++ a) none)
+-- and a sixth
+pub put_sixth : {A : Type 0} (start one two three four five six a b c d e f : List A) → one ≡ start ++ a → two ≡ one ++ b → three ≡ two ++ c → four ≡ three ++ d → five ≡ four ++ e → six ≡ five ++ f
+    → six ≡ start ++ (a ++ (b ++ (c ++ (d ++ (e ++ f)))))
+put_sixth start one two three four five six a b c d e f first second third fourth fifth last =
+    put_fifth one two three four five six b c d e f second third fourth fifth last ∙ ap (λ xs. xs ++ (b ++ (c ++ (d ++ (e ++ f))))) first ∙ append_assoc start a (b ++ (c ++ (d ++ (e ++ f))))
+
+-- what seven calls put one after the other
+pub put_seven : {A : Type 0} (start one two three four five six seven a b c d e f g : List A) → start ≡ [] → one ≡ start ++ a → two ≡ one ++ b → three ≡ two ++ c → four ≡ three ++ d → five ≡ four ++ e
+    → six ≡ five ++ f → seven ≡ six ++ g → seven ≡ a ++ (b ++ (c ++ (d ++ (e ++ (f ++ g)))))
+put_seven start one two three four five six seven a b c d e f g none first second third fourth fifth sixth last =
+    put_sixth one two three four five six seven b c d e f g second third fourth fifth sixth last ∙ ap (λ xs. xs ++ (b ++ (c ++ (d ++ (e ++ (f ++ g)))))) (first ∙ ap (λ xs. xs ++ a) none)
 
 -- what follows of what a call gives
 pub ok_then : {A E : Type 0} (P Q : A → Type 0) (r : Result A E) → ((x : A) → P x → Q x) → IfOk r P → IfOk r Q

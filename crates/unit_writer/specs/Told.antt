@@ -1,8 +1,8 @@
--- What a table of names, a heading, the procedures of a set and a text tell those who write the steps of a unit. ANSI X3.9-1978, sections 4.1, 5.1, 5.3, 15
--- and 18.
+-- What a table of names, a heading, the procedures of a set and a text tell those who write the steps of a unit. ANSI X3.9-1978, sections 4.1, 5.1, 5.3,
+-- 5.5.1, 15 and 18.
 use Rattle.std.specs.HashMap.{get_by}
 use Rattle.std.specs.List.{list_any}
-use Rattle.std.specs.Prelude.{◌≡◌, ℕ, nat_eq, ℤ, Bool, true, false, List, map, Option, Some, None, option_map, is_some, bytes_eq, if◌then◌else◌}
+use Rattle.std.specs.Prelude.{◌≡◌, ℕ, zero, suc, nat_eq, ℤ, pos, Bool, true, false, ◌&&◌, List, [], ◌∷◌, map, Option, Some, None, option_map, is_some, slice_get, bytes_eq, if◌then◌else◌}
 use Rattle.f_tree.specs.declared.names.Basic.{Basic}
 use Rattle.f_tree.specs.declared.names.Class.{Class}
 use Rattle.f_tree.specs.declared.names.Class.TheVariants as class
@@ -16,6 +16,10 @@ use Rattle.name_facts.specs.declared.table.NameFacts.{NameFacts}
 use Rattle.name_facts.specs.GivenFacts.{bounds_of, fact_in}
 use Rattle.named_items.specs.Items.{by_name, through}
 use Rattle.item_emission.specs.declared.known.Dimension.{Dimension}
+use Rattle.item_emission.specs.declared.known.LowerBound.{LowerBound}
+use Rattle.item_emission.specs.declared.known.LowerBound.TheVariants as low
+use Rattle.item_emission.specs.declared.known.Size.{Size}
+use Rattle.item_emission.specs.declared.known.Size.TheVariants as many
 use Rattle.item_emission.specs.declared.known.Standing.{Standing}
 use Rattle.item_emission.specs.declared.known.Giving.{Giving}
 use Rattle.item_emission.specs.declared.known.Giving.TheVariants as giving
@@ -29,8 +33,54 @@ use Rattle.unit_contents.specs.declared.contents.Listing.{Listing}
 use Rattle.unit_contents.specs.declared.contents.Contents.{Contents}
 use Rattle.unit_writer.specs.declared.heading.UnitRole.{UnitRole}
 use Rattle.unit_writer.specs.declared.heading.UnitRole.TheVariants as role
+use Rattle.unit_writer.specs.declared.heading.BoundKind.{BoundKind}
+use Rattle.unit_writer.specs.declared.heading.BoundKind.TheVariants as bound
+use Rattle.unit_writer.specs.declared.heading.KeptBound.{KeptBound}
 use Rattle.unit_writer.specs.declared.heading.Heading.{Heading}
 use Rattle.unit_writer.specs.declared.heading.Procedure.{Procedure}
+
+-- ## Dimensions
+
+unfoldable pub dimension_by : Bound → Dimension
+dimension_by b = dimension_of (bounds_of b)
+
+-- as it is written; what is not there counts as 0
+unfoldable pub dimension_or : Option Bound → Dimension
+dimension_or (Some b) = dimension_by b
+dimension_or None = record { lower = low.Written (pos 0); size = many.Written 0 }
+
+unfoldable pub is_same_kind : BoundKind → BoundKind → Bool
+is_same_kind bound.Lower bound.Lower = true
+is_same_kind bound.Size bound.Size = true
+is_same_kind one other = false
+
+-- is what is kept this bound of a dimension of an array
+unfoldable pub is_bound : Bytes → ℕ → BoundKind → KeptBound → Bool
+is_bound x place kind one = bytes_eq x one.dummy.now && (nat_eq place one.place && is_same_kind kind one.kind)
+
+-- is a bound among those that are kept
+unfoldable pub is_kept : List KeptBound → Bytes → ℕ → BoundKind → Bool
+is_kept kept x place kind = list_any (is_bound x place kind) kept
+
+unfoldable pub lower_told : Bool → LowerBound → LowerBound
+lower_told true written = low.Kept
+lower_told false written = written
+
+unfoldable pub size_told : Bool → Size → Size
+size_told true written = many.Kept
+size_told false written = written
+
+-- a dimension of an array, given what is kept and its constant bounds
+abbrev pub dimension_told : List KeptBound → Bytes → List Bound → ℕ → Dimension
+dimension_told kept x bounds place = record {
+  lower = lower_told (is_kept kept x place bound.Lower) (dimension_or (slice_get bounds place)).lower;
+  size = size_told (is_kept kept x place bound.Size) (dimension_or (slice_get bounds place)).size;
+}
+
+-- so many, from a place on
+unfoldable pub dimensions_told : (ℕ → Dimension) → ℕ → ℕ → List Dimension
+dimensions_told at place zero = []
+dimensions_told at place (suc count) = at place ∷ dimensions_told at (suc place) count
 
 -- ## Variables
 
@@ -41,18 +91,15 @@ pub record Seen : Type 0 where
   pub dimensions : List Dimension
   pub standing : Standing
 
-unfoldable pub dimension_by : Bound → Dimension
-dimension_by b = dimension_of (bounds_of b)
-
 unfoldable pub seen_of : Variable → Seen
 seen_of v = record { is_variable = v.is_variable; basic = v.basic; dimensions = v.dimensions.items; standing = v.standing }
 
-unfoldable pub seen_by : NameFact → Seen
-seen_by f = record { is_variable = is_variable f.class; basic = f.basic; dimensions = map dimension_by f.bounds; standing = standing_in f.class }
+unfoldable pub seen_by : List KeptBound → Bytes → NameFact → Seen
+seen_by kept x f = record { is_variable = is_variable f.class; basic = f.basic; dimensions = dimensions_told (dimension_told kept x f.bounds) 0 f.rank; standing = standing_in f.class }
 
 -- what is seen of a name among some
-unfoldable pub seen_among : NameFacts → List Bytes → Bytes → Option Seen
-seen_among table names x = if list_any (bytes_eq x) names then Some (seen_by (fact_in table x)) else None
+unfoldable pub seen_among : NameFacts → List KeptBound → List Bytes → Bytes → Option Seen
+seen_among table kept names x = if list_any (bytes_eq x) names then Some (seen_by kept x (fact_in table x)) else None
 
 -- ## Procedures
 
@@ -97,7 +144,7 @@ abbrev pub step_of_list : Listing → ℕ
 step_of_list l = l.step
 
 pub record Tells (table : NameFacts) (names : List Bytes) (heading : Heading) (procedures : Bytes → Option Procedure) (values : List ℤ) (t : LoweredText) (c : Contents) (k : Known) : Type 0 where
-  pub variables : (x : Bytes) → option_map seen_of (variable_in k x) ≡ seen_among table names x
+  pub variables : (x : Bytes) → option_map seen_of (variable_in k x) ≡ seen_among table heading.bounds.items names x
   pub routines : (x : Bytes) → routine_in k x ≡ routine_among table names procedures x
   pub gives : k.gives ≡ giving_told heading.role heading.name.now
   pub temporaries : k.temporaries ≡ c.temporaries
@@ -106,5 +153,5 @@ pub record Tells (table : NameFacts) (names : List Bytes) (heading : Heading) (p
   pub labels : (label : ℕ) → get_by (nat_eq label) k.labels ≡ get_by (nat_eq label) t.labels
 
 unfoldable pub told_opened : Unit {0}
-unfolding dimension_by seen_of seen_by seen_among routine_if routine_by put_over giving_told
+unfolding dimension_by dimension_or is_same_kind is_bound is_kept lower_told size_told dimensions_told seen_of seen_by seen_among routine_if routine_by put_over giving_told
 told_opened = tt

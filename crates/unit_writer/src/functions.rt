@@ -75,7 +75,7 @@ fn parameters(alloc: Global, dummies: &[Dummy]) -> Result<Items<CParam>, AllocEr
 ///
 /// # Errors
 ///
-/// Want of memory, or an array of more elements than a number has room for.
+/// Want of memory, a dimension that has no number, or an array of more elements than a number has room for.
 #[tactic(auto, unfolding(crate::specs::Functions::function_by))]
 pub(crate) fn function(
     alloc: Global,
@@ -93,7 +93,15 @@ pub(crate) fn function(
         result: result_type(basic),
         name: name(alloc, heading.role, heading.name)?,
         params: parameters(alloc, &heading.dummies)?,
-        locals: locals(alloc, table, names, basic, procedures, contents)?,
+        locals: locals(
+            alloc,
+            table,
+            names,
+            basic,
+            &heading.bounds,
+            procedures,
+            contents,
+        )?,
         body,
     })
 }

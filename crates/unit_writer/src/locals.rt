@@ -1,5 +1,5 @@
-//! What the function of a unit declares: the variable for its result, temporaries, functions of the library, procedures, variables and control lists.
-//! Sections 4.1, 5.1, 12.8, 15.5 and 15.6; C89, 3.5.
+//! What the function of a unit declares: the variable for its result, temporaries, what it keeps of its dummy arrays, functions of the library, procedures,
+//! variables and control lists. Sections 4.1, 5.1, 5.5.1, 12.8, 15.5 and 15.6; C89, 3.5.
 
 ghost use Rattle.std.specs.HashMap.{get_by};
 ghost use Rattle.std.specs.Prelude.{◌≡◌, ◌++◌, ◌∷◌, [], IfOk, OnOk, map, pos, bytes_eq};
@@ -9,15 +9,15 @@ ghost use Rattle.library_functions.specs.Described.{described};
 ghost use Rattle.unit_contents.specs.ContentsOf.{listing_of};
 ghost use Rattle.main_translation.specs.main_file.MainFile as file;
 ghost use Rattle.main_translation.specs.Contents as contents;
-ghost use Rattle.unit_translation.specs.unit_file.UnitFile.{result_local};
+ghost use Rattle.unit_translation.specs.unit_file.UnitFile.{bound_for, result_local};
 ghost use Rattle.unit_translation.specs.UnitContents.{returned_by};
 ghost use Rattle.f_tree.specs.Valuing.{elements_of};
 ghost use Rattle.name_facts.specs.GivenFacts.{bounds_of, fact_in};
 ghost use Rattle.unit_writer.specs.Functions as spec;
-ghost use Rattle.unit_writer.specs.ToldUnits.{is_stored_class, stored_names};
+ghost use Rattle.unit_writer.specs.ToldUnits.{bound_told, is_stored_class, stored_names};
 
-use crate::bounds::{bounds_in, elements};
-use crate::heading::Procedure;
+use crate::bounds::{bound_name, bounds_in, elements};
+use crate::heading::{KeptBound, Procedure};
 use crate::procedures::add_procedures;
 use c_names::{control_list_name, result_name, temporary_name, variable_name};
 use c_tree::declaration::{CField, CLocal};
@@ -36,6 +36,21 @@ fn add_temporaries(alloc: Global, locals: &mut Vec<CLocal>, count: usize) -> Res
 {
     for before in 0..count {
         let name = temporary_name(alloc, before + 1)?;
+        locals.push(CLocal::Number(NumberType::Integer, name))?;
+    }
+    Ok(())
+}
+
+/// Declares what is kept of dummy arrays.
+fn add_bounds(
+    alloc: Global,
+    locals: &mut Vec<CLocal>,
+    bounds: &[KeptBound],
+) -> Result<(), AllocError>
+    ensures { OnOk result (locals.new.items ≡ locals.old.items ++ map bound_for (map bound_told bounds.now)) }
+{
+    for one in bounds {
+        let name = bound_name(alloc, one)?;
         locals.push(CLocal::Number(NumberType::Integer, name))?;
     }
     Ok(())
@@ -311,21 +326,23 @@ fn add_result(
 ///
 /// # Errors
 ///
-/// Want of memory, or an array of more elements than a number has room for.
+/// Want of memory, a dimension that has no number, or an array of more elements than a number has room for.
 #[tactic(auto, unfolding(crate::specs::Functions::locals_by))]
 pub(crate) fn locals(
     alloc: Global,
     table: &NameFacts,
     names: &[&[u8]],
     basic: Option<Basic>,
+    bounds: &[KeptBound],
     procedures: &IndexMap<&[u8], Procedure>,
     contents: &Contents,
 ) -> Result<Items<CLocal>, AllocError>
-    ensures { IfOk result (λ found. found ≡ spec.locals_by table.now (map (λ name. name.now) names.now) basic (λ x. get_by (λ k. bytes_eq x k.now) procedures.now) contents.now) }
+    ensures { IfOk result (λ found. found ≡ spec.locals_by table.now (map (λ name. name.now) names.now) basic (map bound_told bounds.now) (λ x. get_by (λ k. bytes_eq x k.now) procedures.now) contents.now) }
 {
     let mut found = Vec::new(alloc);
     add_result(alloc, &mut found, basic)?;
     add_temporaries(alloc, &mut found, contents.temporaries)?;
+    add_bounds(alloc, &mut found, bounds)?;
     add_calls(alloc, &mut found, &contents.calls)?;
     add_procedures(alloc, &mut found, procedures, &contents.procedures)?;
     add_variables(alloc, &mut found, table, names)?;

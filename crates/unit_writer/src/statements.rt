@@ -1,14 +1,16 @@
-//! The statements of a unit's function. Sections 10 to 12 and 15; C89, 3.6.
+//! The statements of a unit's function. Sections 5.5.1, 10 to 12 and 15; C89, 3.6.
 
-ghost use Rattle.std.specs.Prelude.{◌≡◌, IfOk};
+ghost use Rattle.std.specs.Prelude.{◌≡◌, IfOk, map};
 ghost use Rattle.item_emitter.specs.Knowing.{known_of};
 ghost use Rattle.lowered_tree.specs.Shapes.{steps_of};
 ghost use Rattle.named_items.specs.Layouts.{layout_of};
 ghost use Rattle.main_translation.specs.Outlined as outlined;
 ghost use Rattle.unit_writer.specs.Functions.{body_by};
+ghost use Rattle.unit_writer.specs.ToldUnits.{bound_told};
 ghost use Rattle.named_mains.specs.NamedMains.{statements_of};
 
 use crate::emission::items_of;
+use crate::heading::KeptBound;
 use c_tree::statement::CStmt;
 use item_emitter::Known;
 use lowered_text::LoweredText;
@@ -70,24 +72,26 @@ fn statements(
     }
 }
 
-/// The statements of a text; none where a step is not emitted, where the steps have no structure, or where an output is not in place.
+/// The statements by which bounds are kept and those of a text; none where a bound or a step is not emitted, where the steps have no structure, or where an
+/// output is not in place.
 ///
 /// # Errors
 ///
-/// Want of memory.
+/// Want of memory, or a dimension that has no number.
 #[tactic(auto, unfolding(crate::specs::Functions::body_by))]
 pub(crate) fn body(
     alloc: Global,
     known: &Known,
+    bounds: &[KeptBound],
     contents: &Contents,
     text: &LoweredText,
 ) -> Result<Option<Items<CStmt>>, AllocError>
-    ensures { IfOk result (λ found. found ≡ body_by (known_of known.now) contents.now (steps_of text.now.steps.items)) }
+    ensures { IfOk result (λ found. found ≡ body_by (known_of known.now) (map bound_told bounds.now) contents.now (steps_of text.now.steps.items)) }
 {
     if !contents.are_outputs_in_place {
         return Ok(None);
     }
-    match items_of(alloc, known, &contents.kinds, &text.steps)? {
+    match items_of(alloc, known, &contents.kinds, bounds, &text.steps)? {
         Some(items) => statements(alloc, &contents.layout, items),
         None => Ok(None),
     }

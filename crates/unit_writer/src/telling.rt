@@ -1,18 +1,18 @@
 //! What is known of a unit where its steps are written. Sections 4.1, 5.1, 5.3, 15 and 18.
 
 ghost use Rattle.std.specs.HashMap.{get_by};
-ghost use Rattle.std.specs.Prelude.{◌≡◌, ℕ, IfOk, List, OnOk, map, nat_eq, option_map, bytes_eq, if◌then◌else◌, Some};
+ghost use Rattle.std.specs.Prelude.{◌≡◌, ℕ, IfOk, List, OnOk, map, nat_eq, option_map, bytes_eq, slice_get, if◌then◌else◌, Some};
 ghost use Rattle.c_emit.specs.Numbers as numbers;
 ghost use Rattle.unit_item_laws.specs.AgreeingUnits.{standing_in};
 ghost use Rattle.name_facts.specs.GivenFacts.{fact_in};
 ghost use Rattle.unit_writer.specs.Told as told;
 
-use crate::bounds::bounds_in;
-use crate::heading::{Heading, Procedure, UnitRole};
+use crate::bounds::{bounds_in, is_kept};
+use crate::heading::{BoundKind, Heading, KeptBound, Procedure, UnitRole};
 use crate::procedures::routines;
 use f_tree::Class;
 use indexmap::IndexMap;
-use item_emission::{Dimension, Giving, Standing};
+use item_emission::{Dimension, Giving, LowerBound, Size, Standing};
 use item_emitter::{Known, Variable};
 use lowered_text::LoweredText;
 use name_facts::{Bound, NameFacts};
@@ -38,16 +38,67 @@ fn dimension(bound: &Bound) -> Dimension
     ensures { result ≡ told.dimension_by bound.now }
 {
     Dimension {
-        lower: bound.lower,
-        size: bound.size(),
+        lower: LowerBound::Written(bound.lower),
+        size: Size::Written(bound.size()),
     }
 }
 
-/// The dimensions by their bounds.
-fn dimensions(alloc: Global, bounds: &[Bound]) -> Result<Vec<Dimension>, AllocError>
-    ensures { IfOk result (λ found. found.items ≡ map told.dimension_by bounds.now) }
+/// A dimension as its bounds are written; what is not there counts as 0.
+#[tactic(auto, unfolding(crate::specs::Told::dimension_or))]
+fn written_dimension(bounds: &[Bound], place: usize) -> Dimension
+    ensures { result ≡ told.dimension_or (slice_get bounds.now place) }
 {
-    bounds.iter().map(|bound| dimension(bound)).collect(alloc)
+    match bounds.get(place) {
+        Some(bound) => dimension(bound),
+        None => Dimension {
+            lower: LowerBound::Written(0),
+            size: Size::Written(0),
+        },
+    }
+}
+
+/// A lower bound that is written, or kept.
+#[tactic(auto, unfolding(crate::specs::Told::lower_told))]
+fn lower_of(kept: bool, written: LowerBound) -> LowerBound
+    ensures { result ≡ told.lower_told kept written }
+{
+    if kept { LowerBound::Kept } else { written }
+}
+
+/// A size that is written, or kept.
+#[tactic(auto, unfolding(crate::specs::Told::size_told))]
+fn size_of(kept: bool, written: Size) -> Size
+    ensures { result ≡ told.size_told kept written }
+{
+    if kept { Size::Kept } else { written }
+}
+
+/// A dimension of an array, given what is kept and its constant bounds.
+fn dimension_at(kept: &[KeptBound], name: &[u8], bounds: &[Bound], place: usize) -> Dimension
+    ensures { result ≡ told.dimension_told kept.now name.now bounds.now place }
+{
+    let written = written_dimension(bounds, place);
+    Dimension {
+        lower: lower_of(is_kept(kept, name, place, BoundKind::Lower), written.lower),
+        size: size_of(is_kept(kept, name, place, BoundKind::Size), written.size),
+    }
+}
+
+/// The dimensions of an array of so many.
+fn dimensions(
+    alloc: Global,
+    kept: &[KeptBound],
+    name: &[u8],
+    bounds: &[Bound],
+    rank: usize,
+) -> Result<Vec<Dimension>, AllocError>
+    ensures { IfOk result (λ found. found.items ≡ told.dimensions_told (told.dimension_told kept.now name.now bounds.now) 0 rank) }
+{
+    let mut found = Vec::new(alloc);
+    for place in 0..rank {
+        found.push(dimension_at(kept, name, bounds, place))?;
+    }
+    Ok(found)
 }
 
 /// How a name of a class stands.
@@ -65,13 +116,18 @@ fn standing(class: Class) -> Standing
 }
 
 /// What is known of a name.
-fn variable(alloc: Global, table: &NameFacts, name: &[u8]) -> Result<Variable, AllocError>
-    ensures { IfOk result (λ found. told.seen_of found ≡ told.seen_by (fact_in table.now name.now)) }
+fn variable(
+    alloc: Global,
+    table: &NameFacts,
+    kept: &[KeptBound],
+    name: &[u8],
+) -> Result<Variable, AllocError>
+    ensures { IfOk result (λ found. told.seen_of found ≡ told.seen_by kept.now name.now (fact_in table.now name.now)) }
 {
     Ok(Variable {
         is_variable: is_variable(table.class(name)),
         basic: table.basic(name),
-        dimensions: dimensions(alloc, bounds_in(table, name))?,
+        dimensions: dimensions(alloc, kept, name, bounds_in(table, name), table.rank(name))?,
         standing: standing(table.class(name)),
     })
 }
@@ -95,14 +151,15 @@ fn put_variable<'a>(
 fn variables<'a>(
     alloc: Global,
     table: &NameFacts,
+    kept: &[KeptBound],
     names: &[&'a [u8]],
 ) -> Result<IndexMap<&'a [u8], Variable>, AllocError>
     ensures { IfOk result (λ found. (x : List ℕ)
-        → option_map told.seen_of (get_by (λ k. bytes_eq x k.now) found) ≡ told.seen_among table.now (map (λ name. name.now) names.now) x) }
+        → option_map told.seen_of (get_by (λ k. bytes_eq x k.now) found) ≡ told.seen_among table.now kept.now (map (λ name. name.now) names.now) x) }
 {
     let mut found = IndexMap::new(alloc);
     for name in names {
-        let variable = variable(alloc, table, name)?;
+        let variable = variable(alloc, table, kept, name)?;
         put_variable(&mut found, name, variable)?;
     }
     Ok(found)
@@ -148,7 +205,7 @@ pub(crate) fn known<'a>(
     ensures { IfOk result (told.Tells table.now (map (λ name. name.now) names.now) heading.now (λ x. get_by (λ k. bytes_eq x k.now) procedures.now) constants.now text.now contents.now) }
 {
     Ok(Known {
-        variables: variables(alloc, table, names)?,
+        variables: variables(alloc, table, &heading.bounds, names)?,
         routines: routines(alloc, table, names, procedures)?,
         gives: giving(alloc, heading.role, heading.name)?,
         temporaries: contents.temporaries,

@@ -5,7 +5,7 @@ ghost use Rattle.std.specs.Prelude.{◌≡◌, IfOk, map, option_map, bytes_eq};
 ghost use Rattle.item_emitter.specs.Knowing.{known_of};
 ghost use Rattle.lowered_tree.specs.Shapes.{steps_of};
 ghost use Rattle.unit_writer.specs.Functions.{body_by, function_by};
-ghost use Rattle.unit_writer.specs.ToldUnits.{IsWrittenUnit};
+ghost use Rattle.unit_writer.specs.ToldUnits.{IsWrittenUnit, bound_told};
 
 use crate::functions::function;
 use crate::heading::{Heading, Procedure};
@@ -31,9 +31,9 @@ fn written(
     contents: &Contents,
 ) -> Result<Option<CFunction>, AllocError>
     ensures { IfOk result (λ found. found
-        ≡ option_map (function_by table.now (map (λ name. name.now) names.now) heading.now (λ x. get_by (λ k. bytes_eq x k.now) procedures.now) contents.now) (body_by (known_of known.now) contents.now (steps_of text.now.steps.items))) }
+        ≡ option_map (function_by table.now (map (λ name. name.now) names.now) heading.now (λ x. get_by (λ k. bytes_eq x k.now) procedures.now) contents.now) (body_by (known_of known.now) (map bound_told heading.now.bounds.items) contents.now (steps_of text.now.steps.items))) }
 {
-    match body(alloc, known, contents, text)? {
+    match body(alloc, known, &heading.bounds, contents, text)? {
         Some(body) => {
             Ok(Some(function(alloc, table, names, heading, procedures, contents, body)?))
         }
@@ -42,12 +42,12 @@ fn written(
 }
 
 /// The C function of a unit among several, given what its names are, the names in their order, its head, the procedures of the set by their names, the
-/// constants that its file passes, its lowered text and the contents of that; none where a step is not emitted, where the steps have no structure, or where
-/// an output is not in place.
+/// constants that its file passes, its lowered text behind what it keeps of its dummy arrays, and the contents of that; none where a bound or a step is not
+/// emitted, where the steps have no structure, or where an output is not in place.
 ///
 /// # Errors
 ///
-/// Want of memory, a position that has no number, or an array of more elements than a number has room for.
+/// Want of memory, a position or a dimension that has no number, or an array of more elements than a number has room for.
 pub fn write_unit<'a>(
     alloc: Global,
     table: &NameFacts,

@@ -8,5 +8,5 @@ use Rattle.unit_writer.proofs.telling.variables.Given as goal
 
 abbrev pub invariant-loop-name : goal.invariant-loop-name
 invariant-loop-name l =
-    (x : List ℕ) → seen_among l.table (texts l.names) x
-    ≡ (if list_any (bytes_eq x) (texts (drop l.name-index l.names)) then Some (seen_by (fact_in l.table x)) else option_map seen_of (get_by (λ k. bytes_eq x k.now) l.found))
+    (x : List ℕ) → seen_among l.table l.kept (texts l.names) x
+    ≡ (if list_any (bytes_eq x) (texts (drop l.name-index l.names)) then Some (seen_by l.kept x (fact_in l.table x)) else option_map seen_of (get_by (λ k. bytes_eq x k.now) l.found))

@@ -1,0 +1,2 @@
+pub mod BoundNames
+pub use Rattle.fortran_laws.specs.f_tree

@@ -1,0 +1,3 @@
+pub mod BoundForms
+pub mod NamesInBounds
+pub mod ToldBounds

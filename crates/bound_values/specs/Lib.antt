@@ -1,0 +1,2 @@
+pub mod BoundValues
+pub use Rattle.kept_bounds.specs as kept_bounds

@@ -1,0 +1,2 @@
+pub mod WrittenBounds
+pub use Rattle.procedure_emission.specs as procedure_emission
