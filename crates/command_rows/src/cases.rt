@@ -9,10 +9,11 @@ pub struct Present {
     pub bytes: Vec<u8>,
 }
 
-/// An external unit that is connected to a device in memory.
+/// An external unit that is connected to a device in memory, or a device in memory that is offered to OPEN.
 #[derive(Drop)]
 pub struct ConnectedUnit {
-    /// Its number, and behind a blank that of the call of its device that fails, if one does.
+    /// The number of the unit, or the name under which the device is offered, and behind a blank the number of the call of the device that
+    /// fails, if one does.
     pub words: String,
     /// The records of its file.
     pub records: Vec<String>,
@@ -145,7 +146,7 @@ impl Case {
         }
     }
 
-    /// The units that are connected.
+    /// The units that are connected, and the devices that are offered.
     pub fn units(&self) -> &[ConnectedUnit] {
         self.units.as_slice()
     }

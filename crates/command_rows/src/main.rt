@@ -3,8 +3,9 @@
 //! accepted. Of `=* title` each changed source is judged too: each front of Input, Input without one of its lines and with one of them twice, and with
 //! each byte changed to five others. Of `=$ WORDS` the command of these words is run; its status, the line on Fault and each file that Output names are
 //! printed. A line `-- NAME` begins a file that is there, `++ PREFIX` puts there all files with that prefix and a number, and `!! N` lets the call of
-//! the shelf with that number fail. A line `## U` connects unit U to a device in memory, and `## U K` to one whose call K fails, and a line `#> RECORD`
-//! behind it gives its file a record; behind the command the records of the first are printed.
+//! the shelf with that number fail. A line `## U` connects unit U to a device in memory, and `## U K` to one whose call K fails; where a name stands in the
+//! place of U, the device is offered to OPEN under that name. A line `#> RECORD` behind it gives its file a record; behind the command the records of the
+//! first unit are printed.
 #![tactic(auto)]
 
 mod cases;

@@ -41,14 +41,20 @@ impl Run {
             let Ok(device) = Box::new(alloc, one.device(alloc)?) else {
                 return Err(Stop::NoMemory);
             };
-            if units.connect(one.unit()?, device).is_err() {
+            let placed = match one.unit()? {
+                Some(unit) => units.connect(unit, device),
+                None => units.offer(one.name(alloc)?, device),
+            };
+            if placed.is_err() {
                 return Err(Stop::NoMemory);
             }
         }
         let Ended { status, mut units } = f2c(alloc, &words, &mut shelf, units);
         let mut records = Vec::new(alloc);
         if let Some(first) = connected.first() {
-            add_records(alloc, &mut records, &mut units, first.unit()?)?;
+            if let Some(unit) = first.unit()? {
+                add_records(alloc, &mut records, &mut units, unit)?;
+            }
         }
         Ok(Run {
             status,

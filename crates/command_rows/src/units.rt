@@ -1,10 +1,10 @@
-//! External units with devices in memory.
+//! External units with devices in memory, and devices that are offered to OPEN.
 
 use crate::Stop;
 use crate::cases::ConnectedUnit;
 use f2c_outside::devices::Got;
 use f2c_outside::memory_device::MemoryDevice;
-use f2c_outside::texts::NoMemory;
+use f2c_outside::texts::{Name, NoMemory};
 use f2c_outside::unit_table::UnitTable;
 use std::alloc::Global;
 
@@ -23,10 +23,21 @@ impl ConnectedUnit {
         }
     }
 
-    /// The number of the unit.
-    pub fn unit(&self) -> Result<i32, Stop> {
+    /// The number of the unit, where there is one.
+    pub fn unit(&self) -> Result<Option<i32>, Stop> {
         match self.number(0) {
-            Some(number) => i32::try_from(number).map_err(|_| Stop::Failed),
+            Some(number) => match i32::try_from(number) {
+                Ok(unit) => Ok(Some(unit)),
+                Err(_) => Err(Stop::Failed),
+            },
+            None => Ok(None),
+        }
+    }
+
+    /// The name under which the device is offered.
+    pub fn name(&self, alloc: Global) -> Result<Name, Stop> {
+        match self.words.split(' ').next() {
+            Some(word) => Ok(Name::new(alloc, word.as_bytes())?),
             None => Err(Stop::Failed),
         }
     }
