@@ -170,7 +170,7 @@ fn returned(gives: ResultType, value: &LinkedTerm, run: &RunBytes) -> Result<Opt
     given_by(gives, value)
 }
 
-/// A store of a number at a place of numbers, where both are found by the short way. It answers whether it is done.
+/// A store of a number at a place of numbers. It answers whether it was done by the short way; if not, nothing changed.
 #[tactic(auto, using(crate::proofs::FormLaws::form_laws))]
 fn numbers_assigned(target: &LinkedTerm, value: &LinkedTerm, run: &mut RunBytes) -> bool
     ensures meaning { IfDone result ((view : View) → (units : Units) → (transfer : Option Transfer) →

@@ -1,4 +1,5 @@
-//! Numbers by a short way, which takes numbers alone and tells no faults: where it finds none, the general way tells what a value is.
+//! Numbers by a short way, which takes numbers alone and tells no faults: what it finds is what the general way finds, and where it finds none, that way tells
+//! what a value is.
 
 ghost use Rattle.std.specs.Prelude.{◌≡◌, ◌+ℤ◌, ◌-ℤ◌, ◌*ℤ◌, pos, neg_ℤ, List, Ok, slice_get, false};
 ghost use Rattle.c_tree.specs.declared.outcome.CValue.TheVariants.{Number, Pointer};

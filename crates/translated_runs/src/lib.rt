@@ -6,8 +6,7 @@ ghost use Rattle.translated_runs.specs.TranslatedRuns.{RunsOfTranslationsEndAlik
 
 /// Where a closed set of FORTRAN files was translated and its run ends, the command that runs the texts ends the same way, if it may go far enough: with the
 /// same external units, the exit status of that ending, and the line of that ending on Fault. Or there was no memory, the objects of the texts have more
-/// bytes than a program may have, the device of a unit failed, it called a function of the library that is not built, or a call of the library was to count
-/// more than 64 bits tell.
+/// bytes than a program may have, the device of a unit failed, or a unit stands behind 2^53 records or more.
 pub fn runs_of_translations_end_alike()
     ensures { RunsOfTranslationsEndAlike }
 {}
