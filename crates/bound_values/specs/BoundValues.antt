@@ -73,7 +73,7 @@ binary_pure (Some o) p q = operated_pure o p q
 
 -- ## Dimensions
 
--- the lower bound of a dimension, which is 1 where none is written (5.1.1.1)
+-- the lower bound of a dimension, which is 1 where none is written (5.1.1.2)
 unfoldable pub lower_pure : NameFacts → Option Expr → Option Pure
 lower_pure table lower = bound_pure (lower_read (attribute_in table) lower)
 

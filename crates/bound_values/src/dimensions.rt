@@ -80,7 +80,7 @@ fn only_last_is_star(dimensions: &[Dimension]) -> bool
     }
 }
 
-/// Whether an array has a dimension that is not constant. Section 5.1.1.1.
+/// Whether an array has a dimension that is not constant. Section 5.1.2.
 #[tactic(auto, unfolding(crate::specs::BoundValues::is_adjustable))]
 pub fn is_adjustable(fact: &NameFact) -> bool
     ensures { result ≡ spec.is_adjustable fact.now }
@@ -163,7 +163,7 @@ fn is_written_one(value: &Pure) -> bool
     }
 }
 
-/// The size of a dimension by its bounds. Section 5.1.2.
+/// The size of a dimension by its bounds. Section 5.1.1.2.
 #[tactic(auto, unfolding(kept_bounds::specs::KeptBounds::size_pure))]
 fn size_between(alloc: Global, lower: Pure, upper: Pure) -> Result<Pure, AllocError>
     ensures { IfOk result (λ size. pure_of size ≡ kept.size_pure (pure_of lower) (pure_of upper)) }

@@ -8,7 +8,7 @@ use Rattle.lowering_laws.proofs.simulation.Composing.{composite_simulates}
 use Rattle.lowering_laws.specs.f_tree.Facts.{ProgramUnit, Facts}
 use Rattle.lowering_laws.specs.f_tree.Setting.{Setting}
 use Rattle.lowering_laws.specs.f_tree.Meaning as source
-use Rattle.lowering_laws.specs.f_tree.Meaning.{found_from, facts_at}
+use Rattle.lowering_laws.specs.f_tree.Meaning.{facts_at}
 use Rattle.lowering_laws.specs.l_core.Steps.{Text}
 use Rattle.lowering_laws.specs.l_core.Costs.{rest}
 use Rattle.lowering_laws.specs.Layer.{lower_kit, lower_pairing, lower_couple}

@@ -31,7 +31,7 @@ use Rattle.procedure_emission.specs.faithful.StorageImage.{function_number}
 use Rattle.procedure_emission.specs.faithful.FrameImage as each
 use Rattle.procedure_emission.specs.faithful.FrameImage.{Each, ProcedureStands, FrameStands}
 use Rattle.procedure_emission.specs.faithful.SameState as same
-use Rattle.procedure_emission.specs.faithful.SameState.{is_inner, function_of, without_wrappers, SameWorld, SameActive, Same}
+use Rattle.procedure_emission.specs.faithful.SameState.{is_inner, function_of, SameWorld, SameActive, Same}
 use Rattle.procedure_emission.specs.faithful.Faithful.{SameRuns}
 use Rattle.procedure_emission.specs.c_image.World.{World, Extends}
 use Rattle.procedure_emission.proofs.c_image_laws.Growing.{extends_through}

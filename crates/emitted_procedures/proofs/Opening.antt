@@ -18,7 +18,7 @@ use Rattle.procedure_emission.specs.f_tree.Valuing.{either_bounds, bounds_of}
 use Rattle.procedure_emission.specs.f_tree.World as fortran
 use Rattle.procedure_emission.specs.f_tree.World.{Called, Procedure, Passed, fortran_sorts}
 use Rattle.procedure_emission.specs.f_tree.Association as association
-use Rattle.procedure_emission.specs.f_tree.Association.{same_basic, same_width, serves, value_for, length_for, all_dimensions_by, bounds_for, result_of, with_result, frame_of}
+use Rattle.procedure_emission.specs.f_tree.Association.{same_basic, same_width, serves, all_dimensions_by, bounds_for, result_of, with_result, frame_of}
 use Rattle.procedure_emission.specs.l_core.Pures.{none_kept}
 use Rattle.procedure_emission.specs.l_core.Steps.{Text}
 use Rattle.procedure_emission.specs.l_core.Machine.{View, begun}

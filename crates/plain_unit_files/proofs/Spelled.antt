@@ -3,7 +3,7 @@
 use Rattle.std.specs.List.{list_all}
 use Rattle.std.specs.Prelude.{◌≡◌, ℕ, zero, suc, ◌+◌, ◌<◌, ◌≤◌, ◌^◌, nat_le, ℤ, Bool, true, false, ◌&&◌, List, [], ◌∷◌, ◌++◌, map, length, Option, Some, None, unwrap_or, slice_get}
 use Rattle.std.proofs.Common.{refl, sym, ap, ◌∙◌, subst, arith}
-use Rattle.fortran_totality.specs.f_tree.CNames.{variable_name, made_name, FunctionResult, ConstantOf}
+use Rattle.fortran_totality.specs.f_tree.CNames.{variable_name, made_name, ConstantOf}
 use Rattle.fortran_totality.specs.f_tree.CNames as c_names
 use Rattle.fortran_totality.specs.f_tree.Facts.{Bounds, Formal, UnitKind, MainProgram, SubroutineUnit, FunctionUnit, BlockDataUnit, EntryPoint}
 use Rattle.fortran_totality.specs.f_tree.Valuing.{elements_of}

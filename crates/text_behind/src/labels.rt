@@ -1,6 +1,6 @@
 //! The positions of labels behind so many steps.
 
-ghost use Rattle.std.specs.Prelude.{◌≡◌, ℕ, nat_eq, Some, OnOk, IfOk, option_map, slice_get, if◌then◌else◌};
+ghost use Rattle.std.specs.Prelude.{◌≡◌, ℕ, nat_eq, Some, OnOk, IfOk, slice_get, if◌then◌else◌};
 ghost use Rattle.std.specs.HashMap.{get_by};
 ghost use Rattle.behind_bounds.specs.BehindBounds.{position_behind};
 ghost use Rattle.text_behind.specs.LabelsBehind as spec;
@@ -47,7 +47,7 @@ fn put_at(
     }
 }
 
-/// The positions of labels behind so many steps. Of two places with one label the first is noted last, and stays.
+/// The positions of labels behind so many steps. They are noted from the last, since the first place of a label counts.
 pub(crate) fn labels_behind(
     alloc: Global,
     first: usize,

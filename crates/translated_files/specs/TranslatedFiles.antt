@@ -3,7 +3,6 @@
 -- own, which call procedures of the set, and of the statements that lowering and emission know. ANSI X3.9-1978, sections 2.4, 3.5, 4.1, 8 to 12, 14 and 15.
 use Rattle.std.specs.List.{list_all, list_any}
 use Rattle.std.specs.Prelude.{ℕ, suc, ◌+◌, ◌^◌, nat_lt, nat_le, ℤ, Bool, true, false, ◌&&◌, List, [], ◌∷◌, ◌++◌, map, length, Option, Some, None, option_map, option_and_then, bytes_eq, if◌then◌else◌}
-use Rattle.unit_forms.specs.f_tree.declared.expressions.Expr.{Expr}
 use Rattle.unit_forms.specs.f_tree.declared.expressions.Expr.TheOpen as expr
 use Rattle.unit_forms.specs.f_tree.declared.names.Class.{Class}
 use Rattle.unit_forms.specs.f_tree.declared.names.Class.TheVariants as class

@@ -18,7 +18,7 @@ use Rattle.main_faithfulness.specs.c_tree.Builtins.{builtin_names}
 use Rattle.main_faithfulness.specs.c_tree.Declarations.{declared_externs, functions_in_lists}
 use Rattle.main_faithfulness.specs.c_tree.FlatForm.{whole_body}
 use Rattle.main_faithfulness.specs.c_tree.Linking as linking
-use Rattle.main_faithfulness.specs.c_tree.Linking.{Routines, any_of, routines, function_names, all_functions, named, has_parameters, lacks_main, repeats, defined_again, mentioned, misses, all_imaged, first_broken_rule, broken_rule}
+use Rattle.main_faithfulness.specs.c_tree.Linking.{any_of, routines, function_names, all_functions, named, has_parameters, lacks_main, repeats, defined_again, misses, all_imaged, first_broken_rule, broken_rule}
 use Rattle.main_faithfulness.specs.faithful.Faithful.{is_linked}
 use Rattle.main_faithfulness.specs.faithful.StorageImage.{function_name}
 use Rattle.main_faithfulness.specs.faithful.Signatures.{named_formals}

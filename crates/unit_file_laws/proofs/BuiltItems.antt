@@ -30,7 +30,7 @@ use Rattle.unit_places.specs.c_emit.Numbers.{Writing, one_more, has_number, has_
 use Rattle.unit_places.specs.c_emit.LibraryFunctions.{library_function}
 use Rattle.unit_places.specs.c_emit.Calls.{held_term, address_of}
 use Rattle.unit_places.specs.linking_laws.Linked as linked
-use Rattle.unit_places.specs.linking_laws.Linked.{IsBuilt, scope_of}
+use Rattle.unit_places.specs.linking_laws.Linked.{scope_of}
 use Rattle.unit_places.proofs.linking_laws.Places.{some_same, taken, within}
 use Rattle.unit_places.proofs.linking_laws.BuiltCode.{whole_is, built_fit, code_is_theirs, strings_are_theirs}
 use Rattle.unit_places.specs.emitted_names.KnownNames.{IsPlain, array_of, StartIsPlain, CallsFunction}

@@ -31,7 +31,7 @@ use Rattle.unit_places.specs.c_structure.Expressions as written
 use Rattle.unit_places.specs.c_emit.Numbers.{is_numeric, is_variable, has_number, has_shape, is_scalar, is_array}
 use Rattle.unit_places.specs.c_structure_laws.Fitting.{KnowsArray}
 use Rattle.unit_places.specs.linking_laws.Linked as linked
-use Rattle.unit_places.specs.linking_laws.Linked.{AreDistinct, IsNone, scope_of}
+use Rattle.unit_places.specs.linking_laws.Linked.{AreDistinct, IsNone}
 use Rattle.unit_places.proofs.linking_laws.Places.{get_front, get_back, map_at, within, taken, skipped}
 use Rattle.unit_places.proofs.linking_laws.Scopes.{scopes_are_known, file_scopes_are_known}
 use Rattle.unit_places.specs.emitted_names.KnownNames.{IsPlain, array_of, StartIsPlain, Calls}
@@ -41,7 +41,7 @@ use Rattle.unit_places.specs.main_file.MainFile.{list_names}
 use Rattle.unit_places.proofs.main_file_laws.Listed.{stands_by, declared_variable, declared_listing, declared_temporary}
 use Rattle.unit_places.proofs.main_file_laws.Known.{position_finds}
 use Rattle.unit_places.specs.unit_file.UnitFile as file
-use Rattle.unit_places.specs.unit_file.UnitFile.{Listing, Parameter, BoundKind, LowerOf, SizeOf, KeptBound, Inventory, Bases, WrittenUnit, constant_for, parameter_for, unit_locals, unit_function, units_file, result_count, frame_count, first_list, first_string, first_parameter, result_object, first_temporary, first_bound, is_bound, place_of_bound, quantity_in, place_or_none, place_of_constant, place_of_variable, place_of_parameter, place_of_list, lasting_names, framed_names, parameter_object, address_in, lower_of, size_of, writing_of}
+use Rattle.unit_places.specs.unit_file.UnitFile.{Listing, BoundKind, LowerOf, SizeOf, KeptBound, Inventory, Bases, WrittenUnit, constant_for, parameter_for, unit_locals, unit_function, result_count, frame_count, first_list, first_string, first_parameter, result_object, first_temporary, first_bound, is_bound, place_of_bound, quantity_in, place_or_none, place_of_constant, place_of_variable, place_of_list, lasting_names, framed_names, parameter_object, address_in, lower_of, size_of}
 use Rattle.unit_places.specs.unit_file.UnitNames.{constant_names, called_names, object_names, object_name, string_at, own_names, routine_name}
 use Rattle.unit_places.specs.unit_sites.UnitSites.{inventories, Site}
 use Rattle.unit_places.specs.UnitPlaces.{file_with}

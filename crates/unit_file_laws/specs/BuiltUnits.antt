@@ -1,4 +1,5 @@
--- That the function of a unit has the items that are emitted for its lowered text, where its statements are built for them. C89, 3.6.
+-- That the function of a unit has the items that are emitted for the bounds that it keeps and for its lowered text, where its statements are built for
+-- them. C89, 3.6.
 use Rattle.std.specs.Prelude.{◌≡◌, ℕ, suc, ◌+◌, ◌≤◌, List, [], ◌∷◌, map, length, position, Option, Some, None, slice_get, bytes_eq, codes}
 use Rattle.unit_places.specs.f_tree.declared.names.Basic.{Basic}
 use Rattle.unit_places.specs.f_tree.Values.{Bytes}

@@ -17,7 +17,7 @@ use Rattle.c_spelling.specs.c_tree.Linking.{declared_constants, file_scope}
 use Rattle.c_spelling.proofs.c_laws.TokenSpellings.{and-first, and-second}
 use Rattle.main_file_texts.specs.c_structure_laws.Fitting.{KnowsItems}
 use Rattle.main_file_texts.specs.linking_laws.Linked as linked
-use Rattle.main_file_texts.specs.linking_laws.Linked.{AreDistinct, IsNone, IsBuilt, routines_of, outside_of}
+use Rattle.main_file_texts.specs.linking_laws.Linked.{AreDistinct, routines_of, outside_of}
 use Rattle.main_file_texts.proofs.linking_laws.BuiltCode.{built_fit}
 use Rattle.main_file_texts.proofs.linking_laws.Places.{some_same, get_front, get_back, within, some_at}
 use Rattle.main_file_texts.specs.main_file.MainFile.{temporary_names}

@@ -18,7 +18,7 @@ use Rattle.unit_translation.specs.procedure_emission.ProcedureItems.{basic_wante
 use Rattle.unit_translation.specs.procedure_emission.Reading.{kind_after}
 use Rattle.unit_translation.specs.procedure_emission.EmittedUnits.{leads_on, is_return}
 use Rattle.unit_translation.specs.main_translation.Flow as flow
-use Rattle.unit_translation.specs.main_translation.Flow.{is_target, kept_type, stage_after, stage_at, is_on}
+use Rattle.unit_translation.specs.main_translation.Flow.{is_target, stage_after, stage_at, is_on}
 use Rattle.main_translation_laws.proofs.FlowLaws.{only_behind, kept_types, IsKept, by_keep, by_compute, kept_by, kept_nowhere, same_stage, at_stage, goes_on}
 use Rattle.unit_translation.specs.UnitFlow.{kept_behind, kind_before, item_kind, is_in_place, are_in_place}
 use Rattle.unit_programs.specs.TranslatedUnits.{Flows}
