@@ -1,2 +1,0 @@
-pub mod WrittenBounds
-pub use Rattle.procedure_emission.specs as procedure_emission
