@@ -1,54 +1,36 @@
--- A text that is put together in a buffer, and where it is stored.
-use Rattle.std.proofs.Common.{◌≡◌, ℕ, zero, suc, ◌+◌, ◌-◌, ◌≤◌, ◌<◌, min, List, [], ◌∷◌, ◌++◌, length, take, drop, replicate, Option, Some, None, Bool, true, false, refl, ap, sym, ◌∙◌, arith, length-append}
+-- A text at the start of a buffer, and where it is stored.
+use Rattle.std.proofs.Common.{◌≡◌, ℕ, ◌+◌, ◌-◌, ◌≤◌, ◌<◌, List, [], ◌∷◌, ◌++◌, length, take, replicate, Option, Some, None, false, refl, ap, ◌∙◌, arith, length-append}
 use Rattle.std.specs.Prelude.{Ok, slice_get, slice_set, nat_le, if◌then◌else◌}
 use Rattle.std.proofs.lemmas.Bool.Decides.{nat_tests}
-use Rattle.std.proofs.lemmas.List.{length-take, length-drop, length-replicate, take-append-le, take_all, take-take}
+use Rattle.std.proofs.lemmas.List.{length-take, length-replicate}
 use Rattle.std.proofs.lemmas.Slice.{take-put_mid}
 use borrow.Rule.Slice.PartMut.{put_mid}
 use Rattle.c_tree.specs.declared.outcome.CValue.{CValue}
 use Rattle.c_tree.specs.declared.outcome.CValue.TheVariants.{Number, Pointer, Null, Function}
 use Rattle.c_tree.specs.declared.outcome.CFault.TheVariants.{Kind, Outside}
 use Rattle.c_tree.specs.Faults.{Or, after, failing}
-use Rattle.c_tree.specs.Objects.{Object, Bytes, Values, Held, extent, with_bytes, overlaid}
+use Rattle.c_tree.specs.Objects.{Object, Bytes, Values, Held, with_bytes, overlaid}
 use Rattle.c_tree.specs.LibraryArguments.{fitted, with_text, store_text, text_stored}
 use Rattle.run_bytes.specs.Layout.{held_type}
 use Rattle.c_tree.specs.Access.{Access}
-use Rattle.library_texts.specs.Gathered.{Gathers}
-use Rattle.library_calls.specs.Pieces.{Holds}
 use Rattle.library_calls.specs.Room.{HasRoom}
 
-pub length-fitted : (size : ℕ) (text : List ℕ) → length (fitted size text) ≡ size
+length-fitted : (size : ℕ) (text : List ℕ) → length (fitted size text) ≡ size
 length-fitted size text =
     length-take size (text ++ replicate (size - length text) 32)
     ∙ (let blanks : length (text ++ replicate (size - length text) 32) ≡ length text + (size - length text) =
     length-append text (replicate (size - length text) 32) ∙ ap (λ n. length text + n) (length-replicate (size - length text) 32) in omega arith)
 
--- how much of a text the buffer holds
-held-size : (text buffer : List ℕ) (used : ℕ) → Holds text buffer used → used ≡ min (length buffer) (length text)
-held-size text buffer used holds =
-    let front : length (take used buffer) ≡ length (take (length buffer) text) = ap length holds.gathered in
-    omega (arith, holds.within, length-take used buffer, length-take (length buffer) text)
+pub overlong : (limit size : ℕ) (text : List ℕ) → limit < size → limit < length (fitted size text)
+overlong limit size text h = omega (arith, length-fitted size text)
 
-pub padded : (text buffer new : List ℕ) (used size k : ℕ) → Holds text buffer used → size ≤ length buffer → used < size → k ≡ size - used →
-    new ≡ replicate (length (take k (drop used buffer))) 32 →
-    take size (put_mid used k buffer new) ≡ fitted size text
-padded text buffer new used size k holds fits short as_many fill =
-    let count : used ≡ min (length buffer) (length text) = held-size text buffer used holds in
-    let whole : length text ≡ used = omega arith in
-    let wide : length (take k (drop used buffer)) ≡ size - used = omega (arith, length-take k (drop used buffer), length-drop used buffer) in
-    let is : new ≡ replicate (size - used) 32 = fill ∙ ap (λ n. replicate n 32) wide in
-    let blanks : length new ≡ size - used = ap length is ∙ length-replicate (size - used) 32 in
-    let all : length (text ++ new) ≡ size = length-append text new ∙ omega arith in
-    take-put_mid used k buffer new size (omega arith) holds.within
-    ∙ ap (λ front. front ++ new) (holds.gathered ∙ take_all (length buffer) text (omega arith))
-    ∙ sym (take_all size (text ++ new) (omega arith))
-    ∙ ap (λ behind. take size (text ++ behind)) (is ∙ ap (λ n. replicate (size - n) 32) (sym whole))
-
-pub cut : (text buffer : List ℕ) (used size : ℕ) → Holds text buffer used → size ≤ length buffer → size ≤ used → take size buffer ≡ fitted size text
-cut text buffer used size holds fits long =
-    let count : used ≡ min (length buffer) (length text) = held-size text buffer used holds in
-    sym (take-take size used buffer long) ∙ ap (take size) holds.gathered ∙ take-take size (length buffer) text fits
-    ∙ sym (take-append-le size text (replicate (size - length text) 32) (omega arith))
+-- a text that is copied into the start of a buffer
+pub front-fitted : (buffer new text : List ℕ) (size : ℕ) → size ≤ length buffer → new ≡ fitted (length (take size buffer)) text →
+    take size (put_mid 0 size buffer new) ≡ fitted size text
+front-fitted buffer new text size fits is =
+    let wide : length (take size buffer) ≡ size = omega (arith, length-take size buffer) in
+    let same : new ≡ fitted size text = is ∙ ap (λ n. fitted n text) wide in
+    take-put_mid 0 size buffer new size (omega (arith, ap length same, length-fitted size text)) (omega arith) ∙ same
 
 -- where a text is longer than each object
 too-long : (bytes : List (Option ℕ)) (offset : ℕ) (text : List ℕ) → length bytes < length text → with_bytes offset text bytes ≡ failing Outside

@@ -1,6 +1,6 @@
 -- The pieces of a concatenation, one after the other into a buffer.
-use Rattle.std.proofs.Common.{◌≡◌, ℕ, zero, suc, ◌+◌, ◌-◌, ◌≤◌, ◌<◌, ◌%◌, ◌^◌, List, [], ◌∷◌, ◌++◌, length, take, drop, Option, Some, None, Bool, true, false, refl, ap, sym, ◌∙◌, subst, arith, append-nil, append_assoc}
-use Rattle.std.specs.Prelude.{Ok, Err, slice_get, nat_le, nat_eq, if◌then◌else◌, int_lt, ℤ, pos}
+use Rattle.std.proofs.Common.{◌≡◌, ℕ, suc, ◌+◌, ◌≤◌, ◌<◌, ◌%◌, ◌^◌, List, [], ◌++◌, length, take, drop, Option, Some, None, Bool, true, false, refl, ap, sym, ◌∙◌, arith, append-nil, append_assoc}
+use Rattle.std.specs.Prelude.{Ok, Err, slice_get, nat_le, nat_eq, if◌then◌else◌}
 use Rattle.std.proofs.lemmas.Bool.Decides.{nat_tests}
 use Rattle.std.proofs.lemmas.List.{take_all}
 use Rattle.std.proofs.lemmas.Option.{slice_get_within}
@@ -10,7 +10,7 @@ use Rattle.c_tree.specs.declared.outcome.CFault.{CFault}
 use Rattle.c_tree.specs.declared.outcome.CFault.TheVariants.{Kind, Outside}
 use Rattle.c_tree.specs.Faults.{Or, after, failing}
 use Rattle.c_tree.specs.Access.{Access, ToNumber, ToChar, ToByte, ToList, ToField, ToPointer, ToFunction, ToNothing}
-use Rattle.c_tree.specs.Objects.{Object, Bytes, Values, Held, Typed, extent, fetched, read_object, read_held, number_at, number_from, bytes_at, all_set, plain, as_number, holds}
+use Rattle.c_tree.specs.Objects.{Object, Bytes, Values, Held, Typed, fetched, read_object, read_held, number_from, bytes_at, all_set, plain, as_number, holds}
 use Rattle.c_tree.specs.LibraryArguments.{number_through, count_from, text_at, shifted}
 use Rattle.c_tree.specs.LibraryTexts.{pieces}
 use Rattle.library_texts.specs.Gathered.{Gathers}
@@ -36,7 +36,7 @@ unchanged : (found : Or (List ℕ)) → found ≡ after found (λ later. Ok ([] 
 unchanged (Ok text) = refl
 unchanged (Err reason) = refl
 
-pub holds-nothing : (buffer : List ℕ) → Holds [] buffer 0
+holds-nothing : (buffer : List ℕ) → Holds [] buffer 0
 holds-nothing buffer = record { gathered = sym (take_all (length buffer) [] (omega arith)); within = omega arith }
 
 pub collecting-none : (objects : List Object) (addresses sizes : CValue) (count left : ℕ) (buffer : List ℕ) → left ≡ count →

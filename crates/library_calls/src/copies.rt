@@ -1,7 +1,7 @@
 //! The functions that assign a text (ANSI X3.9-1978, 6.2.2.2 and 10.4). All bytes are fetched before one is stored, so that places may
 //! overlap: the text is put together in a buffer, which is as long as the largest object.
 
-ghost use Rattle.std.specs.Prelude.{◌≡◌, ◌≤◌, ◌<◌, ℕ, [], ◌∷◌, List, length, take};
+ghost use Rattle.std.specs.Prelude.{◌≡◌, ◌≤◌, ◌<◌, ℕ, [], ◌∷◌, List, length};
 ghost use Rattle.c_tree.specs.World.{Void};
 ghost use Rattle.c_tree.specs.Builtins as builtin;
 ghost use Rattle.c_tree.specs.LibraryArguments as arguments;
@@ -16,7 +16,7 @@ ghost use Rattle.library_calls.specs.Room.{HasRoom};
 
 use crate::arguments::{count_from, length_from, number_through};
 use c_tree::outcome::{CFault, CValue};
-use library_texts::append_piece;
+use library_texts::{append_piece, copy_text, pad_gathered};
 use run_bytes::{AccessType, PointedType, RunBytes};
 
 /// The fault of a text that is longer than each object, where a pointer points to.
@@ -30,17 +30,6 @@ fn too_long(run: &RunBytes, target: CValue) -> CFault
         },
         CValue::Null => CFault::Outside,
         _ => CFault::Kind,
-    }
-}
-
-/// Blanks behind the text that the first `used` bytes of a buffer hold, up to a length.
-fn pad(buffer: &mut [u8], used: usize, size: usize)
-    requires used { used ≤ length buffer.old }
-    requires size { size ≤ length buffer.old }
-    ensures { (text : List ℕ) → Holds text buffer.old used → take size buffer.new ≡ arguments.fitted size text }
-{
-    if used < size {
-        buffer[used..size].fill(b' ');
     }
 }
 
@@ -59,7 +48,7 @@ fn put_gathered(
     if buffer.len() < size {
         return Err(too_long(run, target));
     }
-    pad(buffer, used, size);
+    pad_gathered(buffer, used, size);
     run.put_text(target, &buffer[..size])
 }
 
@@ -96,8 +85,11 @@ pub fn s_copy(
 {
     match assigned_text(run, source, target_length, source_length) {
         Ok((size, text)) => {
-            let used = append_piece(buffer, 0, text);
-            put_gathered(run, buffer, used, target, size)
+            if buffer.len() < size {
+                return Err(too_long(run, target));
+            }
+            copy_text(&mut buffer[..size], text);
+            run.put_text(target, &buffer[..size])
         }
         Err(fault) => Err(fault),
     }

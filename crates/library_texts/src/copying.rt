@@ -1,6 +1,6 @@
 //! Texts into others: assignment and concatenation (ANSI X3.9-1978, 6.2.2.2 and 10.4).
 
-ghost use Rattle.std.specs.Prelude.{◌≡◌, ◌≤◌, ◌++◌, ℕ, List, length};
+ghost use Rattle.std.specs.Prelude.{◌≡◌, ◌≤◌, ◌++◌, ℕ, List, length, take};
 ghost use Rattle.c_tree.specs.LibraryArguments.{fitted};
 ghost use Rattle.library_texts.specs.Gathered.{Gathers};
 
@@ -26,11 +26,14 @@ pub fn append_piece(buffer: &mut [u8], used: usize, piece: &[u8]) -> usize
     used + kept
 }
 
-/// The text that the first `used` bytes of a buffer hold into another (10.4), which is no longer than the buffer.
-pub fn copy_gathered(target: &mut [u8], buffer: &[u8], used: usize)
-    requires used { used ≤ length buffer.now }
-    requires room { length target.old ≤ length buffer.now }
-    ensures { (text : List ℕ) → Gathers buffer.now used text → target.new ≡ fitted (length target.old) text }
+/// Blanks behind the text that the first `used` bytes of a buffer hold (10.4): its first `size` bytes are the text then, with blanks
+/// behind it or cut.
+pub fn pad_gathered(buffer: &mut [u8], used: usize, size: usize)
+    requires used { used ≤ length buffer.old }
+    requires size { size ≤ length buffer.old }
+    ensures { (text : List ℕ) → Gathers buffer.old used text → take size buffer.new ≡ fitted size text }
 {
-    copy_text(target, &buffer[..used]);
+    if used < size {
+        buffer[used..size].fill(b' ');
+    }
 }

@@ -9,5 +9,5 @@ mod search;
 pub use comparison::{
     compare_texts, lexically_above, lexically_below, lexically_not_above, lexically_not_below,
 };
-pub use copying::{append_piece, copy_gathered, copy_text};
+pub use copying::{append_piece, copy_text, pad_gathered};
 pub use search::index_of;
