@@ -4,3 +4,4 @@ mod Rows
 mod CheckRowLemmas
 mod SplitRowLemmas
 mod TranslateRowLemmas
+mod HostRowLemmas

@@ -4,4 +4,5 @@ pub mod CheckRows
 pub mod SplitOutcomes
 pub mod SplitRows
 pub mod TopCall
+pub mod HostRows
 pub mod Program

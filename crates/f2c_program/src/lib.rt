@@ -2,12 +2,14 @@
 #![tactic(auto)]
 
 mod checking;
+mod host;
 mod program;
 mod splitting;
 mod top_call;
 mod translating;
 mod usage;
 
+pub use host::call_on_host;
 pub use outcomes::Outcome;
-pub use program::{call_on_host, run};
+pub use program::run;
 pub use top_call::{Ended, f2c};

@@ -1,22 +1,16 @@
-//! The program around the top call: the words of the command line, the real files and streams, and the exit status.
+//! The program around the top call: the words of the command line, and the exit status.
 
 ghost use Rattle.std.specs.Prelude.{◌≡◌, ◌++◌, drop, map, IfOk, OnOk};
 ghost use Rattle.std.specs.Process.{exit_status};
 ghost use Rattle.std.specs.String.{string_bytes};
 ghost use Rattle.f2c_program.specs.declared.program.NoWords.TheVariants as no_words;
-ghost use Rattle.f2c_program.specs.Program.{Called, untouched, IsStatusFor, IsStatusOfProgram};
+ghost use Rattle.f2c_program.specs.Program.{IsStatusFor, IsStatusOfProgram};
 
-use crate::top_call::f2c;
-use f2c_outside::host_devices::{HostInput, HostOutput};
-use f2c_outside::host_file::HostFile;
-use f2c_outside::host_shelf::HostShelf;
-use f2c_outside::shelves::Shelf;
+use crate::host::call_on_host;
 use f2c_outside::texts::{NoMemory, Words};
-use f2c_outside::unit_table::UnitTable;
-use run_words::drawer_names;
 use std::alloc::{AllocGlobal, Global};
 use std::env;
-use std::io::{ErrorKind, Input};
+use std::io::ErrorKind;
 use std::process::ExitCode;
 use std::rt::{Env, HostRuntime};
 
@@ -75,33 +69,6 @@ pub(crate) fn command_words<R: Env + AllocGlobal>(rt: &R) -> Result<Words, NoWor
         Ok(arguments) => Ok(words_of(rt.alloc(), &arguments)?),
         Err(_) => Err(NoWords::NoMemory),
     }
-}
-
-/// Calls the top call on a shelf, and gives its status.
-fn status_of_call<H: Shelf>(alloc: Global, words: &Words, shelf: &mut H, units: UnitTable) -> u8
-    ensures { Called words.now (H.state shelf.old) result }
-{
-    f2c(alloc, words, shelf, units).status
-}
-
-/// Calls the top call with these words on the real files and streams, and gives its status: unit 5 is connected to standard input and unit 6 to standard
-/// output, and the files that the words name stand in the drawer.
-pub fn call_on_host(rt: &HostRuntime, words: &Words) -> Result<u8, NoMemory>
-    ensures { IfOk result (Called words.now untouched) }
-{
-    let alloc = rt.alloc();
-    let mut units = UnitTable::new(alloc)?;
-    let input = Box::new(alloc, HostInput::new(alloc, rt.reader()))?;
-    units.connect(5, input).map_err(|_| NoMemory)?;
-    let output = Box::new(alloc, HostOutput::new(rt.stdout()))?;
-    units.connect(6, output).map_err(|_| NoMemory)?;
-    let names = drawer_names(alloc, words)?;
-    for name in names.as_slice() {
-        let file = Box::new(alloc, HostFile::new(alloc, *rt, name.copy(alloc)?))?;
-        units.offer(name.copy(alloc)?, file).map_err(|_| NoMemory)?;
-    }
-    let mut shelf = HostShelf::new(alloc, rt, rt.stderr());
-    Ok(status_of_call(alloc, words, &mut shelf, units))
 }
 
 /// Says that memory ran out.
