@@ -17,6 +17,8 @@ pub record IsLoaded (files : List CFile) (loaded : LoadedProgram) : Type 0 where
   pub objects : loaded.objects ≡ (linking.program files).objects
   -- the frame of each function stands among the objects
   pub frames : FramesStand loaded.program loaded.objects
+  -- each function can be active once
+  pub depth : length loaded.frames.items ≡ length loaded.program.functions
   pub arguments : HasArgumentRoom loaded.program (length loaded.arguments.items)
   pub texts : HasRoom (length loaded.texts.items) loaded.objects
 

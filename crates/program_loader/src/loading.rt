@@ -10,6 +10,7 @@ use crate::links::{LoadFail, link};
 use c_tree::file::CFile;
 use c_tree::outcome::CValue;
 use linked_programs::LinkedProgram;
+use program_runner::{CallFrame, frame_room};
 use run_bytes::RunBytes;
 use runnable_programs::{argument_room, frames_stand};
 use started_objects::objects_at_start;
@@ -23,6 +24,8 @@ pub struct LoadedProgram {
     pub program: LinkedProgram,
     /// Its objects as they start.
     pub objects: RunBytes,
+    /// Room for the frames of its functions.
+    pub frames: Vec<CallFrame>,
     /// Room for the arguments of each call.
     pub arguments: Vec<CValue>,
     /// Room for the longest text.
@@ -41,11 +44,13 @@ fn with_rooms(
 {
     frames_stand(files, &program);
     let objects = objects_at_start(alloc, program.objects.as_slice())?;
+    let frames = frame_room(alloc, &program)?;
     let arguments = vec![in alloc; CValue::Null; argument_room(&program)]?;
     let texts = vec![in alloc; 0; text_room(&program, &objects)]?;
     Ok(LoadedProgram {
         program,
         objects,
+        frames,
         arguments,
         texts,
     })

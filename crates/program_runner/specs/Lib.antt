@@ -3,3 +3,5 @@ pub mod Signatures
 pub mod Stacks
 pub mod Events
 pub mod Outcomes
+pub mod UnitsLeft
+pub mod Taken

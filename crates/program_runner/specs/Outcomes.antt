@@ -16,6 +16,7 @@ use Rattle.run_library.specs.Devices.{NoFailure, FailsAtLast}
 use Rattle.program_runner.specs.declared.stack.CallStack.{CallStack}
 use Rattle.program_runner.specs.declared.runs.RunOutcome.{RunOutcome}
 use Rattle.program_runner.specs.declared.runs.RunOutcome.TheVariants as outcome
+use Rattle.program_runner.specs.declared.runs.RunTaken.{RunTaken}
 use Rattle.program_runner.specs.Events.{HasRoom}
 use Rattle.program_runner.specs.Stacks.{Frames, state_of, IsStack}
 
@@ -72,21 +73,21 @@ abbrev pub Begins : State Ending sorts → World → Result CallStack CFault →
 Begins state world (Ok stack) = state ≡ state_of stack world
 Begins state world (Err fault) = state ≡ machine.Broken (Faults fault) []
 
-abbrev pub IsRunOf : {E : Type 0} → (List Object → E → Ending) → State Ending sorts → World → Result (RunOutcome E) CFault → Type 0
-IsRunOf ending state world (Ok how) = Stands ending state world how
+abbrev pub IsRunOf : {E : Type 0} → (List Object → E → Ending) → State Ending sorts → World → Result (RunTaken E) CFault → Type 0
+IsRunOf ending state world (Ok ran) = Stands ending state world ran.outcome
 IsRunOf ending state world (Err fault) = state ≡ machine.Broken (Faults fault) []
 
 -- what is said of a whole run in which no device failed, and none of whose calls was to count more than 64 bits tell
-abbrev pub UnlessRunFailed : {E : Type 0} → Result (RunOutcome E) CFault → Type 0 → Type 0
-UnlessRunFailed (Ok how) Holds = UnlessFailed how Holds
+abbrev pub UnlessRunFailed : {E : Type 0} → Result (RunTaken E) CFault → Type 0 → Type 0
+UnlessRunFailed (Ok ran) Holds = UnlessFailed ran.outcome Holds
 UnlessRunFailed (Err fault) Holds = Holds
 
 -- the devices of the units in a whole run; where its main program does not begin none is called
-abbrev pub ToldOfWholeRun : {L E : Type 0} → (L → L → Type 0) → (ℤ → L → L → Type 0) → L → L → Result (RunOutcome E) CFault → Type 0
-ToldOfWholeRun none_failed failed_on old new (Ok how) = ToldOfRun none_failed failed_on old new how
+abbrev pub ToldOfWholeRun : {L E : Type 0} → (L → L → Type 0) → (ℤ → L → L → Type 0) → L → L → Result (RunTaken E) CFault → Type 0
+ToldOfWholeRun none_failed failed_on old new (Ok ran) = ToldOfRun none_failed failed_on old new ran.outcome
 ToldOfWholeRun none_failed failed_on old new (Err fault) = NoFailure none_failed old new
 
 -- what holds where a call of the library in a whole run was to count more than 64 bits tell
-abbrev pub UncountedInWholeRun : {E : Type 0} → Type 0 → Result (RunOutcome E) CFault → Type 0
-UncountedInWholeRun P (Ok how) = UncountedInRun P how
+abbrev pub UncountedInWholeRun : {E : Type 0} → Type 0 → Result (RunTaken E) CFault → Type 0
+UncountedInWholeRun P (Ok ran) = UncountedInRun P ran.outcome
 UncountedInWholeRun P (Err fault) = Unit {0}

@@ -16,6 +16,7 @@ ghost use Rattle.item_deeds.specs.Forms.{SameForms};
 ghost use Rattle.run_library.specs.Replies.{reply_of};
 ghost use Rattle.run_library.specs.Room as rooms;
 ghost use Rattle.program_runner.specs.Signatures.{Allows};
+ghost use Rattle.program_runner.specs.UnitsLeft.{LeftByStep};
 ghost use Rattle.program_runner.specs.Events.{event_of, broken_of, StepsBy, ToldOfStep, UncountedInStep, IsCalled, HasRoom};
 
 use crate::signatures::allowed;
@@ -135,6 +136,8 @@ fn call_made<L: Library>(
     requires texts { rooms.HasRoom (L.room library.old) run.old }
     ensures meaning { (units : Units) → (transfer : Option Transfer) → (given : List CValue) → L.stands library.old units transfer →
         StepsBy L.ending (steps.library_called (view_of view) (world_of run.old units transfer) (wants_of wants) values.now (slice_get signatures number)) (L.stands library.new) run.new given result }
+    ensures kept { (units : Units) → (transfer : Option Transfer) → L.stands library.old units transfer →
+        LeftByStep (steps.library_called (view_of view) (world_of run.old units transfer) (wants_of wants) values.now (slice_get signatures number)) (world_of run.old units transfer) (L.stands library.new) result }
     ensures devices { ToldOfStep L.none_failed L.failed_on library.old library.new result }
     ensures counted { UncountedInStep (L.uncounted library.new) result }
     ensures texts { L.room library.new ≡ L.room library.old }
@@ -163,6 +166,8 @@ fn library_called<L: Library>(
     requires texts { rooms.HasRoom (L.room library.old) run.old }
     ensures meaning { (units : Units) → (transfer : Option Transfer) → (given : List CValue) → L.stands library.old units transfer →
         StepsBy L.ending (steps.library_called (view_of view) (world_of run.old units transfer) (wants_of wants) values.now (slice_get signatures number)) (L.stands library.new) run.new given result }
+    ensures kept { (units : Units) → (transfer : Option Transfer) → L.stands library.old units transfer →
+        LeftByStep (steps.library_called (view_of view) (world_of run.old units transfer) (wants_of wants) values.now (slice_get signatures number)) (world_of run.old units transfer) (L.stands library.new) result }
     ensures devices { ToldOfStep L.none_failed L.failed_on library.old library.new result }
     ensures counted { UncountedInStep (L.uncounted library.new) result }
     ensures texts { L.room library.new ≡ L.room library.old }
@@ -202,6 +207,9 @@ fn item_step<L: Library>(
     ensures meaning { (function : linking.Function) → function.own ≡ own → function.result ≡ gives →
         (units : Units) → (transfer : Option Transfer) → L.stands library.old units transfer →
         StepsBy L.ending (steps.deed function (view_of view) (world_of run.old units transfer) (flat_of item.now)) (L.stands library.new) run.new buffer.new result }
+    ensures kept { (function : linking.Function) → function.own ≡ own → function.result ≡ gives →
+        (units : Units) → (transfer : Option Transfer) → L.stands library.old units transfer →
+        LeftByStep (steps.deed function (view_of view) (world_of run.old units transfer) (flat_of item.now)) (world_of run.old units transfer) (L.stands library.new) result }
     ensures devices { ToldOfStep L.none_failed L.failed_on library.old library.new result }
     ensures counted { UncountedInStep (L.uncounted library.new) result }
     ensures texts { L.room library.new ≡ L.room library.old }
@@ -253,6 +261,8 @@ pub(crate) fn step<L: Library>(
     requires texts { rooms.HasRoom (L.room library.old) run.old }
     ensures meaning { (units : Units) → (transfer : Option Transfer) → L.stands library.old units transfer →
         StepsBy L.ending (steps.step (function_of own function.now) (view_of view) (world_of run.old units transfer)) (L.stands library.new) run.new buffer.new result }
+    ensures kept { (units : Units) → (transfer : Option Transfer) → L.stands library.old units transfer →
+        LeftByStep (steps.step (function_of own function.now) (view_of view) (world_of run.old units transfer)) (world_of run.old units transfer) (L.stands library.new) result }
     ensures devices { ToldOfStep L.none_failed L.failed_on library.old library.new result }
     ensures counted { UncountedInStep (L.uncounted library.new) result }
     ensures texts { L.room library.new ≡ L.room library.old }

@@ -9,5 +9,5 @@ mod runs;
 mod signatures;
 mod stack;
 
-pub use runs::{RunOutcome, begin, run, run_program};
-pub use stack::{CallFrame, CallStack};
+pub use runs::{RunOutcome, RunTaken, begin, run, run_program};
+pub use stack::{CallFrame, CallStack, frame_room};

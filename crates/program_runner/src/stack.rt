@@ -4,7 +4,8 @@ ghost use Rattle.std.specs.Prelude.{◌≡◌, ◌<◌, ◌≤◌, ◌+◌, ◌^
 ghost use Rattle.program_runner.specs.Numbers.{has};
 ghost use Rattle.program_runner.specs.Stacks.{waiting, numbers_of, IsStack, IsPushed, Popped};
 
-use item_deeds::CallView;
+use item_deeds::{CallView, CallWants};
+use linked_programs::LinkedProgram;
 use std::alloc::{AllocError, Global};
 
 /// An active function, by its number, with its view.
@@ -24,26 +25,32 @@ pub struct CallStack {
     pub(crate) free: usize,
 }
 
+/// Room for the frames of the functions of a program, of which none is active twice. An error where memory ran out.
+pub fn frame_room(alloc: Global, program: &LinkedProgram) -> Result<Vec<CallFrame>, AllocError>
+    ensures { IfOk result (λ frames. length frames.items ≡ length program.now.functions) }
+{
+    let unused = CallFrame {
+        number: 0,
+        view: CallView {
+            position: 0,
+            wants: CallWants::Nothing,
+            answer: None,
+        },
+    };
+    vec![in alloc; unused; program.functions.len()]
+}
+
 impl CallStack {
-    /// A stack of one function, with room for so many. An error where memory ran out.
+    /// A stack of one function, with room for as many as there are frames.
     #[tactic(auto, using(crate::proofs::StackLaws::stack_laws))]
-    pub(crate) fn new(
-        alloc: Global,
-        functions: usize,
-        top: CallFrame,
-    ) -> Result<CallStack, AllocError>
-        requires { top.number < functions }
-        ensures stack { IfOk result (IsStack functions) }
-        ensures top { IfOk result (λ stack. stack.top ≡ top) }
-        ensures alone { IfOk result (λ stack. waiting stack ≡ []) }
+    pub(crate) fn new(room: Vec<CallFrame>, top: CallFrame) -> CallStack
+        requires { top.number < length room.items }
+        ensures stack { IsStack (length room.items) result }
+        ensures top { result.top ≡ top }
+        ensures alone { waiting result ≡ [] }
     {
-        let mut room = Vec::with_capacity(alloc, functions)?;
-        room.resize(functions, top)?;
-        Ok(CallStack {
-            top,
-            room,
-            free: functions,
-        })
+        let free = room.len();
+        CallStack { top, room, free }
     }
 
     /// Whether the function of a number is active.

@@ -1,5 +1,5 @@
 -- What a call of the library answers, as the meaning of C texts has it (CSTR 149, appendix on the run time library).
-use Rattle.std.specs.Prelude.{◌≡◌, ℕ, List, Option, Some, Result, Ok, Err, slice_get}
+use Rattle.std.specs.Prelude.{◌≡◌, ℕ, List, Option, Some, None, Result, Ok, Err, slice_get}
 use Rattle.c_tree.specs.run_state.Endings.{Ending}
 use Rattle.c_tree.specs.run_state.Units.{Units}
 use Rattle.c_tree.specs.declared.outcome.CValue.{CValue}
@@ -43,11 +43,16 @@ pub record StandsIn (stands : Units → Option Transfer → Type 0) (objects : L
   pub stood : stands units transfer
   pub holds : Holds (world_of objects units transfer)
 
+-- where no transfer was in progress before a call that breaks, the units are as they were
+abbrev pub KeepsUnits : World → World → Type 0
+KeepsUnits before after = before.transfer ≡ None → after.units ≡ before.units
+
 -- a call in a world replies what its function gives, and leaves objects and a library that stands for such units and such a transfer;
--- where a device failed, or 64 bits do not tell what is to be counted, nothing is said of it
+-- where it breaks outside every transfer, for the units that there were; where a device failed, or 64 bits do not tell what is to be
+-- counted, nothing is said of it
 abbrev pub Answers : {E : Type 0} → (List Object → E → Ending) → ℕ → List CValue → World → (Units → Option Transfer → Type 0) → List Object → Result (LibraryReply E) CallBreak → Type 0
 Answers ending number values before stands objects (Ok given) = StandsIn stands objects (λ after. Replies ending number values before after (Ok given))
-Answers ending number values before stands objects (Err (broken.Break why)) = StandsIn stands objects (λ after. Replies ending number values before after (Err why))
+Answers ending number values before stands objects (Err (broken.Break why)) = StandsIn stands objects (λ after. Replies ending number values before after (Err why) × KeepsUnits before after)
 Answers ending number values before stands objects (Err (broken.Device unit)) = Unit {0}
 Answers ending number values before stands objects (Err broken.Uncounted) = Unit {0}
 

@@ -72,7 +72,7 @@ pub trait Library {
     ghost room: { Self → ℕ };
 
     /// Calls the function of a number with the values of its arguments, which agree with what it takes in number and kind. Objects keep
-    /// their forms.
+    /// their forms. A call outside every transfer by which the run cannot go on leaves the units as they were.
     ///
     /// # Errors
     /// Why the run cannot go on, the unit whose device failed, or that more is to be counted than 64 bits tell.

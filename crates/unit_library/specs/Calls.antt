@@ -12,20 +12,20 @@ use Rattle.item_deeds.specs.Forms.{SameForms}
 use Rattle.f2c_outside.specs.Table.{Row}
 use Rattle.unit_answers.specs.Failing.{FailedOn, NoneFailed}
 use Rattle.run_library.specs.declared.library.CallBreak.TheVariants as broken
-use Rattle.run_library.specs.Replies.{StandsIn, UncountedIf, break_of, reply_of}
+use Rattle.run_library.specs.Replies.{StandsIn, KeepsUnits, UncountedIf, break_of, reply_of}
 use Rattle.unit_library.specs.declared.transfers.TransferInProgress.{TransferInProgress}
 use Rattle.unit_library.specs.Endings.{ending_of}
 use Rattle.unit_library.specs.Replies.{CallResult}
 use Rattle.unit_library.specs.Transfers.{Standing}
 use Rattle.unit_library.specs.Uncounted.{IsFarBehind}
 
--- a call in a world replies what its function gives; where a device failed, or 64 bits do not tell what is to be counted, nothing is said
--- of it
+-- a call in a world replies what its function gives; where it breaks outside every transfer, it leaves the units that there were; where a
+-- device failed, or 64 bits do not tell what is to be counted, nothing is said of it
 abbrev pub AnswersCall : Builtin → List CValue → World → (Units → Option Transfer → Type 0) → List Object → CallResult → Type 0
 AnswersCall builtin arguments before stands objects (Ok given) =
     StandsIn stands objects (λ behind. library builtin before arguments ≡ Ok (reply_of ending_of behind given))
 AnswersCall builtin arguments before stands objects (Err (broken.Break why)) =
-    StandsIn stands objects (λ behind. library builtin before arguments ≡ Err (break_of why))
+    StandsIn stands objects (λ behind. (library builtin before arguments ≡ Err (break_of why)) × KeepsUnits before behind)
 AnswersCall builtin arguments before stands objects (Err (broken.Device unit)) = Unit {0}
 AnswersCall builtin arguments before stands objects (Err broken.Uncounted) = Unit {0}
 

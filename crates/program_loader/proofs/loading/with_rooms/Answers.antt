@@ -15,6 +15,7 @@ returns c =
       program = c.requires.linked;
       objects = is ∙ ap (λ (p : Program). p.objects) c.requires.linked;
       frames = subst (FramesStand c.args.program) (sym is) c.frames_stand.ensures;
+      depth = c.in_ok-frames.ensures;
       arguments = subst (HasArgumentRoom c.args.program) (sym arguments) c.argument_room.ensures;
       texts = subst (λ size. HasRoom size c.in_ok-objects.objects) (sym texts) c.text_room.ensures;
     }
