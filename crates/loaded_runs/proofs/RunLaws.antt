@@ -1,6 +1,6 @@
 -- How a run of a program to which files are linked ends, by what is said of it.
-use Rattle.std.proofs.Common.{◌≡◌, ℕ, ◌≤◌, ◌^◌, ℤ, List, [], ◌∷◌, Option, Some, None, refl, ap, sym, ◌∙◌, subst}
-use Rattle.std.specs.Prelude.{Result, Ok, Err}
+use Rattle.std.proofs.Common.{◌≡◌, ℕ, ◌<◌, ◌≤◌, ◌^◌, List, [], ◌∷◌, Option, Some, None, refl, ap, sym, ◌∙◌, subst}
+use Rattle.std.specs.Prelude.{Result, Ok, Err, IfOk}
 use Rattle.c_tree.specs.simulation.Machine.{State, Runs, Over, Broken}
 use Rattle.c_tree.specs.run_state.Endings.{Ending}
 use Rattle.c_tree.specs.run_state.Units.{Units}
@@ -9,7 +9,7 @@ use Rattle.c_tree.specs.declared.file.CFile.{CFile}
 use Rattle.c_tree.specs.Faults.{Faults, NoMeaning}
 use Rattle.c_tree.specs.Objects.{Object}
 use Rattle.c_tree.specs.World.{World}
-use Rattle.c_tree.specs.Linking.{program, first_broken_rule}
+use Rattle.c_tree.specs.Linking.{Program, program, first_broken_rule}
 use Rattle.c_tree.specs.Steps.{sorts}
 use Rattle.c_tree.specs.Meaning as meaning
 use Rattle.c_tree.specs.Meaning.{run_of}
@@ -22,9 +22,12 @@ use Rattle.linked_programs.specs.declared.programs.LinkedProgram.{LinkedProgram}
 use Rattle.unit_answers.specs.Failing.{NoneFailed, FailedOn}
 use Rattle.item_deeds.specs.Deeds.{world_of}
 use Rattle.run_library.specs.Replies.{StandsIn}
-use Rattle.run_library.specs.Devices.{NoFailure, no_call, one_more, FailsAtLast}
+use Rattle.run_library.specs.Devices.{NoFailure, no_call, one_more}
 use Rattle.run_library.specs.declared.library.RunBreak.TheVariants as reason
-use Rattle.program_runner.specs.Outcomes.{IsRunOf, UnlessRunFailed, ToldOfWholeRun, UncountedInWholeRun}
+use Rattle.program_runner.specs.Outcomes.{Stands, IsRunOf, UnlessFailed, UnlessRunFailed, ToldOfRun, ToldOfWholeRun, UncountedInRun, UncountedInWholeRun}
+use Rattle.program_runner.specs.UnitsLeft.{UnitsLeft, as_before, by_a_call}
+use Rattle.program_runner.specs.Taken.{IsLast, IsBroken, StandsBehind, TakenBy}
+use Rattle.program_runner.specs.declared.runs.RunTaken.{RunTaken}
 use Rattle.program_runner.specs.declared.runs.RunOutcome.{RunOutcome}
 use Rattle.program_runner.specs.declared.runs.RunOutcome.TheVariants as ran
 use Rattle.unit_library.specs.declared.endings.RunEnding.{RunEnding}
@@ -35,7 +38,7 @@ use Rattle.unit_library.specs.Transfers.{Standing}
 use Rattle.unit_library.specs.Uncounted.{IsFarBehind}
 use Rattle.loaded_runs.specs.declared.ends.RunEnd.{RunEnd}
 use Rattle.loaded_runs.specs.declared.ends.RunEnd.TheVariants as how
-use Rattle.loaded_runs.specs.RunEnds.{end_of, units_in, EndsBy, DevicesInRun, DevicesOf, NoDeviceFailed, in_the_run, behind_it, Finishes, failed_before, finished, failed_now, IsUncounted, IsRun}
+use Rattle.loaded_runs.specs.RunEnds.{outcome_end, end_of, steps_of, units_in, EndsBy, IsGoingOn, IsOverBy, LeavesUnits, IsBrokenBy, IsReached, IsNoFailure, FailsInRun, DevicesInRun, DevicesOf, NoDeviceFailed, in_the_run, behind_it, Finishes, failed_before, finished, failed_now, IsUncounted, IsRun}
 
 -- ONE STATE
 goes-on : (state : State Ending sorts) (units : Units) (objects : List Object) (number : ℕ) (view : _) (frames : _) (world : World) → state ≡ Runs number view frames world → world.units ≡ units → EndsBy state units objects how.Running
@@ -61,18 +64,22 @@ unfolding meaning.outcome
 at-first state fault is = ap meaning.outcome is
 
 -- A RUN THAT COMES TO A STATE THAT HAS A MEANING
-ends : (state : State Ending sorts) (rows : List Row) (held : Option TransferInProgress) (objects : List Object) (result : Result (RunOutcome RunEnding) CFault) → (meaning.outcome state ≡ meaning.Meaningless → ⊥) →
-    UnlessRunFailed result (StandsIn (Standing rows held) objects (λ after. IsRunOf ending_of state after result)) → EndsBy state (units_of rows) objects (end_of result)
-ends state rows held objects (Ok ran.Running) meant stands =
+ends-so : (state : State Ending sorts) (rows : List Row) (held : Option TransferInProgress) (objects : List Object) (stood : RunOutcome RunEnding) → (meaning.outcome state ≡ meaning.Meaningless → ⊥) →
+    UnlessFailed stood (StandsIn (Standing rows held) objects (λ after. Stands ending_of state after stood)) → EndsBy state (units_of rows) objects (outcome_end stood)
+ends-so state rows held objects ran.Running meant stands =
     let holds = stands.holds in goes-on state (units_of rows) objects holds.0 holds.1 holds.2 (world_of objects stands.units stands.transfer) holds.3 stands.stood.means
-ends state rows held objects (Ok ran.Returned) meant stands =
+ends-so state rows held objects ran.Returned meant stands =
     is-over state (units_of rows) objects ending.Plain [] (world_of objects stands.units stands.transfer) stands.holds stands.stood.means
-ends state rows held objects (Ok (ran.Stopped ended)) meant stands =
+ends-so state rows held objects (ran.Stopped ended) meant stands =
     is-over state (units_of rows) objects ended stands.holds.0 (world_of objects stands.units stands.transfer) stands.holds.1 stands.stood.means
-ends state rows held objects (Ok (ran.Broken (reason.Fault fault) number)) meant stands = by-fault state (units_of rows) objects fault number stands.holds.0 stands.holds.1
-ends state rows held objects (Ok (ran.Broken reason.Meaningless number)) meant stands = meant (by-nothing state (number ∷ stands.holds.0) stands.holds.1)
-ends state rows held objects (Ok (ran.Failed unit)) meant stands = tt
-ends state rows held objects (Ok ran.Uncounted) meant stands = tt
+ends-so state rows held objects (ran.Broken (reason.Fault fault) number) meant stands = by-fault state (units_of rows) objects fault number stands.holds.0 stands.holds.1
+ends-so state rows held objects (ran.Broken reason.Meaningless number) meant stands = meant (by-nothing state (number ∷ stands.holds.0) stands.holds.1)
+ends-so state rows held objects (ran.Failed unit) meant stands = tt
+ends-so state rows held objects ran.Uncounted meant stands = tt
+
+ends : (state : State Ending sorts) (rows : List Row) (held : Option TransferInProgress) (objects : List Object) (result : Result (RunTaken RunEnding) CFault) → (meaning.outcome state ≡ meaning.Meaningless → ⊥) →
+    UnlessRunFailed result (StandsIn (Standing rows held) objects (λ after. IsRunOf ending_of state after result)) → EndsBy state (units_of rows) objects (end_of result)
+ends state rows held objects (Ok taken) meant stands = ends-so state rows held objects taken.outcome meant stands
 ends state rows held objects (Err fault) meant stands = meant (at-first state fault stands.holds)
 
 -- A RUN OF FILES
@@ -80,7 +87,7 @@ is-run-of : (files : List CFile) (linked : LinkedProgram) (units : Units) (steps
 unfolding meaning.meaning
 is-run-of files linked units steps same = ap (λ one. run_of one units steps) same
 
-pub run-ends : (files : List CFile) (linked : LinkedProgram) (rows rows' : List Row) (held held' : Option TransferInProgress) (objects : List Object) (steps : ℕ) (result : Result (RunOutcome RunEnding) CFault) →
+pub run-ends : (files : List CFile) (linked : LinkedProgram) (rows rows' : List Row) (held held' : Option TransferInProgress) (objects : List Object) (steps : ℕ) (result : Result (RunTaken RunEnding) CFault) →
     NoRunIsWithoutMeaning → AreWellFormed files → first_broken_rule files ≡ None → program_of linked ≡ program files → held ≡ None → Tells rows →
     ((units : Units) → Standing rows held units None → UnlessRunFailed result (StandsIn (Standing rows' held') objects (λ after. IsRunOf ending_of (run_of (program_of linked) units steps) after result))) →
     EndsBy (meaning.meaning files (units_of rows) steps) (units_of rows') objects (end_of result)
@@ -90,34 +97,110 @@ run-ends files linked rows rows' held held' objects steps result meant formed ru
     (subst (λ state. UnlessRunFailed result (StandsIn (Standing rows' held') objects (λ after. IsRunOf ending_of state after result))) (is-run-of files linked units steps same)
     (stands units (subst (λ (one : Option TransferInProgress). Standing rows one units None) (sym none) (record { tells = tells; means = refl; in_progress = refl }))))
 
--- DEVICES
+-- THE STEPS TAKEN
+over-by : (files : List CFile) (units : Units) (steps taken : ℕ) → IsLast (run_of (program files) units) steps taken → IsOverBy files units steps taken
+unfolding meaning.meaning meaning.outcome
+over-by files units steps taken last = record {
+  before = last.earlier;
+  last = last.next;
+  within = last.within;
+  goes = ap meaning.outcome last.goes.is;
+  stays = last.same;
+}
+
+going-on : (files : List CFile) (units : Units) (steps taken : ℕ) (rows : List Row) (held : Option TransferInProgress) → taken < steps → StandsBehind (run_of (program files) units) (Standing rows held) taken →
+    IsGoingOn files units steps taken (units_of rows)
+unfolding meaning.meaning meaning.outcome
+going-on files units steps taken rows held within stands = record {
+  within = within;
+  outcome = ap meaning.outcome stands.goes.is;
+  units_now = ap units_in stands.goes.is ∙ ap Some stands.stood.means;
+}
+
+left-by : (happens : _) (before : World) (rows : List Row) (held : Option TransferInProgress) → UnitsLeft happens before (Standing rows held) → UnitsLeft happens before (λ units transfer. units ≡ units_of rows)
+left-by happens before rows held (as_before transfer stood) = as_before transfer stood.means
+left-by happens before rows held (by_a_call builtin arguments objects view wants reply called is stood) = by_a_call builtin arguments objects view wants reply called is stood.means
+
+broken-by : (files : List CFile) (units : Units) (steps taken : ℕ) (rows : List Row) (held : Option TransferInProgress) → IsBroken (program files) (run_of (program files) units) (Standing rows held) steps taken →
+    IsBrokenBy files units steps taken (units_of rows)
+unfolding meaning.meaning over-by
+broken-by files units steps taken rows held broken =
+    let last = broken.last in
+    record {
+      over = over-by files units steps taken last;
+      leaves = subst (λ state. LeavesUnits files state (units_of rows)) (sym last.goes.is) (λ none. left-by _ last.before rows held (broken.units none));
+    }
+
+-- WITH A LIBRARY
 -- calls between libraries are calls between what they hold
 none-in : {L R : Type 0} (shown : L → R) (none : R → R → Type 0) (first last : L) → NoFailure (λ b a. none (shown b) (shown a)) first last → NoFailure none (shown first) (shown last)
 none-in shown none first last no_call = no_call
 none-in shown none first last (one_more before after earlier here) = one_more (shown before) (shown after) (none-in shown none first before earlier) here
 
-failed-in : {L R : Type 0} (shown : L → R) (none : R → R → Type 0) (failed : ℤ → R → R → Type 0) (unit : ℤ) (first last : L) →
-    FailsAtLast (λ b a. none (shown b) (shown a)) (λ u b a. failed u (shown b) (shown a)) unit first last → FailsAtLast none failed unit (shown first) (shown last)
-failed-in shown none failed unit first last fails = record { before = shown fails.before; none = none-in shown none first fails.before fails.none; failed = fails.failed }
+module _ {L : Type 0} (shown : L → List Row) (going : L → Option TransferInProgress) (steps : ℕ) (first last : L) where
+  -- the library stands for the units before a run, and no transfer is in progress
+  abbrev Begun : Units → Type 0
+  Begun units = Standing (shown first) (going first) units None
 
-pub devices : {L : Type 0} (shown : L → List Row) (result : Result (RunOutcome RunEnding) CFault) (first last : L) →
-    ToldOfWholeRun (λ b a. NoneFailed (shown b) (shown a)) (λ u b a. FailedOn u (shown b) (shown a)) first last result → DevicesInRun (shown first) (shown last) (end_of result)
-devices shown (Ok ran.Running) first last told = none-in shown NoneFailed first last told
-devices shown (Ok ran.Returned) first last told = none-in shown NoneFailed first last told
-devices shown (Ok (ran.Stopped ended)) first last told = none-in shown NoneFailed first last told
-devices shown (Ok (ran.Broken why number)) first last told = none-in shown NoneFailed first last told
-devices shown (Ok (ran.Failed unit)) first last told = failed-in shown NoneFailed FailedOn unit first last told
-devices shown (Ok ran.Uncounted) first last told = none-in shown NoneFailed first last told
-devices shown (Err fault) first last told = none-in shown NoneFailed first last told
+  abbrev Taken : Program → ℕ → RunOutcome RunEnding → Type 0
+  Taken linked taken stood =
+      TakenBy linked Begun (run_of linked) (λ held. Standing (shown held) (going held)) (λ b a. NoneFailed (shown b) (shown a)) (λ unit b a. FailedOn unit (shown b) (shown a)) steps first last taken stood
+
+  begun : going first ≡ None → Tells (shown first) → Begun (units_of (shown first))
+  begun none tells = subst (λ (one : Option TransferInProgress). Standing (shown first) one (units_of (shown first)) None) (sym none) (record { tells = tells; means = refl; in_progress = refl })
+
+  reached-so : (files : List CFile) (taken : ℕ) (stood : RunOutcome RunEnding) → Begun (units_of (shown first)) → Taken (program files) taken stood →
+      IsReached files (units_of (shown first)) steps (units_of (shown last)) taken (outcome_end stood)
+  unfolding meaning.meaning meaning.outcome
+  reached-so files taken ran.Running begins told = told
+  reached-so files taken ran.Returned begins told = over-by files (units_of (shown first)) steps taken (told (units_of (shown first)) begins)
+  reached-so files taken (ran.Stopped ended) begins told = over-by files (units_of (shown first)) steps taken (told (units_of (shown first)) begins)
+  reached-so files taken (ran.Broken why number) begins told = broken-by files (units_of (shown first)) steps taken (shown last) (going last) (told (units_of (shown first)) begins)
+  reached-so files taken (ran.Failed unit) begins told = tt
+  reached-so files taken ran.Uncounted begins told = let goes = told.1 (units_of (shown first)) begins in (told.0, ap meaning.outcome goes.1.is)
+
+  devices-so : (files : List CFile) (taken : ℕ) (stood : RunOutcome RunEnding) → going first ≡ None → Taken (program files) taken stood →
+      ToldOfRun (λ b a. NoneFailed (shown b) (shown a)) (λ unit b a. FailedOn unit (shown b) (shown a)) first last stood → DevicesInRun files steps taken (shown first) (shown last) (outcome_end stood)
+  devices-so files taken ran.Running none told calls = none-in shown NoneFailed first last calls
+  devices-so files taken ran.Returned none told calls = none-in shown NoneFailed first last calls
+  devices-so files taken (ran.Stopped ended) none told calls = none-in shown NoneFailed first last calls
+  devices-so files taken (ran.Broken why number) none told calls = none-in shown NoneFailed first last calls
+  devices-so files taken (ran.Failed unit) none told calls = record {
+    middle = shown told.middle;
+    none = none-in shown NoneFailed first told.middle told.none;
+    failed = told.failed;
+    goes = λ tells.
+        going-on files (units_of (shown first)) steps taken (shown told.middle) (going told.middle) told.within (told.stood (units_of (shown first)) (begun none tells));
+  }
+  devices-so files taken ran.Uncounted none told calls = none-in shown NoneFailed first last calls
+
+  taken-in : (files : List CFile) (linked : LinkedProgram) (taken : ℕ) (stood : RunOutcome RunEnding) → program_of linked ≡ program files → Taken (program_of linked) taken stood → Taken (program files) taken stood
+  taken-in files linked taken stood same told = subst (λ (one : Program). Taken one taken stood) same told
+
+  pub reached : (files : List CFile) (linked : LinkedProgram) (result : Result (RunTaken RunEnding) CFault) → program_of linked ≡ program files → going first ≡ None →
+      IfOk result (λ taken. Taken (program_of linked) taken.steps taken.outcome) → Tells (shown first) →
+      IsReached files (units_of (shown first)) steps (units_of (shown last)) (steps_of result) (end_of result)
+  reached files linked (Ok taken) same none told tells = reached-so files taken.steps taken.outcome (begun none tells) (taken-in files linked taken.steps taken.outcome same told)
+  reached files linked (Err fault) same none told tells = refl
+
+  pub devices : (files : List CFile) (linked : LinkedProgram) (result : Result (RunTaken RunEnding) CFault) → program_of linked ≡ program files → going first ≡ None →
+      IfOk result (λ taken. Taken (program_of linked) taken.steps taken.outcome) →
+      ToldOfWholeRun (λ b a. NoneFailed (shown b) (shown a)) (λ unit b a. FailedOn unit (shown b) (shown a)) first last result →
+      DevicesInRun files steps (steps_of result) (shown first) (shown last) (end_of result)
+  devices files linked (Ok taken) same none told whole = devices-so files taken.steps taken.outcome none (taken-in files linked taken.steps taken.outcome same told) whole
+  devices files linked (Err fault) same none told whole = none-in shown NoneFailed first last whole
 
 -- MORE THAN 64 BITS TELL
-pub uncounted : (rows : List Row) (result : Result (RunOutcome RunEnding) CFault) → UncountedInWholeRun (IsFarBehind rows) result → IsUncounted rows (end_of result)
-uncounted rows (Ok ran.Running) counted = tt
-uncounted rows (Ok ran.Returned) counted = tt
-uncounted rows (Ok (ran.Stopped ended)) counted = tt
-uncounted rows (Ok (ran.Broken why number)) counted = tt
-uncounted rows (Ok (ran.Failed unit)) counted = tt
-uncounted rows (Ok ran.Uncounted) counted = counted
+uncounted-so : (rows : List Row) (stood : RunOutcome RunEnding) → UncountedInRun (IsFarBehind rows) stood → IsUncounted rows (outcome_end stood)
+uncounted-so rows ran.Running counted = tt
+uncounted-so rows ran.Returned counted = tt
+uncounted-so rows (ran.Stopped ended) counted = tt
+uncounted-so rows (ran.Broken why number) counted = tt
+uncounted-so rows (ran.Failed unit) counted = tt
+uncounted-so rows ran.Uncounted counted = counted
+
+pub uncounted : (rows : List Row) (result : Result (RunTaken RunEnding) CFault) → UncountedInWholeRun (IsFarBehind rows) result → IsUncounted rows (end_of result)
+uncounted rows (Ok taken) counted = uncounted-so rows taken.outcome counted
 uncounted rows (Err fault) counted = tt
 
 -- FINISHING
@@ -131,27 +214,49 @@ finished-ends state rows rows' objects before after (failed_before unit was same
 finished-ends state rows rows' objects before after (finished other all same) by = kept state (units_of rows) (units_of rows') objects before same by
 finished-ends state rows rows' objects before after (failed_now unit other first) by = tt
 
-in-run : (rows rows' : List Row) (ended : RunEnd) → ((unit : ℤ) → ended ≡ how.Failed unit → ⊥) → DevicesInRun rows rows' ended → NoFailure NoneFailed rows rows'
-in-run rows rows' how.Running other none = none
-in-run rows rows' (how.Ended ending) other none = none
-in-run rows rows' (how.Broken why number) other none = none
-in-run rows rows' (how.Unbegun fault) other none = none
-in-run rows rows' (how.Failed unit) other fails = absurd (other unit refl)
-in-run rows rows' how.Uncounted other none = none
+reached-kept : (files : List CFile) (units : Units) (steps taken : ℕ) (left left' : Units) (ended : RunEnd) → left' ≡ left → IsReached files units steps left taken ended → IsReached files units steps left' taken ended
+reached-kept files units steps taken left left' ended same so = subst (λ one. IsReached files units steps one taken ended) (sym same) so
 
-whole : (rows rows' : List Row) (ended : RunEnd) → ((unit : ℤ) → ended ≡ how.Failed unit → ⊥) → NoDeviceFailed rows rows' → DevicesOf rows rows' ended
-whole rows rows' how.Running other none = none
-whole rows rows' (how.Ended ending) other none = none
-whole rows rows' (how.Broken why number) other none = none
-whole rows rows' (how.Unbegun fault) other none = none
-whole rows rows' (how.Failed unit) other none = absurd (other unit refl)
-whole rows rows' how.Uncounted other none = none
+finished-reached : (files : List CFile) (units : Units) (steps taken : ℕ) (rows rows' : List Row) (before after : RunEnd) → Finishes rows rows' before after →
+    IsReached files units steps (units_of rows) taken before → IsReached files units steps (units_of rows') taken after
+finished-reached files units steps taken rows rows' before after (failed_before unit was same) so = tt
+finished-reached files units steps taken rows rows' before after (finished other all same) so = reached-kept files units steps taken (units_of rows) (units_of rows') before same so
+finished-reached files units steps taken rows rows' before after (failed_now unit other first) so = tt
 
-pub finished-devices : (first rows rows' : List Row) (before after : RunEnd) → Finishes rows rows' before after → DevicesInRun first rows before → DevicesOf first rows' after
-finished-devices first rows rows' before after (failed_before unit was same) told =
-    in_the_run (subst (λ last. FailsAtLast NoneFailed FailedOn unit first last) (sym same) (subst (DevicesInRun first rows) was told))
-finished-devices first rows rows' before after (finished other all same) told = whole first rows' before other (record { middle = rows; none = in-run first rows before other told; finished = all })
-finished-devices first rows rows' before after (failed_now unit other fault) told = behind_it rows (in-run first rows before other told) fault
+module _ (files : List CFile) (steps taken : ℕ) where
+  in-run : (rows rows' : List Row) (ended : RunEnd) → IsNoFailure ended → DevicesInRun files steps taken rows rows' ended → NoFailure NoneFailed rows rows'
+  in-run rows rows' how.Running other none = none
+  in-run rows rows' (how.Ended ending) other none = none
+  in-run rows rows' (how.Broken why number) other none = none
+  in-run rows rows' (how.Unbegun fault) other none = none
+  in-run rows rows' (how.Failed unit) other fails = absurd (other unit refl)
+  in-run rows rows' how.Uncounted other none = none
+
+  whole : (objects : List Object) (rows rows' : List Row) (ended : RunEnd) → IsNoFailure ended → NoDeviceFailed rows rows' → DevicesOf files steps taken objects rows rows' ended
+  whole objects rows rows' how.Running other none = none
+  whole objects rows rows' (how.Ended ending) other none = none
+  whole objects rows rows' (how.Broken why number) other none = none
+  whole objects rows rows' (how.Unbegun fault) other none = none
+  whole objects rows rows' (how.Failed unit) other none = absurd (other unit refl)
+  whole objects rows rows' how.Uncounted other none = none
+
+  finished-devices : (first rows rows' : List Row) (objects : List Object) (before after : RunEnd) → Finishes rows rows' before after → DevicesInRun files steps taken first rows before →
+      (Tells first → EndsBy (meaning.meaning files (units_of first) steps) (units_of rows) objects before) → (Tells first → IsReached files (units_of first) steps (units_of rows) taken before) →
+      IsUncounted rows before → DevicesOf files steps taken objects first rows' after
+  finished-devices first rows rows' objects before after (failed_before unit was same) told meant so far =
+      in_the_run (subst (λ last. FailsInRun files steps taken unit first last) (sym same) (subst (DevicesInRun files steps taken first rows) was told))
+  finished-devices first rows rows' objects before after (finished other all same) told meant so far =
+      whole objects first rows' before other (record { middle = rows; none = in-run first rows before other told; finished = all })
+  finished-devices first rows rows' objects before after (failed_now unit other fault) told meant so far = behind_it (record {
+    middle = rows;
+    none = in-run first rows before other told;
+    first = fault;
+    end = before;
+    no_failure = other;
+    meant = meant;
+    reached = so;
+    uncounted = far;
+  })
 
 far-kept : (rows rows' : List Row) (ended : RunEnd) → units_of rows' ≡ units_of rows → IsUncounted rows ended → IsUncounted rows' ended
 far-kept rows rows' how.Running same far = tt
@@ -166,15 +271,21 @@ finished-uncounted rows rows' before after (failed_before unit was same) far = t
 finished-uncounted rows rows' before after (finished other all same) far = far-kept rows rows' before same far
 finished-uncounted rows rows' before after (failed_now unit other fault) far = tt
 
--- a run, by the devices before and after the library had them
-pub whole-run : (files : List CFile) (steps : ℕ) (b b' m m' a : List Row) (made : LinkedProgram) (objects : List Object) (before after : RunEnd) → b' ≡ b → m' ≡ m → program_of made ≡ program files →
-    (Tells b' → EndsBy (meaning.meaning files (units_of b') steps) (units_of m) objects before) → DevicesInRun b' m before → IsUncounted m before → Finishes m' a before after → IsRun files steps b a made objects after
-whole-run files steps b b' m m' a made objects before after eb em linked meant told far finishes =
-    let end : Finishes m a before after = subst (λ r. Finishes r a before after) em finishes in
-    record {
-      linked = linked;
-      meant = λ tells. finished-ends (meaning.meaning files (units_of b) steps) m a objects before after end
-          (subst (λ r. EndsBy (meaning.meaning files (units_of r) steps) (units_of m) objects before) eb (meant (subst Tells (sym eb) tells)));
-      devices = finished-devices b m a before after end (subst (λ r. DevicesInRun r m before) eb told);
-      uncounted = finished-uncounted m a before after end far;
-    }
+-- a run, where the rows that the library had are those before it and behind it
+run-of-rows : (files : List CFile) (steps taken : ℕ) (b m a : List Row) (made : LinkedProgram) (objects : List Object) (before after : RunEnd) → program_of made ≡ program files →
+    (Tells b → EndsBy (meaning.meaning files (units_of b) steps) (units_of m) objects before) → (Tells b → IsReached files (units_of b) steps (units_of m) taken before) →
+    DevicesInRun files steps taken b m before → IsUncounted m before → Finishes m a before after → IsRun files steps b a made objects after taken
+run-of-rows files steps taken b m a made objects before after linked meant so told far finishes = record {
+  linked = linked;
+  meant = λ tells. finished-ends (meaning.meaning files (units_of b) steps) m a objects before after finishes (meant tells);
+  reached = λ tells. finished-reached files (units_of b) steps taken m a before after finishes (so tells);
+  devices = finished-devices files steps taken b m a objects before after finishes told meant so far;
+  uncounted = finished-uncounted m a before after finishes far;
+}
+
+pub whole-run : (files : List CFile) (steps taken : ℕ) (b b' m m' a : List Row) (made : LinkedProgram) (objects : List Object) (before after : RunEnd) → b' ≡ b → m' ≡ m → program_of made ≡ program files →
+    (Tells b' → EndsBy (meaning.meaning files (units_of b') steps) (units_of m) objects before) → (Tells b' → IsReached files (units_of b') steps (units_of m) taken before) →
+    DevicesInRun files steps taken b' m before → IsUncounted m before → Finishes m' a before after → IsRun files steps b a made objects after taken
+whole-run files steps taken b b' m m' a made objects before after eb em linked meant so told far finishes =
+    subst (λ first. IsRun files steps first a made objects after taken) eb
+    (run-of-rows files steps taken b' m a made objects before after linked meant so told far (subst (λ rows. Finishes rows a before after) em finishes))

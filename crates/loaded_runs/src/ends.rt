@@ -1,10 +1,10 @@
 //! How runs end (C89, 3.6.6.4; ANSI X3.9-1978, 11.12 and 12.7).
 
 ghost use Rattle.std.specs.Prelude.{◌≡◌};
-ghost use Rattle.loaded_runs.specs.RunEnds.{end_of};
+ghost use Rattle.loaded_runs.specs.RunEnds.{outcome_end, end_of, steps_of};
 
 use c_tree::outcome::CFault;
-use program_runner::RunOutcome;
+use program_runner::{RunOutcome, RunTaken};
 use run_library::RunBreak;
 use unit_library::RunEnding;
 
@@ -30,17 +30,42 @@ pub enum RunEnd {
     Uncounted,
 }
 
+/// How a run ended, and how many steps it took.
+#[derive(Clone, Copy)]
+pub(crate) struct EndTaken {
+    /// How it ended.
+    pub(crate) end: RunEnd,
+    /// The steps.
+    pub(crate) steps: usize,
+}
+
 /// How a run ended, by how it stands.
-pub(crate) fn end_of(ran: Result<RunOutcome<RunEnding>, CFault>) -> RunEnd
-    ensures { result ≡ end_of ran }
+fn outcome_end(outcome: RunOutcome<RunEnding>) -> RunEnd
+    ensures { result ≡ outcome_end outcome }
+{
+    match outcome {
+        RunOutcome::Running => RunEnd::Running,
+        RunOutcome::Returned => RunEnd::Ended(RunEnding::Plain),
+        RunOutcome::Stopped(how) => RunEnd::Ended(how),
+        RunOutcome::Broken { reason, function } => RunEnd::Broken { reason, function },
+        RunOutcome::Failed(unit) => RunEnd::Failed(unit),
+        RunOutcome::Uncounted => RunEnd::Uncounted,
+    }
+}
+
+/// How a run ended that stands so, or whose main program did not begin, and how many steps it took.
+pub(crate) fn end_of(ran: Result<RunTaken<RunEnding>, CFault>) -> EndTaken
+    ensures end { result.end ≡ end_of ran }
+    ensures steps { result.steps ≡ steps_of ran }
 {
     match ran {
-        Ok(RunOutcome::Running) => RunEnd::Running,
-        Ok(RunOutcome::Returned) => RunEnd::Ended(RunEnding::Plain),
-        Ok(RunOutcome::Stopped(how)) => RunEnd::Ended(how),
-        Ok(RunOutcome::Broken { reason, function }) => RunEnd::Broken { reason, function },
-        Ok(RunOutcome::Failed(unit)) => RunEnd::Failed(unit),
-        Ok(RunOutcome::Uncounted) => RunEnd::Uncounted,
-        Err(fault) => RunEnd::Unbegun(fault),
+        Ok(taken) => EndTaken {
+            end: outcome_end(taken.outcome),
+            steps: taken.steps,
+        },
+        Err(fault) => EndTaken {
+            end: RunEnd::Unbegun(fault),
+            steps: 0,
+        },
     }
 }

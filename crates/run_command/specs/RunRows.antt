@@ -1,6 +1,6 @@
 -- How a command that runs C files ends: with each exit status its cause, what was said on Fault, and how the external units stand (C89, 3.7; CSTR 149,
 -- appendix on the run time library; ANSI X3.9-1978, 11.12, 12.7 and 12.10.2.1).
-use Rattle.std.specs.Prelude.{◌≡◌, ℕ, ℤ, List, map, Some, None, Ok, Err}
+use Rattle.std.specs.Prelude.{◌≡◌, ℕ, suc, ◌<◌, ℤ, List, map, Some, None, Ok, Err}
 use Rattle.f2c_outside.specs.declared.shelves.Place.{Place}
 use Rattle.f2c_outside.specs.declared.shelves.Place.TheVariants.{File}
 use Rattle.f2c_outside.specs.Shelf.{ShelfState}
@@ -13,6 +13,7 @@ use Rattle.c_tree.specs.run_state.Endings.{Ending}
 use Rattle.c_tree.specs.declared.outcome.CFault.{CFault}
 use Rattle.c_tree.specs.declared.file.CFile.{CFile}
 use Rattle.c_tree.specs.FaultNames.{fault_name}
+use Rattle.c_tree.specs.Objects.{Object}
 use Rattle.c_tree.specs.Linking.{first_broken_rule}
 use Rattle.c_tree.specs.Meaning as meaning
 use Rattle.c_tree.specs.Meaning.{function_name}
@@ -23,7 +24,7 @@ use Rattle.run_words.specs.declared.request.RunRequest.{RunRequest}
 use Rattle.run_words.specs.RunWords.{run_of}
 use Rattle.c_sources.specs.CFiles.{AreTreesRead, IsRefusedAmong}
 use Rattle.unit_library.specs.Uncounted.{IsFarBehind}
-use Rattle.loaded_runs.specs.RunEnds.{units_in, NoDeviceFailed, DeviceFailed}
+use Rattle.loaded_runs.specs.RunEnds.{units_in, LeavesUnits, NoDeviceFailed, DeviceFailed}
 
 -- the places that are read
 abbrev pub c_places : RunRequest → List Place
@@ -42,11 +43,17 @@ pub record StandsAt (files : List CFile) (steps : ℕ) (rows rows' : List Row) (
   pub outcome : meaning.outcome (meaning.meaning files (units_of rows) steps) ≡ how
   pub units : units_in (meaning.meaning files (units_of rows) steps) ≡ Some (units_of rows')
 
--- it is broken by a fault of this name, in the function of a number; nothing is said of the units
-pub record IsFaulty (files : List CFile) (steps : ℕ) (rows : List Row) (kind : List ℕ) (number : ℕ) : Type 0 where
+-- it is broken by a fault of this name, in the function of a number: it goes on before one of its steps, and by that step it is broken, which leaves these units where
+-- no transfer is in progress before it
+pub record IsFaulty (files : List CFile) (steps : ℕ) (rows rows' : List Row) (kind : List ℕ) (number : ℕ) : Type 0 where
   pub fault : CFault
   pub named : kind ≡ fault_name fault
   pub outcome : meaning.outcome (meaning.meaning files (units_of rows) steps) ≡ meaning.Fault fault number
+  pub before : ℕ
+  pub within : before < steps
+  pub goes : meaning.outcome (meaning.meaning files (units_of rows) before) ≡ meaning.Running
+  pub breaks : meaning.outcome (meaning.meaning files (units_of rows) (suc before)) ≡ meaning.Fault fault number
+  pub units : LeavesUnits files (meaning.meaning files (units_of rows) before) (units_of rows')
 
 -- ## Exit statuses
 
@@ -70,17 +77,17 @@ pub data RunEnded (words : List (List ℕ)) (rows rows' : List Row) (b a : Shelf
   ended : (request : RunRequest) (files : List CFile) (ending : Ending) (middle : ShelfState) → Runs words request files b middle
       → (Tells rows → StandsAt files request.steps rows rows' (meaning.Ended ending)) → NoDeviceFailed rows rows' → SaysEnding ending middle a
       → RunEnded words rows rows' b a (ending_status ending)
-  -- 7: it has a fault; where the devices tell their records that is the fault of the definitions, in this function
+  -- 7: it has a fault; where the devices tell their records that is the fault of the definitions, in this function, with the units that it leaves
   faulty : (request : RunRequest) (files : List CFile) (kind : List ℕ) (number : ℕ) (middle : ShelfState) → Runs words request files b middle
-      → (Tells rows → IsFaulty files request.steps rows kind number) → NoDeviceFailed rows rows' → Said (fault_line kind (name_shown (function_name files number))) middle a
+      → (Tells rows → IsFaulty files request.steps rows rows' kind number) → NoDeviceFailed rows rows' → Said (fault_line kind (name_shown (function_name files number))) middle a
       → RunEnded words rows rows' b a 7
   -- 8: it did not end within its steps
   out_of_steps : (request : RunRequest) (files : List CFile) (middle : ShelfState) → Runs words request files b middle
       → (Tells rows → StandsAt files request.steps rows rows' meaning.Running) → NoDeviceFailed rows rows' → Said out_of_steps_line middle a
       → RunEnded words rows rows' b a 8
-  -- 9: the device of a unit failed, the first in the run or when the devices were finished behind it
-  device : (request : RunRequest) (files : List CFile) (unit : ℤ) (middle : ShelfState) → Runs words request files b middle
-      → DeviceFailed unit rows rows' → Said (device_line unit) middle a → RunEnded words rows rows' b a 9
+  -- 9: the device of a unit failed, the first in the run, which goes on behind so many steps, or when the devices were finished behind it
+  device : (request : RunRequest) (files : List CFile) (unit : ℤ) (taken : ℕ) (objects : List Object) (middle : ShelfState) → Runs words request files b middle
+      → DeviceFailed files request.steps taken objects unit rows rows' → Said (device_line unit) middle a → RunEnded words rows rows' b a 9
   -- 15: a call of the library was to count more than 64 bits tell, and a unit stands behind 2^53 records or more; nothing is said of what such a run means
   uncounted : (request : RunRequest) (files : List CFile) (middle : ShelfState) → Runs words request files b middle
       → IsFarBehind rows' → NoDeviceFailed rows rows' → Said uncounted_line middle a → RunEnded words rows rows' b a 15

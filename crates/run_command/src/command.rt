@@ -46,10 +46,9 @@ fn places_of(alloc: Global, names: &[Name]) -> Result<Items<Place>, NoMemory>
     Ok(places)
 }
 
-/// Runs a loaded program, says how it ended, and gives the exit status and the units.
+/// Runs a loaded program, says how it ended, and gives the exit status and the units. It takes no memory.
 fn run_and_say<H: Shelf>(
-    alloc: Global,
-    words: &Words,
+    _words: &Words,
     request: &RunRequest,
     files: &[CFile],
     shelf: &mut H,
@@ -58,20 +57,13 @@ fn run_and_say<H: Shelf>(
 ) -> RunDone
     requires formed { AreWellFormed files.now }
     requires loaded { IsLoaded files.now loaded }
-    ensures { (b : ShelfState) → Runs words.now request.now files.now b (H.state shelf.old) → RunEnded words.now (rows_of (λ b. (⟦<dyn Device as Device>⟧ b.vtable).device_state b.value) units) (rows_of (λ b. (⟦<dyn Device as Device>⟧ b.vtable).device_state b.value) result.units) b (H.state shelf.new) result.status }
+    ensures { (b : ShelfState) → Runs _words.now request.now files.now b (H.state shelf.old) → RunEnded _words.now (rows_of (λ b. (⟦<dyn Device as Device>⟧ b.vtable).device_state b.value) units) (rows_of (λ b. (⟦<dyn Device as Device>⟧ b.vtable).device_state b.value) result.units) b (H.state shelf.new) result.status }
 {
-    match run_loaded(alloc, files, loaded, units, request.steps as usize) {
-        Ok(run) => {
-            let status = say_run(shelf, &run.program, &run.objects, run.end);
-            RunDone {
-                status,
-                units: run.units,
-            }
-        }
-        Err(units) => {
-            let status = say_no_memory(shelf, words);
-            RunDone { status, units }
-        }
+    let run = run_loaded(files, loaded, units, request.steps as usize);
+    let status = say_run(shelf, &run.program, &run.objects, run.end);
+    RunDone {
+        status,
+        units: run.units,
     }
 }
 
@@ -88,7 +80,7 @@ fn run_files<H: Shelf>(
     ensures { (b : ShelfState) → run_of words.now ≡ Ok request.now → AreTreesRead (c_places request.now) files.now b (H.state shelf.old) → RunEnded words.now (rows_of (λ b. (⟦<dyn Device as Device>⟧ b.vtable).device_state b.value) units) (rows_of (λ b. (⟦<dyn Device as Device>⟧ b.vtable).device_state b.value) result.units) b (H.state shelf.new) result.status }
 {
     match load(alloc, files) {
-        Ok(loaded) => run_and_say(alloc, words, request, files, shelf, loaded, units),
+        Ok(loaded) => run_and_say(words, request, files, shelf, loaded, units),
         Err(why) => {
             let status = say_unloaded(shelf, words, why);
             RunDone { status, units }
@@ -143,6 +135,11 @@ fn run_request<H: Shelf>(
 /// Runs the C files that the words of a command line name, whose first is `-run`, over these external units: the files are read to their ends, and,
 /// where each spells a tree and no rule of linking is broken, their program is run from its main program on, for as many steps as the words say at most,
 /// and the devices of the connected units are finished. How it ended is said on Fault.
+///
+/// Where the devices tell their records, the run is that of the definitions, step by step, and the units are left as it leaves them. At a fault they are left as they
+/// stood before the step that has it, unless that step stands within an input or output statement, whose items may have moved records: of these nothing is said.
+/// Where a device fails in the run, the run of the definitions goes on at that step, with the units as the call that failed found them; where one fails when the
+/// devices are finished, the run had ended as the definitions have it. From the first step on no memory is taken.
 ///
 /// The status is 0 where the run ended at the end of the main program or by STOP; 2 where the words ask for no run; 3 where a file is not there or the shelf failed; 5 where
 /// memory was wanting, and no run began; 6 where a file is not in the C subset or a rule of linking is broken; 7 at a fault; 8 where the run did not end within its

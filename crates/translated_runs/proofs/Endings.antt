@@ -1,5 +1,5 @@
 -- How the command ends on the texts of a translation, by how a command ends.
-use Rattle.std.specs.Prelude.{◌≡◌, ℕ, ◌*◌, ◌≤◌, true, List, Option, Some, None, Result, Ok, Err}
+use Rattle.std.specs.Prelude.{◌≡◌, ℕ, ◌*◌, ◌≤◌, ℤ, true, List, Option, Some, None, Result, Ok, Err}
 use Rattle.std.proofs.Common.{sym, ap, ◌∙◌, subst}
 use Rattle.std.proofs.lemmas.List.{append-nil}
 use Rattle.std.proofs.lemmas.Bool.{eqb-true}
@@ -13,6 +13,7 @@ use Rattle.ended_runs.specs.f_tree.declared.names.Options.{Options}
 use Rattle.ended_runs.specs.f_tree.declared.units.File.{File}
 use Rattle.ended_runs.specs.f_tree.Meaning.{units_in, Closed}
 use Rattle.ended_runs.specs.c_tree.declared.file.CFile.{CFile}
+use Rattle.ended_runs.specs.c_tree.Objects.{Object}
 use Rattle.ended_runs.specs.c_tree.Linking.{first_broken_rule}
 use Rattle.ended_runs.specs.c_tree.Meaning as meaning
 use Rattle.ended_runs.specs.c_tree.Meaning.{step_factor}
@@ -30,7 +31,7 @@ use Rattle.outcomes.specs.Lines.{no_memory_line, shelf_fault_line}
 use Rattle.run_words.specs.declared.request.RunRequest.{RunRequest}
 use Rattle.run_words.specs.RunWords.{run_of}
 use Rattle.loaded_runs.specs.RunEnds as run_ends
-use Rattle.loaded_runs.specs.RunEnds.{NoDeviceFailed}
+use Rattle.loaded_runs.specs.RunEnds.{NoDeviceFailed, DeviceFailed}
 use Rattle.run_messages.specs.RunLines.{link_line, io_line, range_line, stop_line, device_line, uncounted_line}
 use Rattle.run_reports.specs.Reports.{SaysEnding, ending_status}
 use Rattle.run_command.specs.RunRows as rows_of_runs
@@ -123,17 +124,24 @@ module _ {words : List (List ℕ)} {request : RunRequest} {texts : List (List �
       → meaning.outcome (meaning.meaning files (units_of rows) other.steps) ≡ how → meaning.Ended ending ≡ how
   not_other how other files m runs is = sym (outcome_of other files m runs) ∙ is
 
+  -- a device that failed did so in the run of the translation
+  failed_alike : (other : RunRequest) (files : List CFile) (m : ShelfState) → Runs words other files b m → (unit : ℤ) (taken : ℕ) (objects : List Object)
+      → DeviceFailed files other.steps taken objects unit rows rows' → DeviceFailed trees request.steps taken objects unit rows rows'
+  failed_alike other files m runs unit taken objects failed =
+      subst (λ (one : RunRequest). DeviceFailed trees one.steps taken objects unit rows rows') (asked_once other runs.asked)
+      (subst (λ (those : List CFile). DeviceFailed those other.steps taken objects unit rows rows') (read_are other runs.asked files m runs.trees) failed)
+
   -- the end of a run that ended
   ends_alike : (other : RunRequest) (files : List CFile) (how : Ending) (m : ShelfState) → Runs words other files b m
       → StandsAt files other.steps rows rows' (meaning.Ended how) → NoDeviceFailed rows rows' → SaysEnding how m a
-      → RunEndsAlike trees ending left rows rows' contents a (ending_status how)
+      → RunEndsAlike trees request.steps ending left rows rows' contents a (ending_status how)
   ends_alike other files how m runs stands devices says =
       let outcomes : meaning.Ended ending ≡ meaning.Ended how = not_other (meaning.Ended how) other files m runs stands.outcome in
       let same : how ≡ ending = cc in
       let units : Some (units_of rows') ≡ Some left =
       sym stands.units ∙ left_in ending left (meaning.meaning files (units_of rows) other.steps) (has_ended other files m runs) in
       let units_are : units_of rows' ≡ left = cc in
-      subst (λ (one : Ending). RunEndsAlike trees ending left rows rows' contents a (ending_status one)) (sym same)
+      subst (λ (one : Ending). RunEndsAlike trees request.steps ending left rows rows' contents a (ending_status one)) (sym same)
       (record {
         line = ending_line ending;
         ends = law.alike units_are devices;
@@ -141,7 +149,7 @@ module _ {words : List (List ℕ)} {request : RunRequest} {texts : List (List �
       })
 
   -- by how a command ends
-  ends : (status : ℕ) → RunEnded words rows rows' b a status → RunEndsAlike trees ending left rows rows' contents a status
+  ends : (status : ℕ) → RunEnded words rows rows' b a status → RunEndsAlike trees request.steps ending left rows rows' contents a status
   ends _ (bad_word number also said same) = absurd (asked_well number also)
   ends _ (not_there other name m also away said same) =
       absurd (not_away (c_places request) contents name b m given.told given.holds.there
@@ -170,9 +178,9 @@ module _ {words : List (List ℕ)} {request : RunRequest} {texts : List (List �
       absurd (let both : meaning.Ended ending ≡ meaning.Fault fault.fault number = not_other (meaning.Fault fault.fault number) other files m runs fault.outcome in cc)
   ends _ (out_of_steps other files m runs stands devices said) =
       absurd (let both : meaning.Ended ending ≡ meaning.Running = not_other meaning.Running other files m runs (stands given.tells).outcome in cc)
-  ends _ (rows_of_runs.device other files unit m runs failed said) = record {
+  ends _ (rows_of_runs.device other files unit taken objects m runs failed said) = record {
     line = device_line unit;
-    ends = law.device unit failed;
+    ends = law.device unit taken objects (failed_alike other files m runs unit taken objects failed);
     said = line_said (device_line unit) contents b m a given.told given.quiet runs.trees.kept said;
   }
   ends _ (rows_of_runs.uncounted other files m runs far devices said) = record {

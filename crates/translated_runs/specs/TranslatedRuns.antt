@@ -14,6 +14,7 @@ use Rattle.ended_runs.specs.f_tree.Setting.{Setting, IsSetting}
 use Rattle.ended_runs.specs.f_tree.World as fortran
 use Rattle.ended_runs.specs.f_tree.Meaning.{units_in, ftn, Closed}
 use Rattle.ended_runs.specs.c_tree.declared.file.CFile.{CFile}
+use Rattle.ended_runs.specs.c_tree.Objects.{Object}
 use Rattle.ended_runs.specs.c_tree.Linking.{first_broken_rule}
 use Rattle.ended_runs.specs.c_tree.Meaning.{step_factor}
 use Rattle.f2c_outside.specs.declared.shelves.Place.TheVariants.{Fault}
@@ -57,24 +58,26 @@ ending_line (Stop text) = stop_line text
 ending_line (Io number) = io_line number
 ending_line (Range report) = range_line report
 
--- how a run of the files with these trees ended: what was said and the exit status, where the rows of the unit table went from `rows` to `rows'`
-pub data EndsWith (trees : List CFile) (ending : Ending) (left : Units) (rows rows' : List Row) : List ℕ → ℕ → Type 0 where
+-- how a run of the files with these trees ended, which might take so many steps: what was said and the exit status, where the rows of the unit table went from `rows`
+-- to `rows'`
+pub data EndsWith (trees : List CFile) (steps : ℕ) (ending : Ending) (left : Units) (rows rows' : List Row) : List ℕ → ℕ → Type 0 where
   -- as the FORTRAN run, and with its units
-  alike : units_of rows' ≡ left → NoDeviceFailed rows rows' → EndsWith trees ending left rows rows' (ending_line ending) (ending_status ending)
+  alike : units_of rows' ≡ left → NoDeviceFailed rows rows' → EndsWith trees steps ending left rows rows' (ending_line ending) (ending_status ending)
   -- there was no memory, and no run began
-  no_memory : rows' ≡ rows → EndsWith trees ending left rows rows' no_memory_line 5
+  no_memory : rows' ≡ rows → EndsWith trees steps ending left rows rows' no_memory_line 5
   -- the program has more bytes than one may have, and no run began
-  too_large : first_broken_rule trees ≡ Some 4 → rows' ≡ rows → EndsWith trees ending left rows rows' (link_line 4) 6
-  -- the device of a unit failed
-  device : (unit : ℤ) → DeviceFailed unit rows rows' → EndsWith trees ending left rows rows' (device_line unit) 9
+  too_large : first_broken_rule trees ≡ Some 4 → rows' ≡ rows → EndsWith trees steps ending left rows rows' (link_line 4) 6
+  -- the device of a unit failed, in the run of the files or when the devices were finished behind it
+  device : (unit : ℤ) (taken : ℕ) (objects : List Object) → DeviceFailed trees steps taken objects unit rows rows'
+      → EndsWith trees steps ending left rows rows' (device_line unit) 9
   -- a call of the library was to count more than 64 bits tell, and a unit stands behind 2^53 records or more
-  uncounted : IsFarBehind rows' → NoDeviceFailed rows rows' → EndsWith trees ending left rows rows' uncounted_line 15
+  uncounted : IsFarBehind rows' → NoDeviceFailed rows rows' → EndsWith trees steps ending left rows rows' uncounted_line 15
 
 -- it ended so, and the shelf holds what it held, with what was said on Fault besides
-pub record RunEndsAlike (trees : List CFile) (ending : Ending) (left : Units) (rows rows' : List Row) (contents : Contents) (after : ShelfState) (status : ℕ)
+pub record RunEndsAlike (trees : List CFile) (steps : ℕ) (ending : Ending) (left : Units) (rows rows' : List Row) (contents : Contents) (after : ShelfState) (status : ℕ)
     : Type 0 where
   pub line : List ℕ
-  pub ends : EndsWith trees ending left rows rows' line status
+  pub ends : EndsWith trees steps ending left rows rows' line status
   pub said : after.told ≡ Some (added Fault line contents)
 
 -- ## The law
@@ -89,4 +92,4 @@ RunsOfTranslationsEndAlike =
     → (rows rows' : List Row) → Tells rows → IsUnits (units_of rows)
     → (n : ℕ) (ending : Ending) (left : Units) → FortranEnds (units_in options trees) (units_of rows) n ending left
     → step_factor faithful.c_trees * n ≤ request.steps
-    → (status : ℕ) → RunEnded words rows rows' b a status → RunEndsAlike faithful.c_trees ending left rows rows' contents a status
+    → (status : ℕ) → RunEnded words rows rows' b a status → RunEndsAlike faithful.c_trees request.steps ending left rows rows' contents a status
