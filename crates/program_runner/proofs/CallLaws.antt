@@ -12,7 +12,7 @@ use Rattle.run_library.specs.declared.library.CallBreak.{CallBreak}
 use Rattle.run_library.specs.declared.library.CallBreak.TheVariants as broken
 use Rattle.run_library.specs.Signatures.{IsCall}
 use Rattle.run_library.specs.Replies.{Answers}
-use Rattle.run_library.specs.Devices.{no_call, ToldOfCall}
+use Rattle.run_library.specs.Devices.{ToldOfCall}
 use Rattle.program_runner.specs.declared.events.StepEvent.{StepEvent}
 use Rattle.program_runner.specs.declared.events.StepFailure.{StepFailure}
 use Rattle.program_runner.specs.Events.{broken_of, StepsBy, ToldOfStep}
@@ -26,7 +26,7 @@ broken-steps ending number values view before wants stands objects given (broken
   units = answers.units;
   transfer = answers.transfer;
   stood = answers.stood;
-  holds = call-made number values view before wants call gives ∙ ap (λ reply. given_that reply (replied view wants)) (answers.holds call.signature call.known);
+  holds = call-made number values view before wants call gives ∙ ap (λ reply. given_that reply (replied view wants)) (answers.holds.0 call.signature call.known);
 }
 broken-steps ending number values view before wants stands objects given (broken.Device unit) call gives answers = tt
 broken-steps ending number values view before wants stands objects given broken.Uncounted call gives answers = tt
@@ -41,7 +41,7 @@ call-broken ending number values view before wants stands objects given why resu
 broken-told : {L : Type 0} (E : Type 0) (none_failed : L → L → Type 0) (failed_on : ℤ → L → L → Type 0) (old new : L) (why : CallBreak) →
     ToldOfCall {E = E} none_failed failed_on old new (Err why) → ToldOfStep {E = E} none_failed failed_on old new (broken_of why)
 broken-told E none_failed failed_on old new (broken.Break why) told = one-call told
-broken-told E none_failed failed_on old new (broken.Device unit) told = record { before = old; none = no_call; failed = told }
+broken-told E none_failed failed_on old new (broken.Device unit) told = told
 broken-told E none_failed failed_on old new broken.Uncounted told = one-call told
 
 pub told-broken : {L E : Type 0} (none_failed : L → L → Type 0) (failed_on : ℤ → L → L → Type 0) (old new : L) (why : CallBreak) (result : Result (StepEvent E) StepFailure) → result ≡ broken_of why →

@@ -7,3 +7,5 @@ pub mod RoomLaws
 pub mod CountLaws
 pub mod CallLaws
 pub mod RunLaws
+pub mod LeftLaws
+pub mod TakenLaws

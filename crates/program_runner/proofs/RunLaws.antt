@@ -1,7 +1,6 @@
 -- Steps of a run, as the machine of C texts makes them (C89, 3.3.2.2 and 3.6.6.4).
 use Rattle.std.proofs.Common.{◌≡◌, ℕ, zero, suc, ◌+◌, ◌-◌, ◌<◌, ◌≤◌, ℤ, Bool, true, false, not, ◌||◌, cond, if◌then◌else◌, List, [], ◌∷◌, length, map, take, drop, Option, Some, None, refl, ap, sym, ◌∙◌, subst, arith}
-use Rattle.std.specs.Prelude.{nat_eq, nat_lt, slice_get, option_map, unwrap_or, position, bytes_eq, Result, Ok, Err, IfOk}
-use Rattle.std.specs.declared.alloc.AllocError.{AllocError}
+use Rattle.std.specs.Prelude.{nat_eq, nat_lt, slice_get, option_map, unwrap_or, position, bytes_eq, Result}
 use Rattle.std.specs.List.{prefix_len}
 use Rattle.std.proofs.lemmas.Bool.Decides.{nat_tests}
 use Rattle.std.proofs.lemmas.List.{length-map}
@@ -343,21 +342,13 @@ pub frames-kept : (program : LinkedProgram) (old new : List Object) → FramesSt
 frames-kept program old new stand same = λ number function is. frame-kept function old new (stand number function is) same
 
 -- a run that begins by a function that there is
-begun-one : (program : LinkedProgram) (number main : ℕ) (function : LinkedFunction) (old new : List Object) (begun : Result CallStack CFault) → number ≡ main → Some function ≡ slice_get program.functions number →
+pub begun-one : (program : LinkedProgram) (number main : ℕ) (function : LinkedFunction) (old new : List Object) (begun : Result CallStack CFault) → number ≡ main → Some function ≡ slice_get program.functions number →
     ((own : ℕ) → (units : Units) → (transfer : Option Transfer) → Begins (opening language (start (function_of own function) number [] (world_of old units transfer)) number []) (world_of new units transfer) begun) →
     (units : Units) → (transfer : Option Transfer) → Begins (begun_state program main (world_of old units transfer)) (world_of new units transfer) begun
 begun-one program number main function old new begun same is begins units transfer =
     subst (λ (state : State Ending sorts). Begins state (world_of new units transfer) begun)
     (sym (begun-known program number main function (length program.functions) (world_of old units transfer) same refl is))
     (begins (length program.functions) units transfer)
-
-pub begun-so : (program : LinkedProgram) (number main : ℕ) (function : LinkedFunction) (old new : List Object) (result : Result (Result CallStack CFault) AllocError) → number ≡ main →
-    Some function ≡ slice_get program.functions number →
-    IfOk result (λ begun. (own : ℕ) → (units : Units) → (transfer : Option Transfer) →
-    Begins (opening language (start (function_of own function) number [] (world_of old units transfer)) number []) (world_of new units transfer) begun) →
-    IfOk result (λ begun. (units : Units) → (transfer : Option Transfer) → Begins (begun_state program main (world_of old units transfer)) (world_of new units transfer) begun)
-begun-so program number main function old new (Ok begun) same is begins = begun-one program number main function old new begun same is begins
-begun-so program number main function old new (Err reason) same is begins = begins
 
 -- MANY STEPS OF A RUN
 goes-further : (program : Program sorts) (count : ℕ) (first state after : State Ending sorts) → run language program count first ≡ state → next language program state ≡ after →
@@ -369,6 +360,27 @@ over-after : {E : Type 0} (ending : List Object → E → Ending) (program : Pro
     Reaches ending (run language program steps first) stack world how
 over-after ending program first state count steps stack world how reached reaches not few =
     over-for-good ending program first (count + 1) steps stack world how
+    (subst (λ (state : State Ending sorts). Reaches ending state stack world how) (sym (goes-further program count first state (next language program state) reached refl)) reaches)
+    not (omega arith)
+
+-- a run that is over by so many steps stands behind more of them as it stood
+over-same : {E : Type 0} (ending : List Object → E → Ending) (program : Program sorts) (state : State Ending sorts) (count steps : ℕ) (stack : CallStack) (world : World) (how : RunOutcome E) →
+    Reaches ending (run language program count state) stack world how → ((how ≡ outcome.Running) → ⊥) → count ≤ steps → run language program count state ≡ run language program steps state
+over-same ending program state count steps stack world outcome.Running reaches not few = absurd (not refl)
+over-same ending program state count steps stack world outcome.Returned reaches not few =
+    reaches ∙ sym (stays-up-to program state (Over Plain [] world) count steps (over-stays program Plain [] world) reaches few)
+over-same ending program state count steps stack world (outcome.Stopped stop) reaches not few =
+    reaches.1 ∙ sym (stays-up-to program state (Over (ending world.objects stop) reaches.0 world) count steps (over-stays program (ending world.objects stop) reaches.0 world) reaches.1 few)
+over-same ending program state count steps stack world (outcome.Broken why number) reaches not few =
+    reaches.1 ∙ sym (stays-up-to program state (Broken (break_of why) (number ∷ reaches.0)) count steps (broken-stays program (break_of why) (number ∷ reaches.0)) reaches.1 few)
+over-same ending program state count steps stack world (outcome.Failed unit) reaches not few = absurd reaches
+over-same ending program state count steps stack world outcome.Uncounted reaches not few = absurd reaches
+
+pub next-same : {E : Type 0} (ending : List Object → E → Ending) (program : Program sorts) (first state : State Ending sorts) (count steps : ℕ) (stack : CallStack) (world : World) (how : RunOutcome E) →
+    run language program count first ≡ state → Reaches ending (next language program state) stack world how → ((how ≡ outcome.Running) → ⊥) → count < steps →
+    run language program (count + 1) first ≡ run language program steps first
+next-same ending program first state count steps stack world how reached reaches not few =
+    over-same ending program first (count + 1) steps stack world how
     (subst (λ (state : State Ending sorts). Reaches ending state stack world how) (sym (goes-further program count first state (next language program state) reached refl)) reaches)
     not (omega arith)
 

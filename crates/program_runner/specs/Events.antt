@@ -12,7 +12,7 @@ use Rattle.item_deeds.specs.Deeds.{view_of, argument_count}
 use Rattle.run_library.specs.declared.library.CallBreak.{CallBreak}
 use Rattle.run_library.specs.declared.library.CallBreak.TheVariants as broken
 use Rattle.run_library.specs.Replies.{break_of, StandsIn}
-use Rattle.run_library.specs.Devices.{NoFailure, FailsAtLast}
+use Rattle.run_library.specs.Devices.{NoFailure}
 use Rattle.program_runner.specs.declared.events.StepEvent.{StepEvent}
 use Rattle.program_runner.specs.declared.events.StepEvent.TheVariants as event
 use Rattle.program_runner.specs.declared.events.StepFailure.{StepFailure}
@@ -41,7 +41,7 @@ StepsBy ending happens stands objects values (Err why) = Unit {0}
 -- no device failed in a step, or that of a unit in its call of the library
 abbrev pub ToldOfStep : {L E : Type 0} → (L → L → Type 0) → (ℤ → L → L → Type 0) → L → L → Result (StepEvent E) StepFailure → Type 0
 ToldOfStep none_failed failed_on old new (Ok done) = NoFailure none_failed old new
-ToldOfStep none_failed failed_on old new (Err (failure.Device unit)) = FailsAtLast none_failed failed_on unit old new
+ToldOfStep none_failed failed_on old new (Err (failure.Device unit)) = failed_on unit old new
 ToldOfStep none_failed failed_on old new (Err failure.Uncounted) = NoFailure none_failed old new
 
 -- what holds where a step's call of the library was to count more than 64 bits tell

@@ -58,6 +58,11 @@ UnlessFailed (outcome.Failed unit) Holds = Unit {0}
 UnlessFailed outcome.Uncounted Holds = Unit {0}
 UnlessFailed how Holds = Holds
 
+-- no device failed in the next step of a run, or that of a unit
+abbrev pub ToldOfNext : {L E : Type 0} → (L → L → Type 0) → (ℤ → L → L → Type 0) → L → L → RunOutcome E → Type 0
+ToldOfNext none_failed failed_on old new (outcome.Failed unit) = failed_on unit old new
+ToldOfNext none_failed failed_on old new how = NoFailure none_failed old new
+
 -- no device failed in a run, or that of a unit in its last call of the library
 abbrev pub ToldOfRun : {L E : Type 0} → (L → L → Type 0) → (ℤ → L → L → Type 0) → L → L → RunOutcome E → Type 0
 ToldOfRun none_failed failed_on old new (outcome.Failed unit) = FailsAtLast none_failed failed_on unit old new

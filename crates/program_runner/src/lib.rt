@@ -1,6 +1,7 @@
 //! Runs a linked program step by step, as the meaning of C texts has it (C89, 3.3.2.2, 3.6 and 3.7.1). A step searches no name and takes no
 //! memory: the stack of frames has room for each function once, since a function that is active is not called again. Where the device of
-//! an external unit fails, or a call is to count more than 64 bits tell, the run is over, and nothing more is said of it.
+//! an external unit fails, or a call is to count more than 64 bits tell, the run is over, and it is known how it stood before that step. A
+//! run answers how many steps it has taken.
 #![tactic(auto)]
 
 mod events;

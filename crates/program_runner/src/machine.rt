@@ -18,7 +18,7 @@ ghost use Rattle.run_library.specs.Room.{HasRoom};
 ghost use Rattle.program_runner.specs.Stacks.{frames_of, waiting, state_of, IsStack};
 ghost use Rattle.program_runner.specs.Events.{event_of, IsCalled};
 ghost use Rattle.program_runner.specs.UnitsLeft.{UnitsLeft};
-ghost use Rattle.program_runner.specs.Outcomes.{FramesStand, HasArgumentRoom, Reaches, KeepsStack, UnlessFailed, ToldOfRun, UncountedInRun};
+ghost use Rattle.program_runner.specs.Outcomes.{FramesStand, HasArgumentRoom, Reaches, KeepsStack, UnlessFailed, ToldOfNext, UncountedInRun};
 
 use crate::events::{StepEvent, StepFailure, first_values, step};
 use crate::runs::RunOutcome;
@@ -238,7 +238,7 @@ fn next<L: Library>(
         Reaches L.ending (machine.next language (meaning.machine (program_of program.now)) (state_of stack.old (world_of run.old units transfer))) stack.new after result)) }
     ensures kept { (units : Units) → (transfer : Option Transfer) → L.stands library.old units transfer → UnlessFailed result (transfer ≡ None →
         UnitsLeft (steps.step (meaning.text_of (program_of program.now).functions stack.old.top.number) (view_of stack.old.top.view) (world_of run.old units transfer)) (world_of run.old units transfer) (L.stands library.new)) }
-    ensures devices { ToldOfRun L.none_failed L.failed_on library.old library.new result }
+    ensures devices { ToldOfNext L.none_failed L.failed_on library.old library.new result }
     ensures counted { UncountedInRun (L.uncounted library.new) result }
     ensures texts { L.room library.new ≡ L.room library.old }
     ensures stack { KeepsStack (length program.now.functions) stack.new result }
@@ -279,7 +279,7 @@ pub(crate) fn advance<L: Library>(
         Reaches L.ending (machine.next language (meaning.machine (program_of program.now)) (state_of stack.old (world_of run.old units transfer))) stack.new after result)) }
     ensures kept { (units : Units) → (transfer : Option Transfer) → L.stands library.old units transfer → UnlessFailed result (transfer ≡ None →
         UnitsLeft (steps.step (meaning.text_of (program_of program.now).functions stack.old.top.number) (view_of stack.old.top.view) (world_of run.old units transfer)) (world_of run.old units transfer) (L.stands library.new)) }
-    ensures devices { ToldOfRun L.none_failed L.failed_on library.old library.new result }
+    ensures devices { ToldOfNext L.none_failed L.failed_on library.old library.new result }
     ensures counted { UncountedInRun (L.uncounted library.new) result }
     ensures texts { L.room library.new ≡ L.room library.old }
     ensures stack { KeepsStack (length program.now.functions) stack.new result }

@@ -96,8 +96,10 @@ fn begin_by(
     ensures stack { IfOk result (IsStack (length frames.items)) }
     ensures forms { SameForms run.old run.new }
 {
-    let view = start(function, &[], run)?;
-    Ok(CallStack::new(frames, CallFrame { number, view }))
+    match start(function, &[], run) {
+        Ok(view) => Ok(CallStack::new(frames, CallFrame { number, view })),
+        Err(fault) => Err(fault),
+    }
 }
 
 /// Begins a run: the main program is the only active function. There is a frame of room for each function.

@@ -3,12 +3,13 @@ use Rattle.c_tree.specs.simulation.Machine as machine
 use Rattle.c_tree.specs.Meaning as meaning
 use Rattle.c_tree.specs.Steps.{language}
 use Rattle.linked_programs.specs.LinkedPrograms.{program_of}
-use Rattle.item_deeds.specs.Deeds.{world_of}
+use Rattle.item_deeds.specs.Deeds.{view_of, world_of}
 use Rattle.program_runner.specs.Events.{event_of}
 use Rattle.program_runner.specs.Stacks.{frames_of, waiting}
 use Rattle.program_runner.proofs.DeviceLaws.{no_units, told-going}
 use Rattle.program_runner.proofs.CountLaws.{counts-none}
 use Rattle.program_runner.proofs.RunLaws.{next-so, frames-kept}
+use Rattle.program_runner.proofs.LeftLaws.{next-left}
 use Rattle.program_runner.proofs.machine.next.Goals as goal
 
 pub happened-requires-clause-frames : goal.happened-requires-clause-frames
@@ -19,6 +20,11 @@ returns-in-Ok-clause-meaning g c = λ units transfer stood.
     next-so g.L.Library.ending c.args.program.now c.len.result c.in-Some.function.now c.args.stack.now c.happened.new.stack (world_of c.args.run.now units transfer) (g.L.Library.stands c.step.new.library)
     c.step.new.run c.happened.new.run c.step.new.buffer c.in-Ok.event c.happened.result c.in-Some.ensures.value c.len.ensures (c.in-Ok.ensures.meaning units transfer stood)
     (c.happened.ensures.meaning g.L.Library.ending)
+
+pub returns-in-Ok-clause-kept : goal.returns-in-Ok-clause-kept
+returns-in-Ok-clause-kept g c = λ units transfer stood.
+    next-left c.args.program.now c.len.result c.args.stack.now.top.number c.in-Some.function.now (view_of c.args.stack.now.top.view) c.args.run.now units transfer (g.L.Library.stands c.step.new.library) c.happened.result
+    c.in-Some.ensures.value c.len.ensures (c.in-Ok.ensures.kept units transfer stood)
 
 pub returns-in-Ok-clause-devices : goal.returns-in-Ok-clause-devices
 returns-in-Ok-clause-devices g c =
