@@ -48,7 +48,7 @@ start-answers arguments' objects pointer number said state start same none says 
 
 cuts : (objects : List Object) (pointer : CValue) (rows : List Row) (end : CallEnd) → AnswersStart objects pointer (Err end) →
     Calls (Begin (kind_of moved.InternalListedInput)) (pointer ∷ []) objects objects None None rows rows (cut_by end)
-cuts objects pointer rows (Fault why) on = ended-outside (Err (Fault why)) (λ tells. tells) (λ tells. on.replies (units_of rows)) (none-failed rows) (same-objects objects)
+cuts objects pointer rows (Fault why) on = ended-outside (Err (Fault why)) (λ tells. tells) (λ tells. on.replies (units_of rows)) refl (same-objects objects)
 cuts objects pointer rows (Ended number) on = ended-outside (Err (Ended number)) (λ tells. tells) (λ tells. on.replies (units_of rows)) (none-failed rows) (same-objects objects)
 cuts objects pointer rows (Device unit) on = absurd on.no_device
 

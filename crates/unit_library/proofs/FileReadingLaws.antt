@@ -61,7 +61,7 @@ start-answers arguments' objects pointer text number said state start same none 
 
 cuts : (objects : List Object) (pointer : CValue) (text : List ℕ) (rows : List Row) (end : CallEnd) → AnswersStart objects pointer text (Err end) →
     Calls (Begin (kind_of moved.InternalFormattedInput)) (pointer ∷ []) objects objects None None rows rows (cut_by end)
-cuts objects pointer text rows (Fault why) on = ended-outside (Err (Fault why)) (λ tells. tells) (λ tells. on.replies (units_of rows)) (none-failed rows) (same-objects objects)
+cuts objects pointer text rows (Fault why) on = ended-outside (Err (Fault why)) (λ tells. tells) (λ tells. on.replies (units_of rows)) refl (same-objects objects)
 cuts objects pointer text rows (Ended number) on = ended-outside (Err (Ended number)) (λ tells. tells) (λ tells. on.replies (units_of rows)) (none-failed rows) (same-objects objects)
 cuts objects pointer text rows (Device unit) on = absurd on.inside
 

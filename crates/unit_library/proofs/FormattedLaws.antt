@@ -66,7 +66,7 @@ start-answers arguments' objects pointer rows text number said state start same 
 
 cuts : (objects : List Object) (pointer : CValue) (rows : List Row) (text : List ℕ) (end : CallEnd) → AnswersStart objects pointer rows text (Err end) →
     Calls (Begin (kind_of moved.FormattedOutput)) (pointer ∷ []) objects objects None None rows rows (cut_by end)
-cuts objects pointer rows text (Fault why) replies = ended-outside (Err (Fault why)) (λ tells. tells) (λ tells. replies) (none-failed rows) (same-objects objects)
+cuts objects pointer rows text (Fault why) replies = ended-outside (Err (Fault why)) (λ tells. tells) (λ tells. replies) refl (same-objects objects)
 cuts objects pointer rows text (Ended number) replies = ended-outside (Err (Ended number)) (λ tells. tells) (λ tells. replies) (none-failed rows) (same-objects objects)
 cuts objects pointer rows text (Device unit) replies = absurd replies
 

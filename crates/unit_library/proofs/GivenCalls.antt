@@ -17,7 +17,7 @@ use Rattle.f2c_outside.specs.Meaning.{Tells, units_of}
 use Rattle.unit_answers.specs.declared.ends.CallEnd.{CallEnd}
 use Rattle.unit_answers.specs.declared.ends.CallEnd.TheVariants.{Fault, Ended, Device}
 use Rattle.unit_answers.specs.Failing.{FailedOn, NoneFailed}
-use Rattle.unit_answers.specs.Answers.{Replies, IfDevice}
+use Rattle.unit_answers.specs.Answers.{Replies, IfDevice, IfFault}
 use Rattle.unit_answers.proofs.FailureLaws.{none-failed}
 use Rattle.run_library.specs.declared.library.CallBreak.TheVariants as broken
 use Rattle.run_library.specs.Replies.{break_of, reply_of}
@@ -58,23 +58,30 @@ Leaves meaning objects units held (Err (broken.Break why)) = Left objects units 
 Leaves meaning objects units held (Err (broken.Device unit)) = Unit {0}
 Leaves meaning objects units held (Err broken.Uncounted) = Unit {0}
 
+-- a call that breaks outside every transfer leaves the rows as they were
+abbrev KeptBy : Option Transfer → List Row → List Row → CallResult → Type 0
+KeptBy transfer old new (Ok given) = Unit {0}
+KeptBy transfer old new (Err (broken.Break why)) = transfer ≡ None → new ≡ old
+KeptBy transfer old new (Err (broken.Device unit)) = Unit {0}
+KeptBy transfer old new (Err broken.Uncounted) = Unit {0}
+
 answered : (builtin : Builtin) (arguments : List CValue) (objects objects' : List Object) (units : Units) (transfer : Option Transfer) (held' : Option TransferInProgress) (rows rows' : List Row)
-    (result : CallResult) → Tells rows' → units ≡ units_of rows → Leaves (library builtin (world_of objects (units_of rows) transfer) arguments) objects' (units_of rows') held' result →
+    (result : CallResult) → Tells rows' → units ≡ units_of rows → Leaves (library builtin (world_of objects (units_of rows) transfer) arguments) objects' (units_of rows') held' result → KeptBy transfer rows rows' result →
     AnswersCall builtin arguments (world_of objects units transfer) (Standing rows' held') objects' result
-answered builtin arguments objects objects' units transfer held' rows rows' (Ok given) tells means leaves = record {
+answered builtin arguments objects objects' units transfer held' rows rows' (Ok given) tells means leaves kept = record {
   units = units_of rows';
   transfer = leaves.transfer;
   stood = record { tells = tells; means = refl; in_progress = leaves.in_progress };
   holds = ap (λ (u : Units). library builtin (world_of objects u transfer) arguments) means ∙ leaves.holds;
 }
-answered builtin arguments objects objects' units transfer held' rows rows' (Err (broken.Break why)) tells means leaves = record {
+answered builtin arguments objects objects' units transfer held' rows rows' (Err (broken.Break why)) tells means leaves kept = record {
   units = units_of rows';
   transfer = leaves.transfer;
   stood = record { tells = tells; means = refl; in_progress = leaves.in_progress };
-  holds = ap (λ (u : Units). library builtin (world_of objects u transfer) arguments) means ∙ leaves.holds;
+  holds = (ap (λ (u : Units). library builtin (world_of objects u transfer) arguments) means ∙ leaves.holds, λ none. ap units_of (kept none) ∙ sym means);
 }
-answered builtin arguments objects objects' units transfer held' rows rows' (Err (broken.Device unit)) tells means leaves = tt
-answered builtin arguments objects objects' units transfer held' rows rows' (Err broken.Uncounted) tells means leaves = tt
+answered builtin arguments objects objects' units transfer held' rows rows' (Err (broken.Device unit)) tells means leaves kept = tt
+answered builtin arguments objects objects' units transfer held' rows rows' (Err broken.Uncounted) tells means leaves kept = tt
 
 -- what is held of a transfer stands for one
 pub never-none : (held : TransferInProgress) → InProgress (Some held) None → ⊥
@@ -86,6 +93,12 @@ never-none (going.FormattedOutput held) stands = stands
 never-none (going.FormattedInput held) stands = stands
 never-none (going.InternalFormatted held) stands = stands
 never-none (going.InternalFormattedInput held) stands = stands
+
+inside-kept : (transfer : Transfer) (old new : List Row) (result : CallResult) → KeptBy (Some transfer) old new result
+inside-kept transfer old new (Ok given) = tt
+inside-kept transfer old new (Err (broken.Break why)) = λ none. absurd (let some : Some transfer ≡ None = none in cc)
+inside-kept transfer old new (Err (broken.Device unit)) = tt
+inside-kept transfer old new (Err broken.Uncounted) = tt
 
 -- a call in a transfer
 pub inside : {builtin : Builtin} {arguments : List CValue} {objects objects' : List Object} {held : TransferInProgress} {held' : Option TransferInProgress} {rows rows' : List Row} (result : CallResult) →
@@ -100,18 +113,38 @@ inside {builtin} {arguments} {objects} {objects'} {held} {held'} {rows} {rows'} 
     by units None standing = absurd (never-none held standing.in_progress)
     by units (Some transfer) standing =
         answered builtin arguments objects objects' units (Some transfer) held' rows rows' result (tells standing.tells) standing.means (gives standing.tells transfer standing.in_progress)
+        (inside-kept transfer rows rows' result)
+
+-- what a call outside every transfer tells: besides, that the rows are as they were where it breaks
+abbrev pub ToldOutside : List Row → List Row → CallResult → Type 0
+ToldOutside old new (Ok given) = NoneFailed old new
+ToldOutside old new (Err (broken.Break why)) = new ≡ old
+ToldOutside old new (Err (broken.Device unit)) = FailedOn unit old new
+ToldOutside old new (Err broken.Uncounted) = NoneFailed old new × IsFarBehind new
+
+outside-told : (builtin : Builtin) (old new : List Row) (result : CallResult) → ToldOutside old new result → Told builtin old new result
+outside-told builtin old new (Ok given) told = told
+outside-told builtin old new (Err (broken.Break why)) told = subst (NoneFailed old) (sym told) (none-failed old)
+outside-told builtin old new (Err (broken.Device unit)) told = told
+outside-told builtin old new (Err broken.Uncounted) told = told
+
+outside-kept : (old new : List Row) (result : CallResult) → ToldOutside old new result → KeptBy None old new result
+outside-kept old new (Ok given) told = tt
+outside-kept old new (Err (broken.Break why)) told = λ none. told
+outside-kept old new (Err (broken.Device unit)) told = tt
+outside-kept old new (Err broken.Uncounted) told = tt
 
 -- a call outside every transfer
 pub outside : {builtin : Builtin} {arguments : List CValue} {objects objects' : List Object} {held' : Option TransferInProgress} {rows rows' : List Row} (result : CallResult) →
     (Tells rows → Tells rows') → (Tells rows → Leaves (library builtin (world_of objects (units_of rows) None) arguments) objects' (units_of rows') held' result) →
-    Told builtin rows rows' result → SameForms objects objects' → Calls builtin arguments objects objects' None held' rows rows' result
-outside {builtin} {arguments} {objects} {objects'} {held'} {rows} {rows'} result tells gives told kept = called result by told kept
+    ToldOutside rows rows' result → SameForms objects objects' → Calls builtin arguments objects objects' None held' rows rows' result
+outside {builtin} {arguments} {objects} {objects'} {held'} {rows} {rows'} result tells gives told kept = called result by (outside-told builtin rows rows' result told) kept
   where
     by : (units : Units) → (transfer : Option Transfer) → Standing rows None units transfer →
         AnswersCall builtin arguments (world_of objects units transfer) (Standing rows' held') objects' result
     by units transfer standing =
         subst (λ (t : Option Transfer). AnswersCall builtin arguments (world_of objects units t) (Standing rows' held') objects' result) (sym standing.in_progress)
-        (answered builtin arguments objects objects' units None held' rows rows' result (tells standing.tells) standing.means (gives standing.tells))
+        (answered builtin arguments objects objects' units None held' rows rows' result (tells standing.tells) standing.means (gives standing.tells) (outside-kept rows rows' result told))
 
 -- the meaning of a call gives what it replied with this world, whatever its units and its transfer
 abbrev pub Gives : Or Reply → World → CallResult → Type 0
@@ -126,7 +159,7 @@ given-any : (builtin : Builtin) (arguments : List CValue) (objects objects' : Li
 given-any builtin arguments objects objects' held rows units transfer (Ok given) standing gives =
     record { units = units; transfer = transfer; stood = standing; holds = gives }
 given-any builtin arguments objects objects' held rows units transfer (Err (broken.Break why)) standing gives =
-    record { units = units; transfer = transfer; stood = standing; holds = gives }
+    record { units = units; transfer = transfer; stood = standing; holds = (gives, λ none. refl) }
 given-any builtin arguments objects objects' held rows units transfer (Err (broken.Device unit)) standing gives = tt
 given-any builtin arguments objects objects' held rows units transfer (Err broken.Uncounted) standing gives = tt
 
@@ -148,7 +181,7 @@ fault-inside builtin arguments objects held rows why fails =
 pub fault-outside : (builtin : Builtin) (arguments : List CValue) (objects : List Object) (rows : List Row) (why : CFault) →
     ((units : Units) → library builtin (world_of objects units None) arguments ≡ failing why) → Calls builtin arguments objects objects None None rows rows (broken_by why)
 fault-outside builtin arguments objects rows why fails =
-    outside (broken_by why) (λ tells. tells) (λ tells. record { transfer = None; in_progress = refl; holds = fails (units_of rows) }) (none-failed rows) (same-objects objects)
+    outside (broken_by why) (λ tells. tells) (λ tells. record { transfer = None; in_progress = refl; holds = fails (units_of rows) }) refl (same-objects objects)
 
 -- CALLS BEHIND WHICH NO TRANSFER IS IN PROGRESS
 -- the end of a transfer
@@ -166,10 +199,23 @@ ended-inside (Err (Ended number)) tells replies told kept =
     inside (ended_by (Err (Ended number))) tells (λ before transfer stands. record { transfer = None; in_progress = refl; holds = replies before transfer stands }) told kept
 ended-inside (Err (Device unit)) tells replies told kept = inside (ended_by (Err (Device unit))) tells (λ before transfer stands. tt) told kept
 
+-- what an answer outside every transfer tells
+abbrev pub EndsOutside : List Row → List Row → Result ℤ CallEnd → Type 0
+EndsOutside old new (Ok number) = NoneFailed old new
+EndsOutside old new (Err (Fault why)) = new ≡ old
+EndsOutside old new (Err (Ended number)) = NoneFailed old new
+EndsOutside old new (Err (Device unit)) = FailedOn unit old new
+
+pub ends-so : (old new : List Row) (answer : Result ℤ CallEnd) → IfDevice answer (λ unit. FailedOn unit old new) (NoneFailed old new) → IfFault answer (new ≡ old) → EndsOutside old new answer
+ends-so old new (Ok number) told kept = told
+ends-so old new (Err (Fault why)) told kept = kept
+ends-so old new (Err (Ended number)) told kept = told
+ends-so old new (Err (Device unit)) told kept = told
+
 -- a call outside every transfer with which none begins
 pub ended-outside : {builtin : Builtin} {arguments : List CValue} {objects objects' : List Object} {rows rows' : List Row} (answer : Result ℤ CallEnd) → (Tells rows → Tells rows') →
     (Tells rows → Replies (library builtin (world_of objects (units_of rows) None) arguments) (world_of objects' (units_of rows') None) answer) →
-    IfDevice answer (λ unit. FailedOn unit rows rows') (NoneFailed rows rows') → SameForms objects objects' →
+    EndsOutside rows rows' answer → SameForms objects objects' →
     Calls builtin arguments objects objects' None None rows rows' (ended_by answer)
 ended-outside (Ok number) tells replies told kept =
     outside (ended_by (Ok number)) tells (λ before. record { transfer = None; in_progress = refl; holds = replies before }) told kept

@@ -28,7 +28,6 @@ use Rattle.unit_library.specs.Replies.{CallResult}
 use Rattle.unit_library.specs.Calls.{Calls}
 use Rattle.unit_library.proofs.GivenCalls.{inside, outside, ended-inside, ended-outside}
 use Rattle.unit_library.proofs.SameCalls.{calls-as}
-use Rattle.unit_library.proofs.ItemLaws.{same-rows}
 
 -- STARTS
 start-called : (objects : List Object) (pointer : CValue) (old new : List Row) (start : Result Start CallEnd) → AnswersStart objects pointer old new start →
@@ -37,7 +36,7 @@ start-called objects pointer old new (Ok (Begins input)) on =
     outside (started_by (Ok (Begins input))) on.tells
     (λ tells. let begun = on.replies tells in record { transfer = Some begun.transfer; in_progress = begun.stands; holds = begun.replies }) on.devices (same-objects objects)
 start-called objects pointer old new (Ok (Answers number)) on = ended-outside (Ok number) on.tells on.replies on.devices (same-objects objects)
-start-called objects pointer old new (Err (Fault why)) on = ended-outside (Err (Fault why)) on.tells on.replies (same-rows old new on.devices) (same-objects objects)
+start-called objects pointer old new (Err (Fault why)) on = ended-outside (Err (Fault why)) on.tells on.replies on.devices (same-objects objects)
 start-called objects pointer old new (Err (Ended number)) on = ended-outside (Err (Ended number)) on.tells on.replies on.devices (same-objects objects)
 start-called objects pointer old new (Err (Device unit)) on = ended-outside (Err (Device unit)) on.tells (λ tells. tt) on.devices (same-objects objects)
 

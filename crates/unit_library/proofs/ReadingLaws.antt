@@ -26,7 +26,6 @@ use Rattle.unit_library.specs.Replies.{CallResult, ended_by, cut_by}
 use Rattle.unit_library.specs.Calls.{Calls}
 use Rattle.unit_library.proofs.GivenCalls.{inside, outside, ended-inside, ended-outside, its-device}
 use Rattle.unit_library.proofs.SameCalls.{calls-as}
-use Rattle.unit_library.proofs.ItemLaws.{same-rows}
 
 -- STARTS
 -- an input that begins stands in its format
@@ -56,7 +55,7 @@ start-answers arguments' objects pointer old new text number said state start sa
 
 cuts : (objects : List Object) (pointer : CValue) (old new : List Row) (text : List ℕ) (end : CallEnd) → AnswersStart objects pointer old new text (Err end) →
     Calls (Begin (kind_of moved.FormattedInput)) (pointer ∷ []) objects objects None None old new (cut_by end)
-cuts objects pointer old new text (Fault why) on = ended-outside (Err (Fault why)) on.tells on.replies (same-rows old new on.devices) (same-objects objects)
+cuts objects pointer old new text (Fault why) on = ended-outside (Err (Fault why)) on.tells on.replies on.devices (same-objects objects)
 cuts objects pointer old new text (Ended number) on = ended-outside (Err (Ended number)) on.tells on.replies on.devices (same-objects objects)
 cuts objects pointer old new text (Device unit) on = ended-outside (Err (Device unit)) on.tells (λ tells. tt) on.devices (same-objects objects)
 

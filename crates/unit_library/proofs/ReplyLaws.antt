@@ -1,5 +1,5 @@
 -- A call by the number of its function (CSTR 149, appendix on the run time library).
-use Rattle.std.proofs.Common.{◌≡◌, ℕ, List, Option, Some, None, ap, sym, ◌∙◌}
+use Rattle.std.proofs.Common.{◌≡◌, ℕ, List, Option, Some, None, refl, ap, sym, ◌∙◌}
 use Rattle.std.specs.Prelude.{slice_get, option_map, Ok, Err}
 use Rattle.c_tree.specs.run_state.Units.{Units}
 use Rattle.c_tree.specs.declared.outcome.CValue.{CValue}
@@ -43,8 +43,11 @@ answered number values function call is before stands objects (Err (broken.Break
   units = answers.units;
   transfer = answers.transfer;
   stood = answers.stood;
-  holds = λ signature known.
-      same-library (builtin_of function) signature.builtin (front (argument_count function) 0 values) values before (same-call number values function call is signature known) ∙ answers.holds;
+  holds = (
+    λ signature known.
+        same-library (builtin_of function) signature.builtin (front (argument_count function) 0 values) values before (same-call number values function call is signature known) ∙ answers.holds.0,
+    answers.holds.1,
+  );
 }
 answered number values function call is before stands objects (Err (broken.Device unit)) answers = tt
 answered number values function call is before stands objects (Err broken.Uncounted) answers = tt
@@ -57,5 +60,5 @@ none-answered number values why is rows held objects units transfer standing = r
   units = units;
   transfer = transfer;
   stood = standing;
-  holds = λ signature known. absurd (none-known number is signature known);
+  holds = (λ signature known. absurd (none-known number is signature known), λ none. refl);
 }

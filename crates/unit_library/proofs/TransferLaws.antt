@@ -59,7 +59,7 @@ start-called objects pointer rows (Ok (Begins output)) begun =
     outside (started_by (Ok (Begins output))) (λ tells. tells) (λ tells. record { transfer = Some begun.transfer; in_progress = begun.stands; holds = begun.replies }) (none-failed rows)
     (same-objects objects)
 start-called objects pointer rows (Ok (Answers number)) replies = ended-outside (Ok number) (λ tells. tells) (λ tells. replies) (none-failed rows) (same-objects objects)
-start-called objects pointer rows (Err (Fault why)) replies = ended-outside (Err (Fault why)) (λ tells. tells) (λ tells. replies) (none-failed rows) (same-objects objects)
+start-called objects pointer rows (Err (Fault why)) replies = ended-outside (Err (Fault why)) (λ tells. tells) (λ tells. replies) refl (same-objects objects)
 start-called objects pointer rows (Err (Ended number)) replies = ended-outside (Err (Ended number)) (λ tells. tells) (λ tells. replies) (none-failed rows) (same-objects objects)
 start-called objects pointer rows (Err (Device unit)) replies = absurd replies
 

@@ -20,7 +20,7 @@ use Rattle.unit_library.specs.declared.transfers.TransferInProgress.{TransferInP
 use Rattle.unit_library.specs.Functions.{statement_builtin}
 use Rattle.unit_library.specs.Replies.{CallResult, broken_by, ended_by}
 use Rattle.unit_library.specs.Calls.{Calls}
-use Rattle.unit_library.proofs.GivenCalls.{fault-inside, ended-outside}
+use Rattle.unit_library.proofs.GivenCalls.{fault-inside, ended-outside, ends-so}
 use Rattle.unit_library.proofs.SameCalls.{arguments-same}
 
 stated-inside : (function : UnitStatement) (objects : List Object) (pointer : CValue) (units : Units) (transfer : Transfer) →
@@ -44,4 +44,4 @@ pub statement-outside : (function : UnitStatement) (arguments' : List CValue) (o
     Calls (statement_builtin function) arguments' objects objects None None old new result
 statement-outside function arguments' objects pointer old new answer result same is on =
     arguments-same (statement_builtin function) (pointer ∷ []) arguments' objects objects None None old new (ended_by answer) result same is
-    (ended-outside answer on.tells on.replies on.devices (same-objects objects))
+    (ended-outside answer on.tells on.replies (ends-so old new answer on.devices on.kept) (same-objects objects))
