@@ -1,5 +1,5 @@
 -- Small programs whose records a C compiler has given; their texts stand as examples/c.
-use Rattle.std.specs.Prelude.{◌≡◌, ℕ, pos, negsuc, List, [], ◌∷◌, ◌++◌, Some, None, true, codes}
+use Rattle.std.specs.Prelude.{◌≡◌, ℕ, ◌-◌, pos, negsuc, List, [], ◌∷◌, ◌++◌, Some, None, true, codes}
 use Rattle.c_tree.specs.declared.types.NumberType.TheVariants as number
 use Rattle.c_tree.specs.declared.types.ResultType.TheVariants as result
 use Rattle.c_tree.specs.declared.types.FunctionType.TheVariants as function_type
@@ -19,7 +19,7 @@ use Rattle.c_tree.specs.declared.declaration.CField.TheVariants as given
 use Rattle.c_tree.specs.declared.file.CFile.{CFile}
 use Rattle.c_tree.specs.declared.file.CObject.TheVariants as object
 use Rattle.c_tree.specs.World.{Ending}
-use Rattle.c_tree.specs.Meaning.{meaning, outcome, Ended}
+use Rattle.c_tree.specs.Meaning.{meaning, outcome, Running, Ended}
 use Rattle.c_rows.specs.RowTexts.{call, address, constant, output_constants, output_functions, output_list, written_integer, return_zero, name, whole_number, set, do_call, integer, extern_int, function_named, file_of, printed, output_unit, records_of}
 
 abbrev pub case : ℕ → List ℕ → CCase
@@ -29,6 +29,11 @@ case number label = record { number = pos number; label = label }
 pub record Ends (file : CFile) (steps : ℕ) (ending : Ending) (lines : List (List ℕ)) : Type 0 where
   pub ended : outcome (meaning (file ∷ []) output_unit steps) ≡ Ended ending
   pub written : records_of (pos 6) (meaning (file ∷ []) output_unit steps) ≡ lines
+
+-- at this step and not before, the file's program ends so, and unit 6 has these records
+pub record EndsAt (file : CFile) (steps : ℕ) (ending : Ending) (lines : List (List ℕ)) : Type 0 where
+  pub running : outcome (meaning (file ∷ []) output_unit (steps - 1)) ≡ Running
+  pub ends : Ends file steps ending lines
 
 -- the sum of 1 to 10
 abbrev pub sum_of_ten : CFile
