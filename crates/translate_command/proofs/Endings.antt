@@ -130,7 +130,7 @@ module _ (options : Options) (job : Job) (tos : List Place) (read : SourceRead) 
     lists = done.made.lists;
     made = done.for_source.are;
     whole = source_on_shelf done.made done.for_source;
-    quiet = λ is. done.written.quiet ∙ (done.compared.quiet is ∙ (seen.quiet ∙ its.quiet));
+    quiet = done.written.quiet ∙ (done.compared.quiet ∙ (seen.quiet ∙ its.quiet));
     translated = translated_on_shelf done.made done.for_source done.forms_are;
     compared = subst (λ told. IfSome told (λ c. Decides same (AllHaveStill job.olds done.made.lists c))) kept_to.same done.compared.still;
     later = let one = kept_to.later in let two = done.compared.kept.later in let three = done.written.quiet in omega (arith, one, two, three);

@@ -33,7 +33,7 @@ pub compared_one : (place : Place) (list : List Prototype) (same : Bool) (text s
     Decides same (IsPrototypeFile seen list) → IsCompared place list same b a
 compared_one place list same text seen b a read seen_is decides = record {
   kept = read.kept;
-  quiet = λ is. read.quiet;
+  quiet = read.quiet;
   still =
       two_told b.told _ _ _ read.there read.front
       (λ c there front. still_at place list same text c there front (subst (λ t. Decides same (IsPrototypeFile t list)) seen_is decides));
@@ -46,7 +46,7 @@ pub compared_away : (place : Place) (list : List Prototype) (why : ReadFail) (b 
     IsCompared place list false b a
 compared_away place list why b a is unread =
     let its : IsUnreadFor read_fail.NotThere place b a = subst (λ w. IsUnreadFor w place b a) is unread in
-    record { kept = its.kept; quiet = λ never. absurd (cc); still = mapped b.told _ _ its.cause.2 (λ c lacks. away_at place list c lacks) }
+    record { kept = its.kept; quiet = its.cause.1; still = mapped b.told _ _ its.cause.2 (λ c lacks. away_at place list c lacks) }
 
 -- one that was not read
 pub failed_one : (place other : Place) (why : ReadFail) (b a : ShelfState) → why ≡ read_fail.Failed → IsUnreadFor why place b a → other ≡ place →
@@ -117,7 +117,7 @@ behind_one olds lists number place list same b m a within few place_is list_is i
     subst (λ n. AreStill (take n olds) (take n lists) b a) (sym (plus_one number))
     (record {
       kept = kept_kept b m a before.kept one.kept;
-      quiet = one.quiet is ∙ before.quiet;
+      quiet = one.quiet ∙ before.quiet;
       still =
           both_told b.told m.told _ _ _ before.kept.same before.still one.still
           (λ c all its. one_still olds lists number place list c within few place_is list_is all (its.0 is));
@@ -128,7 +128,7 @@ pub differs_at : (olds : List Place) (lists : List (List Prototype)) (number : �
     AreStill (take number olds) (take number lists) b m → IsCompared place list same m a → AreCompared olds lists false b a
 differs_at olds lists number place list same b m a within few place_is list_is is before one = record {
   kept = kept_kept b m a before.kept one.kept;
-  quiet = λ never. absurd (cc);
+  quiet = one.quiet ∙ before.quiet;
   still =
       both_told b.told m.told _ _ _ before.kept.same before.still one.still
       (λ c all its.
@@ -139,7 +139,7 @@ pub at_end : (olds : List Place) (lists : List (List Prototype)) (number : ℕ) 
     AreStill (take number olds) (take number lists) b a → AreCompared olds lists true b a
 at_end olds lists number b a end before = record {
   kept = before.kept;
-  quiet = λ is. before.quiet;
+  quiet = before.quiet;
   still = mapped b.told _ _ before.still (λ c all. ((λ is. still_all olds lists number c end all), λ every. refl));
 }
 

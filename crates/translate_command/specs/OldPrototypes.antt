@@ -1,5 +1,5 @@
 -- Old prototype files, compared with new prototypes. CSTR 149.
-use Rattle.std.specs.Prelude.{◌≡◌, Bool, true, List, [], ◌∷◌, IfSome}
+use Rattle.std.specs.Prelude.{◌≡◌, Bool, List, [], ◌∷◌, IfSome}
 use Rattle.std.specs.Bool.{Decides}
 use Rattle.f2c_outside.specs.declared.shelves.Place.{Place}
 use Rattle.f2c_outside.specs.Shelf.{ShelfState, Contents, Lacks, bytes_of}
@@ -21,16 +21,16 @@ AllHaveStill [] lists contents = Unit {0}
 AllHaveStill (place ∷ places) [] contents = Unit {0}
 AllHaveStill (place ∷ places) (list ∷ lists) contents = HasStill place list contents × AllHaveStill places lists contents
 
--- an old file was read, and whether it has these prototypes
+-- an old file was read or is not there, and whether it has these prototypes: no count rose
 pub record IsCompared (place : Place) (list : List Prototype) (same : Bool) (b a : ShelfState) : Type 0 where
   pub kept : IsKept b a
-  pub quiet : same ≡ true → a.faults ≡ b.faults
+  pub quiet : a.faults ≡ b.faults
   pub still : IfSome b.told (λ contents. Decides same (HasStill place list contents))
 
--- old files were read, and whether each has its prototypes
+-- old files were read, up to the first that differs or is not there, and whether each has its prototypes: no count rose
 pub record AreCompared (olds : List Place) (lists : List (List Prototype)) (same : Bool) (b a : ShelfState) : Type 0 where
   pub kept : IsKept b a
-  pub quiet : same ≡ true → a.faults ≡ b.faults
+  pub quiet : a.faults ≡ b.faults
   pub still : IfSome b.told (λ contents. Decides same (AllHaveStill olds lists contents))
 
 -- why one was not read, or some were not

@@ -1,5 +1,5 @@
 -- How a translation of what some places hold onto others ends.
-use Rattle.std.specs.Prelude.{◌≡◌, ℕ, ◌≤◌, Bool, true, List, ◌∷◌, ◌++◌, Option, option_map, Result, Ok, Err, IfSome}
+use Rattle.std.specs.Prelude.{◌≡◌, ℕ, ◌≤◌, Bool, List, ◌∷◌, ◌++◌, Option, option_map, Result, Ok, Err, IfSome}
 use Rattle.std.specs.Bool.{Decides}
 use Rattle.f2c_outside.specs.declared.shelves.Place.{Place}
 use Rattle.f2c_outside.specs.declared.shelves.Place.TheVariants.{File as FileNamed}
@@ -21,8 +21,8 @@ use Rattle.prototype_outputs.specs.Forms.{AreFiles}
 use Rattle.translate_command.specs.WrittenTexts.{all_written, AreUnwritten}
 use Rattle.shelf_texts.specs.ShelfLoops.{IsKept}
 
--- a source was read and accepted, and its outputs stand in `tos`; where the shelf tells, it is that of the job, and so are the prototype files; `same` says
--- that each old prototype file was there and had its prototypes
+-- a source was read and accepted, its outputs stand in `tos`, and no count rose; where the shelf tells, it is that of the job, and so are the prototype
+-- files; `same` says that each old prototype file was there and had its prototypes
 pub record EndedDone (options : Options) (job : Job) (tos : List Place) (same : Bool) (b a : ShelfState) : Type 0 where
   pub source : Source
   pub texts : List (List ℕ)
@@ -30,7 +30,7 @@ pub record EndedDone (options : Options) (job : Job) (tos : List Place) (same : 
   pub lists : List (List Prototype)
   pub made : AreOutputsOf options job.prototypes source texts outputs lists
   pub whole : IfSome b.told (λ contents. source ≡ source_on contents job.froms)
-  pub quiet : same ≡ true → a.faults ≡ b.faults
+  pub quiet : a.faults ≡ b.faults
   pub translated : IfSome b.told (IsTranslated options job texts outputs lists)
   pub compared : IfSome b.told (λ contents. Decides same (AllHaveStill job.olds lists contents))
   pub later : b.faults ≤ a.faults
