@@ -16,6 +16,6 @@ usage =
     ∷ codes "  -h, --help  puts this on standard output, and reads nothing\n"
     ∷ codes "\n"
     ∷ codes "Status 0: it is done. 1: the source is refused, and a line says in which file, at which card and why,\nor a FILE.P is none, and a line says where; nothing is written.\n"
-    ∷ codes "2: a line names a word that is none of those above, or not beside the others.\n3: a file is not there, or a file or stream failed. 4: all is done, and a FILE.P is not as it was.\n5: out of memory.\n"
-    ∷ codes "6: a FILE.c is not in the subset of C that is written here, or the files lack a function or a main program,\nor repeat one, or have more than 268435456 bytes of objects.\n7: the run has a fault. 8: it is not over after its steps. 9: the device of a unit failed.\n10: an error of input or output ends it. 11: a call disagrees. 12: a place is out of bounds.\n13: no name is free for a program unit, and a line says for which. 15: a run reads more records than it can count.\n"
+    ∷ codes "2: a line names a word that is none of those above, not beside the others, or missing, or a FILE.f whose output another has.\n3: a file is not there, or a file or stream failed. 4: all is done, and a FILE.P is not as it was.\n5: out of memory.\n"
+    ∷ codes "6: a FILE.c is not in the subset of C that is written here, or the files lack a function or a main program,\nor have a main program with parameters, or a function or the image of an object twice, or more than 268435456 bytes of objects.\n7: the run has a fault. 8: it is not over after its steps. 9: the device of a unit failed.\n10: an error of input or output ends it. 11: a call disagrees. 12: a place is out of bounds.\n13: no name is free for a program unit, and a line says for which. 15: a run reads more records than it can count.\n"
     ∷ [])
