@@ -207,12 +207,23 @@ rows_failed options froms prototypes place b m a (source_failed ended) said =
     (both_then b.told a.told (Gained (shelf_fault_line place) b.faults a.faults) (CheckFaultRow options froms prototypes b.faults a.faults)
     (gained (shelf_fault_line place) b.told b.faults m a ended.kept.same ended.kept.later said)
     (λ c d is gain.
-    checks.unread (record { place = place; of_source = some_at b.told (λ contents. IsOfSource froms contents place) c is ended.of_source; said = gain })))
+    checks.unread (record {
+      place = place;
+      of_source = some_at b.told (λ contents. IsOfSource froms contents place) c is ended.of_source;
+      rose = rose_with b m a (shelf_fault_line place) ended.rose said;
+      said = gain;
+    })))
 rows_failed options froms prototypes place b m a (prototype_failed ended) said =
     rows_fault options froms prototypes b a (inl (rose_with b m a (shelf_fault_line place) ended.rose said))
     (both_then b.told a.told (Gained (shelf_fault_line place) b.faults a.faults) (CheckFaultRow options froms prototypes b.faults a.faults)
     (gained (shelf_fault_line place) b.told b.faults m a ended.kept.same ended.kept.later said)
-    (λ c d is gain. checks.prototype_unread (record { place = place; among = ended.among; said = gain })))
+    (λ c d is gain.
+    checks.prototype_unread (record {
+      place = place;
+      among = ended.among;
+      rose = rose_with b m a (shelf_fault_line place) ended.rose said;
+      said = gain;
+    })))
 
 -- writing that failed
 nothing_added : (c : Contents) → c ≡ added Output [] c
@@ -236,6 +247,7 @@ unlisted_row options froms prototypes b m a ended part front is said =
       found = some_at b.told (AreFoundOn options froms prototypes ended.names ended.findings) c at ended.found.found_on;
       part = part;
       front = front;
+      rose = rose_with b m a (shelf_fault_line Output) ended.unwritten.rose said;
       said = gain;
     }))
 

@@ -24,10 +24,11 @@ rows_bad_word :
     → Said (line_of words ended) m a
     → BadWordRows words number b a (status_of ended)
 rows_bad_word words number b m a ended ran said =
+    let counted : m.faults ≡ b.faults = ap (λ (s : ShelfState). s.faults) ran.same in
     record {
       bad = ap status_of ran.named;
       said =
-          gained (bad_word_line words number) b.told b.faults m a ran.kept.same ran.kept.later
+          gained (bad_word_line words number) b.told b.faults m a (ap (λ (s : ShelfState). s.told) ran.same) (omega (arith, counted))
           (subst (λ (o : Outcome). Said (line_of words o) m a) ran.named said);
     }
 

@@ -215,7 +215,7 @@ rows-unread : (from : Place) (b m a : ShelfState) → HasFailed b m → Said (sh
 rows-unread from b m a failed said =
     rows-fault from b a (later_rose b m a failed.rose said.later)
     (both_then b.told a.told (Gained (shelf_fault_line from) b.faults a.faults) (SplitFaultRow from b.faults a.faults)
-    (gained (shelf_fault_line from) b.told b.faults m a failed.kept.same failed.kept.later said) (λ c d here gain. rows.unread gain))
+    (gained (shelf_fault_line from) b.told b.faults m a failed.kept.same failed.kept.later said) (λ c d here gain. rows.unread (later_rose b m a failed.rose said.later) gain))
 
 rows-unasked : (from : Place) (bytes name : List ℕ) (b m a : ShelfState) → HasRead from bytes b → IsUnasked bytes name b m → Said (shelf_fault_line (File name)) m a
     → SplitRows from b a 3
@@ -224,7 +224,8 @@ rows-unasked from bytes name b m a read failed said =
     (both_then b.told a.told (Gained (shelf_fault_line (File name)) b.faults a.faults) (SplitFaultRow from b.faults a.faults)
     (gained (shelf_fault_line (File name)) b.told b.faults m a failed.kept.same failed.kept.later said)
     (λ c d here gain.
-    rows.unasked name (subst (λ l. IsInQuestion (pieces_of l) name) (some_at b.told (Holds from bytes) c here read).bytes_are failed.in_question) gain))
+    rows.unasked name (subst (λ l. IsInQuestion (pieces_of l) name) (some_at b.told (Holds from bytes) c here read).bytes_are failed.in_question)
+    (later_rose b m a failed.rose said.later) gain))
 
 -- writing failed
 both_joined : {A : Type 0} (o m a : Option A) (P Q R : A → A → Type 0) → Both o m P → Both m a Q → ((x y z : A) → o ≡ Some x → P x y → Q y z → R x z) → Both o a R
@@ -236,9 +237,9 @@ both_joined (Some x) (Some y) None P Q R first second h = absurd second
 both_joined (Some x) (Some y) (Some z) P Q R first second h = h x y z refl first second
 
 part_row : (from : Place) (bytes : List ℕ) (place : Place) (b m a : ShelfState) (P : Contents → Contents → Type 0) → HasRead from bytes b → (up : IsSplitUpTo bytes place b m)
-    → Both b.told m.told P → ((c d : Contents) → P c d → IsSplitPart up.names up.texts place c d) → b.faults ≤ m.faults → Said (shelf_fault_line place) m a
-    → Both b.told a.told (SplitFaultRow from b.faults a.faults)
-part_row from bytes place b m a P read up made part not_less said =
+    → Both b.told m.told P → ((c d : Contents) → P c d → IsSplitPart up.names up.texts place c d) → Rose b.faults m.faults → b.faults ≤ m.faults
+    → Said (shelf_fault_line place) m a → Both b.told a.told (SplitFaultRow from b.faults a.faults)
+part_row from bytes place b m a P read up made part rose not_less said =
     both_joined b.told m.told a.told P (Gained (shelf_fault_line place) b.faults a.faults) (SplitFaultRow from b.faults a.faults) made
     (gained (shelf_fault_line place) m.told b.faults m a refl not_less said)
     (λ c middle d here half gain.
@@ -252,6 +253,7 @@ part_row from bytes place b m a P read up made part not_less said =
       cut = cut_at from bytes up.names up.texts b.told c here held up.cut;
       middle = middle;
       part = part c middle half;
+      rose = later_rose b m a rose said.later;
       said = gain;
     }))
 
@@ -260,10 +262,10 @@ by_half : (from : Place) (bytes : List ℕ) (place : Place) (b m a : ShelfState)
 by_half from bytes place b m a read up (files.at_piece h) said =
     rows-fault from b a (later_rose b m a h.rose said.later)
     (part_row from bytes place b m a (AreMadeUpTo h.before h.earlier h.name h.text) read up h.made
-    (λ c d half. rows.at_piece h.before h.earlier h.behind h.later h.name h.text h.names_are h.texts_are h.named half) h.not_less said)
+    (λ c d half. rows.at_piece h.before h.earlier h.behind h.later h.name h.text h.names_are h.texts_are h.named half) h.rose h.not_less said)
 by_half from bytes place b m a read up (files.at_listing is h) said =
     rows-fault from b a (later_rose b m a h.rose said.later)
-    (part_row from bytes place b m a (IsHalfListed up.names up.texts) read up h.split (λ c d half. rows.at_listing is half) h.not_less said)
+    (part_row from bytes place b m a (IsHalfListed up.names up.texts) read up h.split (λ c d half. rows.at_listing is half) h.rose h.not_less said)
 
 -- STATUS 5
 rows-no_memory : (from : Place) (b m a : ShelfState) → IsKept b m → Said no_memory_line m a → SplitRows from b a 5

@@ -130,7 +130,8 @@ rows_done options job tos b m a ended said silent =
       fault_or_missing = λ is. absurd (omega arith);
       translated = λ is. row options job tos true b m a ended said;
       changed = λ is. absurd (omega arith);
-      quiet = λ is. ap (λ (s : ShelfState). s.faults) silent ∙ ended.quiet refl;
+      quiet = λ is. ap (λ (s : ShelfState). s.faults) silent ∙ ended.quiet;
+      quiet_changed = λ is. absurd (omega arith);
       complete = λ quiet. for_some b.told _ (λ c is none accepted forms. inl refl);
       complete_refused = λ quiet.
           for_some b.told _ (λ c is none refusal refused. absurd (not_refused_now options job tos true b m a ended said c is refusal refused));
@@ -141,8 +142,8 @@ rows_done options job tos b m a ended said silent =
     }
 
 rows_changed :
-    (options : Options) (job : Job) (tos : List Place) (b m a : ShelfState) → EndedDone options job tos false b m → Said [] m a → TranslateRows options job tos b a 4
-rows_changed options job tos b m a ended said =
+    (options : Options) (job : Job) (tos : List Place) (b m a : ShelfState) → EndedDone options job tos false b m → Said [] m a → a ≡ m → TranslateRows options job tos b a 4
+rows_changed options job tos b m a ended said silent =
     record {
       statuses = inr (inr (inr (inl refl)));
       refused_only = λ is. absurd (omega arith);
@@ -152,6 +153,7 @@ rows_changed options job tos b m a ended said =
       translated = λ is. absurd (omega arith);
       changed = λ is. row options job tos false b m a ended said;
       quiet = λ is. absurd (omega arith);
+      quiet_changed = λ is. ap (λ (s : ShelfState). s.faults) silent ∙ ended.quiet;
       complete = λ quiet. for_some b.told _ (λ c is none accepted forms. inr (inl refl));
       complete_refused = λ quiet.
           for_some b.told _ (λ c is none refusal refused. absurd (not_refused_now options job tos false b m a ended said c is refusal refused));
@@ -175,6 +177,7 @@ rows_refused options job tos refusal name b m a set said =
     let ended = set.refused in
     record {
       quiet = λ is. absurd (omega arith);
+      quiet_changed = λ is. absurd (omega arith);
       statuses = inr (inl refl);
       refused_only = λ is.
           both_then b.told a.told (Gained (refusal_line name refusal) b.faults a.faults) (NotAcceptedRow options job b.faults a.faults)
@@ -218,6 +221,7 @@ rows_not_prototype :
 rows_not_prototype options job tos name line b m a ended said =
     record {
       quiet = λ is. absurd (omega arith);
+      quiet_changed = λ is. absurd (omega arith);
       statuses = inr (inl refl);
       refused_only = λ is.
           both_then b.told a.told (Gained (not_prototype_line name line) b.faults a.faults) (NotAcceptedRow options job b.faults a.faults)
@@ -271,6 +275,7 @@ rows_missing :
 rows_missing options job tos name b m a kept missing fault_row said =
     record {
       quiet = λ is. absurd (omega arith);
+      quiet_changed = λ is. absurd (omega arith);
       statuses = inr (inr (inl refl));
       refused_only = λ is. absurd (omega arith);
       refused_where = for_some b.told _ (λ c is refusal refused. inr (inl refl));
@@ -313,6 +318,7 @@ rows_fault :
 rows_fault options job tos b a rose fault_row =
     record {
       quiet = λ is. absurd (omega arith);
+      quiet_changed = λ is. absurd (omega arith);
       statuses = inr (inr (inl refl));
       refused_only = λ is. absurd (omega arith);
       refused_where = for_some b.told _ (λ c is refusal refused. inr (inl refl));
@@ -338,7 +344,13 @@ among_failed options job tos places place b m a failed as_row said =
     rows_fault options job tos b a (later_rose (shelf_fault_line place) b m a failed.rose said)
     (both_then b.told a.told (Gained (shelf_fault_line place) b.faults a.faults) (FaultRow options job tos b.faults a.faults)
     (gained (shelf_fault_line place) b.told b.faults m a failed.kept.same failed.kept.later said)
-    (λ c d is gain. as_row c d (record { place = place; among = failed.among; said = gain })))
+    (λ c d is gain.
+    as_row c d (record {
+      place = place;
+      among = failed.among;
+      rose = later_rose (shelf_fault_line place) b m a failed.rose said;
+      said = gain;
+    })))
 
 rows_unread :
     (options : Options) (job : Job) (tos : List Place) (place : Place) (b m a : ShelfState)
@@ -350,7 +362,12 @@ rows_unread options job tos place b m a (source_failed ended) said =
     (both_then b.told a.told (Gained (shelf_fault_line place) b.faults a.faults) (FaultRow options job tos b.faults a.faults)
     (gained (shelf_fault_line place) b.told b.faults m a ended.kept.same ended.kept.later said)
     (λ c d is gain.
-    rows.unread (record { place = place; of_source = some_at b.told (λ contents. IsOfSource job.froms contents place) c is ended.of_source; said = gain })))
+    rows.unread (record {
+      place = place;
+      of_source = some_at b.told (λ contents. IsOfSource job.froms contents place) c is ended.of_source;
+      rose = later_rose (shelf_fault_line place) b m a ended.rose said;
+      said = gain;
+    })))
 rows_unread options job tos place b m a (form_failed failed) said = among_failed options job tos job.forms place b m a failed (λ c d row. rows.prototype_unread row) said
 rows_unread options job tos place b m a (old_failed failed) said = among_failed options job tos job.olds place b m a failed (λ c d row. rows.old_unread row) said
 
@@ -379,6 +396,7 @@ unwritten_row options job tos texts outputs lists number b m a told made stopped
       text_is = stopped.text_is;
       middle = all_written (take number tos) (take number outputs) c;
       front = inl refl;
+      rose = later_rose (shelf_fault_line stopped.place) b m a stopped.rose said;
       said = gain;
     }))
 unwritten_row options job tos texts outputs lists number b m a told made stopped said is (inr part) =
@@ -399,6 +417,7 @@ unwritten_row options job tos texts outputs lists number b m a told made stopped
       text_is = stopped.text_is;
       middle = added stopped.place part.0 (begun stopped.place (all_written (take number tos) (take number outputs) c));
       front = inr (part.0, part.1, refl);
+      rose = later_rose (shelf_fault_line stopped.place) b m a stopped.rose said;
       said = gain;
     }))
 
@@ -418,6 +437,7 @@ rows_no_memory :
 rows_no_memory options job tos b m a kept said =
     record {
       quiet = λ is. absurd (omega arith);
+      quiet_changed = λ is. absurd (omega arith);
       statuses = inr (inr (inr (inr refl)));
       refused_only = λ is. absurd (omega arith);
       refused_where = for_some b.told _ (λ c is refusal refused. inr (inr refl));
@@ -440,7 +460,7 @@ pub rows_translate :
     → (IsSilent ended → a ≡ m)
     → TranslateRows options job tos b a (status_of ended)
 rows_translate options words job tos b m a outcome.Done ran said silent = rows_done options job tos b m a ran said (silent tt)
-rows_translate options words job tos b m a outcome.Changed ran said silent = rows_changed options job tos b m a ran said
+rows_translate options words job tos b m a outcome.Changed ran said silent = rows_changed options job tos b m a ran said (silent tt)
 rows_translate options words job tos b m a (outcome.Refused refusal name) ran said silent = rows_refused options job tos refusal name b m a ran said
 rows_translate options words job tos b m a (outcome.NotPrototype name line) ran said silent = rows_not_prototype options job tos name line b m a ran said
 rows_translate options words job tos b m a outcome.Disagree ran said silent = absurd ran

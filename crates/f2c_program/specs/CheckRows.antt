@@ -79,13 +79,14 @@ pub data CheckRefusedRow (options : Options) (froms prototypes : List Place) (be
   refused : RefusedSetRow options froms before after b a → CheckRefusedRow options froms prototypes before after b a
   not_prototype : NotPrototypeRow options froms prototypes before after b a → CheckRefusedRow options froms prototypes before after b a
 
--- status 3 where writing failed: Output is unchanged or has gained a front of the lines, and the line on Fault says so
+-- status 3 where writing failed: Output is unchanged or has gained a front of the lines, the count rose, and the line on Fault says so
 pub record UnlistedRow (options : Options) (froms prototypes : List Place) (before after : ℕ) (b a : Contents) : Type 0 where
   pub names : List (List ℕ)
   pub findings : List Finding
   pub found : AreFoundOn options froms prototypes names findings b
   pub part : List ℕ
   pub front : IsFront part (finding_lines names findings)
+  pub rose : Rose before after
   pub said : Gained (shelf_fault_line Output) before after (added Output part b) a
 
 -- status 3: a file that is read is not there, or reading one failed, and the line on Fault names it and nothing else changed; or writing failed

@@ -70,7 +70,7 @@ pub data IsSplitPart (names texts : List (List ℕ)) (place : Place) (c d : Cont
       → AreMadeUpTo before earlier name text c d → IsSplitPart names texts place c d
   at_listing : place ≡ Output → IsHalfListed names texts c d → IsSplitPart names texts place c d
 
--- status 3 where writing failed: the line on Fault names the place
+-- status 3 where writing failed: the count rose, and the line on Fault names the place
 pub record PartRow (from : Place) (before after : ℕ) (c d : Contents) : Type 0 where
   pub place : Place
   pub names : List (List ℕ)
@@ -79,15 +79,16 @@ pub record PartRow (from : Place) (before after : ℕ) (c d : Contents) : Type 0
   pub cut : IsCut (bytes_of from c) names texts (Some c)
   pub middle : Contents
   pub part : IsSplitPart names texts place c middle
+  pub rose : Rose before after
   pub said : Gained (shelf_fault_line place) before after middle d
 
--- status 3: the place is not there, reading it failed, or asking for a name did, and the line on Fault names it and nothing else changed; or writing
--- failed
+-- status 3: the place is not there, or the count rose, since reading it failed or asking for a name did, and the line on Fault names it and nothing else
+-- changed; or writing failed
 pub data SplitFaultRow (from : Place) (before after : ℕ) (c d : Contents) : Type 0 where
   not_there : Lacks from c → Gained (not_there_line (shown from)) before after c d → SplitFaultRow from before after c d
-  unread : Gained (shelf_fault_line from) before after c d → SplitFaultRow from before after c d
-  unasked : (name : List ℕ) → IsInQuestion (pieces_of (bytes_of from c)) name → Gained (shelf_fault_line (File name)) before after c d
-      → SplitFaultRow from before after c d
+  unread : Rose before after → Gained (shelf_fault_line from) before after c d → SplitFaultRow from before after c d
+  unasked : (name : List ℕ) → IsInQuestion (pieces_of (bytes_of from c)) name → Rose before after
+      → Gained (shelf_fault_line (File name)) before after c d → SplitFaultRow from before after c d
   unwritten : PartRow from before after c d → SplitFaultRow from before after c d
 
 -- what each exit status of splitting says, where the shelf goes from `b` to `a`

@@ -9,7 +9,7 @@ use Rattle.outcomes.specs.declared.outcome.Outcome.{Outcome}
 use Rattle.outcomes.specs.declared.outcome.Outcome.TheVariants as outcome
 use Rattle.outcomes.specs.Outcomes.{status_of, IsSilent}
 use Rattle.outcomes.specs.Lines.{line_of, bad_word_line}
-use Rattle.shelf_texts.specs.ShelfLoops.{Both, IsKept, IsWritten, IsUnwritten, written}
+use Rattle.shelf_texts.specs.ShelfLoops.{Both, IsWritten, IsUnwritten, written}
 use Rattle.shelf_texts.specs.Messages.{Said, Gained}
 use Rattle.command_words.specs.declared.command.Command.{Command}
 use Rattle.command_words.specs.declared.command.Command.TheVariants as command
@@ -41,7 +41,7 @@ WroteUsage b a outcome.NoMemory = ⊥
 -- no command goes on with the word of this number, and the shelf was not touched
 pub record BadWordEnded (number : ℕ) (b a : ShelfState) (ended : Outcome) : Type 0 where
   pub named : ended ≡ outcome.BadWord number
-  pub kept : IsKept b a
+  pub same : a ≡ b
 
 -- how each command ends, before its message is written: a translation goes from the files that the words name, or Input, to their C files, or Output,
 -- and to the files of their prototypes;

@@ -90,20 +90,22 @@ pub record MissingRow (options : Options) (froms : List Place) (before after : �
   pub missing : IsMissing options froms name b
   pub said : Gained (not_there_line name) before after b a
 
--- status 3 where reading a prototype file failed, one that is checked or compared: the line on Fault names it, and nothing else changed
+-- status 3 where reading a prototype file failed, one that is checked or compared: the count rose, the line on Fault names it, and nothing else changed
 pub record PrototypeUnreadRow (places : List Place) (before after : ℕ) (b a : Contents) : Type 0 where
   pub place : Place
   pub among : IsPlaceAmong places place
+  pub rose : Rose before after
   pub said : Gained (shelf_fault_line place) before after b a
 
--- status 3 where reading failed: the line on Fault names the place that was being read, and nothing else changed
+-- status 3 where reading failed: the count rose, the line on Fault names the place that was being read, and nothing else changed
 pub record UnreadRow (froms : List Place) (before after : ℕ) (b a : Contents) : Type 0 where
   pub place : Place
   pub of_source : IsOfSource froms b place
+  pub rose : Rose before after
   pub said : Gained (shelf_fault_line place) before after b a
 
 -- status 3 while the outputs were written: the source is accepted, the outputs before the one that failed hold their translations, it is unchanged or
--- holds a front of its own, those behind it are unchanged, and the line on Fault names it
+-- holds a front of its own, those behind it are unchanged, the count rose, and the line on Fault names it
 pub record UnwrittenRow (options : Options) (job : Job) (tos : List Place) (before after : ℕ) (b a : Contents) : Type 0 where
   pub texts : List (List ℕ)
   pub outputs : List (List ℕ)
@@ -118,6 +120,7 @@ pub record UnwrittenRow (options : Options) (job : Job) (tos : List Place) (befo
   pub front :
       let earlier = all_written (take number tos) (take number outputs) b in
       (middle ≡ earlier) ⊎ ((part : List ℕ) × IsFront part text × (middle ≡ added to part (begun to earlier)))
+  pub rose : Rose before after
   pub said : Gained (shelf_fault_line to) before after middle a
 
 -- status 3: an input or a file that one includes is not there, or reading failed, and the line on Fault names it and nothing else changed; or
@@ -157,8 +160,9 @@ pub record TranslateRows (options : Options) (job : Job) (tos : List Place) (b a
   -- 0 only where each old prototype file has its prototypes, and 4 only where one has not
   pub translated : status ≡ 0 → Both b.told a.told (TranslatedRow options job tos true)
   pub changed : status ≡ 4 → Both b.told a.told (TranslatedRow options job tos false)
-  -- 0 only where no count rose in the call
+  -- 0 and 4 only where no count rose in the call
   pub quiet : status ≡ 0 → a.faults ≡ b.faults
+  pub quiet_changed : status ≡ 4 → a.faults ≡ b.faults
   -- where no count rises and no file is missing, an accepted source is translated where its prototype files are in form, or memory ran out
   pub complete : Quiet b.faults a.faults → IfSome b.told (λ contents. (JobLacks options job contents → ⊥)
       → IsAccepted options (source_on contents job.froms) → AreFiles (files_on contents job.forms) → (status ≡ 0) ⊎ ((status ≡ 4) ⊎ (status ≡ 5)))

@@ -84,7 +84,7 @@ pub(crate) fn asks_for_run(words: &Words) -> bool
 /// with which no command goes on, or the one that is missing behind the last; 3 only where a file that is read is not there, and the line names it, or the
 /// shelf failed, and the line names the
 /// place that was being read or written; 4 exactly where all was written, and a prototype file that was compared was missing, malformed, or had other
-/// prototypes; 5 where memory ran out; 11 where all was read and a call, one at least, is listed; 13 exactly where no number
+/// prototypes, and then no call of the shelf failed; 5 where memory ran out; 11 where all was read and a call, one at least, is listed; 13 exactly where no number
 /// is free for the name of a piece, and the line says for which. With 0 of `-check` no run of the files calls a procedure of theirs, by a name that is no
 /// dummy procedure, as another kind of procedure, with another type of result, or with arguments of another number, kind or type. After 1, 2, 5 and 13
 /// nothing but the line on Fault was put anywhere; where writing a translation failed, the outputs before are whole, the one that failed is unchanged or
