@@ -2,6 +2,7 @@ pub mod FewNumbers
 pub mod SignatureLaws
 pub mod StepLaws
 pub mod StackLaws
+pub mod FlagLaws
 pub mod DeviceLaws
 pub mod RoomLaws
 pub mod CountLaws

@@ -28,7 +28,7 @@ use Rattle.item_deeds.specs.Forms.{forms, SameForms}
 use Rattle.call_frames.specs.Frames.{HasFrame}
 use Rattle.run_library.specs.declared.library.RunBreak.{RunBreak}
 use Rattle.run_library.specs.Replies.{break_of, StandsIn}
-use Rattle.program_runner.specs.declared.stack.CallFrame.{CallFrame}
+use Rattle.program_runner.specs.declared.stack.ActiveFunction.{ActiveFunction}
 use Rattle.program_runner.specs.declared.stack.CallStack.{CallStack}
 use Rattle.program_runner.specs.declared.runs.RunOutcome.{RunOutcome}
 use Rattle.program_runner.specs.declared.runs.RunOutcome.TheVariants as outcome
@@ -226,26 +226,26 @@ next-so ending program own function old new before stands middle objects values 
     })
 
 -- ANSWERS
-pub answers-nobody : (program : Program sorts) (number : ℕ) (waits : List CallFrame) (world : World) (given : Option ℤ) → waits ≡ [] →
+pub answers-nobody : (program : Program sorts) (number : ℕ) (waits : List ActiveFunction) (world : World) (given : Option ℤ) → waits ≡ [] →
     answering language program number (frames_of waits) world given ≡ Over Plain [] world
 unfolding machine_opened
 answers-nobody program number waits world given none = ap (λ waits. answering language program number (frames_of waits) world given) none
 
-abbrev resumed : Program sorts → ℕ → CallFrame → List CallFrame → Entry sorts → State Ending sorts
+abbrev resumed : Program sorts → ℕ → ActiveFunction → List ActiveFunction → Entry sorts → State Ending sorts
 resumed program number top later entry = entering entry (number ∷ top.number ∷ numbers (frames_of later)) top.number (frames_of later)
 
-answers-by : (program : Program sorts) (number : ℕ) (waits : List CallFrame) (top : CallFrame) (later : List CallFrame) (world : World) (given : Option ℤ) (entry : Entry sorts) → waits ≡ top ∷ later →
+answers-by : (program : Program sorts) (number : ℕ) (waits : List ActiveFunction) (top : ActiveFunction) (later : List ActiveFunction) (world : World) (given : Option ℤ) (entry : Entry sorts) → waits ≡ top ∷ later →
     resume (program.text top.number) (view_of top.view) given world ≡ entry → answering language program number (frames_of waits) world given ≡ resumed program number top later entry
 unfolding machine_opened
 answers-by program number waits top later world given entry is goes =
     ap (λ waits. answering language program number (frames_of waits) world given) is ∙ ap (resumed program number top later) goes
 
-pub answers-caller : (program : Program sorts) (number : ℕ) (waits : List CallFrame) (top : CallFrame) (later : List CallFrame) (world : World) (given : Option ℤ) (view : View) (after : World) → waits ≡ top ∷ later →
+pub answers-caller : (program : Program sorts) (number : ℕ) (waits : List ActiveFunction) (top : ActiveFunction) (later : List ActiveFunction) (world : World) (given : Option ℤ) (view : View) (after : World) → waits ≡ top ∷ later →
     resume (program.text top.number) (view_of top.view) given world ≡ Enters view after → answering language program number (frames_of waits) world given ≡ Runs top.number view (frames_of later) after
 unfolding machine_opened
 answers-caller program number waits top later world given view after is goes = answers-by program number waits top later world given (Enters view after) is goes
 
-pub answers-refused : (program : Program sorts) (number : ℕ) (waits : List CallFrame) (top : CallFrame) (later : List CallFrame) (world : World) (given : Option ℤ) (why : Break) → waits ≡ top ∷ later →
+pub answers-refused : (program : Program sorts) (number : ℕ) (waits : List ActiveFunction) (top : ActiveFunction) (later : List ActiveFunction) (world : World) (given : Option ℤ) (why : Break) → waits ≡ top ∷ later →
     resume (program.text top.number) (view_of top.view) given world ≡ Refused why →
     answering language program number (frames_of waits) world given ≡ Broken why (number ∷ top.number ∷ numbers (frames_of later))
 unfolding machine_opened
@@ -270,7 +270,7 @@ enters-busy stack view first called world busy =
     opened-busy first world called (Has stack.top.number view ∷ frames_of (waiting stack)) (active-too called stack view ∙ sym busy)
     ∙ ap (Broken (Faults fault.Active)) (first-number stack.top.number view (frames_of (waiting stack)))
 
-pub enters-idle : (old new : CallStack) (view : CallView) (called : CallFrame) (world : World) → false ≡ has called.number (old.top.number ∷ numbers_of (waiting old)) → IsPushed old new view called →
+pub enters-idle : (old new : CallStack) (view : CallView) (called : ActiveFunction) (world : World) → false ≡ has called.number (old.top.number ∷ numbers_of (waiting old)) → IsPushed old new view called →
     opening language (Enters (view_of called.view) world) called.number (Has old.top.number (view_of view) ∷ frames_of (waiting old)) ≡ state_of new world
 enters-idle old new view called world idle pushed =
     opened-idle (view_of called.view) world called.number (Has old.top.number (view_of view) ∷ frames_of (waiting old)) (active-too called.number old (view_of view) ∙ sym idle)

@@ -1,7 +1,7 @@
-//! Runs a linked program step by step, as the meaning of C texts has it (C89, 3.3.2.2, 3.6 and 3.7.1). A step searches no name and takes no
-//! memory: the stack of frames has room for each function once, since a function that is active is not called again. Where the device of
-//! an external unit fails, or a call is to count more than 64 bits tell, the run is over, and it is known how it stood before that step. A
-//! run answers how many steps it has taken.
+//! Runs a linked program step by step, as the meaning of C texts has it (C89, 3.3.2.2, 3.6 and 3.7.1). A step searches neither names nor the
+//! functions that are active, and takes no memory: the stack has a frame for each function, since one that is active is not called again,
+//! and the frame notes whether it is. Where the device of an external unit fails, or a call is to count more than 64 bits tell, the run is
+//! over, and it is known how it stood before that step. A run answers how many steps it has taken.
 #![tactic(auto)]
 
 mod events;
@@ -11,4 +11,4 @@ mod signatures;
 mod stack;
 
 pub use runs::{RunOutcome, RunTaken, begin, run, run_program};
-pub use stack::{CallFrame, CallStack, frame_room};
+pub use stack::{ActiveFunction, CallFrame, CallStack, frame_room};

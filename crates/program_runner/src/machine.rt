@@ -22,7 +22,7 @@ ghost use Rattle.program_runner.specs.Outcomes.{FramesStand, HasArgumentRoom, Re
 
 use crate::events::{StepEvent, StepFailure, first_values, step};
 use crate::runs::RunOutcome;
-use crate::stack::{CallFrame, CallStack};
+use crate::stack::{ActiveFunction, CallStack};
 use c_tree::outcome::{CFault, CValue};
 use call_frames::{resume, start};
 use item_deeds::{CallView, next_position};
@@ -41,7 +41,7 @@ fn faulty<E: Drop>(stack: &CallStack, fault: CFault) -> RunOutcome<E>
 }
 
 /// A call that its function accepts, of one that is active or is not. The one that calls it waits with a view.
-fn entered<E: Drop>(stack: &mut CallStack, view: CallView, called: CallFrame) -> RunOutcome<E>
+fn entered<E: Drop>(stack: &mut CallStack, view: CallView, called: ActiveFunction) -> RunOutcome<E>
     requires stack { IsStack (length stack.old.room.items) stack.old }
     requires ready { view.position + 1 < 2 ^ 64 }
     requires below { called.number < length stack.old.room.items }
@@ -78,7 +78,7 @@ fn call_known<E: Drop>(
 {
     match start(function, values, run) {
         Ok(first) => {
-            let called = CallFrame {
+            let called = ActiveFunction {
                 number,
                 view: first,
             };

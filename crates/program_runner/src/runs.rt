@@ -19,7 +19,7 @@ ghost use Rattle.program_runner.specs.Outcomes.{FramesStand, HasArgumentRoom, Re
 ghost use Rattle.program_runner.specs.Taken.{taken_with, TakenBy};
 
 use crate::machine::advance;
-use crate::stack::{CallFrame, CallStack};
+use crate::stack::{ActiveFunction, CallFrame, CallStack};
 use c_tree::outcome::{CFault, CValue};
 use call_frames::start;
 use linked_programs::{LinkedFunction, LinkedProgram};
@@ -97,7 +97,7 @@ fn begin_by(
     ensures forms { SameForms run.old run.new }
 {
     match start(function, &[], run) {
-        Ok(view) => Ok(CallStack::new(frames, CallFrame { number, view })),
+        Ok(view) => Ok(CallStack::new(frames, ActiveFunction { number, view })),
         Err(fault) => Err(fault),
     }
 }

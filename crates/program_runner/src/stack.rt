@@ -1,8 +1,8 @@
 //! The stack of active functions, in a place that is made once (C89, 3.3.2.2).
 
-ghost use Rattle.std.specs.Prelude.{◌≡◌, ◌<◌, ◌≤◌, ◌+◌, ◌^◌, ◌∷◌, [], false, length, slice_get, IfOk};
+ghost use Rattle.std.specs.Prelude.{◌≡◌, ℕ, ◌<◌, ◌+◌, ◌^◌, ◌∷◌, [], true, false, length, set, get_or, nat_eq, slice_get, IfOk};
 ghost use Rattle.program_runner.specs.Numbers.{has};
-ghost use Rattle.program_runner.specs.Stacks.{waiting, numbers_of, IsStack, IsPushed, Popped};
+ghost use Rattle.program_runner.specs.Stacks.{waits_in, flags_in, waiting, numbers_of, IsStack, IsPushed, Popped};
 
 use item_deeds::{CallView, CallWants};
 use linked_programs::LinkedProgram;
@@ -10,17 +10,26 @@ use std::alloc::{AllocError, Global};
 
 /// An active function, by its number, with its view.
 #[derive(Clone, Copy, Debug, PartialEq, Eq)]
-pub struct CallFrame {
+pub struct ActiveFunction {
     /// The number.
     pub number: usize,
     /// The view.
     pub view: CallView,
 }
 
+/// A place of the stack.
+#[derive(Clone, Copy, Debug, PartialEq, Eq)]
+pub struct CallFrame {
+    /// The function that waits there, where one does.
+    pub(crate) waits: ActiveFunction,
+    /// Whether the function is active that has the number of the place.
+    pub(crate) active: bool,
+}
+
 /// The active functions of a run. Those that wait stand from `free` on, the last called first.
 #[derive(Drop)]
 pub struct CallStack {
-    pub(crate) top: CallFrame,
+    pub(crate) top: ActiveFunction,
     pub(crate) room: Vec<CallFrame>,
     pub(crate) free: usize,
 }
@@ -29,55 +38,114 @@ pub struct CallStack {
 pub fn frame_room(alloc: Global, program: &LinkedProgram) -> Result<Vec<CallFrame>, AllocError>
     ensures { IfOk result (λ frames. length frames.items ≡ length program.now.functions) }
 {
+    let view = CallView {
+        position: 0,
+        wants: CallWants::Nothing,
+        answer: None,
+    };
     let unused = CallFrame {
-        number: 0,
-        view: CallView {
-            position: 0,
-            wants: CallWants::Nothing,
-            answer: None,
-        },
+        waits: ActiveFunction { number: 0, view },
+        active: false,
     };
     vec![in alloc; unused; program.functions.len()]
 }
 
+/// Notes whether the function of a number is active.
+fn note(room: &mut [CallFrame], number: usize, active: bool)
+    requires { number < length room.old }
+    ensures size { length room.new ≡ length room.old }
+    ensures waits { waits_in room.new ≡ waits_in room.old }
+    ensures flags { flags_in room.new ≡ set (flags_in room.old) number active }
+{
+    let waits = room[number].waits;
+    room[number] = CallFrame { waits, active };
+}
+
+/// Puts a function that waits into a place.
+fn put(room: &mut [CallFrame], place: usize, waits: ActiveFunction)
+    requires { place < length room.old }
+    ensures size { length room.new ≡ length room.old }
+    ensures waits { waits_in room.new ≡ set (waits_in room.old) place waits }
+    ensures flags { flags_in room.new ≡ flags_in room.old }
+{
+    let active = room[place].active;
+    room[place] = CallFrame { waits, active };
+}
+
+/// Notes that no function is active.
+fn clear(room: &mut [CallFrame])
+    ensures size { length room.new ≡ length room.old }
+    ensures flags { (number : ℕ) → number < length room.old → get_or (flags_in room.new) number false ≡ false }
+{
+    let mut number = 0;
+    while number < room.len() {
+        note(room, number, false);
+        number += 1;
+    }
+}
+
+/// Notes that one function is active and no other.
+fn note_first(room: &mut [CallFrame], number: usize)
+    requires { number < length room.old }
+    ensures size { length room.new ≡ length room.old }
+    ensures flags { (other : ℕ) → other < length room.old → get_or (flags_in room.new) other false ≡ nat_eq other number }
+{
+    clear(room);
+    note(room, number, true);
+}
+
+/// Puts a function that waits into a place, and notes that the one that it called is active.
+fn put_caller(room: &mut [CallFrame], place: usize, waits: ActiveFunction, called: usize)
+    requires place { place < length room.old }
+    requires called { called < length room.old }
+    ensures size { length room.new ≡ length room.old }
+    ensures waits { waits_in room.new ≡ set (waits_in room.old) place waits }
+    ensures flags { flags_in room.new ≡ set (flags_in room.old) called true }
+{
+    put(room, place, waits);
+    note(room, called, true);
+}
+
 impl CallStack {
     /// A stack of one function, with room for as many as there are frames.
-    #[tactic(auto, using(crate::proofs::StackLaws::stack_laws))]
-    pub(crate) fn new(room: Vec<CallFrame>, top: CallFrame) -> CallStack
-        requires { top.number < length room.items }
-        ensures stack { IsStack (length room.items) result }
+    pub(crate) fn new(frames: Vec<CallFrame>, top: ActiveFunction) -> CallStack
+        requires { top.number < length frames.items }
+        ensures stack { IsStack (length frames.items) result }
         ensures top { result.top ≡ top }
         ensures alone { waiting result ≡ [] }
     {
+        let mut room = frames;
+        note_first(&mut room, top.number);
         let free = room.len();
         CallStack { top, room, free }
     }
 
     /// Whether the function of a number is active.
-    #[tactic(auto, using(crate::proofs::StackLaws::slice_laws))]
     pub(crate) fn is_active(&self, number: usize) -> bool
-        requires { self.now.free ≤ length self.now.room.items }
+        requires stack { IsStack (length self.now.room.items) self.now }
+        requires below { number < length self.now.room.items }
         ensures { result ≡ has number (self.now.top.number ∷ numbers_of (waiting self.now)) }
     {
-        if number == self.top.number {
-            return true;
-        }
-        is_among(number, &self.room[self.free..])
+        self.room[number].active
     }
 
     /// A function is called, which is not active; the one that calls it waits with a view.
-    pub(crate) fn push(&mut self, view: CallView, called: CallFrame)
+    pub(crate) fn push(&mut self, view: CallView, called: ActiveFunction)
         requires stack { IsStack (length self.old.room.items) self.old }
         requires ready { view.position + 1 < 2 ^ 64 }
         requires below { called.number < length self.old.room.items }
         requires idle { has called.number (self.old.top.number ∷ numbers_of (waiting self.old)) ≡ false }
         ensures { IsPushed self.old self.new view called }
     {
-        self.free -= 1;
-        self.room[self.free] = CallFrame {
-            number: self.top.number,
-            view,
-        };
+        let place = self.free - 1;
+        let number = self.top.number;
+        put_caller(
+            &mut self.room,
+            place,
+            ActiveFunction { number, view },
+            called.number,
+        );
+        self.free = place;
         self.top = called;
     }
 
@@ -89,7 +157,8 @@ impl CallStack {
     {
         match frame_at(&self.room, self.free) {
             Some(frame) => {
-                self.top = frame;
+                note(&mut self.room, self.top.number, false);
+                self.top = frame.waits;
                 self.free += 1;
                 true
             }
@@ -103,16 +172,4 @@ fn frame_at(frames: &[CallFrame], place: usize) -> Option<CallFrame>
     ensures { result ≡ slice_get frames.now place }
 {
     frames.get(place).copied()
-}
-
-/// Whether a function of a number is among some.
-fn is_among(number: usize, frames: &[CallFrame]) -> bool
-    ensures { result ≡ has number (numbers_of frames.now) }
-{
-    for frame in frames {
-        if number == frame.number {
-            return true;
-        }
-    }
-    false
 }
