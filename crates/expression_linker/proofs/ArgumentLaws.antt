@@ -3,9 +3,8 @@ use Rattle.std.proofs.Common.{◌≡◌, refl, ap, sym, ◌∙◌, ℕ, ◌+◌,
 use Rattle.c_tree.specs.declared.expression.CExpr.{CExpr}
 use Rattle.c_tree.specs.declared.expression.CCall.{CCall}
 use Rattle.c_tree.specs.Terms.{Term}
-use Rattle.c_tree.specs.Flat.{Callee}
 use Rattle.c_tree.specs.Drafts.{Scope}
-use Rattle.c_tree.specs.LinkedExpressions.{linked, linked_all, linked_call, called, Calling}
+use Rattle.c_tree.specs.LinkedExpressions.{linked, linked_all, linked_call, called}
 use Rattle.linked_terms.specs.declared.terms.LinkedTerm.{LinkedTerm}
 use Rattle.linked_terms.specs.LinkedTerms.{term_of, terms_of}
 use Rattle.expression_linker.specs.LinkedParts.{is_unknown, some_unknown}

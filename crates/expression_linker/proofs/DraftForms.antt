@@ -1,5 +1,5 @@
 -- What each form of an expression becomes: the parts are those that code holds.
-use Rattle.std.proofs.Common.{◌≡◌, refl, ap, sym, ◌∙◌, ℕ, ℤ, ◌+◌, List, [], ◌∷◌, ◌++◌, length, length-append, append_assoc, arith}
+use Rattle.std.proofs.Common.{◌≡◌, refl, ap, sym, ◌∙◌, ℕ, ℤ, List, length}
 use Rattle.c_tree.specs.declared.types.CastType.{CastType}
 use Rattle.c_tree.specs.declared.expression.UnaryOp.{UnaryOp}
 use Rattle.c_tree.specs.declared.expression.BinaryOp.{BinaryOp}
@@ -10,7 +10,7 @@ use Rattle.c_tree.specs.Opened.{trees_opened}
 use Rattle.c_tree.specs.Access.{ToChar}
 use Rattle.c_tree.specs.Terms as term
 use Rattle.c_tree.specs.Terms.{Term}
-use Rattle.c_tree.specs.Drafts.{Draft, Scope, bare, drafted, joined, joined_three}
+use Rattle.c_tree.specs.Drafts.{Scope, bare, drafted, joined, joined_three}
 use Rattle.c_tree.specs.LinkedExpressions.{linked, string, name_of}
 
 linked-Unary : (op : UnaryOp) (a : CExpr) → linked (expr.Unary op a) ≡ drafted (term.Prefixed op) (linked a)

@@ -1,5 +1,5 @@
 -- The term that each form of the data of a linked expression stands for.
-use Rattle.std.proofs.Common.{◌≡◌, refl, ℕ, ℤ, List}
+use Rattle.std.proofs.Common.{◌≡◌, refl, ℕ, ℤ}
 use Rattle.c_tree.specs.declared.types.CastType.{CastType}
 use Rattle.c_tree.specs.declared.expression.UnaryOp.{UnaryOp}
 use Rattle.c_tree.specs.declared.expression.BinaryOp.{BinaryOp}
@@ -9,6 +9,8 @@ use Rattle.run_bytes.specs.declared.access.AccessType.{AccessType}
 use Rattle.run_bytes.specs.Accesses.{access_of}
 use Rattle.linked_terms.specs.declared.terms.LinkedTerm.{LinkedTerm}
 use Rattle.linked_terms.specs.declared.terms.LinkedTerm.TheVariants as made
+use Rattle.linked_terms.specs.declared.fields.FieldName.{FieldName}
+use Rattle.linked_terms.specs.ListFields.{name_in}
 use Rattle.linked_terms.specs.LinkedTerms.{term_of, linked_opened}
 
 pub term-Constant : (n : ℤ) → term_of (made.Constant n) ≡ term.Constant n
@@ -47,7 +49,7 @@ pub term-Element : (a b : LinkedTerm) → term_of (made.Element a b) ≡ term.El
 unfolding term_of linked_opened
 term-Element a b = refl
 
-pub term-Field : (t : LinkedTerm) (name : List ℕ) → term_of (made.Field t name) ≡ term.Field (term_of t) name
+pub term-Field : (t : LinkedTerm) (name : FieldName) → term_of (made.Field t name) ≡ term.Field (term_of t) (name_in name)
 unfolding term_of linked_opened
 term-Field t name = refl
 

@@ -1,2 +1,3 @@
+pub mod ListFields
 pub mod LinkedTerms
 pub mod LinkedItems

@@ -4,6 +4,7 @@ use Rattle.c_tree.specs.Objects.{Place}
 use Rattle.c_tree.specs.Terms as term
 use Rattle.c_tree.specs.Terms.{Term}
 use Rattle.run_bytes.specs.Accesses.{access_of}
+use Rattle.linked_terms.specs.ListFields.{name_in}
 use Rattle.linked_terms.specs.declared.terms.LinkedPlace.{LinkedPlace}
 use Rattle.linked_terms.specs.declared.terms.LinkedTerm.{LinkedTerm, Constant, Variable, Array, Routine, Prefixed', Cast', Between', Choice', Element', Field', Size, Most', Magnitude', end_of-LinkedTerm, more_of-LinkedTerm}
 
@@ -21,7 +22,7 @@ term_of (Between' operator s (more_of-LinkedTerm left r) t (more_of-LinkedTerm r
 term_of (Choice' s (more_of-LinkedTerm test r) t (more_of-LinkedTerm first q) u (more_of-LinkedTerm second p)) =
     term.Choice (term_of test) (term_of first) (term_of second)
 term_of (Element' s (more_of-LinkedTerm array r) t (more_of-LinkedTerm index q)) = term.Element (term_of array) (term_of index)
-term_of (Field' s (more_of-LinkedTerm list r) name) = term.Field (term_of list) name
+term_of (Field' s (more_of-LinkedTerm list r) name) = term.Field (term_of list) (name_in name)
 term_of Size = term.Size
 term_of (Most' which s (more_of-LinkedTerm left r) t (more_of-LinkedTerm right q)) = term.Most which (term_of left) (term_of right)
 term_of (Magnitude' s (more_of-LinkedTerm operand r)) = term.Magnitude (term_of operand)

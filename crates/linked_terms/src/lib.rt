@@ -3,8 +3,10 @@
 //! reads off them.
 #![tactic(auto)]
 
+pub mod fields;
 pub mod items;
 pub mod terms;
 
+pub use fields::{FieldName, ListField, list_field};
 pub use items::{LinkedCallee, LinkedCase, LinkedItem, LinkedUse};
 pub use terms::{LinkedPlace, LinkedTerm};

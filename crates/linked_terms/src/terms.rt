@@ -1,6 +1,7 @@
 //! Expressions (C89, 3.3), and the places that they name.
 
-use c_tree::expression::{BinaryOp, Extreme, Text, UnaryOp};
+use crate::fields::FieldName;
+use c_tree::expression::{BinaryOp, Extreme, UnaryOp};
 use c_tree::outcome::CValue;
 use c_tree::types::CastType;
 use plain_data::Boxed;
@@ -50,8 +51,8 @@ pub enum LinkedTerm {
     Field {
         /// The list.
         list: Boxed<LinkedTerm>,
-        /// The name of the field.
-        name: Text,
+        /// The field.
+        name: FieldName,
     },
     /// `sizeof(integer)`
     Size,

@@ -7,7 +7,8 @@ use crate::sample::{
 use c_tree::expression::{BinaryOp, Extreme, UnaryOp};
 use c_tree::outcome::{CFault, CValue};
 use c_tree::types::{CastType, ListType};
-use linked_terms::{LinkedPlace, LinkedTerm};
+use linked_terms::{FieldName, LinkedPlace, LinkedTerm, ListField};
+use plain_data::Items;
 use run_bytes::{AccessType, FieldType, PointedType, RunBytes};
 use std::alloc::AllocError;
 use std::process::Abort;
@@ -144,7 +145,7 @@ fn compares_pointers(rt: HostRuntime) -> Result<(), Fail> {
 fn names_places(rt: HostRuntime) -> Result<(), Fail> {
     let alloc = rt.alloc();
     let run = sample(alloc)?;
-    let unit = field(alloc, b"ciunit")?;
+    let unit = field(alloc, FieldName::Listed(ListField::TransferUnit))?;
     let want = LinkedPlace {
         at: pointer(LIST, 1),
         access: AccessType::Field(FieldType::Number),
@@ -152,10 +153,13 @@ fn names_places(rt: HostRuntime) -> Result<(), Fail> {
     assert_eq!(rt; place_named(&run, &unit), Ok(want));
     let address = prefixed(alloc, UnaryOp::Address, unit);
     expect(&rt, &run, "the address", address, Ok(pointer(LIST, 1)))?;
-    let unset = field(alloc, b"ciunit");
+    let unset = field(alloc, FieldName::Listed(ListField::TransferUnit));
     expect(&rt, &run, "an unset field", unset, Err(CFault::Unset))?;
-    let foreign = field(alloc, b"ounit");
+    let foreign = field(alloc, FieldName::Listed(ListField::OpenUnit));
     expect(&rt, &run, "another list's", foreign, Err(CFault::Kind))?;
+    let unlisted = FieldName::Other(Items::from_slice(alloc, b"ciunits")?);
+    let unlisted = field(alloc, unlisted);
+    expect(&rt, &run, "no list's", unlisted, Err(CFault::Kind))?;
     let list = variable(LIST, AccessType::List(ListType::Transfer));
     expect(&rt, &run, "a whole list", Ok(list), Err(CFault::Kind))
 }

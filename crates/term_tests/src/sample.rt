@@ -3,8 +3,8 @@
 use c_tree::expression::{BinaryOp, Extreme, UnaryOp};
 use c_tree::outcome::CValue;
 use c_tree::types::{CastType, ListType};
-use linked_terms::LinkedTerm;
-use plain_data::{Boxed, Items};
+use linked_terms::{FieldName, LinkedTerm};
+use plain_data::Boxed;
 use run_bytes::{AccessType, ObjectKind, PointedType, RunBytes};
 use std::alloc::{AllocError, Global};
 use std::test::Fail;
@@ -117,11 +117,11 @@ pub(crate) fn element(
 }
 
 /// A field of the list.
-pub(crate) fn field(alloc: Global, name: &[u8]) -> Result<LinkedTerm, AllocError> {
+pub(crate) fn field(alloc: Global, name: FieldName) -> Result<LinkedTerm, AllocError> {
     let list = variable(LIST, AccessType::List(ListType::Transfer));
     Ok(LinkedTerm::Field {
         list: Boxed::new(alloc, list)?,
-        name: Items::from_slice(alloc, name)?,
+        name,
     })
 }
 

@@ -4,3 +4,4 @@ pub mod PointerLaws
 pub mod ListPlaces
 pub mod ValueLists
 pub mod DirectLaws
+pub mod FieldLaws

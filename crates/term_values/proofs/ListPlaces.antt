@@ -24,6 +24,7 @@ use Rattle.run_bytes.specs.declared.access.AccessType.TheVariants as access
 use Rattle.run_bytes.specs.declared.access.PointedType.TheVariants as pointed_type
 use Rattle.run_bytes.specs.Accesses.{access_of}
 use Rattle.linked_terms.specs.declared.terms.LinkedTerm.{LinkedTerm, Constant, Variable, Array, Routine, Prefixed', Cast', Between', Choice', Element', Field', Size, Most', Magnitude', end_of-LinkedTerm, more_of-LinkedTerm}
+use Rattle.linked_terms.specs.ListFields.{name_in}
 use Rattle.linked_terms.specs.LinkedTerms.{term_of}
 use Rattle.term_values.specs.Within.{extent_of, IsPointedTo, IsWithin, StandsWithin}
 
@@ -385,9 +386,9 @@ seen-in objects (Element' s (more_of-LinkedTerm a end_of-LinkedTerm) r (more_of-
     (λ start k. if-any (PlaceIn objects) (seen objects (term_of b)).value (λ count. element objects start count) λ count. element-in objects start count k) in
     (with_place-in objects (after (seen objects (term_of a)).value λ start. after (seen objects (term_of b)).value λ count. element objects start count) place, place)
 seen-in objects (Field' s (more_of-LinkedTerm t end_of-LinkedTerm) name) =
-    let place : If (PlaceIn objects) (after (seen objects (term_of t)).place (field name)) =
-    if-any (PlaceIn objects) (seen objects (term_of t)).place (field name) (λ p. field-in objects name p.at p.access) in
-    (with_place-in objects (after (seen objects (term_of t)).place (field name)) place, place)
+    let place : If (PlaceIn objects) (after (seen objects (term_of t)).place (field (name_in name))) =
+    if-any (PlaceIn objects) (seen objects (term_of t)).place (field (name_in name)) (λ p. field-in objects (name_in name) p.at p.access) in
+    (with_place-in objects (after (seen objects (term_of t)).place (field (name_in name))) place, place)
 seen-in objects Size = (tt, tt)
 seen-in objects (Most' which s (more_of-LinkedTerm a end_of-LinkedTerm) r (more_of-LinkedTerm b end_of-LinkedTerm)) = (
   if-any (ValueIn objects) (seen objects (term_of a)).value (λ x. after (seen objects (term_of b)).value λ y. on_numbers (most which) x y)

@@ -14,6 +14,8 @@ use Rattle.run_bytes.specs.declared.access.AccessType.{AccessType}
 use Rattle.run_bytes.specs.Accesses.{access_of}
 use Rattle.linked_terms.specs.declared.terms.LinkedTerm.{LinkedTerm}
 use Rattle.linked_terms.specs.declared.terms.LinkedTerm.TheVariants as tree
+use Rattle.linked_terms.specs.declared.fields.FieldName.{FieldName}
+use Rattle.linked_terms.specs.ListFields.{name_in}
 use Rattle.linked_terms.specs.LinkedTerms.{term_of, linked_opened}
 
 pub value-Constant : (objects : List Object) (n : ℤ) → (seen objects (term_of (tree.Constant n))).value ≡ Ok (plain (Number n))
@@ -74,13 +76,13 @@ pub place-Element : (objects : List Object) (array index : LinkedTerm) →
 unfolding seen linked_opened
 place-Element objects array index = refl
 
-pub value-Field : (objects : List Object) (t : LinkedTerm) (name : List ℕ) →
+pub value-Field : (objects : List Object) (t : LinkedTerm) (name : FieldName) →
     (seen objects (term_of (tree.Field t name))).value ≡ after (seen objects (term_of (tree.Field t name))).place (fetched objects)
 unfolding seen linked_opened
 value-Field objects t name = refl
 
-pub place-Field : (objects : List Object) (t : LinkedTerm) (name : List ℕ) →
-    (seen objects (term_of (tree.Field t name))).place ≡ after (seen objects (term_of t)).place (field name)
+pub place-Field : (objects : List Object) (t : LinkedTerm) (name : FieldName) →
+    (seen objects (term_of (tree.Field t name))).place ≡ after (seen objects (term_of t)).place (field (name_in name))
 unfolding seen linked_opened
 place-Field objects t name = refl
 

@@ -1,4 +1,4 @@
 pub mod Numbers
-pub mod NamedFields
+pub mod FoundFields
 pub mod Within
 pub mod Finds

@@ -1,17 +1,15 @@
 //! The fields of lists (C89, 3.3.2.3, and f2c.h).
 
-ghost use Rattle.std.specs.Prelude.{◌≡◌, ◌<◌, ◌≤◌, ℕ, List, length, option_map, IfSome};
+ghost use Rattle.std.specs.Prelude.{◌≡◌, ◌<◌, option_map, IfSome};
+ghost use Rattle.c_tree.specs.declared.types.ListType.TheVariants.{Transfer, Internal, Open, Close, Position};
 ghost use Rattle.c_tree.specs.Access as accesses;
-ghost use Rattle.term_values.specs.NamedFields.{named_in, found_of};
+ghost use Rattle.run_bytes.specs.declared.access.FieldType.TheVariants as field;
+ghost use Rattle.linked_terms.specs.ListFields.{name_of_field, name_in};
+ghost use Rattle.term_values.specs.FoundFields.{found_of};
 
 use c_tree::types::ListType;
+use linked_terms::{FieldName, ListField, list_field};
 use run_bytes::FieldType;
-
-/// A field of a list by its name.
-struct NamedField {
-    name: &'static [u8],
-    holds: FieldType,
-}
 
 /// A field that was found: its number from 0, and what it holds.
 #[derive(Clone, Copy)]
@@ -20,176 +18,126 @@ pub(crate) struct FoundField {
     pub(crate) holds: FieldType,
 }
 
-/// The fields of `cilist` in order.
-static TRANSFER: [NamedField; 5] = [
-    NamedField {
-        name: b"cierr",
-        holds: FieldType::Number,
-    },
-    NamedField {
-        name: b"ciunit",
-        holds: FieldType::Number,
-    },
-    NamedField {
-        name: b"ciend",
-        holds: FieldType::Number,
-    },
-    NamedField {
-        name: b"cifmt",
-        holds: FieldType::Text,
-    },
-    NamedField {
-        name: b"cirec",
-        holds: FieldType::Number,
-    },
-];
-
-/// The fields of `icilist` in order.
-static INTERNAL: [NamedField; 6] = [
-    NamedField {
-        name: b"icierr",
-        holds: FieldType::Number,
-    },
-    NamedField {
-        name: b"iciunit",
-        holds: FieldType::Text,
-    },
-    NamedField {
-        name: b"iciend",
-        holds: FieldType::Number,
-    },
-    NamedField {
-        name: b"icifmt",
-        holds: FieldType::Text,
-    },
-    NamedField {
-        name: b"icirlen",
-        holds: FieldType::Number,
-    },
-    NamedField {
-        name: b"icirnum",
-        holds: FieldType::Number,
-    },
-];
-
-/// The fields of `olist` in order.
-static OPEN: [NamedField; 9] = [
-    NamedField {
-        name: b"oerr",
-        holds: FieldType::Number,
-    },
-    NamedField {
-        name: b"ounit",
-        holds: FieldType::Number,
-    },
-    NamedField {
-        name: b"ofnm",
-        holds: FieldType::Text,
-    },
-    NamedField {
-        name: b"ofnmlen",
-        holds: FieldType::Number,
-    },
-    NamedField {
-        name: b"osta",
-        holds: FieldType::Text,
-    },
-    NamedField {
-        name: b"oacc",
-        holds: FieldType::Text,
-    },
-    NamedField {
-        name: b"ofm",
-        holds: FieldType::Text,
-    },
-    NamedField {
-        name: b"orl",
-        holds: FieldType::Number,
-    },
-    NamedField {
-        name: b"oblnk",
-        holds: FieldType::Text,
-    },
-];
-
-/// The fields of `cllist` in order.
-static CLOSE: [NamedField; 3] = [
-    NamedField {
-        name: b"cerr",
-        holds: FieldType::Number,
-    },
-    NamedField {
-        name: b"cunit",
-        holds: FieldType::Number,
-    },
-    NamedField {
-        name: b"csta",
-        holds: FieldType::Text,
-    },
-];
-
-/// The fields of `alist` in order.
-static POSITION: [NamedField; 2] = [
-    NamedField {
-        name: b"aerr",
-        holds: FieldType::Number,
-    },
-    NamedField {
-        name: b"aunit",
-        holds: FieldType::Number,
-    },
-];
-
-/// The number of a field, counted from one field earlier.
-fn later(found: FoundField) -> FoundField
-    requires { found.number < 9 }
-    ensures { found_of result ≡ accesses.one_later (found_of found) }
+/// A field that holds a number.
+fn number(number: usize) -> FoundField
+    ensures { result ≡ record { number = number; holds = field.Number } }
 {
     FoundField {
-        number: found.number + 1,
-        holds: found.holds,
+        number,
+        holds: FieldType::Number,
     }
 }
 
-/// The one of these fields that has a name.
-#[tactic(auto, unfolding(crate::specs::NamedFields::named_in))]
-fn field_in(fields: &[NamedField], name: &[u8]) -> Option<FoundField>
-    requires { length fields.now ≤ 9 }
-    ensures named { option_map found_of result ≡ named_in fields.now name.now }
-    ensures within { IfSome result (λ found. found.number < length fields.now) }
+/// A field that holds a pointer to a text.
+fn text(number: usize) -> FoundField
+    ensures { result ≡ record { number = number; holds = field.Text } }
 {
-    match fields {
-        [] => None,
-        [first, ..] if name == first.name => Some(FoundField {
-            number: 0,
-            holds: first.holds,
-        }),
-        [_, rest @ ..] => match field_in(rest, name) {
-            Some(found) => Some(later(found)),
+    FoundField {
+        number,
+        holds: FieldType::Text,
+    }
+}
+
+/// A field in `cilist`.
+fn in_transfer(field: ListField) -> Option<FoundField>
+    ensures named { option_map found_of result ≡ accesses.field_named (name_of_field field) Transfer }
+    ensures within { IfSome result (λ found. found.number < 9) }
+{
+    match field {
+        ListField::TransferError => Some(number(0)),
+        ListField::TransferUnit => Some(number(1)),
+        ListField::TransferEnd => Some(number(2)),
+        ListField::TransferFormat => Some(text(3)),
+        ListField::TransferRecord => Some(number(4)),
+        _ => None,
+    }
+}
+
+/// A field in `icilist`.
+fn in_internal(field: ListField) -> Option<FoundField>
+    ensures named { option_map found_of result ≡ accesses.field_named (name_of_field field) Internal }
+    ensures within { IfSome result (λ found. found.number < 9) }
+{
+    match field {
+        ListField::InternalError => Some(number(0)),
+        ListField::InternalUnit => Some(text(1)),
+        ListField::InternalEnd => Some(number(2)),
+        ListField::InternalFormat => Some(text(3)),
+        ListField::InternalLength => Some(number(4)),
+        ListField::InternalCount => Some(number(5)),
+        _ => None,
+    }
+}
+
+/// A field in `olist`.
+fn in_open(field: ListField) -> Option<FoundField>
+    ensures named { option_map found_of result ≡ accesses.field_named (name_of_field field) Open }
+    ensures within { IfSome result (λ found. found.number < 9) }
+{
+    match field {
+        ListField::OpenError => Some(number(0)),
+        ListField::OpenUnit => Some(number(1)),
+        ListField::OpenFile => Some(text(2)),
+        ListField::OpenFileLength => Some(number(3)),
+        ListField::OpenStatus => Some(text(4)),
+        ListField::OpenAccess => Some(text(5)),
+        ListField::OpenForm => Some(text(6)),
+        ListField::OpenLength => Some(number(7)),
+        ListField::OpenBlank => Some(text(8)),
+        _ => None,
+    }
+}
+
+/// A field in `cllist`.
+fn in_close(field: ListField) -> Option<FoundField>
+    ensures named { option_map found_of result ≡ accesses.field_named (name_of_field field) Close }
+    ensures within { IfSome result (λ found. found.number < 9) }
+{
+    match field {
+        ListField::CloseError => Some(number(0)),
+        ListField::CloseUnit => Some(number(1)),
+        ListField::CloseStatus => Some(text(2)),
+        _ => None,
+    }
+}
+
+/// A field in `alist`.
+fn in_position(field: ListField) -> Option<FoundField>
+    ensures named { option_map found_of result ≡ accesses.field_named (name_of_field field) Position }
+    ensures within { IfSome result (λ found. found.number < 9) }
+{
+    match field {
+        ListField::PositionError => Some(number(0)),
+        ListField::PositionUnit => Some(number(1)),
+        _ => None,
+    }
+}
+
+/// A field of control lists, where this list has it.
+fn field_of(list: ListType, field: ListField) -> Option<FoundField>
+    ensures named { option_map found_of result ≡ accesses.field_named (name_of_field field) list }
+    ensures within { IfSome result (λ found. found.number < 9) }
+{
+    match list {
+        ListType::Transfer => in_transfer(field),
+        ListType::Internal => in_internal(field),
+        ListType::Open => in_open(field),
+        ListType::Close => in_close(field),
+        ListType::Position => in_position(field),
+    }
+}
+
+/// The field of a name, where the list has one. A name that was linked as no field is looked up again: it is one of no list.
+#[tactic(auto, using(crate::proofs::FieldLaws::field_laws))]
+pub(crate) fn field_named(list: ListType, name: &FieldName) -> Option<FoundField>
+    ensures named { option_map found_of result ≡ accesses.field_named (name_in name.now) list }
+    ensures within { IfSome result (λ found. found.number < 9) }
+{
+    match name {
+        FieldName::Listed(field) => field_of(list, *field),
+        FieldName::Other(text) => match list_field(text.as_slice()) {
+            Some(field) => field_of(list, field),
             None => None,
         },
     }
-}
-
-/// The fields of a list in order.
-#[tactic(auto, unfolding(crate::specs::NamedFields::named_in))]
-fn fields_of(list: ListType) -> &'static [NamedField]
-    ensures few { length result.now ≤ 9 }
-    ensures named { (name : List ℕ) → named_in result.now name ≡ accesses.field_named name list }
-{
-    match list {
-        ListType::Transfer => &TRANSFER,
-        ListType::Internal => &INTERNAL,
-        ListType::Open => &OPEN,
-        ListType::Close => &CLOSE,
-        ListType::Position => &POSITION,
-    }
-}
-
-/// The field of a name, where the list has one.
-pub(crate) fn field_named(list: ListType, name: &[u8]) -> Option<FoundField>
-    ensures named { option_map found_of result ≡ accesses.field_named name.now list }
-    ensures within { IfSome result (λ found. found.number < 9) }
-{
-    field_in(fields_of(list), name)
 }

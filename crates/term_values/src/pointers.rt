@@ -5,6 +5,7 @@ ghost use Rattle.c_tree.specs.Access as accesses;
 ghost use Rattle.c_tree.specs.Values as values;
 ghost use Rattle.run_bytes.specs.Accesses.{access_of, typed_of};
 ghost use Rattle.run_bytes.specs.Answers.{answered};
+ghost use Rattle.linked_terms.specs.ListFields.{name_in};
 ghost use Rattle.linked_terms.specs.LinkedTerms.{place_of};
 ghost use Rattle.term_values.specs.Within.{StandsWithin, extent_of};
 
@@ -12,7 +13,7 @@ use crate::fields::field_named;
 use crate::numbers::{as_number, difference, sum};
 use c_tree::outcome::{CFault, CValue};
 use c_tree::types::ListType;
-use linked_terms::LinkedPlace;
+use linked_terms::{FieldName, LinkedPlace};
 use run_bytes::{AccessType, RunBytes, TypedValue};
 
 /// By how much a pointer to a list moves to the next one.
@@ -197,10 +198,10 @@ fn field_at(
     object: usize,
     offset: usize,
     list: ListType,
-    name: &[u8],
+    name: &FieldName,
 ) -> Result<LinkedPlace, CFault>
     requires { offset ≤ extent_of (slice_get run.now object) }
-    ensures { answered place_of result ≡ values.field_at object offset (accesses.field_named name.now list) }
+    ensures { answered place_of result ≡ values.field_at object offset (accesses.field_named (name_in name.now) list) }
 {
     match field_named(list, name) {
         Some(field) => Ok(LinkedPlace {
@@ -216,9 +217,13 @@ fn field_at(
 
 /// The field of a list (C89, 3.3.2.3).
 #[tactic(auto, using(crate::proofs::ListPlaces::place_laws))]
-pub(crate) fn field(run: &RunBytes, place: LinkedPlace, name: &[u8]) -> Result<LinkedPlace, CFault>
+pub(crate) fn field(
+    run: &RunBytes,
+    place: LinkedPlace,
+    name: &FieldName,
+) -> Result<LinkedPlace, CFault>
     requires { StandsWithin run.now (place_of place) }
-    ensures { answered place_of result ≡ values.field name.now (place_of place) }
+    ensures { answered place_of result ≡ values.field (name_in name.now) (place_of place) }
 {
     match (place.at, place.access) {
         (CValue::Pointer { object, offset }, AccessType::List(list)) => {

@@ -75,7 +75,7 @@ pub(crate) fn place(run: &RunBytes, term: &LinkedTerm) -> Result<LinkedPlace, CF
             let array = typed(run, array.get())?;
             element(run, array, typed(run, index.get())?)
         }
-        LinkedTerm::Field { list, name } => field(run, place(run, list.get())?, name.as_slice()),
+        LinkedTerm::Field { list, name } => field(run, place(run, list.get())?, name),
         LinkedTerm::Constant(_) | LinkedTerm::Array { .. } | LinkedTerm::Routine(_) => {
             Err(CFault::Kind)
         }

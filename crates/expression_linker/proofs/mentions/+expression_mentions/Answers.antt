@@ -1,6 +1,5 @@
-use Rattle.std.proofs.Common.{◌≡◌, sym, ap, ◌∙◌}
+use Rattle.std.proofs.Common.{sym, ap, ◌∙◌}
 use Rattle.c_tree.specs.Linking.{any_of}
-use Rattle.c_tree.specs.LinkedExpressions.{linked}
 use Rattle.expression_linker.specs.Mentions.{has}
 use Rattle.expression_linker.proofs.DraftForms.{at-Number, at-Str, at-Name, at-Size, at-Unary, at-Cast, at-Binary, at-Choose, at-Index, at-Field, at-MaxMin, at-Abs}
 use Rattle.expression_linker.proofs.MentionForms.{any-two, any-three, any-name}

@@ -1,4 +1,4 @@
-use Rattle.std.proofs.Common.{◌≡◌, ◌++◌, ◌∷◌, [], sym, ap, ◌∙◌}
+use Rattle.std.proofs.Common.{◌++◌, ◌∷◌, [], sym, ap, ◌∙◌}
 use Rattle.std.proofs.lemmas.List.{append-nil}
 use Rattle.expression_linker.specs.StringsSeen.{texts}
 use Rattle.expression_linker.proofs.DraftForms.{at-Number, at-Str, at-Name, at-Size, at-Unary, at-Cast, at-Binary, at-Choose, at-Index, at-Field, at-MaxMin, at-Abs}

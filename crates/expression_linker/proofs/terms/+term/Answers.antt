@@ -1,4 +1,4 @@
-use Rattle.std.proofs.Common.{◌≡◌, ◌||◌, refl, sym, ap, ◌∙◌}
+use Rattle.std.proofs.Common.{◌||◌, refl, ◌∙◌}
 use Rattle.c_tree.specs.Terms.{Term, Prefixed, Cast, Between, Choice, Element, Most}
 use Rattle.c_tree.specs.LinkedExpressions.{linked}
 use Rattle.linked_terms.specs.LinkedTerms.{term_of}

@@ -1,5 +1,5 @@
 use Rattle.std.proofs.Common.{length}
-use Rattle.term_values.proofs.fields.+field_in.Given as goal
+use Rattle.linked_terms.proofs.fields.+field_in.Given as goal
 
 abbrev pub decreases-field_in : goal.decreases-field_in
 decreases-field_in l = length l.fields.now
