@@ -2,21 +2,21 @@
 -- ANSI X3.9-1978, sections 10, 11, 12 and 15.
 use Rattle.std.specs.Prelude.{ℕ, ℤ, pos, suc, nat_eq, nat_lt, ◌+◌, ◌-◌, true, false, bytes_eq, ◌&&◌, List, [], ◌∷◌, length, Option, Some, None, slice_get, if◌then◌else◌}
 use Rattle.f_tree.specs.simulation.Machine.{Sorts, Event, Goes, Ends, Calls, Answers, Breaks, Entry, Enters, Refused, Lang}
-use Rattle.f_tree.specs.Values.{Datum, IsInt, IsLog, IsSpot, IsLabel, Nothing, Act, ActiveProcedure, BadAssignedLabel, MissingProcedure, NoMeaning, Checked, Gives, Fails, given_that}
+use Rattle.f_tree.specs.Values.{Datum, IsInt, IsLog, IsSpot, Nothing, Act, ActiveProcedure, BadAssignedLabel, MissingProcedure, NoMeaning, Checked, Gives, Fails, given_that}
 use Rattle.f_tree.specs.Terms.{AsSubroutine, Callee}
 use Rattle.f_tree.specs.Store.{Store, Whole, Label, define, define_label, label_at}
-use Rattle.f_tree.specs.Facts.{Frame}
+use Rattle.f_tree.specs.Facts.{Frame, UnitKind, MainProgram, SubroutineUnit, FunctionUnit, BlockDataUnit}
 use Rattle.f_tree.specs.Valuing.{applied}
 use Rattle.f_tree.specs.World as fortran
 use Rattle.f_tree.specs.World.{World, Returning, Called, Passed, fortran_sorts, Happening, Ending, Io}
 use Rattle.f_tree.specs.Courses.{Course, Further, IsDone, Branches, StopsWith, NotSaid}
-use Rattle.f_tree.specs.Association.{call, answer, alternate_of, cut_to}
+use Rattle.f_tree.specs.Association.{call, cut_to}
 use Rattle.f_tree.specs.Association as association
 use Rattle.f_tree.specs.Transfers.{begins, item_done, finished}
 use Rattle.f_tree.specs.UnitStatements.{auxiliary}
 use Rattle.f_tree.specs.Step.{text_set, is_allowed, name_of, stop_ending}
-use Rattle.l_core.specs.Pures.{Temporaries, none_kept, with_kept, meant, all_meant}
-use Rattle.l_core.specs.Steps.{Acting, Starts, Takes, Finishes, Auxiliary, Step, Keep, Put, PutText, PutLabel, Compute, Unless, Skip, Again, AgainIf, Jump, Select, JumpBy, Pass, CallFor, CallSub, Branch, Back, BackBy, Halt, Acts, Text}
+use Rattle.l_core.specs.Pures.{Temporary, Temporaries, none_kept, with_kept, meant, all_meant}
+use Rattle.l_core.specs.Steps.{Acting, Starts, Takes, Finishes, Auxiliary, Step, Keep, Put, PutText, PutLabel, Compute, Unless, Skip, Again, AgainIf, Jump, Select, JumpBy, Pass, CallFor, CallSub, Branch, Way, Back, BackBy, Halt, Acts, Text}
 
 -- one active procedure: its frame, the step that is next, its temporaries, and how high the store was when it called
 pub record View : Type 0 where
@@ -104,12 +104,7 @@ jumping u labels v w (Gives (Label owner l)) = if bytes_eq owner (name_of u.fact
 jumping u labels v w (Gives _) = Breaks NoMeaning
 jumping u labels v w (Fails act) = Breaks act
 
-unfoldable pub branching : Text → View → World → Option Datum → Doing
-branching u v w None = Breaks NoMeaning
-branching u v w (Some (IsLabel l)) = jump u l v w
-branching u v w (Some _) = onward v w
-
--- Calls and answers are FORTRAN's, which look at the frame of the procedure alone.
+-- Calls are FORTRAN's, which look at the frame of the procedure alone, and so are the answers of functions.
 unfoldable pub resting : Frame → fortran.View
 resting f = record { frame = f; at = 0; now = Returning 0; loops = [] }
 
@@ -127,8 +122,16 @@ answering (Answers w d) = Answers w d
 answering (Breaks act) = Breaks act
 answering _ = Breaks NoMeaning
 
+-- a function answers by its result; a subroutine by the number of its alternate return, which is none of them where it goes on behind the call; the
+-- main program by that of none
+unfoldable pub answer : UnitKind → Frame → World → ℤ → Happening
+answer MainProgram f w z = Answers w (IsInt (pos 0))
+answer SubroutineUnit f w z = Answers w (IsInt z)
+answer FunctionUnit f w z = association.answer FunctionUnit (resting f) w Nothing
+answer BlockDataUnit f w z = Breaks NoMeaning
+
 unfoldable pub answering_by : Text → View → World → Checked Datum → Doing
-answering_by u v w (Gives (IsInt z)) = answering (answer u.facts.program.kind (resting v.frame) w (alternate_of v.frame.alternates z))
+answering_by u v w (Gives (IsInt z)) = answering (answer u.facts.program.kind v.frame w z)
 answering_by u v w (Gives _) = Breaks NoMeaning
 answering_by u v w (Fails act) = Breaks act
 
@@ -171,8 +174,9 @@ done u v w (Some (JumpBy p labels)) = jumping u labels v w (given_that (meant u.
 done u v w (Some Pass) = onward v w
 done u v w (Some (CallFor k callee ps)) = calling u v w callee (all_meant u.facts v.frame v.kept w.store ps)
 done u v w (Some (CallSub k name ps)) = calling u v w (record { name = name; want = AsSubroutine }) (all_meant u.facts v.frame v.kept w.store ps)
-done u v w (Some (Branch k)) = branching u v w (v.kept k)
-done u v w (Some Back) = answering (answer u.facts.program.kind (resting v.frame) w Nothing)
+done u v w (Some (Branch k count)) = selecting count v w (meant u.facts v.frame v.kept w.store (Temporary k))
+done u v w (Some (Way label)) = jump u label v w
+done u v w (Some Back) = answering (answer u.facts.program.kind v.frame w (pos 0))
 done u v w (Some (BackBy p)) = answering_by u v w (meant u.facts v.frame v.kept w.store p)
 done u v w (Some (Halt text)) = Ends (stop_ending text) v w
 done u v w (Some (Acts act ps n)) = acting u n v w act (all_meant u.facts v.frame v.kept w.store ps)
@@ -189,13 +193,13 @@ begun u (Refused act) = Refused act
 unfoldable pub start : Text → Called → Passed → World → Entry lowered_sorts
 start u name p w = begun u (association.start u.facts name p w)
 
--- the answer is kept, the store is as high as it was, and the step behind the call is next
+-- the answer is kept, of a subroutine to which no label was passed nothing; the store is as high as it was, and the step behind the call is next
 unfoldable pub gone_on : ℕ → View → Datum → World → Entry lowered_sorts
 gone_on k v d w = Enters (record v { at = suc v.at; kept = with_kept k d v.kept }) (cut_to v.height w)
 
 unfoldable pub resumed_at : Option Step → View → Datum → World → Entry lowered_sorts
 resumed_at (Some (CallFor k callee ps)) v d w = gone_on k v d w
-resumed_at (Some (CallSub k name ps)) v d w = gone_on k v d w
+resumed_at (Some (CallSub k name ps)) v d w = gone_on k v Nothing w
 resumed_at _ v d w = Refused NoMeaning
 
 unfoldable pub resume : Text → View → Datum → World → Entry lowered_sorts
@@ -206,5 +210,5 @@ abbrev pub lowered : Lang Ending
 lowered = record { sorts = lowered_sorts; step = step; start = start; resume = resume; missing = MissingProcedure; busy = ActiveProcedure; plain = fortran.Plain }
 
 unfoldable pub lowered_opened : Unit {0}
-unfolding to onward past keeping storing put_at put_text_at put_label_at testing to_place jump passed_by selecting label_held passed_before to_held jumping branching resting waiting calling answering answering_by course_of coursing acting done step begun start gone_on resumed_at resume
+unfolding to onward past keeping storing put_at put_text_at put_label_at testing to_place jump passed_by selecting label_held passed_before to_held jumping resting waiting calling answering answer answering_by course_of coursing acting done step begun start gone_on resumed_at resume
 lowered_opened = tt

@@ -40,12 +40,15 @@ pub data Step : Type 0 where
   -- to the step behind that goes to the label which the place holds, of those allowed, each with such a step; where none are written, to that label (11.3)
   JumpBy : Pure → List ℕ → Step
   Pass : Step
-  -- a temporary gets the answer of a function that is called (15.2, 15.5)
+  -- a temporary gets the answer of a function that is called, or the number of the alternate return of a subroutine (15.2, 15.5, 15.8)
   CallFor : ℕ → Callee → Pures → Step
-  -- a subroutine is called; a temporary gets the label of its alternate return, if it takes one (15.6)
+  -- a subroutine is called to which no label is passed; a temporary gets nothing (15.6)
   CallSub : ℕ → Bytes → Pures → Step
-  -- to the label that the temporary holds, or on where it holds none
-  Branch : ℕ → Step
+  -- behind the call of a subroutine to which labels are passed: to the step behind that the number in the temporary picks, of so many that each go to
+  -- a label, or past them all (15.6.2.3)
+  Branch : ℕ → ℕ → Step
+  -- such a step: to the label of an alternate return
+  Way : ℕ → Step
   -- answers the caller (15.8)
   Back : Step
   -- answers the caller by the number of an alternate return

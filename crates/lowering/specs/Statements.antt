@@ -6,7 +6,7 @@ use Rattle.l_core.specs.f_tree.Terms.{Add, IsLess, IsLessOrEqual, IsEqual, IsGre
 use Rattle.l_core.specs.f_tree.Facts.{Direction, Layout, Controls, AuxiliaryKind, Item, Repeated, Turn, Work, Done, Before, Head, ToSet, ToSetLabel, ToGo, ToPick, ToGoAssigned, ToGoBySign, ToGuard, ToEnterArm, ToLoop, ToTestLoop, ToCall, ToReturn, ToStop, ToBegin, ToAuxiliary, ToEnd, Form, Passes, On}
 use Rattle.l_core.specs.f_tree.Step.{contains}
 use Rattle.l_core.specs.Pures.{Pure, Constant, Load, Operated, Chosen, Pures, NoPure, AndPure}
-use Rattle.l_core.specs.Steps.{Starts, Takes, Finishes, Auxiliary, Step, Put, PutLabel, Unless, Again, AgainIf, Jump, Select, JumpBy, CallSub, Branch, Back, BackBy, Halt, Acts}
+use Rattle.l_core.specs.Steps.{Starts, Takes, Finishes, Auxiliary, Step, Put, PutLabel, Unless, Again, AgainIf, Jump, Select, JumpBy, CallFor, CallSub, Branch, Way, Back, BackBy, Halt, Acts}
 use Rattle.lowering.specs.Expressions.{Purpose, ForUse, ForCall, ForLater, Lowered, and_then, ahead, lower, lower_all}
 
 -- operands, and what is done with them; none where there are other operands than the statement takes
@@ -104,12 +104,31 @@ unfoldable mutual
   passes_label NoMore = false
   passes_label (More t ts) = may_be_label t || passes_label ts
 
-unfoldable pub branch_code : Bool → ℕ → List Step
-branch_code true k = Branch k ∷ []
-branch_code false k = []
+-- the labels that are written among the operands of a CALL, in their order
+unfoldable pub label_written : Term → List ℕ
+label_written (Val (IsLabel l)) = l ∷ []
+label_written t = []
 
-unfoldable pub call_code : ℕ → Bytes → Bool → Pures → Option (List Step)
-call_code k name labels ps = Some (CallSub k name ps ∷ branch_code labels k)
+unfoldable pub labels_written : Terms → List ℕ
+labels_written NoMore = []
+labels_written (More t ts) = label_written t ++ labels_written ts
+
+-- a label is passed that is not written
+unfoldable pub hides_label : Term → Bool
+hides_label (Val (IsLabel l)) = false
+hides_label t = may_be_label t
+
+unfoldable pub hides_labels : Terms → Bool
+hides_labels NoMore = false
+hides_labels (More t ts) = hides_label t || hides_labels ts
+
+-- a CALL, given the labels that are passed: where there are some, what the subroutine answers picks one of the ways behind (15.6.2.3)
+unfoldable pub call_steps : ℕ → Bytes → List ℕ → Pures → List Step
+call_steps k name [] ps = CallSub k name ps ∷ []
+call_steps k name (l ∷ ls) ps = CallFor k (record { name = name; want = AsSubroutine }) ps ∷ Branch k (length (l ∷ ls)) ∷ map Way (l ∷ ls)
+
+unfoldable pub call_code : ℕ → Bytes → Terms → Pures → Option (List Step)
+call_code k name operands ps = if hides_labels operands then None else Some (call_steps k name (labels_written operands) ps)
 
 unfoldable pub back_code : Pures → Option (List Step)
 back_code NoPure = Some (Back ∷ [])
@@ -159,7 +178,7 @@ unfoldable mutual
   head_code once k n ToEnterArm operands = with_operands (lower_all NoPure ForUse k operands) (unless_code n [])
   head_code once k n (ToLoop label) operands = with_operands (loop_operands k operands) (loop_code once n)
   head_code once k n (ToTestLoop label) operands = with_operands (lower_all NoPure ForUse k operands) (unless_code n [])
-  head_code once k n (ToCall name) operands = with_operands (lower_all NoPure ForCall k operands) (call_code k name (passes_label operands))
+  head_code once k n (ToCall name) operands = with_operands (lower_all NoPure ForCall k operands) (call_code k name operands)
   head_code once k n ToReturn operands = with_operands (lower_all NoPure ForUse k operands) back_code
   head_code once k n (ToStop text) NoMore = Some (Halt text ∷ [])
   head_code once k n (ToBegin way layout controls work) operands = with_operands (lower_all NoPure ForUse k operands) (begin_code way layout controls (work_code k work))
@@ -168,5 +187,5 @@ unfoldable mutual
   head_code once k n head operands = None
 
 unfoldable pub statements_opened : Unit {0}
-unfolding behind_operands with_operands put_code put_label_code select_code each_once jump_by_code sign_code unless_code guard_code loop_operands test_by loop_test loop_code back_by turn_code wants_no_value may_be_label passes_label branch_code call_code back_code item_purpose item_code work_code begin_code auxiliary_code form_code head_code
+unfolding behind_operands with_operands put_code put_label_code select_code each_once jump_by_code sign_code unless_code guard_code loop_operands test_by loop_test loop_code back_by turn_code wants_no_value may_be_label passes_label label_written labels_written hides_label hides_labels call_steps call_code back_code item_purpose item_code work_code begin_code auxiliary_code form_code head_code
 statements_opened = tt

@@ -1,16 +1,16 @@
 -- The text of a program unit: the steps of its statements in their order, with the ends of the loops and of the arms. How many steps a
 -- statement takes does not depend on where it stands. ANSI X3.9-1978, sections 3.5, 11.6 to 11.10 and 15.7.
 use Rattle.std.specs.List.{list_any}
-use Rattle.std.specs.Prelude.{ℕ, zero, suc, ◌+◌, ◌-◌, nat_eq, Bool, true, false, not, List, [], ◌∷◌, ◌++◌, length, filter, Option, Some, None, slice_get, option_map, if◌then◌else◌}
+use Rattle.std.specs.Prelude.{ℕ, zero, suc, ◌+◌, ◌-◌, nat_eq, Bool, true, false, not, ◌&&◌, ◌||◌, List, [], ◌∷◌, ◌++◌, length, filter, Option, Some, None, slice_get, option_map, if◌then◌else◌}
 use Rattle.l_core.specs.f_tree.Terms.{NoMore}
-use Rattle.l_core.specs.f_tree.Facts.{ToSetLabel, ToGo, ToPick, ToGoAssigned, ToGoBySign, ToGuard, ToLoop, ToTestLoop, ToBegin, ToAuxiliary, Head, Form, Passes, On, Mark, Plain, Opens, Arm, Closes, Line, ProgramUnit, Facts}
+use Rattle.l_core.specs.f_tree.Facts.{ToCall, ToSetLabel, ToGo, ToPick, ToGoAssigned, ToGoBySign, ToGuard, ToLoop, ToTestLoop, ToBegin, ToAuxiliary, Head, Form, Passes, On, Mark, Plain, Opens, Arm, Closes, Line, ProgramUnit, Facts}
 use Rattle.l_core.specs.Steps as step
 use Rattle.l_core.specs.f_tree.Places.{place_of_label, arm_after}
 use Rattle.l_core.specs.f_tree.Nests.{Range, open_at, goes_past}
 use Rattle.l_core.specs.Pures.{Pures}
-use Rattle.l_core.specs.Steps.{Step, Skip, Again, Pass, Card, OpensLoop, OpensLoopOnce, ClosesLoop, OpensWhile, ClosesWhile, OpensArm, NextArm, ClosesArm, Marked, Text}
+use Rattle.l_core.specs.Steps.{Step, Skip, Again, Pass, CallFor, Branch, Card, OpensLoop, OpensLoopOnce, ClosesLoop, OpensWhile, ClosesWhile, OpensArm, NextArm, ClosesArm, Marked, Text}
 use Rattle.lowering.specs.Expressions.{Lowered}
-use Rattle.lowering.specs.Statements.{loop_operands, turn_code, form_code}
+use Rattle.lowering.specs.Statements.{loop_operands, wants_no_value, labels_written, turn_code, form_code}
 
 -- ## Temporaries
 
@@ -42,6 +42,7 @@ label_in (Some l) = l ∷ []
 unfoldable mutual
   pub named_by : Form → List ℕ
   named_by Passes = []
+  named_by (On (ToCall name) operands) = labels_written operands
   named_by (On head operands) = named_by_head head
 
   pub named_by_head : Head → List ℕ
@@ -251,10 +252,28 @@ text_with c (Some steps) = Some (record {
   marks = lines_marks c.program 0 c.program.lines;
 })
 
+-- is it kept by which alternate return a subroutine comes back
+unfoldable pub keeps_return : Step → Bool
+keeps_return (CallFor k callee ps) = wants_no_value callee.want
+keeps_return st = false
+
+unfoldable pub begins_with_branch : List Step → Bool
+begins_with_branch (Branch k count ∷ steps) = true
+begins_with_branch steps = false
+
+-- a subroutine is called by CALL alone, and has no value (15.6): where its return is kept, the branch by it stands behind
+unfoldable pub calls_well : List Step → Bool
+calls_well [] = true
+calls_well (st ∷ steps) = (not (keeps_return st) || begins_with_branch steps) && calls_well steps
+
+unfoldable pub if_called_well : Option (List Step) → Option (List Step)
+if_called_well None = None
+if_called_well (Some steps) = if calls_well steps then Some steps else None
+
 -- a unit all of whose statements are lowered; none where a form is not lowered yet
 unfoldable pub lowered_unit : Facts → Option Text
-lowered_unit c = text_with c (lines_code c.program 0 c.program.lines)
+lowered_unit c = text_with c (if_called_well (lines_code c.program 0 c.program.lines))
 
 unfoldable pub units_opened : Unit {0}
-unfolding loop_at_line loop_lowered free_of free_at label_in named_by named_by_head all_named is_named pass_code steps_of is_counted turn_size ended_at turn_sizes skip_size form_size line_size size_before start_of mark_at own_start form_size_at own_end block_end_from block_end_of arm_room turns_up_to loop_exit range_of loop_room room_of way_back turn_of turns_of skip_code line_code both_codes lines_code marked card_mark arm_marks loop_marks turn_marks line_marks lines_marks text_with lowered_unit
+unfolding loop_at_line loop_lowered free_of free_at label_in named_by named_by_head all_named is_named pass_code steps_of is_counted turn_size ended_at turn_sizes skip_size form_size line_size size_before start_of mark_at own_start form_size_at own_end block_end_from block_end_of arm_room turns_up_to loop_exit range_of loop_room room_of way_back turn_of turns_of skip_code line_code both_codes lines_code marked card_mark arm_marks loop_marks turn_marks line_marks lines_marks text_with keeps_return begins_with_branch calls_well if_called_well lowered_unit
 units_opened = tt

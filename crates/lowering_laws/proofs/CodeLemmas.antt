@@ -1,5 +1,5 @@
 -- The code of a statement is its operands' steps and what closes them.
-use Rattle.std.specs.Prelude.{◌≡◌, ℕ, suc, ◌+◌, Bool, true, false, List, [], ◌∷◌, ◌++◌, length, map, Option, Some, None}
+use Rattle.std.specs.Prelude.{◌≡◌, ℕ, suc, ◌+◌, Bool, true, false, List, [], ◌∷◌, ◌++◌, length, map, Option, Some, None, if◌then◌else◌}
 use Rattle.std.proofs.Common.{refl, sym, ap, subst, true≢false, ◌∙◌}
 use Rattle.fortran_laws.specs.f_tree.Values.{Bytes}
 use Rattle.fortran_laws.specs.f_tree.Terms.{Term, Terms, NoMore, More}
@@ -8,9 +8,9 @@ use Rattle.fortran_laws.specs.f_tree.Facts.{Direction, Layout, Controls, Auxilia
 use Rattle.fortran_laws.specs.f_tree.Transfers.{next_of}
 use Rattle.fortran_laws.specs.f_tree.Places.{terminal_of, arm_after}
 use Rattle.lowering.specs.l_core.Pures.{Pures, NoPure, AndPure, Pure}
-use Rattle.lowering.specs.l_core.Steps.{Starts, Takes, Finishes, Auxiliary, Step, Put, PutLabel, Unless, Jump, Select, JumpBy, CallSub, Back, BackBy, Halt, Acts, Text}
+use Rattle.lowering.specs.l_core.Steps.{Starts, Takes, Finishes, Auxiliary, Step, Put, PutLabel, Unless, Jump, Select, JumpBy, Back, BackBy, Halt, Acts, Text}
 use Rattle.lowering.specs.Expressions.{Purpose, ForUse, ForCall, ForLater, Lowered, plain, no_operand, lower_all}
-use Rattle.lowering.specs.Statements.{behind_operands, with_operands, put_code, put_label_code, select_code, each_once, jump_by_code, sign_code, unless_code, guard_code, loop_operands, test_by, loop_test, loop_code, passes_label, branch_code, call_code, back_code, item_purpose, item_code, work_code, begin_code, auxiliary_code, form_code, head_code}
+use Rattle.lowering.specs.Statements.{behind_operands, with_operands, put_code, put_label_code, select_code, each_once, jump_by_code, sign_code, unless_code, guard_code, loop_operands, test_by, loop_test, loop_code, labels_written, hides_labels, call_steps, call_code, back_code, item_purpose, item_code, work_code, begin_code, auxiliary_code, form_code, head_code}
 use Rattle.lowering.specs.Units.{loop_exit, steps_of}
 use Rattle.lowering_laws.specs.Midway.{InOrder, OfLoop}
 use Rattle.lowering_laws.specs.Layer.{ends_of, IsFlat, IsNextArm, IsLoop, by_sign_steps, IsClosing, for_set, for_set_label, for_go, for_pick, for_go_assigned, for_go_by_sign, for_guard, for_arm, for_test, for_call, for_return, for_return_by, for_stop, for_end, for_begin, for_item, for_finish, for_auxiliary, IsCode, no_code, some_code, IsModeOf, for_loop}
@@ -125,9 +125,13 @@ module _ (u : Text) (k : ℕ) (o : Option ℕ) where
   guard_closes form under ts (AndPure p NoPure) more code e = subst (λ z. IsClosing u k o (head.ToGuard form) ts (AndPure p NoPure) z) (let all : Unless p (length under) ∷ under ≡ more = cc in all) (for_guard code)
   guard_closes form under ts (AndPure p (AndPure q ps)) more code e = absurd (cc)
 
-  call_closes : (name : Bytes) (ts : Terms) (ps : Pures) (more : List Step) → call_code k name (passes_label ts) ps ≡ Some more → IsClosing u k o (head.ToCall name) ts ps more
+  call_by : (name : Bytes) (ts : Terms) (ps : Pures) (more : List Step) (b : Bool) → hides_labels ts ≡ b → (if b then None else Some (call_steps k name (labels_written ts) ps)) ≡ Some more → IsClosing u k o (head.ToCall name) ts ps more
+  call_by name ts ps more true hides e = absurd (cc)
+  call_by name ts ps more false hides e = subst (λ z. IsClosing u k o (head.ToCall name) ts ps z) (let all : call_steps k name (labels_written ts) ps ≡ more = cc in all) (for_call hides)
+
+  call_closes : (name : Bytes) (ts : Terms) (ps : Pures) (more : List Step) → call_code k name ts ps ≡ Some more → IsClosing u k o (head.ToCall name) ts ps more
   unfolding call_code
-  call_closes name ts ps more e = subst (λ z. IsClosing u k o (head.ToCall name) ts ps z) (let all : CallSub k name ps ∷ branch_code (passes_label ts) k ≡ more = cc in all) for_call
+  call_closes name ts ps more e = call_by name ts ps more (hides_labels ts) refl e
 
   return_closes : (ts : Terms) (ps : Pures) (more : List Step) → back_code ps ≡ Some more → IsClosing u k o head.ToReturn ts ps more
   unfolding back_code

@@ -3,16 +3,14 @@ use Rattle.std.specs.Prelude.{◌≡◌, ℕ, zero, suc, ◌+◌, ◌-◌, ◌<�
 use Rattle.std.proofs.Common.{refl, sym, ap, ◌∙◌, subst, arith}
 use Rattle.fortran_laws.specs.simulation.Machine.{Event, Goes}
 use Rattle.fortran_laws.specs.simulation.LocalSimulation.{Does, last, more}
-use Rattle.fortran_laws.specs.f_tree.Values as value
-use Rattle.fortran_laws.specs.f_tree.Values.{Datum, IsLabel}
 use Rattle.fortran_laws.specs.f_tree.World.{World, Ending}
 use Rattle.fortran_laws.specs.f_tree.Facts.{Frame}
-use Rattle.lowering.specs.l_core.Pures.{Temporaries}
-use Rattle.lowering.specs.l_core.Steps.{Skip, Again, Pass, Branch, Text}
-use Rattle.lowering.specs.l_core.Machine.{lowered, lowered_sorts, step, done, past, branching, jump, to_place, onward, to}
+use Rattle.lowering.specs.l_core.Pures.{Temporaries, if_kept, meant}
+use Rattle.lowering.specs.l_core.Steps.{Step, Skip, Again, Pass, Branch, Way, Text}
+use Rattle.lowering.specs.l_core.Machine.{lowered, lowered_sorts, step, done, past, selecting, jump, to_place, onward, to}
 use Rattle.lowering.specs.l_core.Costs.{cost, rest}
-use Rattle.lowering_laws.specs.Walks.{at_step, IsOrdinary, Keeps, stays, goes}
-use Rattle.lowering_laws.specs.Layer.{Leads, there, by_pass, by_skip, BranchesTo, Arrives, plainly, by_branch}
+use Rattle.lowering_laws.specs.Walks.{at_step, IsNoBranch, IsOrdinary, Keeps, stays, goes}
+use Rattle.lowering_laws.specs.Layer.{Leads, there, by_pass, by_skip, Picks, Arrives, plainly, by_branch, by_way}
 use Rattle.lowering_laws.proofs.WalkLemmas.{ordinary_by}
 
 -- a step and those behind it
@@ -59,108 +57,122 @@ cost_of_rest : (cs : List ℕ) (p : ℕ) → cost cs p ≤ rest cs p
 cost_of_rest cs p = let one = rest_step cs p in omega (arith, one)
 
 module _ (u : Text) (f : Frame) (h : ℕ) (w : World) (cs : List ℕ) where
-  -- a branch behind a CALL stands elsewhere than an ordinary step
-  stands_apart : (b p k : ℕ) → slice_get u.steps b ≡ Some (Branch k) → IsOrdinary u p → b ≡ p → ⊥
-  stands_apart b p k there' ordinary same = ordinary k (subst (λ z. slice_get u.steps z ≡ Some (Branch k)) same there')
+  -- costs that are the same but for the branches behind a CALL and their ways
+  abbrev Agrees : List ℕ → Type 0
+  Agrees ds = (p : ℕ) → IsOrdinary u p → cost ds p ≡ cost cs p
 
-  -- a way, a step behind it, and what both cost, also without what a branch behind a CALL costs
+  -- the costs without that of a step that is none of the ordinary ones
+  agrees_without : (b : ℕ) (st : Step) (ds : List ℕ) → slice_get u.steps b ≡ Some st → (IsNoBranch st → ⊥) → Agrees ds → Agrees (without b ds)
+  agrees_without b st ds there' branch agrees p ordinary =
+      cost_without b p ds (λ same. branch (ordinary st (subst (λ z. slice_get u.steps z ≡ Some st) same there'))) ∙ agrees p ordinary
+
+  -- a way, a step behind it, and what both cost, by all costs that are the same
   record Track (p : ℕ) (m : Temporaries) (q : ℕ) (e : Event Ending lowered_sorts) : Type 0 where
     count : ℕ
     does : Does lowered (λ x. cost cs x.at) u (at_step f h p m) w count e
-    few : count + rest cs (suc q) ≤ rest cs p
-    apart : (b k : ℕ) → slice_get u.steps b ≡ Some (Branch k) → count + rest (without b cs) (suc q) ≤ rest (without b cs) p
+    few : (ds : List ℕ) → Agrees ds → count + rest ds (suc q) ≤ rest ds p
 
   -- a way, and what is behind it
   record Walked (p : ℕ) (m : Temporaries) (q n : ℕ) (e : Event Ending lowered_sorts) : Type 0 where
     count : ℕ
     does : Does lowered (λ x. cost cs x.at) u (at_step f h p m) w count e
-    few : count + rest cs q ≤ rest cs p + n
-    apart : (b k : ℕ) → slice_get u.steps b ≡ Some (Branch k) → count + rest (without b cs) q ≤ rest (without b cs) p + n
+    few : (ds : List ℕ) → Agrees ds → count + rest ds q ≤ rest ds p + n
 
   track_to : {p q : ℕ} {m m' : Temporaries} (e : Event Ending lowered_sorts) → Keeps u f h w p m q m' → IsOrdinary u q → step u (at_step f h q m') w ≡ e → Track p m q e
-  track_to {p = p} e stays ordinary st = let one = rest_step cs p in record {
-    count = cost cs p;
-    does = last st refl;
-    few = omega (arith, one);
-    apart = λ b k there'.
-        let one' = rest_step (without b cs) p in
-        let same = cost_without b p cs (stands_apart b p k there' ordinary) in
-        omega (arith, one', same);
-  }
+  track_to {p = p} e stays ordinary st =
+      record { count = cost cs p; does = last st refl; few = λ ds agrees. let one = rest_step ds p in let same = agrees p ordinary in omega (arith, one, same) }
   track_to {p = p} {q = q} e (goes {p' = p'} ordinary first forward way) ordinary' st =
       let later = track_to e way ordinary' st in
-      let one = rest_step cs p in
-      let falls = rest_falls cs (suc p) p' forward in
-      let few = later.few in
       record {
         count = cost cs p + later.count;
         does = more first later.does refl;
-        few = omega (arith, one, falls, few);
-        apart = λ b k there'.
-            let one' = rest_step (without b cs) p in
-            let falls' = rest_falls (without b cs) (suc p) p' forward in
-            let few' = later.apart b k there' in
-            let same = cost_without b p cs (stands_apart b p k there' ordinary) in
-            omega (arith, one', falls', few', same);
+        few = λ ds agrees.
+            let one = rest_step ds p in
+            let falls = rest_falls ds (suc p) p' forward in
+            let few = later.few ds agrees in
+            let same = agrees p ordinary in
+            omega (arith, one, falls, few, same);
       }
 
-  -- from where the text stands it may first take a branch behind a CALL
+  -- a way, and what is behind it, with what both cost
+  walk : {p q : ℕ} {m m' : Temporaries} (n : ℕ) (e : Event Ending lowered_sorts) → Keeps u f h w p m q m' → Does lowered (λ x. cost cs x.at) u (at_step f h q m') w n e → Walked p m q n e
+  walk n e stays does = record { count = n; does = does; few = λ ds agrees. omega arith }
+  walk {p = p} {q = q} n e (goes {p' = p'} ordinary first forward way) does =
+      let later = walk n e way does in
+      record {
+        count = cost cs p + later.count;
+        does = more first later.does refl;
+        few = λ ds agrees.
+            let one = rest_step ds p in
+            let falls = rest_falls ds (suc p) p' forward in
+            let few = later.few ds agrees in
+            let same = agrees p ordinary in
+            omega (arith, one, falls, few, same);
+      }
+
+  -- from where the text stands it may first take a branch behind a CALL, and the way that it picks
   pub data Begins : ℕ → Temporaries → ℕ → Type 0 where
     at_it : {p : ℕ} {m : Temporaries} → Begins p m p
-    branched : {p r k : ℕ} {m : Temporaries} → slice_get u.steps p ≡ Some (Branch k) → step u (at_step f h p m) w ≡ Goes (at_step f h r m) w → Begins p m r
+    branched : {p r k n : ℕ} {m : Temporaries} → slice_get u.steps p ≡ Some (Branch k n) → step u (at_step f h p m) w ≡ Goes (at_step f h r m) w → Begins p m r
+    by_both : {p q r k n l : ℕ} {m : Temporaries} → slice_get u.steps p ≡ Some (Branch k n) → step u (at_step f h p m) w ≡ Goes (at_step f h q m) w →
+        slice_get u.steps q ≡ Some (Way l) → step u (at_step f h q m) w ≡ Goes (at_step f h r m) w → Begins p m r
+
+  -- what that costs is left out of what the others cost
+  record Begun (p : ℕ) (m : Temporaries) (r : ℕ) : Type 0 where
+    before : ℕ
+    others : List ℕ
+    agrees : Agrees others
+    whole : before + rest others 0 ≡ rest cs 0
+    does : (n : ℕ) (e : Event Ending lowered_sorts) → Does lowered (λ x. cost cs x.at) u (at_step f h r m) w n e → Does lowered (λ x. cost cs x.at) u (at_step f h p m) w (before + n) e
+
+  branch_apart : (p q k n l : ℕ) → slice_get u.steps p ≡ Some (Branch k n) → slice_get u.steps q ≡ Some (Way l) → p ≡ q → ⊥
+  branch_apart p q k n l there' there'' same = absurd (let both : slice_get u.steps p ≡ Some (Way l) = ap (slice_get u.steps) same ∙ there'' in cc)
+
+  begun : {p r : ℕ} {m : Temporaries} → Begins p m r → Begun p m r
+  begun {p = p} {m = m} at_it = record {
+    before = 0;
+    others = cs;
+    agrees = λ n ordinary. refl;
+    whole = omega arith;
+    does = λ n e does. let none : n ≡ 0 + n = omega arith in subst (λ z. Does lowered (λ x. cost cs x.at) u (at_step f h p m) w z e) none does;
+  }
+  begun {p = p} (branched {k = k} {n = n} there' first) =
+      record { before = cost cs p; others = without p cs; agrees = agrees_without p (Branch k n) cs there' (λ none. none) (λ q ordinary. refl); whole = without_one p cs; does = λ n' e does. more first does refl }
+  begun {p = p} (by_both {q = q} {k = k} {n = n} {l = l} there' first there'' second) =
+      let one = without_one p cs in
+      let two = without_one q (without p cs) in
+      let same = cost_without p q cs (branch_apart p q k n l there' there'') in
+      record {
+        before = cost cs p + cost cs q;
+        others = without q (without p cs);
+        agrees = agrees_without q (Way l) (without p cs) there'' (λ none. none) (agrees_without p (Branch k n) cs there' (λ none. none) (λ q' ordinary. refl));
+        whole = omega (arith, one, two, same);
+        does = λ n' e does. more first (more second does refl) (omega arith);
+      }
 
   -- a way, a step behind it, and that they leave over what any step further on costs
-  pub record Way (p : ℕ) (m : Temporaries) (q : ℕ) (e : Event Ending lowered_sorts) : Type 0 where
+  pub record WayThere (p : ℕ) (m : Temporaries) (q : ℕ) (e : Event Ending lowered_sorts) : Type 0 where
     pub count : ℕ
     pub does : Does lowered (λ x. cost cs x.at) u (at_step f h p m) w count e
     pub few : count ≤ rest cs 0
     pub spare : (n : ℕ) → q < n → IsOrdinary u n → count + cost cs n ≤ rest cs 0
 
-  pub way_to : {p r q : ℕ} {m m' : Temporaries} (e : Event Ending lowered_sorts) → Begins p m r → Keeps u f h w r m q m' → IsOrdinary u q → step u (at_step f h q m') w ≡ e → Way p m q e
-  way_to {r = r} {q = q} e at_it way ordinary st =
+  pub way_to : {p r q : ℕ} {m m' : Temporaries} (e : Event Ending lowered_sorts) → Begins p m r → Keeps u f h w r m q m' → IsOrdinary u q → step u (at_step f h q m') w ≡ e → WayThere p m q e
+  way_to {r = r} {q = q} e begins way ordinary st =
+      let b = begun begins in
+      let whole = b.whole in
       let all = track_to e way ordinary st in
-      let few = all.few in
-      let falls = rest_falls cs 0 r (omega arith) in
+      let few = all.few b.others b.agrees in
+      let falls = rest_falls b.others 0 r (omega arith) in
       record {
-        count = all.count;
-        does = all.does;
-        few = omega (arith, few, falls);
-        spare = λ n behind ordinary'. let down = rest_falls cs (suc q) n behind in let one = cost_of_rest cs n in omega (arith, few, falls, down, one);
-      }
-  way_to {p = p} {r = r} {q = q} e (branched {k = k} there' first) way ordinary st =
-      let all = track_to e way ordinary st in
-      let few = all.apart p k there' in
-      let falls = rest_falls (without p cs) 0 r (omega arith) in
-      let one = without_one p cs in
-      record {
-        count = cost cs p + all.count;
-        does = more first all.does refl;
-        few = omega (arith, few, falls, one);
+        count = b.before + all.count;
+        does = b.does all.count e all.does;
+        few = omega (arith, few, falls, whole);
         spare = λ n behind ordinary'.
-            let down = rest_falls (without p cs) (suc q) n behind in
-            let one' = cost_of_rest (without p cs) n in
-            let same = cost_without p n cs (stands_apart p n k there' ordinary') in
-            omega (arith, few, falls, one, down, one', same);
-      }
-
-  -- a way, and what is behind it, with what both cost
-  walk : {p q : ℕ} {m m' : Temporaries} (n : ℕ) (e : Event Ending lowered_sorts) → Keeps u f h w p m q m' → Does lowered (λ x. cost cs x.at) u (at_step f h q m') w n e → Walked p m q n e
-  walk n e stays does = record { count = n; does = does; few = omega arith; apart = λ b k there'. omega arith }
-  walk {p = p} {q = q} n e (goes {p' = p'} ordinary first forward way) does =
-      let later = walk n e way does in
-      let one = rest_step cs p in
-      let falls = rest_falls cs (suc p) p' forward in
-      let few = later.few in
-      record {
-        count = cost cs p + later.count;
-        does = more first later.does refl;
-        few = omega (arith, one, falls, few);
-        apart = λ b k there'.
-            let one' = rest_step (without b cs) p in
-            let falls' = rest_falls (without b cs) (suc p) p' forward in
-            let few' = later.apart b k there' in
-            let same = cost_without b p cs (stands_apart b p k there' ordinary) in
-            omega (arith, one', falls', few', same);
+            let down = rest_falls b.others (suc q) n behind in
+            let one = cost_of_rest b.others n in
+            let same = b.agrees n ordinary' in
+            omega (arith, few, falls, whole, down, one, same);
       }
 
   -- a way, one step back, a way that ends before the first one began, and a step behind it: no step is taken twice
@@ -177,36 +189,26 @@ module _ (u : Text) (f : Frame) (h : ℕ) (w : World) (cs : List ℕ) where
   pub way_back_to : {p r s n q' q e : ℕ} {m m' : Temporaries} (ev : Event Ending lowered_sorts) → Begins p m r → Keeps u f h w r m s m → slice_get u.steps s ≡ Some (Again n) → s - n ≡ q' →
       Keeps u f h w q' m q m' → IsOrdinary u q → step u (at_step f h q m') w ≡ ev → e ≤ r → q < e → WayBack p m q e ev
   way_back_to {r = r} {s = s} {n = n} {q' = q'} {q = q} {e = e} {m = m} ev begins way there' is way' ordinary st below inside =
+      let b = begun begins in
+      let whole = b.whole in
       let later = track_to ev way' ordinary st in
       let all = walk (cost cs s + later.count) ev way (more (back_step s n q' m there' is) later.does refl) in
-      by_begin begins all.count all.does
-      (let few = all.few in let one = rest_step cs s in let few' = later.few in let down = rest_falls cs (suc q) r (omega (arith, below, inside)) in let falls = rest_falls cs 0 q' (omega arith) in omega (arith, few, one, few', down, falls))
-      (λ n' behind under.
-      let few = all.few in let one = rest_step cs s in let few' = later.few in let down = rest_falls cs (suc n') r (omega (arith, below, under)) in let falls = rest_falls cs 0 q' (omega arith) in
-      let one' = rest_step cs n' in let down' = rest_falls cs (suc q) n' behind in omega (arith, few, one, few', down, falls, one', down'))
-      (λ b k branch.
-      let few = all.apart b k branch in let one = rest_step (without b cs) s in let few' = later.apart b k branch in let down = rest_falls (without b cs) (suc q) r (omega (arith, below, inside)) in
-      let falls = rest_falls (without b cs) 0 q' (omega arith) in let same = cost_without b s cs (stands_apart b s k branch (ordinary_by u s (Again n) there' tt)) in omega (arith, few, one, few', down, falls, same))
-      (λ b k branch n' behind under.
-      let few = all.apart b k branch in let one = rest_step (without b cs) s in let few' = later.apart b k branch in let down = rest_falls (without b cs) (suc n') r (omega (arith, below, under)) in
-      let falls = rest_falls (without b cs) 0 q' (omega arith) in let same = cost_without b s cs (stands_apart b s k branch (ordinary_by u s (Again n) there' tt)) in
-      let one' = rest_step (without b cs) n' in let down' = rest_falls (without b cs) (suc q) n' behind in omega (arith, few, one, few', down, falls, same, one', down'))
-    where
-      by_begin : {p r q e : ℕ} {m : Temporaries} {ev : Event Ending lowered_sorts} → Begins p m r → (count : ℕ) → Does lowered (λ x. cost cs x.at) u (at_step f h r m) w count ev → count ≤ rest cs 0 →
-          ((n : ℕ) → q < n → n < e → count + cost cs n ≤ rest cs 0) → ((b k : ℕ) → slice_get u.steps b ≡ Some (Branch k) → count ≤ rest (without b cs) 0) →
-          ((b k : ℕ) → slice_get u.steps b ≡ Some (Branch k) → (n : ℕ) → q < n → n < e → count + cost (without b cs) n ≤ rest (without b cs) 0) → WayBack p m q e ev
-      by_begin at_it count does few spare few' spare' = record { count = count; does = does; few = few; spare = λ n behind under ordinary. spare n behind under }
-      by_begin {p = p} (branched {k = k} there' first) count does few spare few' spare' =
-          let one = without_one p cs in
-          record {
-            count = cost cs p + count;
-            does = more first does refl;
-            few = (let le = few' p k there' in omega (arith, le, one));
-            spare = λ n behind under ordinary'.
-                let le = spare' p k there' n behind under in
-                let same = cost_without p n cs (stands_apart p n k there' ordinary') in
-                omega (arith, le, one, same);
-          }
+      let few = all.few b.others b.agrees in
+      let few' = later.few b.others b.agrees in
+      let one = rest_step b.others s in
+      let same = b.agrees s (ordinary_by u s (Again n) there' tt) in
+      let falls = rest_falls b.others 0 q' (omega arith) in
+      record {
+        count = b.before + all.count;
+        does = b.does all.count ev all.does;
+        few = (let down = rest_falls b.others (suc q) r (omega (arith, below, inside)) in omega (arith, few, one, few', down, falls, whole, same));
+        spare = λ n' behind under ordinary'.
+            let down = rest_falls b.others (suc n') r (omega (arith, below, under)) in
+            let one' = rest_step b.others n' in
+            let down' = rest_falls b.others (suc q) n' behind in
+            let same' = b.agrees n' ordinary' in
+            omega (arith, few, one, few', down, falls, one', down', whole, same, same');
+      }
 
   -- a way, and more steps of which none is taken twice
   pub record WayOn (p : ℕ) (m : Temporaries) (ev : Event Ending lowered_sorts) : Type 0 where
@@ -214,46 +216,48 @@ module _ (u : Text) (f : Frame) (h : ℕ) (w : World) (cs : List ℕ) where
     pub does : Does lowered (λ x. cost cs x.at) u (at_step f h p m) w count ev
     pub few : count ≤ rest cs 0
 
-  begin_on : {p r : ℕ} {m : Temporaries} {ev : Event Ending lowered_sorts} → Begins p m r → (count : ℕ) → Does lowered (λ x. cost cs x.at) u (at_step f h r m) w count ev → count ≤ rest cs 0 →
-      ((b k : ℕ) → slice_get u.steps b ≡ Some (Branch k) → count ≤ rest (without b cs) 0) → WayOn p m ev
-  begin_on at_it count does few few' = record { count = count; does = does; few = few }
-  begin_on {p = p} (branched {k = k} there' first) count does few few' =
-      let one = without_one p cs in
-      record { count = cost cs p + count; does = more first does refl; few = (let le = few' p k there' in omega (arith, le, one)) }
-
   pub way_on : {p r q : ℕ} {m m' : Temporaries} (n : ℕ) (ev : Event Ending lowered_sorts) → Begins p m r → Keeps u f h w r m q m' → Does lowered (λ x. cost cs x.at) u (at_step f h q m') w n ev → n ≡ cost cs q + cost cs (suc q) →
       IsOrdinary u q → IsOrdinary u (suc q) → WayOn p m ev
   way_on {r = r} {q = q} n ev begins way does is ordinary ordinary' =
+      let b = begun begins in
+      let whole = b.whole in
       let all = walk n ev way does in
-      begin_on begins all.count all.does
-      (let few = all.few in let one = rest_step cs q in let two = rest_step cs (suc q) in let falls = rest_falls cs 0 r (omega arith) in omega (arith, few, one, two, falls, is))
-      (λ b k branch.
-      let few = all.apart b k branch in let one = rest_step (without b cs) q in let two = rest_step (without b cs) (suc q) in let falls = rest_falls (without b cs) 0 r (omega arith) in
-      let same = cost_without b q cs (stands_apart b q k branch ordinary) in let same' = cost_without b (suc q) cs (stands_apart b (suc q) k branch ordinary') in
-      omega (arith, few, one, two, falls, is, same, same'))
+      let few = all.few b.others b.agrees in
+      let one = rest_step b.others q in
+      let two = rest_step b.others (suc q) in
+      let falls = rest_falls b.others 0 r (omega arith) in
+      let same = b.agrees q ordinary in
+      let same' = b.agrees (suc q) ordinary' in
+      record { count = b.before + all.count; does = b.does all.count ev all.does; few = omega (arith, few, one, two, falls, is, whole, same, same') }
 
   pub way_one : {p r q : ℕ} {m m' : Temporaries} (n : ℕ) (ev : Event Ending lowered_sorts) → Begins p m r → Keeps u f h w r m q m' → Does lowered (λ x. cost cs x.at) u (at_step f h q m') w n ev → n ≡ cost cs q → IsOrdinary u q → WayOn p m ev
   way_one {r = r} {q = q} n ev begins way does is ordinary =
+      let b = begun begins in
+      let whole = b.whole in
       let all = walk n ev way does in
-      begin_on begins all.count all.does
-      (let few = all.few in let one = rest_step cs q in let falls = rest_falls cs 0 r (omega arith) in omega (arith, few, one, falls, is))
-      (λ b k branch.
-      let few = all.apart b k branch in let one = rest_step (without b cs) q in let falls = rest_falls (without b cs) 0 r (omega arith) in
-      let same = cost_without b q cs (stands_apart b q k branch ordinary) in omega (arith, few, one, falls, is, same))
+      let few = all.few b.others b.agrees in
+      let one = rest_step b.others q in
+      let falls = rest_falls b.others 0 r (omega arith) in
+      let same = b.agrees q ordinary in
+      record { count = b.before + all.count; does = b.does all.count ev all.does; few = omega (arith, few, one, falls, is, whole, same) }
 
   -- two steps behind a way, and one before all of it
   pub way_turn : {p r q t : ℕ} {m : Temporaries} (n : ℕ) (ev : Event Ending lowered_sorts) → Begins p m r → Keeps u f h w r m q m → Does lowered (λ x. cost cs x.at) u (at_step f h q m) w n ev → n ≡ cost cs q + (cost cs (suc q) + cost cs t) → t < r →
       IsOrdinary u q → IsOrdinary u (suc q) → IsOrdinary u t → WayOn p m ev
   way_turn {r = r} {q = q} {t = t} n ev begins way does is below ordinary ordinary' ordinary'' =
+      let b = begun begins in
+      let whole = b.whole in
       let all = walk n ev way does in
-      begin_on begins all.count all.does
-      (let few = all.few in let one = rest_step cs q in let two = rest_step cs (suc q) in let three = rest_step cs t in let down = rest_falls cs (suc t) r below in let falls = rest_falls cs 0 t (omega arith) in
-      omega (arith, few, one, two, three, down, falls, is))
-      (λ b k branch.
-      let few = all.apart b k branch in let one = rest_step (without b cs) q in let two = rest_step (without b cs) (suc q) in let three = rest_step (without b cs) t in
-      let down = rest_falls (without b cs) (suc t) r below in let falls = rest_falls (without b cs) 0 t (omega arith) in
-      let same = cost_without b q cs (stands_apart b q k branch ordinary) in let same' = cost_without b (suc q) cs (stands_apart b (suc q) k branch ordinary') in let same'' = cost_without b t cs (stands_apart b t k branch ordinary'') in
-      omega (arith, few, one, two, three, down, falls, is, same, same', same''))
+      let few = all.few b.others b.agrees in
+      let one = rest_step b.others q in
+      let two = rest_step b.others (suc q) in
+      let three = rest_step b.others t in
+      let down = rest_falls b.others (suc t) r below in
+      let falls = rest_falls b.others 0 t (omega arith) in
+      let same = b.agrees q ordinary in
+      let same' = b.agrees (suc q) ordinary' in
+      let same'' = b.agrees t ordinary'' in
+      record { count = b.before + all.count; does = b.does all.count ev all.does; few = omega (arith, few, one, two, three, down, falls, is, whole, same, same', same'') }
 
   pass_step : (p : ℕ) (m : Temporaries) → slice_get u.steps p ≡ Some Pass → step u (at_step f h p m) w ≡ Goes (at_step f h (suc p) m) w
   unfolding step done onward to
@@ -268,23 +272,19 @@ module _ (u : Text) (f : Frame) (h : ℕ) (w : World) (cs : List ℕ) where
   leads_keep {p = p} m (by_pass e leads) = goes (ordinary_by u p Pass e tt) (pass_step p m e) (omega arith) (leads_keep m leads)
   leads_keep {p = p} m (by_skip {n = n} e leads) = goes (ordinary_by u p (Skip n) e tt) (skip_step p n m e) (omega arith) (leads_keep m leads)
 
-  branches : (p r : ℕ) (m : Temporaries) (d : Datum) → BranchesTo u p d r → branching u (at_step f h p m) w (Some d) ≡ Goes (at_step f h r m) w
-  unfolding branching jump to_place onward to
-  branches p r m (IsLabel l) is = ap (λ x. to_place x (at_step f h p m) w) is
-  branches p r m (value.IsInt z) is = ap (λ n. Goes (at_step f h n m) w) (sym is)
-  branches p r m (value.IsLog z) is = ap (λ n. Goes (at_step f h n m) w) (sym is)
-  branches p r m (value.IsText z) is = ap (λ n. Goes (at_step f h n m) w) (sym is)
-  branches p r m (value.IsSpot z) is = ap (λ n. Goes (at_step f h n m) w) (sym is)
-  branches p r m (value.IsProc z) is = ap (λ n. Goes (at_step f h n m) w) (sym is)
-  branches p r m value.Nothing is = ap (λ n. Goes (at_step f h n m) w) (sym is)
+  picks_step : {p q : ℕ} {m : Temporaries} (picks : Picks u m p q) → step u (at_step f h p m) w ≡ Goes (at_step f h q m) w
+  unfolding step done selecting past to meant if_kept
+  picks_step {p = p} {m = m} picks =
+      ap (done u (at_step f h p m) w) picks.there ∙ ap (λ x. selecting picks.count (at_step f h p m) w (if_kept x)) picks.holds ∙ ap (λ z. Goes (at_step f h z m) w) picks.past
 
-  branch_step : (p r k : ℕ) (m : Temporaries) (d : Datum) → slice_get u.steps p ≡ Some (Branch k) → m k ≡ Some d → BranchesTo u p d r → step u (at_step f h p m) w ≡ Goes (at_step f h r m) w
-  unfolding step done
-  branch_step p r k m d there' holds is = ap (done u (at_step f h p m) w) there' ∙ ap (branching u (at_step f h p m) w) holds ∙ branches p r m d is
+  way_step : (p r l : ℕ) (m : Temporaries) → slice_get u.steps p ≡ Some (Way l) → u.position l ≡ Some r → step u (at_step f h p m) w ≡ Goes (at_step f h r m) w
+  unfolding step done jump to_place to
+  way_step p r l m there' is = ap (done u (at_step f h p m) w) there' ∙ ap (λ x. to_place x (at_step f h p m) w) is
 
   pub begins_by : {low p q : ℕ} {m : Temporaries} → Arrives u m low p q → (r : ℕ) × Begins p m r × Leads u r q × (low ≤ r)
   begins_by {p = p} (plainly up leads) = (p, at_it, leads, up)
-  begins_by {p = p} {m = m} (by_branch {r = r} {k = k} d there' holds is up leads) = (r, branched there' (branch_step p r k m d there' holds is), leads, up)
+  begins_by (by_branch {r = r} picks up leads) = (r, branched picks.there (picks_step picks), leads, up)
+  begins_by {m = m} (by_way {r = r} {s = s} l picks there' is up leads) = (r, by_both picks.there (picks_step picks) there' (way_step s r l m there' is), leads, up)
 
 pub leads_on : {u : Text} {p q r : ℕ} → Leads u p q → Leads u q r → Leads u p r
 leads_on there after = after
@@ -298,12 +298,15 @@ leads_up (by_skip e leads) = let more = leads_up leads in omega (arith, more)
 
 pub arrives_on : {u : Text} {m : Temporaries} {low p q r : ℕ} → Arrives u m low p q → Leads u q r → Arrives u m low p r
 arrives_on (plainly up leads) after = plainly up (leads_on leads after)
-arrives_on (by_branch d there' holds is up leads) after = by_branch d there' holds is up (leads_on leads after)
+arrives_on (by_branch picks up leads) after = by_branch picks up (leads_on leads after)
+arrives_on (by_way l picks there' is up leads) after = by_way l picks there' is up (leads_on leads after)
 
 pub arrives_low : {u : Text} {m : Temporaries} {low low' p q : ℕ} → low' ≤ low → Arrives u m low p q → Arrives u m low' p q
 arrives_low le (plainly up leads) = plainly (omega (arith, le, up)) leads
-arrives_low le (by_branch d there' holds is up leads) = by_branch d there' holds is (omega (arith, le, up)) leads
+arrives_low le (by_branch picks up leads) = by_branch picks (omega (arith, le, up)) leads
+arrives_low le (by_way l picks there' is up leads) = by_way l picks there' is (omega (arith, le, up)) leads
 
 pub arrives_up : {u : Text} {m : Temporaries} {low p q : ℕ} → Arrives u m low p q → low ≤ q
 arrives_up (plainly up leads) = let more = leads_up leads in omega (arith, up, more)
-arrives_up (by_branch d there' holds is up leads) = let more = leads_up leads in omega (arith, up, more)
+arrives_up (by_branch picks up leads) = let more = leads_up leads in omega (arith, up, more)
+arrives_up (by_way l picks there' is up leads) = let more = leads_up leads in omega (arith, up, more)

@@ -1,10 +1,10 @@
--- The lowering of the examples, computed, and two of them as instances of the law of statements.
+-- The lowering of the examples, computed, and some of them as instances of the law of statements.
 use Rattle.std.specs.Prelude.{◌≡◌, Some}
 use Rattle.std.proofs.Common.{refl}
 use Rattle.lowering.specs.Units.{lowered_unit}
 use Rattle.lowering_laws.specs.Layer.{IsLaidOut, others_opened}
 use Rattle.lowering_laws.specs.Layout.{LoopsFit, without_loops, with_loops, layout_opened}
-use Rattle.lowering_laws.specs.Examples.{a_loop, loop_steps, a_block, block_steps, lowered_steps, unit_of, a_sum, sum_text, a_search, search_text, a_list, list_text, example_opened, loop_text}
+use Rattle.lowering_laws.specs.Examples.{a_loop, loop_steps, a_block, block_steps, lowered_steps, unit_of, a_sum, sum_text, a_search, search_text, a_list, list_text, a_choice, choice_text, example_opened, loop_text}
 use Rattle.lowering_laws.proofs.LayoutLemmas.{laid_out}
 
 pub loop_is_lowered : lowered_steps a_loop ≡ Some loop_steps
@@ -54,3 +54,11 @@ list_is_lowered = refl
 pub list_is_laid_out : IsLaidOut list_text
 unfolding example_opened layout_opened others_opened
 list_is_laid_out = laid_out (unit_of a_list) list_text list_is_lowered refl refl (without_loops refl)
+
+pub choice_is_lowered : lowered_unit (unit_of a_choice) ≡ Some choice_text
+unfolding example_opened
+choice_is_lowered = refl
+
+pub choice_is_laid_out : IsLaidOut choice_text
+unfolding example_opened layout_opened others_opened
+choice_is_laid_out = laid_out (unit_of a_choice) choice_text choice_is_lowered refl refl (without_loops refl)

@@ -1,5 +1,5 @@
--- A value is a label only where a label is written, and a procedure answers a label only if it was passed.
-use Rattle.std.specs.Prelude.{◌≡◌, ℕ, zero, suc, ℤ, pos, negsuc, nat_eq, Bool, true, false, not, ◌||◌, List, [], ◌∷◌, Option, Some, None, slice_get, bytes_eq, if◌then◌else◌}
+-- A value is a label only where a label is written, and a procedure knows the labels that were passed to it.
+use Rattle.std.specs.Prelude.{◌≡◌, ℕ, zero, suc, ℤ, nat_eq, Bool, true, false, not, ◌||◌, List, [], ◌∷◌, ◌++◌, Option, Some, None, slice_get, bytes_eq, if◌then◌else◌}
 use Rattle.std.proofs.Common.{refl, sym, ap, ◌∙◌, subst, arith, true≢false}
 use Rattle.std.proofs.lemmas.Bool.{eqb-true, eq-eqb}
 use Rattle.fortran_laws.specs.f_tree.declared.names.Class.{Class}
@@ -9,10 +9,10 @@ use Rattle.fortran_laws.specs.f_tree.Terms.{Function, Prefix, Operator, Wanted, 
 use Rattle.fortran_laws.specs.f_tree.Store.{Store, value_of_type, as_text, fetch_as, fetch_from, fetch_in, fetch}
 use Rattle.fortran_laws.specs.f_tree.Facts.{Attribute, Formal, Named, Alternate, ProgramUnit, Facts, Frame}
 use Rattle.fortran_laws.specs.f_tree.Valuing.{Red, Valued, Bad, Asks, then_by, at_once, prefixed, operated, on_integers, on_logicals, on_texts, divided, Left, Decided, Wants, Wrong, left_of, right_after, applied, inverse_of, raised, extreme, remainder_of, with_sign_of, difference_over, character_of, total_length, if_bits, if_bit, stored_at, if_bound, if_there, named_as, whole, further, element_at, element, reaching, all_elements, array_whole, alone, cut, part, joined, pieces, fetched, bound_to, reduce, reduce_all}
-use Rattle.fortran_laws.specs.f_tree.Association.{passing, passing_one, passing_more, made, sequence_of, Bindings, value_for, bound_as, agreed, bind_all, length_of, alternate_of}
+use Rattle.fortran_laws.specs.f_tree.Association.{passing, passing_one, passing_more, made, sequence_of, Bindings, value_for, bound_as, agreed, bind_all, length_of}
 use Rattle.fortran_laws.specs.f_tree.Step.{contains}
-use Rattle.lowering.specs.Statements.{wants_no_value, may_be_label, passes_label}
-use Rattle.lowering_laws.specs.Layer.{IsNoLabel, labels_in, IsAnswered, may_be_other, passes_other, none_known}
+use Rattle.lowering.specs.Statements.{wants_no_value, may_be_label, passes_label, label_written, labels_written, hides_label, hides_labels}
+use Rattle.lowering_laws.specs.Layer.{IsNoLabel, labels_in, may_be_other, passes_other, AreWritten}
 
 -- ## Values that are no labels
 
@@ -275,9 +275,9 @@ module _ (known : ℕ → Bool) where
 
 -- ## Labels that are known
 
-none_of : (ds : List Datum) → AreOf none_known ds → AreNoLabels ds
-none_of [] all = tt
-none_of (d ∷ ds) all = (λ l e. true≢false (sym (all.0 l e)), none_of ds all.1)
+-- no label is known
+abbrev none_known : ℕ → Bool
+none_known label = false
 
 mutual
   unfolding may_be_label passes_label may_be_other passes_other
@@ -308,23 +308,121 @@ mutual
   others_are NoMore = refl
   others_are (More t ts) = ap (λ b. b || passes_other none_known ts) (other_is t) ∙ ap (λ b. may_be_label t || b) (others_are ts)
 
-pub no_other : (ts : Terms) → passes_label ts ≡ false → passes_other none_known ts ≡ false
-no_other ts e = others_are ts ∙ e
+-- ## Labels that are written
+
+labels_behind : (d : Datum) (ds : List Datum) → IsNoLabel d → labels_in (d ∷ ds) ≡ labels_in ds
+labels_behind (IsLabel l) ds none = absurd (none l refl)
+labels_behind (IsInt z) ds none = refl
+labels_behind (IsLog b) ds none = refl
+labels_behind (IsText cs) ds none = refl
+labels_behind (IsSpot p) ds none = refl
+labels_behind (value.IsProc x) ds none = refl
+labels_behind value.Nothing ds none = refl
+
+-- an operand is a label that is written, or another one
+data Operand : Term → Type 0 where
+  a_label : {l : ℕ} → Operand (Val (IsLabel l))
+  another : {t : Term} → hides_label t ≡ may_be_label t → label_written t ≡ [] → Operand t
+
+operand_is : (t : Term) → Operand t
+unfolding hides_label label_written
+operand_is (Val (IsLabel l)) = a_label
+operand_is (Val (IsInt z)) = another refl refl
+operand_is (Val (IsLog b)) = another refl refl
+operand_is (Val (IsText cs)) = another refl refl
+operand_is (Val (IsSpot p)) = another refl refl
+operand_is (Val (value.IsProc x)) = another refl refl
+operand_is (Val value.Nothing) = another refl refl
+operand_is (Fetch t) = another refl refl
+operand_is (At x) = another refl refl
+operand_is (All x) = another refl refl
+operand_is (Element x ts) = another refl refl
+operand_is (Alone t) = another refl refl
+operand_is (Part x t from to) = another refl refl
+operand_is (Joined ts) = another refl refl
+operand_is (Before op t) = another refl refl
+operand_is (Between op t b) = another refl refl
+operand_is (Intrinsically function ts) = another refl refl
+operand_is (Refer callee ts) = another refl refl
+operand_is (Bind ts t) = another refl refl
+operand_is (Bound i) = another refl refl
+
+abbrev IsWritten : List ℕ → Term → Type 0
+IsWritten labels t = (hides_label t ≡ false) × (label_written t ≡ labels)
+
+none_written : (t : Term) → Operand t → may_be_label t ≡ false → IsWritten [] t
+unfolding may_be_label
+none_written _ a_label e = absurd (true≢false e)
+none_written t (another hides none) e = (hides ∙ e, none)
+
+-- what valuing comes to: values of which these are the labels, or what is left, where these are written
+abbrev OneWritten : List ℕ → Red Datum Term → Type 0
+OneWritten labels (Valued d) = labels_in (d ∷ []) ≡ labels
+OneWritten labels (Bad act) = Unit {0}
+OneWritten labels (Asks callee ds rest) = (d : Datum) → Suited callee.want d → IsWritten labels (rest d)
+
+abbrev pub AllWritten : List ℕ → Red (List Datum) Terms → Type 0
+AllWritten labels (Valued ds) = labels_in ds ≡ labels
+AllWritten labels (Bad act) = Unit {0}
+AllWritten labels (Asks callee ds rest) = (d : Datum) → Suited callee.want d → AreWritten labels (rest d)
+
+fine_written : (x : Red Datum Term) → Fine none_known x → OneWritten [] x
+fine_written (Valued d) fine = labels_behind d [] (λ l e. true≢false (sym (fine l e)))
+fine_written (Bad act) fine = tt
+fine_written (Asks callee ds rest) fine = λ d suited. none_written (rest d) (operand_is (rest d)) (sym (other_is (rest d)) ∙ fine d suited)
+
+value_written : (d : Datum) → IsWritten (labels_in (d ∷ [])) (Val d)
+unfolding hides_label label_written may_be_label
+value_written (IsLabel l) = (refl, refl)
+value_written (IsInt z) = (refl, refl)
+value_written (IsLog b) = (refl, refl)
+value_written (IsText cs) = (refl, refl)
+value_written (IsSpot p) = (refl, refl)
+value_written (value.IsProc x) = (refl, refl)
+value_written value.Nothing = (refl, refl)
+
+labels_first : (d : Datum) (ds : List Datum) → labels_in (d ∷ ds) ≡ labels_in (d ∷ []) ++ labels_in ds
+labels_first (IsLabel l) ds = refl
+labels_first (IsInt z) ds = refl
+labels_first (IsLog b) ds = refl
+labels_first (IsText cs) ds = refl
+labels_first (IsSpot p) ds = refl
+labels_first (value.IsProc x) ds = refl
+labels_first value.Nothing ds = refl
+
+both_written : (t : Term) (ts : Terms) (ls ms : List ℕ) → IsWritten ls t → AreWritten ms ts → AreWritten (ls ++ ms) (More t ts)
+unfolding hides_labels labels_written
+both_written t ts ls ms one more = (both_false (hides_label t) (hides_labels ts) one.0 more.0, ap (λ z. z ++ labels_written ts) one.1 ∙ ap (λ z. ls ++ z) more.1)
+
+first_written : (x : Red Datum Term) (ts : Terms) (ls ms : List ℕ) (go : Datum → Red (List Datum) Terms) → OneWritten ls x → AreWritten ms ts → ((d : Datum) → labels_in (d ∷ []) ≡ ls → AllWritten (ls ++ ms) (go d)) →
+    AllWritten (ls ++ ms) (then_by x (λ r. More r ts) go)
+unfolding then_by
+first_written (Valued d) ts ls ms go one more goes' = goes' d one
+first_written (Bad act) ts ls ms go one more goes' = tt
+first_written (Asks callee ds rest) ts ls ms go one more goes' = λ d suited. both_written (rest d) ts ls ms (one d suited) more
+
+later_written : (x : Red (List Datum) Terms) (d : Datum) (ls ms : List ℕ) → labels_in (d ∷ []) ≡ ls → AllWritten ms x → AllWritten (ls ++ ms) (then_by x (More (Val d)) (λ ds. Valued (d ∷ ds)))
+unfolding then_by
+later_written (Valued ds) d ls ms one more = labels_first d ds ∙ ap (λ z. z ++ labels_in ds) one ∙ ap (λ z. ls ++ z) more
+later_written (Bad act) d ls ms one more = tt
+later_written (Asks callee ds rest) d ls ms one more = λ d' suited. both_written (Val d) (rest d') ls ms (subst (λ z. IsWritten z (Val d)) one (value_written d)) (more d' suited)
+
+module _ (c : Facts) (f : Frame) (s : Store) (holds : HoldsNone f) where
+  one_by : (t : Term) → Operand t → hides_label t ≡ false → OneWritten (label_written t) (reduce c f s [] t)
+  unfolding reduce label_written
+  one_by _ a_label e = refl
+  one_by t (another hides none) e = subst (λ z. OneWritten z (reduce c f s [] t)) (sym none) (fine_written (reduce c f s [] t) (reduce_fine none_known c f s holds [] t tt (other_is t ∙ sym hides ∙ e)))
+
+  -- the labels among the operands of a CALL are those that are written
+  pub all_written : (ts : Terms) → hides_labels ts ≡ false → AllWritten (labels_written ts) (reduce_all c f s [] ts)
+  unfolding reduce_all hides_labels labels_written
+  all_written NoMore e = refl
+  all_written (More t ts) e =
+      let parts = neither (hides_label t) (hides_labels ts) e in
+      first_written (reduce c f s [] t) ts (label_written t) (labels_written ts) _ (one_by t (operand_is t) parts.0) (parts.1, refl)
+      (λ d one. later_written (reduce_all c f s [] ts) d (label_written t) (labels_written ts) one (all_written ts parts.1))
 
 -- ## What is passed and what is bound
-
-pub none_in : (ds : List Datum) → AreNoLabels ds → labels_in ds ≡ []
-none_in [] none = refl
-none_in (IsLabel l ∷ ds) none = absurd (none.0 l refl)
-none_in (IsInt z ∷ ds) none = none_in ds none.1
-none_in (IsLog b ∷ ds) none = none_in ds none.1
-none_in (IsText cs ∷ ds) none = none_in ds none.1
-none_in (IsSpot p ∷ ds) none = none_in ds none.1
-none_in (value.IsProc x ∷ ds) none = none_in ds none.1
-none_in (value.Nothing ∷ ds) none = none_in ds none.1
-
-pub none_among : (ds : List Datum) → AreOf none_known ds → labels_in ds ≡ []
-none_among ds all = none_in ds (none_of ds all)
 
 eq_known : (known : ℕ → Bool) (k l : ℕ) (b more : Bool) → nat_eq k l ≡ b → known k ≡ true → (more ≡ true → known l ≡ true) → (b || more) ≡ true → known l ≡ true
 eq_known known k l true more e is later found = ap known (sym (eqb-true k l e)) ∙ is
@@ -365,15 +463,6 @@ agreed_no_label a (IsText z) b e l e' = absurd (cc)
 agreed_no_label a (IsSpot z) b e l e' = absurd (cc)
 agreed_no_label a (value.IsProc z) b e l e' = absurd (cc)
 agreed_no_label a value.Nothing b e l e' = absurd (cc)
-
-labels_behind : (d : Datum) (ds : List Datum) → IsNoLabel d → labels_in (d ∷ ds) ≡ labels_in ds
-labels_behind (IsLabel l) ds none = absurd (none l refl)
-labels_behind (IsInt z) ds none = refl
-labels_behind (IsLog b) ds none = refl
-labels_behind (IsText cs) ds none = refl
-labels_behind (IsSpot p) ds none = refl
-labels_behind (value.IsProc x) ds none = refl
-labels_behind value.Nothing ds none = refl
 
 -- the labels that a procedure knows are those that it was passed, and no dummy argument is one
 abbrev pub BindsWell : List Datum → Bindings → Type 0
@@ -426,26 +515,7 @@ bound_values x [] ds d none e = absurd (cc)
 bound_values x (y ∷ ys) [] d none e = absurd (cc)
 bound_values x (y ∷ ys) (d' ∷ ds) d none e = value_by (bytes_eq x y) d' (value_for x ys ds) d none.0 (λ d'' is. bound_values x ys ds d'' none.1 is) e
 
--- ## What is answered
-
-pub answered_none : (labels : List ℕ) (d : Datum) → IsNoLabel d → IsAnswered labels d
-answered_none labels (IsLabel l) none = absurd (none l refl)
-answered_none labels (IsInt z) none = tt
-answered_none labels (IsLog b) none = tt
-answered_none labels (IsText cs) none = tt
-answered_none labels (IsSpot p) none = tt
-answered_none labels (value.IsProc x) none = tt
-answered_none labels value.Nothing none = tt
-
-pub nothing_passed : (d : Datum) → IsAnswered [] d → IsNoLabel d
-unfolding contains
-nothing_passed (IsLabel l) is k e = true≢false (sym is)
-nothing_passed (IsInt z) is l e = absurd (cc)
-nothing_passed (IsLog b) is l e = absurd (cc)
-nothing_passed (IsText cs) is l e = absurd (cc)
-nothing_passed (IsSpot p) is l e = absurd (cc)
-nothing_passed (value.IsProc x) is l e = absurd (cc)
-nothing_passed value.Nothing is l e = absurd (cc)
+-- ## The labels of a list
 
 pub contains_nth : (labels : List ℕ) (n l : ℕ) → slice_get labels n ≡ Some l → contains labels l ≡ true
 unfolding contains
@@ -456,13 +526,3 @@ contains_nth (k ∷ ks) (suc n) l e = or_true (nat_eq k l) (contains ks l) (cont
     or_true : (a b : Bool) → b ≡ true → (a || b) ≡ true
     or_true true b e = refl
     or_true false b e = e
-
-nth_answered : (labels : List ℕ) (n : ℕ) (x : Option ℕ) → slice_get labels n ≡ x → IsAnswered labels (elim x [ None ↦ value.Nothing | Some l ↦ IsLabel l ])
-nth_answered labels n None e = tt
-nth_answered labels n (Some l) e = contains_nth labels n l e
-
-pub alternate_answered : (labels : List ℕ) (z : ℤ) → IsAnswered labels (alternate_of labels z)
-unfolding alternate_of
-alternate_answered labels (pos zero) = tt
-alternate_answered labels (pos (suc n)) = nth_answered labels n (slice_get labels n) refl
-alternate_answered labels (negsuc n) = tt

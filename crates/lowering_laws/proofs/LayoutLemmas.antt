@@ -2,8 +2,7 @@
 use Rattle.std.specs.Prelude.{◌≡◌, ℕ, zero, suc, ◌+◌, ◌-◌, ◌<◌, ◌≤◌, nat_eq, Bool, true, false, not, ◌&&◌, ◌||◌, List, [], ◌∷◌, ◌++◌, length, drop, filter, Option, Some, None, slice_get, option_map, if◌then◌else◌}
 use Rattle.std.proofs.Common.{refl, sym, ap, ◌∙◌, subst, arith, true≢false}
 use Rattle.std.proofs.lemmas.Bool.{eqb-true, eq-eqb}
-use Rattle.fortran_laws.specs.f_tree.Values.{Bytes}
-use Rattle.fortran_laws.specs.f_tree.Terms.{Terms, NoMore}
+use Rattle.fortran_laws.specs.f_tree.Terms.{AsSubroutine, Callee, Terms, NoMore}
 use Rattle.fortran_laws.specs.f_tree.Facts as head
 use Rattle.fortran_laws.specs.f_tree.Facts.{Head, Form, Passes, On, Mark, Plain, Opens, Arm, Closes, LoopMark, Line, ProgramUnit, Facts}
 use Rattle.fortran_laws.specs.f_tree.Places.{place_of_label, terminal_of, arm_from, arm_after}
@@ -11,13 +10,13 @@ use Rattle.fortran_laws.specs.f_tree.Nests.{Range, loop_of, ranges_of, open_at, 
 use Rattle.fortran_laws.specs.f_tree.Setting.{IsIn, first_in, later_in}
 use Rattle.fortran_laws.proofs.NestLaws.{range_of_loop, open_is_within}
 use Rattle.lowering.specs.l_core.Pures.{Pures, NoPure, AndPure}
-use Rattle.lowering.specs.l_core.Steps.{Step, Skip, Again, AgainIf, Pass, CallSub, Back, Text}
-use Rattle.lowering.specs.Statements.{test_by, back_by, turn_code, form_code, head_code, loop_operands}
-use Rattle.lowering.specs.Units.{loop_lowered, free_at, is_counted, turn_size, turns_up_to, loop_exit, way_back, turn_of, all_named, is_named, pass_code, steps_of, ended_at, turn_sizes, skip_size, form_size, line_size, size_before, start_of, mark_at, own_start, form_size_at, own_end, block_end_from, block_end_of, arm_room, range_of, loop_room, room_of, turns_of, skip_code, line_code, both_codes, lines_code, lines_marks, text_with, lowered_unit, loop_at_line, free_of}
-use Rattle.lowering_laws.specs.Walks.{Spans, nothing, further}
-use Rattle.lowering_laws.specs.Layer.{Leads, there, by_pass, by_skip, own_by, own_of, AllBefore, TurnsStand, no_turn, turn_then, AllEnd, NoneEnds, IsBehind, IsChain, SameOpen, IsFlat, IsNextArm, IsLoop, closing_from, block_ends, IsCode, no_code, Stands, no_step, IsFollowed, IsLaidOut}
+use Rattle.lowering.specs.l_core.Steps.{Step, Keep, Put, PutText, PutLabel, Compute, Unless, Skip, Again, AgainIf, Jump, Select, JumpBy, Pass, CallFor, CallSub, Branch, Way, Back, BackBy, Halt, Acts, Text}
+use Rattle.lowering.specs.Statements.{wants_no_value, test_by, back_by, turn_code, form_code, head_code, loop_operands}
+use Rattle.lowering.specs.Units.{loop_lowered, free_at, is_counted, turn_size, turns_up_to, loop_exit, way_back, turn_of, all_named, is_named, pass_code, steps_of, ended_at, turn_sizes, skip_size, form_size, line_size, size_before, start_of, mark_at, own_start, form_size_at, own_end, block_end_from, block_end_of, arm_room, range_of, loop_room, room_of, turns_of, skip_code, line_code, both_codes, lines_code, lines_marks, text_with, keeps_return, begins_with_branch, calls_well, if_called_well, lowered_unit, loop_at_line, free_of}
+use Rattle.lowering_laws.specs.Walks.{IsNoBranch, Spans, nothing, further}
+use Rattle.lowering_laws.specs.Layer.{Leads, there, by_pass, by_skip, own_by, own_of, AllBefore, TurnsStand, no_turn, turn_then, AllEnd, NoneEnds, IsBehind, IsChain, SameOpen, IsFlat, IsNextArm, IsLoop, closing_from, block_ends, IsCode, no_code, Stands, no_step, IsCall, IsFollowed, IsLaidOut}
 use Rattle.lowering_laws.specs.Layout.{is_direct, is_direct_head, enters_arm, begins_loop, LoopsFit, takes_no_step, is_direct_as, are_direct, is_end, ends_behind, has_end}
-use Rattle.lowering_laws.proofs.WalkLemmas.{split, spans_length, spans_nothing, spans_one, IsNoBranch, ordinary_by, choose_true, choose_false}
+use Rattle.lowering_laws.proofs.WalkLemmas.{split, spans_length, spans_nothing, spans_one, ordinary_by, choose_true, choose_false}
 use Rattle.lowering_laws.proofs.PlaceLemmas.{code_stands, first_dropped, lowered_is}
 use Rattle.lowering.specs.Expressions.{Lowered}
 use Rattle.lowering_laws.proofs.OperandLemmas.{loop_grows}
@@ -1104,9 +1103,9 @@ record EndsWell (steps : List Step) : Type 0 where
   last : Step
   all : front ++ last ∷ [] ≡ steps
   no_branch : IsNoBranch last
-  no_call : (k : ℕ) (name : Bytes) (ps : Pures) → CallSub k name ps ≡ last → ⊥
+  no_call : IsCall last → ⊥
 
-ends_more : (xs : List Step) (ys : List Step) (last : Step) → IsNoBranch last → ((k : ℕ) (name : Bytes) (ps : Pures) → CallSub k name ps ≡ last → ⊥) → EndsWell (xs ++ (ys ++ last ∷ []))
+ends_more : (xs : List Step) (ys : List Step) (last : Step) → IsNoBranch last → (IsCall last → ⊥) → EndsWell (xs ++ (ys ++ last ∷ []))
 ends_more xs ys last no_branch no_call = record { front = xs ++ ys; last = last; all = sym (joined_behind xs ys (last ∷ [])); no_branch = no_branch; no_call = no_call }
 
 ends_same : (xs : List Step) → EndsWell xs → EndsWell (xs ++ [])
@@ -1118,13 +1117,13 @@ turn_ends once n NoPure xs ends = ends_same xs ends
 turn_ends once n (AndPure x NoPure) xs ends = ends_same xs ends
 turn_ends once n (AndPure x (AndPure first NoPure)) xs ends = ends_same xs ends
 turn_ends once n (AndPure x (AndPure first (AndPure limit NoPure))) xs ends = ends_same xs ends
-turn_ends true n (AndPure x (AndPure first (AndPure limit (AndPure by NoPure)))) xs ends = ends_more xs (_ ∷ []) (AgainIf (test_by x limit by) n) tt (λ k name ps e. absurd (cc))
-turn_ends false n (AndPure x (AndPure first (AndPure limit (AndPure by NoPure)))) xs ends = ends_more xs (_ ∷ []) (Again n) tt (λ k name ps e. absurd (cc))
+turn_ends true n (AndPure x (AndPure first (AndPure limit (AndPure by NoPure)))) xs ends = ends_more xs (_ ∷ []) (AgainIf (test_by x limit by) n) tt (λ call'. call')
+turn_ends false n (AndPure x (AndPure first (AndPure limit (AndPure by NoPure)))) xs ends = ends_more xs (_ ∷ []) (Again n) tt (λ call'. call')
 turn_ends once n (AndPure x (AndPure first (AndPure limit (AndPure by (AndPure q ps))))) xs ends = ends_same xs ends
 
 turn_ends_by : (b : Bool) (turn : List Step) (n : ℕ) (xs : List Step) → EndsWell (xs ++ turn) → EndsWell (xs ++ (if b then turn else Again n ∷ []))
 turn_ends_by true turn n xs ends = ends
-turn_ends_by false turn n xs ends = ends_more xs [] (Again n) tt (λ k name ps e. absurd (cc))
+turn_ends_by false turn n xs ends = ends_more xs [] (Again n) tt (λ call'. call')
 
 turns_end : (p : ProgramUnit) (q : ℕ) (rs : List Range) (xs : List Step) → EndsWell xs → EndsWell (xs ++ turns_of p q rs)
 unfolding turns_of turn_of
@@ -1144,7 +1143,7 @@ module _ (p : ProgramUnit) (turned : (i from : ℕ) → length (turns_of p from 
       let none = end_passes (is_named (all_named p.lines) line.label) line.form is in
       let front = skip_code p i line.mark ++ (parts.own ++ passing_step p turned line) in
       let back : skip_code p i line.mark ++ (Back ∷ []) ≡ front = ap (λ z. skip_code p i line.mark ++ z) (own ∙ sym (nothing_behind parts.own) ∙ ap (λ z. parts.own ++ z) (sym none)) in
-      subst EndsWell parts.all (turns_end p (own_end p i) (ended_at p i) front (record { front = skip_code p i line.mark; last = Back; all = back; no_branch = tt; no_call = λ k name ps e'. absurd (cc) }))
+      subst EndsWell parts.all (turns_end p (own_end p i) (ended_at p i) front (record { front = skip_code p i line.mark; last = Back; all = back; no_branch = tt; no_call = λ call'. call' }))
 
   lines_end : (lines : List Line) (i : ℕ) (line : Line) (steps : List Step) → lines_code p i (line ∷ lines) ≡ Some steps → ends_behind line.form lines ≡ true → EndsWell steps
   unfolding lines_code ends_behind
@@ -1163,21 +1162,83 @@ module _ (p : ProgramUnit) (turned : (i from : ℕ) → length (turns_of p from 
   unit_ends [] steps e end = absurd (true≢false (sym end))
   unit_ends (line ∷ lines) steps e end = lines_end lines 0 line steps e end
 
-followed_by : (u : Text) (ends : EndsWell u.steps) (q k : ℕ) (name : Bytes) (ps : Pures) → slice_get u.steps q ≡ Some (CallSub k name ps) → IsFollowed u q
-followed_by u ends q k name ps e =
+followed_by : (u : Text) (ends : EndsWell u.steps) (q : ℕ) (st : Step) → slice_get u.steps q ≡ Some st → IsCall st → IsFollowed u q
+followed_by u ends q st e call' =
     let last : slice_get u.steps (length ends.front) ≡ Some ends.last = ap (λ z. slice_get z (length ends.front)) (sym ends.all) ∙ last_step ends.front ends.last in
     record {
       at = length ends.front;
       step = ends.last;
-      behind = before_last ends.front q ends.last (CallSub k name ps) (ap (λ z. slice_get z q) ends.all ∙ e) (ends.no_call k name ps);
+      behind = before_last ends.front q ends.last st (ap (λ z. slice_get z q) ends.all ∙ e) (λ same. ends.no_call (subst IsCall same call'));
       is = last;
       ordinary = ordinary_by u (length ends.front) ends.last last ends.no_branch;
     }
 
-laid_out_by : (c : Facts) (x : Option (List Step)) (u : Text) → lines_code c.program 0 c.program.lines ≡ x → text_with c x ≡ Some u → are_direct c.program.lines ≡ true → has_end c.program.lines ≡ true → LoopsFit c.program → IsLaidOut u
+-- ## Calls of subroutines
+
+branch_first : (steps : List Step) → begins_with_branch steps ≡ true → (j : ℕ) × (count : ℕ) × (slice_get steps 0 ≡ Some (Branch j count))
+unfolding begins_with_branch
+branch_first [] e = absurd (true≢false (sym e))
+branch_first (Branch j count ∷ steps) e = (j, count, refl)
+branch_first (Keep k p ∷ steps) e = absurd (true≢false (sym e))
+branch_first (Put place p ∷ steps) e = absurd (true≢false (sym e))
+branch_first (PutText place ps ∷ steps) e = absurd (true≢false (sym e))
+branch_first (PutLabel place label ∷ steps) e = absurd (true≢false (sym e))
+branch_first (Compute k function ps ∷ steps) e = absurd (true≢false (sym e))
+branch_first (Unless p n ∷ steps) e = absurd (true≢false (sym e))
+branch_first (Skip n ∷ steps) e = absurd (true≢false (sym e))
+branch_first (Again n ∷ steps) e = absurd (true≢false (sym e))
+branch_first (AgainIf p n ∷ steps) e = absurd (true≢false (sym e))
+branch_first (Jump label ∷ steps) e = absurd (true≢false (sym e))
+branch_first (Select p count ∷ steps) e = absurd (true≢false (sym e))
+branch_first (JumpBy p labels ∷ steps) e = absurd (true≢false (sym e))
+branch_first (Pass ∷ steps) e = absurd (true≢false (sym e))
+branch_first (CallFor k callee ps ∷ steps) e = absurd (true≢false (sym e))
+branch_first (CallSub k name ps ∷ steps) e = absurd (true≢false (sym e))
+branch_first (Way label ∷ steps) e = absurd (true≢false (sym e))
+branch_first (Back ∷ steps) e = absurd (true≢false (sym e))
+branch_first (BackBy p ∷ steps) e = absurd (true≢false (sym e))
+branch_first (Halt text ∷ steps) e = absurd (true≢false (sym e))
+branch_first (Acts act ps n ∷ steps) e = absurd (true≢false (sym e))
+
+wanted_branch : (a b : Bool) → a ≡ true → (not a || b) ≡ true → b ≡ true
+wanted_branch true b is e = e
+wanted_branch false b is e = absurd (true≢false (sym is))
+
+branches_behind : (steps : List Step) → calls_well steps ≡ true → (p k : ℕ) (callee : Callee) (ps : Pures) → slice_get steps p ≡ Some (CallFor k callee ps) → callee.want ≡ AsSubroutine →
+    (j : ℕ) × (count : ℕ) × (slice_get steps (suc p) ≡ Some (Branch j count))
+unfolding calls_well keeps_return wants_no_value
+branches_behind [] well p k callee ps e wants = absurd (cc)
+branches_behind (st ∷ steps) well zero k callee ps e wants =
+    let parts = both_true (not (keeps_return st) || begins_with_branch steps) (calls_well steps) well in
+    let same : st ≡ CallFor k callee ps = cc in
+    branch_first steps (wanted_branch (keeps_return st) (begins_with_branch steps) (ap keeps_return same ∙ ap wants_no_value wants) parts.0)
+branches_behind (st ∷ steps) well (suc p) k callee ps e wants =
+    branches_behind steps (both_true (not (keeps_return st) || begins_with_branch steps) (calls_well steps) well).1 p k callee ps e wants
+
+-- a unit that is lowered: the steps of its statements, where each return that is kept is followed by its branch, and the text of these
+record IsLowered (c : Facts) (u : Text) : Type 0 where
+  steps : List Step
+  is : lines_code c.program 0 c.program.lines ≡ Some steps
+  well : calls_well steps ≡ true
+  text : text_with c (Some steps) ≡ Some u
+
+lowered_if : (c : Facts) (u : Text) (steps : List Step) (b : Bool) → calls_well steps ≡ b → lines_code c.program 0 c.program.lines ≡ Some steps → text_with c (if b then Some steps else None) ≡ Some u → IsLowered c u
 unfolding text_with
-laid_out_by c None u lowered e direct end fits = absurd (cc)
-laid_out_by c (Some steps) u lowered e direct end fits =
+lowered_if c u steps true well is e = record { steps = steps; is = is; well = well; text = e }
+lowered_if c u steps false well is e = absurd (cc)
+
+lowered_by : (c : Facts) (u : Text) (x : Option (List Step)) → lines_code c.program 0 c.program.lines ≡ x → text_with c (if_called_well x) ≡ Some u → IsLowered c u
+unfolding text_with if_called_well
+lowered_by c u None is e = absurd (cc)
+lowered_by c u (Some steps) is e = lowered_if c u steps (calls_well steps) refl is e
+
+lowered_from : (c : Facts) (u : Text) → lowered_unit c ≡ Some u → IsLowered c u
+unfolding lowered_unit
+lowered_from c u e = lowered_by c u (lines_code c.program 0 c.program.lines) refl e
+
+laid_out_by : (c : Facts) (steps : List Step) (u : Text) → lines_code c.program 0 c.program.lines ≡ Some steps → calls_well steps ≡ true → text_with c (Some steps) ≡ Some u → are_direct c.program.lines ≡ true → has_end c.program.lines ≡ true → LoopsFit c.program → IsLaidOut u
+unfolding text_with
+laid_out_by c steps u lowered well e direct end fits =
     let same : text_of c steps ≡ u = cc in
     let last = unit_ends c.program (turned c steps lowered direct fits) c.program.lines steps lowered end in
     subst IsLaidOut same (record {
@@ -1187,6 +1248,7 @@ laid_out_by c (Some steps) u lowered e direct end fits =
       flat = flat c steps lowered direct fits;
       labels = λ label i e'. ap (option_map (start_of c.program)) e';
       followed = followed_by (text_of c steps) last;
+      returns = branches_behind steps well;
       rises = own_up c steps lowered direct fits;
       own = own_is c steps lowered direct fits;
       kept = λ i r among. kept_at c.program i r (chain_at c.program (are_nested c.program fits) i) among;
@@ -1199,5 +1261,4 @@ laid_out_by c (Some steps) u lowered e direct end fits =
     })
 
 pub laid_out : (c : Facts) (u : Text) → lowered_unit c ≡ Some u → are_direct c.program.lines ≡ true → has_end c.program.lines ≡ true → LoopsFit c.program → IsLaidOut u
-unfolding lowered_unit
-laid_out c u e direct end fits = laid_out_by c (lines_code c.program 0 c.program.lines) u refl e direct end fits
+laid_out c u e direct end fits = let l = lowered_from c u e in laid_out_by c l.steps u l.is l.well l.text direct end fits

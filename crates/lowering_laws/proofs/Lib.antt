@@ -7,6 +7,8 @@ mod OperandLemmas
 mod CostLemmas
 mod PlaceLemmas
 mod LabelLemmas
+mod PickedLabels
+mod ReferenceLemmas
 mod CallLemmas
 mod CourseLemmas
 mod TransferLemmas

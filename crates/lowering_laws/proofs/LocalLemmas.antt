@@ -14,7 +14,7 @@ use Rattle.fortran_laws.specs.f_tree.World as fortran
 use Rattle.fortran_laws.specs.f_tree.World.{World, Transfer, Round, Called, Passed, Happening, entered, RoundKind, While, Counted}
 use Rattle.fortran_laws.specs.f_tree.Places.{terminal_of, arrived}
 use Rattle.fortran_laws.specs.f_tree.Nests.{open_at, Range}
-use Rattle.fortran_laws.specs.f_tree.Association.{call, cut_to, Bindings, begun_with, begun_bound, begun_at, entry_of, serves, bind_all, all_dimensions_by, frame_of, result_of, with_result}
+use Rattle.fortran_laws.specs.f_tree.Association.{call, cut_to, Bindings, begun_with, begun_bound, begun_at, entry_of, serves, bind_all, frame_of, result_of, with_result}
 use Rattle.fortran_laws.specs.f_tree.Association as association
 use Rattle.fortran_laws.specs.f_tree.Step.{contains, valued, doing, deed}
 use Rattle.fortran_laws.specs.f_tree.Step as source
@@ -24,43 +24,21 @@ use Rattle.lowering.specs.l_core.Machine.{View, lowered, testing, step, done, ca
 use Rattle.lowering.specs.l_core.Machine as target
 use Rattle.lowering.specs.l_core.Costs.{cost, rest}
 use Rattle.lowering.specs.Expressions.{Purpose, lower_all}
-use Rattle.lowering.specs.Statements.{passes_label, loop_operands, test_by, loop_test}
+use Rattle.lowering.specs.Statements.{labels_written, hides_labels, loop_operands, test_by, loop_test}
 use Rattle.lowering.specs.Units.{free_at, loop_exit, turn_size, turn_of}
-use Rattle.lowering_laws.specs.Walks.{Spans, further, at_step, IsOrdinary, Keeps, SameBelow, AllCome, CallsFor, Follows}
+use Rattle.lowering_laws.specs.Walks.{Spans, at_step, IsOrdinary, Keeps, SameBelow, AllCome, CallsFor, Follows}
 use Rattle.lowering_laws.specs.Midway.{AreMidway, Mode, InOrder, OfLoop, lowered_as, AreIn, AreInLoop, LoopComes}
-use Rattle.lowering_laws.specs.Layer.{IsNoLabel, IsAnswered, labels_in, labels_for, Found, KnowsLabels, IsCalled, Leads, there, plainly, own_of, ends_of, AreRounds, Reaches, passes_other, none_known, IsSafe, by_all, by_those, BranchesNow, HasTransfer, FormTransfer, TransferNow, IsLoop, IsFollowed, IsFollowedBelow, IsClosing, for_set, for_set_label, for_go, for_pick, for_go_assigned, for_go_by_sign, for_guard, for_arm, for_test, for_call, for_return, for_return_by, for_stop, for_end, for_begin, for_item, for_finish, for_auxiliary, Stands, no_step, some_steps, IsLaidOut, IsPart, is_whole, IsAt, GoesBack, IsPlaced, is_doing, is_testing, IsMatched, lower_couple, IsPositive, Arrives, IsRound, Runs, IsModeOf, for_loop, is_under, is_turning}
-use Rattle.lowering_laws.proofs.WalkLemmas.{split, spans_one, IsNoBranch, ordinary_by, same_less, same_trans, kept_above, join, onward as walked_on}
+use Rattle.lowering_laws.specs.Layer.{IsNoLabel, IsGiven, labels_in, labels_for, Found, KnowsCall, IsCalled, BranchesBehind, CallsFunctions, AreWritten, Leads, there, plainly, own_of, ends_of, AreRounds, Reaches, IsSafe, by_all, by_those, BranchesNow, HasTransfer, FormTransfer, TransferNow, IsLoop, IsFollowed, IsFollowedBelow, IsClosing, for_set, for_set_label, for_go, for_pick, for_go_assigned, for_go_by_sign, for_guard, for_arm, for_test, for_call, for_return, for_return_by, for_stop, for_end, for_begin, for_item, for_finish, for_auxiliary, Stands, no_step, some_steps, IsLaidOut, IsPart, is_whole, IsAt, GoesBack, IsPlaced, is_doing, is_testing, IsMatched, lower_couple, IsPositive, Arrives, IsRound, Runs, IsModeOf, for_loop, is_under, is_turning}
+use Rattle.lowering_laws.proofs.WalkLemmas.{split, spans_one, ordinary_by, same_less, same_trans, kept_above, join, onward as walked_on}
 use Rattle.lowering_laws.proofs.ExpressionLemmas.{progress_all, TermsMet}
 use Rattle.lowering_laws.proofs.OperandLemmas.{loop_progress}
 use Rattle.lowering_laws.proofs.DoLemmas.{LoopStands, do_alike, LoopCode, turn_alike}
 use Rattle.lowering_laws.proofs.CostLemmas.{Begins, way_to, way_back_to, leads_keep, begins_by, WayOn}
 use Rattle.lowering_laws.proofs.PlaceLemmas.{all_start, GoesOn, Alike, own_low, rounds_same, own_place, arrives}
-use Rattle.lowering_laws.proofs.LabelLemmas.{Suited, AllFine, all_fine, none_among, known_among, binds_well, bound_values}
-use Rattle.lowering_laws.proofs.CallLemmas.{went, goes_same, suited_by, call_alike}
+use Rattle.lowering_laws.proofs.LabelLemmas.{Suited, AllFine, all_fine, AllWritten, all_written, known_among, binds_well, bound_values}
+use Rattle.lowering_laws.proofs.ReferenceLemmas.{first_of_closing, calls_functions}
+use Rattle.lowering_laws.proofs.CallLemmas.{went, goes_same, function_given, suited_by, call_alike}
 use Rattle.lowering_laws.proofs.StatementLemmas.{one_value, whole_form, test_alike, deed_met}
-
--- the first step behind the operands of a statement
-first_of_closing : (u : Text) (k : ℕ) (x : Option ℕ) (head : Head) (ts : Terms) (ps : Pures) (closing : List Step) (p q : ℕ) → IsClosing u k x head ts ps closing → Spans u p closing q →
-    (st : Step) × (slice_get u.steps p ≡ Some st) × IsNoBranch st
-first_of_closing u k x _ _ _ _ p q for_set (further e spans) = (_, e, tt)
-first_of_closing u k x _ _ _ _ p q for_set_label (further e spans) = (_, e, tt)
-first_of_closing u k x _ _ _ _ p q for_go (further e spans) = (_, e, tt)
-first_of_closing u k x _ _ _ _ p q for_pick (further e spans) = (_, e, tt)
-first_of_closing u k x _ _ _ _ p q for_go_assigned (further e spans) = (_, e, tt)
-first_of_closing u k x _ _ _ _ p q for_go_by_sign (further e spans) = (_, e, tt)
-first_of_closing u k x _ _ _ _ p q (for_guard code) (further e spans) = (_, e, tt)
-first_of_closing u k x _ _ _ _ p q (for_arm flat room) (further e spans) = (_, e, tt)
-first_of_closing u k x _ _ _ _ p q (for_test stands) (further e spans) = (_, e, tt)
-first_of_closing u k x _ _ _ _ p q (for_loop n stands) (further e spans) = (_, e, tt)
-first_of_closing u k x _ _ _ _ p q for_call (further e spans) = (_, e, tt)
-first_of_closing u k x _ _ _ _ p q for_return (further e spans) = (_, e, tt)
-first_of_closing u k x _ _ _ _ p q for_return_by (further e spans) = (_, e, tt)
-first_of_closing u k x _ _ _ _ p q for_stop (further e spans) = (_, e, tt)
-first_of_closing u k x _ _ _ _ p q for_end (further e spans) = (_, e, tt)
-first_of_closing u k x _ _ _ _ p q (for_begin code) (further e spans) = (_, e, tt)
-first_of_closing u k x _ _ _ _ p q (for_item code) (further e spans) = (_, e, tt)
-first_of_closing u k x _ _ _ _ p q for_finish (further e spans) = (_, e, tt)
-first_of_closing u k x _ _ _ _ p q for_auxiliary (further e spans) = (_, e, tt)
 
 at_least : {a b : ℕ} → a ≡ b → a ≤ b
 at_least e = omega (arith, e)
@@ -99,7 +77,7 @@ test_closing u k x i _ label _ _ _ (for_test {i = j} {n = n} {label = label'} {p
           (subst (λ z. (last : ℕ) → terminal_of u.facts.program j z ≡ Some last → IsLoop u j last × (ends_of u j + n ≡ loop_exit u.facts.program (record { first = j; last = last }))) same_label stands);
     }
 test_closing u k x i _ label _ _ _ (for_loop n stands) place is = absurd (cc)
-test_closing u k x i _ label _ _ _ for_call place is = absurd (cc)
+test_closing u k x i _ label _ _ _ (for_call hides) place is = absurd (cc)
 test_closing u k x i _ label _ _ _ for_return place is = absurd (cc)
 test_closing u k x i _ label _ _ _ for_return_by place is = absurd (cc)
 test_closing u k x i _ label _ _ _ for_stop place is = absurd (cc)
@@ -119,12 +97,13 @@ record WhileCode (u : Text) (k i : ℕ) (label : Option ℕ) (operands : Terms) 
   before : Spans u p (lower_all NoPure purpose k operands).steps upto
   behind : Spans u upto (Unless test n ∷ []) q
   closes : IsClosing u k (Some i) (ToTestLoop label) operands (lower_all NoPure purpose k operands).value (Unless test n ∷ [])
+  functions : CallsFunctions u p upto
   stands : (last : ℕ) → terminal_of u.facts.program i label ≡ Some last → IsLoop u i last × (ends_of u i + n ≡ loop_exit u.facts.program (record { first = i; last = last }))
 
-while_from : (u : Text) (k i : ℕ) (label : Option ℕ) (operands : Terms) (p q : ℕ) (mode : Mode) → IsModeOf mode (ToTestLoop label) → (closing : List Step) → IsClosing u k (Some i) (ToTestLoop label) operands (lowered_as mode k operands).value closing →
+while_from : (u : Text) (returns : BranchesBehind u) (k i : ℕ) (label : Option ℕ) (operands : Terms) (p q : ℕ) (mode : Mode) → IsModeOf mode (ToTestLoop label) → (closing : List Step) → IsClosing u k (Some i) (ToTestLoop label) operands (lowered_as mode k operands).value closing →
     Spans u p ((lowered_as mode k operands).steps ++ closing) q → WhileCode u k i label operands p q
-while_from u k i label operands p q OfLoop modes closing closes spans = absurd modes
-while_from u k i label operands p q (InOrder purpose) modes closing closes spans =
+while_from u returns k i label operands p q OfLoop modes closing closes spans = absurd modes
+while_from u returns k i label operands p q (InOrder purpose) modes closing closes spans =
     let found = test_closing u k (Some i) i (ToTestLoop label) label operands (lower_all NoPure purpose k operands).value closing closes refl refl in
     let parts = split u (lower_all NoPure purpose k operands).steps spans in
     record {
@@ -136,15 +115,16 @@ while_from u k i label operands p q (InOrder purpose) modes closing closes spans
       before = parts.1;
       behind = subst (λ z. Spans u parts.0 z q) found.all parts.2;
       closes = subst (λ z. IsClosing u k (Some i) (ToTestLoop label) operands (lower_all NoPure purpose k operands).value z) found.all closes;
+      functions = calls_functions u returns k (Some i) (InOrder purpose) (ToTestLoop label) operands closing p parts.0 q closes parts.1 parts.2;
       stands = found.stands;
     }
 
-while_code : (u : Text) (k i : ℕ) (label : Option ℕ) (operands : Terms) (p q : ℕ) (form : Form) → Stands u k (Some i) form p q → form ≡ On (ToTestLoop label) operands → WhileCode u k i label operands p q
-while_code u k i label operands p q _ (no_step leads) e = absurd (cc)
-while_code u k i label operands p q _ (some_steps {head = head'} {ts = ts'} mode modes closing closes spans) e =
+while_code : (u : Text) (returns : BranchesBehind u) (k i : ℕ) (label : Option ℕ) (operands : Terms) (p q : ℕ) (form : Form) → Stands u k (Some i) form p q → form ≡ On (ToTestLoop label) operands → WhileCode u k i label operands p q
+while_code u returns k i label operands p q _ (no_step leads) e = absurd (cc)
+while_code u returns k i label operands p q _ (some_steps {head = head'} {ts = ts'} mode modes closing closes spans) e =
     let same_head : head' ≡ ToTestLoop label = cc in
     let same_operands : ts' ≡ operands = cc in
-    while_from u k i label operands p q mode (subst (IsModeOf mode) same_head modes) closing
+    while_from u returns k i label operands p q mode (subst (IsModeOf mode) same_head modes) closing
     (subst (λ z. IsClosing u k (Some i) (ToTestLoop label) z (lowered_as mode k z).value closing) same_operands (subst (λ z. IsClosing u k (Some i) z ts' (lowered_as mode k ts').value closing) same_head closes))
     (subst (λ z. Spans u p ((lowered_as mode k z).steps ++ closing) q) same_operands spans)
 
@@ -175,7 +155,7 @@ loop_closing u k x _ _ _ _ (for_arm flat room) modes = absurd modes
 loop_closing u k x _ _ _ _ (for_test stands) modes = absurd modes
 loop_closing u k _ _ _ _ _ (for_loop {i = i} {label = label} {x = x} {first = first} {limit = limit} {by = by} n stands) modes =
     record { label = label; i = i; is = refl; place = refl; variable = x; first = first; limit = limit; by = by; n = n; value = refl; all = refl; stands = stands }
-loop_closing u k x _ _ _ _ for_call modes = absurd modes
+loop_closing u k x _ _ _ _ (for_call hides) modes = absurd modes
 loop_closing u k x _ _ _ _ for_return modes = absurd modes
 loop_closing u k x _ _ _ _ for_return_by modes = absurd modes
 loop_closing u k x _ _ _ _ for_stop modes = absurd modes
@@ -314,9 +294,9 @@ module _ (number : ℕ) (u : Text) (cs : List ℕ) (laid : IsLaidOut u) (positiv
         arg = a;
         does = subst (Does lowered (λ x. cost cs x.at) u (at_step f h p m) w all.count) alike.is all.does;
         few = all.spare alike.followed;
-        world = record { transfer = w'.transfer; labels = alike.labels };
+        world = record { transfer = w'.transfer; wanted = a.want; labels = alike.labels };
         grows = tt;
-        passed = (refl, refl, refl, refl, alike.passed);
+        passed = (refl, refl, refl, refl, refl, alike.passed);
         waits = alike.frame;
         resumes = λ s x t x' given. resumed_by (association.resume u.facts v x s) alike.view x' t (alike.goes_on s x t x' given);
       }
@@ -325,13 +305,13 @@ module _ (number : ℕ) (u : Text) (cs : List ℕ) (laid : IsLaidOut u) (positiv
       resumed_by (Enters v' s') z x t on = on
       resumed_by (Refused act) z x t on = λ claimed. claimed
   met_by f h μ w p m o (Answers w' d) e all alike =
-      record { count = all.count; shared = w'; ans = d; does = subst (Does lowered (λ x. cost cs x.at) u (at_step f h p m) w all.count) alike.0 all.does; few = all.few; given = (refl, refl, alike.1, alike.2) }
+      record { count = all.count; shared = w'; ans = alike.answer; does = subst (Does lowered (λ x. cost cs x.at) u (at_step f h p m) w all.count) alike.is all.does; few = all.few; given = (refl, alike.transfer, alike.given) }
   met_by f h μ w p m o (Breaks act) e all alike = λ claimed. absurd claimed
 
   -- ## References to functions
 
   -- what is known of a statement in the midst of its operands
-  record IsMidst (k : ℕ) (place : Option ℕ) (f : Frame) (μ : Found) (i upto : ℕ) (m : Temporaries) (rounds : List Round) (head : Head) (operands left : Terms) (mode : Mode) (closing : List Step) : Type 0 where
+  record IsMidst (k : ℕ) (place : Option ℕ) (f : Frame) (μ : Found) (i from upto : ℕ) (m : Temporaries) (rounds : List Round) (head : Head) (operands left : Terms) (mode : Mode) (closing : List Step) : Type 0 where
     called : IsCalled u.facts.program.kind f μ
     whole : (j : ℕ) → place ≡ Some j → j ≡ i
     stand : AreRounds u f m (open_at u.facts.program i) rounds
@@ -342,24 +322,25 @@ module _ (number : ℕ) (u : Text) (cs : List ℕ) (laid : IsLaidOut u) (positiv
     part : IsPart line.form place head operands
     closes : IsClosing u k place head operands (lowered_as mode k operands).value closing
     behind : Spans u upto closing (ends_of u i)
+    functions : CallsFunctions u from upto
     branches : BranchesNow u.facts.program i head left
 
   -- in the midst of operands, the text goes on behind each answer
-  resumed_alike : (k : ℕ) (place : Option ℕ) (f : Frame) (μ : Found) (x : Option Transfer) (i at into height upto : ℕ) (m kept : Temporaries) (rounds : List Round) (head : Head) (operands left : Terms) (mode : Mode) (closing : List Step) (callee : Callee) (es : List Datum) (ps : Pures) (rest' : Datum → Terms) →
-      HasTransfer u.facts.program μ i head x → IsMidst k place f μ i upto m rounds head operands left mode closing → u.begins i ≤ at → SameBelow k m kept → k ≤ into → slice_get u.steps at ≡ Some (CallFor into callee ps) →
+  resumed_alike : (k : ℕ) (place : Option ℕ) (f : Frame) (μ : Found) (x : Option Transfer) (i from at into height upto : ℕ) (m kept : Temporaries) (rounds : List Round) (head : Head) (operands left : Terms) (mode : Mode) (closing : List Step) (callee : Callee) (es : List Datum) (ps : Pures) (rest' : Datum → Terms) →
+      HasTransfer u.facts.program μ i head x → IsMidst k place f μ i from upto m rounds head operands left mode closing → u.begins i ≤ from → from ≤ at → SameBelow k m kept → k ≤ into → slice_get u.steps at ≡ Some (CallFor into callee ps) →
       ((d : Datum) → AreIn u f mode k operands (rest' d) (suc at) (with_kept into d kept) upto) →
-      ((name : Bytes) → head ≡ ToCall name → passes_label operands ≡ false → (d : Datum) → Suited callee.want d → passes_other none_known (rest' d) ≡ false) →
+      (callee.want ≡ AsSubroutine → ⊥) → ((name : Bytes) → head ≡ ToCall name → hides_labels operands ≡ false → (d : Datum) → Suited callee.want d → AreWritten (labels_written operands) (rest' d)) →
       ((name : Bytes) → head ≡ ToCall name → (d : Datum) → Suited callee.want d → IsSafe u.facts.program i (rest' d)) →
-      (s : World) (r : Datum) (t : World) (r' : Datum) → (s ≡ t) × (r ≡ r') × (s.transfer ≡ x) × IsAnswered (labels_for callee.want es) r →
+      (s : World) (r : Datum) (t : World) (r' : Datum) → (s ≡ t) × (s.transfer ≡ x) × IsGiven callee.want (labels_for callee.want es) r r' →
       GoesOn u μ (association.resume u.facts (record { frame = f; at = i; now = fortran.Waits height (λ d. On head (rest' d)); loops = rounds }) r s) (at_step f height at kept) r' t
   unfolding association.resume association.resumed_by target.resume resumed_at gone_on cut_to
-  resumed_alike k place f μ x i at into height upto m kept rounds head operands left mode closing callee es ps rest' has midst low same above there' mid fine safe s r t r' given = (
+  resumed_alike k place f μ x i from at into height upto m kept rounds head operands left mode closing callee es ps rest' has midst low up same above there' mid function written safe s r t r' given = let answer = function_given callee.want (labels_for callee.want es) r r' function given.2 in (
     at_step f height (suc at) (with_kept into r' kept),
     cut_to height t,
     ap (λ st. resumed_at st (at_step f height at kept) r' t) there',
     record {
       same = ap (cut_to height) given.0;
-      transfer = subst (HasTransfer u.facts.program μ i head) (sym given.2) has;
+      transfer = subst (HasTransfer u.facts.program μ i head) (sym given.1) has;
       called = midst.called;
       position = suc at;
       kept = with_kept into r' kept;
@@ -385,14 +366,15 @@ module _ (number : ℕ) (u : Text) (cs : List ℕ) (laid : IsLaidOut u) (positiv
         there = midst.at_line;
         from = suc at;
         upto = upto;
-        low = omega (arith, low);
+        low = omega (arith, low, up);
         arrives = plainly (omega arith) there;
-        midway = subst (λ d. AreIn u f mode k operands (rest' r) (suc at) (with_kept into d kept) upto) given.1 (mid r);
+        midway = subst (λ d. AreIn u f mode k operands (rest' r) (suc at) (with_kept into d kept) upto) answer.0 (mid r);
         closes = midst.closes;
         behind = midst.behind;
-        without = λ name is none. fine name is none r (suited_by callee.want es r given.3);
+        functions = λ at' k' callee' ps' later inside. midst.functions at' k' callee' ps' (omega (arith, up, later)) inside;
+        written = λ name is hides. written name is hides r (suited_by callee.want r answer.1);
         part = midst.part;
-        branches = branches_on u.facts.program i head left (rest' r) (λ name is. safe name is r (suited_by callee.want es r given.3)) midst.branches;
+        branches = branches_on u.facts.program i head left (rest' r) (λ name is. safe name is r (suited_by callee.want r answer.1)) midst.branches;
       });
     },
   )
@@ -405,38 +387,39 @@ module _ (number : ℕ) (u : Text) (cs : List ℕ) (laid : IsLaidOut u) (positiv
   -- a reference in the midst of operands
   asked_alike : (o : Type 0) (k : ℕ) (place : Option ℕ) (f : Frame) (h : ℕ) (μ : Found) (w : World) (i from upto : ℕ) (m : Temporaries) (rounds : List Round) (head : Head) → HasTransfer u.facts.program μ i head w.transfer → (operands left : Terms) (mode : Mode) (closing : List Step) (now : fortran.Now)
       (callee : Callee) (ds : List Datum) (rest' : Datum → Terms) →
-      IsMidst k place f μ i upto m rounds head operands left mode closing → u.begins i ≤ from →
+      IsMidst k place f μ i from upto m rounds head operands left mode closing → u.begins i ≤ from →
       (calls : CallsFor u f h w k from m upto callee ds (λ d p' m'. AreIn u f mode k operands (rest' d) p' m' upto)) → o →
-      ((name : Bytes) → head ≡ ToCall name → passes_label operands ≡ false → AllFine none_known (Asks callee ds rest')) →
+      ((name : Bytes) → head ≡ ToCall name → hides_labels operands ≡ false → AllWritten (labels_written operands) (Asks callee ds rest')) →
       ((name : Bytes) → head ≡ ToCall name → SafeRed u.facts.program i (Asks callee ds rest')) →
       Alike u μ o (call u.facts (record { frame = f; at = i; now = now; loops = rounds }) w callee ds (λ height. fortran.Waits height (λ d. On head (rest' d)))) (step u (at_step f h calls.at calls.kept) w)
   asked_alike o k place f h μ w i from upto m rounds head has operands left mode closing now callee ds rest' midst low calls followed fine safe =
       let up = walked_on u f h w calls.way in
       call_alike u f h μ w i calls.at calls.kept rounds o followed callee ds (λ height. fortran.Waits height (λ d. On head (rest' d))) now
       (λ s x t x' given.
-      resumed_alike k place f μ w.transfer i calls.at calls.into (length w.store) upto m calls.kept rounds head operands left mode closing callee ds calls.operands rest' has midst (omega (arith, up, low)) calls.same calls.above calls.there calls.left fine
+      resumed_alike k place f μ w.transfer i from calls.at calls.into (length w.store) upto m calls.kept rounds head operands left mode closing callee ds calls.operands rest' has midst low up calls.same calls.above calls.there calls.left
+      (midst.functions calls.at calls.into callee calls.operands up calls.inside calls.there) fine
       (λ name is. safe_rest u.facts.program i callee ds rest' (safe name is)) s x t x' given)
       (step u (at_step f h calls.at calls.kept) w) (called_step f h w calls.at calls.into calls.kept callee calls.operands ds calls.there calls.values)
 
-  followed_up : (k : ℕ) (place : Option ℕ) (f : Frame) (μ : Found) (i upto at : ℕ) (m : Temporaries) (rounds : List Round) (head : Head) (operands left : Terms) (mode : Mode) (closing : List Step) →
-      IsMidst k place f μ i upto m rounds head operands left mode closing → at < upto → IsFollowed u at
-  followed_up k place f μ i upto at m rounds head operands left mode closing midst inside =
+  followed_up : (k : ℕ) (place : Option ℕ) (f : Frame) (μ : Found) (i from upto at : ℕ) (m : Temporaries) (rounds : List Round) (head : Head) (operands left : Terms) (mode : Mode) (closing : List Step) →
+      IsMidst k place f μ i from upto m rounds head operands left mode closing → at < upto → IsFollowed u at
+  followed_up k place f μ i from upto at m rounds head operands left mode closing midst inside =
       let first = first_of_closing u k place head operands (lowered_as mode k operands).value closing upto (ends_of u i) midst.closes midst.behind in
       record { at = upto; step = first.0; behind = inside; is = first.1; ordinary = ordinary_by u upto first.0 first.1 first.2 }
 
   -- ## A step
 
   valued_met : (k : ℕ) (place : Option ℕ) (f : Frame) (h : ℕ) (μ : Found) (w : World) (i p r from upto : ℕ) (m : Temporaries) (rounds : List Round) (head : Head) → HasTransfer u.facts.program μ i head w.transfer → (operands left : Terms) (purpose : Purpose) (closing : List Step) (now : fortran.Now) →
-      IsMidst k place f μ i upto m rounds head operands left (InOrder purpose) closing → u.begins i ≤ from → Begins u f h w cs p m r → Leads u r from → (x : Red (List Datum) Terms) →
+      IsMidst k place f μ i from upto m rounds head operands left (InOrder purpose) closing → u.begins i ≤ from → Begins u f h w cs p m r → Leads u r from → (x : Red (List Datum) Terms) →
       Follows u f h w k from m upto (λ ds m'. AllCome u.facts f w.store purpose (lower_all NoPure purpose k operands).free m' (lower_all NoPure purpose k operands).value ds) (λ rs' p' m'. AreMidway u f NoPure [] purpose k operands rs' p' m' upto) x →
-      ((name : Bytes) → head ≡ ToCall name → passes_label operands ≡ false → AllFine none_known x) → ((name : Bytes) → head ≡ ToCall name → SafeRed u.facts.program i x) →
+      ((name : Bytes) → head ≡ ToCall name → hides_labels operands ≡ false → AllWritten (labels_written operands) x) → ((name : Bytes) → head ≡ ToCall name → SafeRed u.facts.program i x) →
       Meets (lower_couple number u cs) μ (at_step f h p m) w (rest cs 0) (valued u.facts (record { frame = f; at = i; now = now; loops = rounds }) w head x)
   unfolding valued
   valued_met k place f h μ w i p r from upto m rounds head has operands left purpose closing now midst low begins leads (Valued ds) ends fine safe =
       let up = walked_on u f h w ends.way in
       let stand = rounds_same u laid f m ends.kept i rounds (same_less (free_at u.facts.program i) k m ends.kept (at_least midst.enough) ends.same) midst.stand in
       let led = deed_met u laid f h μ w i upto ends.kept now midst.called rounds stand midst.line midst.at_line (omega (arith, up, low)) k place midst.whole head has operands left (lower_all NoPure purpose k operands).value closing ds (λ label is. no_do purpose head label midst.modes is) midst.enough midst.part midst.branches
-      midst.closes midst.behind (ends.good.now ends.kept (λ j below. refl)) (λ name is none. none_among ds (fine name is none)) (λ name is. safe_values u.facts.program i ds (safe name is)) in
+      midst.closes midst.behind (ends.good.now ends.kept (λ j below. refl)) fine (λ name is. safe_values u.facts.program i ds (safe name is)) in
       met_by f h μ w p m (IsFollowed u led.upto) (deed u.facts (record { frame = f; at = i; now = now; loops = rounds }) w head ds) (step u (at_step f h led.upto led.kept) w)
       (reached_on f h w p r led.upto m led.kept begins (join u f h w (join u f h w (leads_keep u f h w cs m leads) ends.way) led.way) led.ordinary) led.alike
   valued_met k place f h μ w i p r from upto m rounds head has operands left purpose closing now midst low begins leads (Bad act) tt fine safe = λ claimed. absurd claimed
@@ -444,16 +427,16 @@ module _ (number : ℕ) (u : Text) (cs : List ℕ) (laid : IsLaidOut u) (positiv
       met_by f h μ w p m (IsFollowed u calls.at) (call u.facts (record { frame = f; at = i; now = now; loops = rounds }) w callee ds (λ height. fortran.Waits height (λ d. On head (rest' d)))) (step u (at_step f h calls.at calls.kept) w)
       (reached_on f h w p r calls.at m calls.kept begins (join u f h w (leads_keep u f h w cs m leads) calls.way) (ordinary_by u calls.at (CallFor calls.into callee calls.operands) calls.there tt))
       (asked_alike (IsFollowed u calls.at) k place f h μ w i from upto m rounds head has operands left (InOrder purpose) closing now callee ds rest' midst low calls
-      (followed_up k place f μ i upto calls.at m rounds head operands left (InOrder purpose) closing midst calls.inside) fine safe)
+      (followed_up k place f μ i from upto calls.at m rounds head operands left (InOrder purpose) closing midst calls.inside) fine safe)
 
   -- the start of a DO
   reached_so : (f : Frame) (h : ℕ) (w : World) (p : ℕ) (m : Temporaries) (e : target.Doing) → WayOn u f h w cs p m e → IsReached ⊥ f h w p m e
   reached_so f h w p m e way = record { count = way.count; does = way.does; few = way.few; spare = λ none. absurd none }
 
   loop_met : (k : ℕ) (place : Option ℕ) (f : Frame) (h : ℕ) (μ : Found) (w : World) (i p r from upto : ℕ) (m : Temporaries) (rounds : List Round) (head : Head) → HasTransfer u.facts.program μ i head w.transfer → (operands left : Terms) (closing : List Step) (now : fortran.Now) →
-      IsMidst k place f μ i upto m rounds head operands left OfLoop closing → u.begins i ≤ from → Begins u f h w cs p m r → Leads u r from → (x : Red (List Datum) Terms) →
+      IsMidst k place f μ i from upto m rounds head operands left OfLoop closing → u.begins i ≤ from → Begins u f h w cs p m r → Leads u r from → (x : Red (List Datum) Terms) →
       Follows u f h w k from m upto (λ ds m'. LoopComes u.facts f w.store (loop_operands k operands).free m' (loop_operands k operands).value ds) (λ rs' p' m'. AreInLoop u f k operands rs' p' m' upto) x →
-      ((name : Bytes) → head ≡ ToCall name → passes_label operands ≡ false → AllFine none_known x) → ((name : Bytes) → head ≡ ToCall name → SafeRed u.facts.program i x) →
+      ((name : Bytes) → head ≡ ToCall name → hides_labels operands ≡ false → AllWritten (labels_written operands) x) → ((name : Bytes) → head ≡ ToCall name → SafeRed u.facts.program i x) →
       Meets (lower_couple number u cs) μ (at_step f h p m) w (rest cs 0) (valued u.facts (record { frame = f; at = i; now = now; loops = rounds }) w head x)
   unfolding valued
   loop_met k place f h μ w i p r from upto m rounds head has operands left closing now midst low begins leads (Valued ds) ends fine safe =
@@ -476,12 +459,12 @@ module _ (number : ℕ) (u : Text) (cs : List ℕ) (laid : IsLaidOut u) (positiv
       met_by f h μ w p m (IsFollowed u calls.at) (call u.facts (record { frame = f; at = i; now = now; loops = rounds }) w callee ds (λ height. fortran.Waits height (λ d. On head (rest' d)))) (step u (at_step f h calls.at calls.kept) w)
       (reached_on f h w p r calls.at m calls.kept begins (join u f h w (leads_keep u f h w cs m leads) calls.way) (ordinary_by u calls.at (CallFor calls.into callee calls.operands) calls.there tt))
       (asked_alike (IsFollowed u calls.at) k place f h μ w i from upto m rounds head has operands left OfLoop closing now callee ds rest' midst low calls
-      (followed_up k place f μ i upto calls.at m rounds head operands left OfLoop closing midst calls.inside) fine safe)
+      (followed_up k place f μ i from upto calls.at m rounds head operands left OfLoop closing midst calls.inside) fine safe)
 
   -- by how the operands are lowered
   mode_met : (mode : Mode) (k : ℕ) (place : Option ℕ) (f : Frame) (h : ℕ) (μ : Found) (w : World) (i p r from upto : ℕ) (m : Temporaries) (rounds : List Round) (head : Head) → HasTransfer u.facts.program μ i head w.transfer → (operands left : Terms) (closing : List Step) (now : fortran.Now) →
-      IsMidst k place f μ i upto m rounds head operands left mode closing → u.begins i ≤ from → Begins u f h w cs p m r → Leads u r from → AreIn u f mode k operands left from m upto →
-      ((name : Bytes) → head ≡ ToCall name → passes_label operands ≡ false → AllFine none_known (reduce_all u.facts f w.store [] left)) → ((name : Bytes) → head ≡ ToCall name → SafeRed u.facts.program i (reduce_all u.facts f w.store [] left)) →
+      IsMidst k place f μ i from upto m rounds head operands left mode closing → u.begins i ≤ from → Begins u f h w cs p m r → Leads u r from → AreIn u f mode k operands left from m upto →
+      ((name : Bytes) → head ≡ ToCall name → hides_labels operands ≡ false → AllWritten (labels_written operands) (reduce_all u.facts f w.store [] left)) → ((name : Bytes) → head ≡ ToCall name → SafeRed u.facts.program i (reduce_all u.facts f w.store [] left)) →
       Meets (lower_couple number u cs) μ (at_step f h p m) w (rest cs 0) (valued u.facts (record { frame = f; at = i; now = now; loops = rounds }) w head (reduce_all u.facts f w.store [] left))
   unfolding TermsMet
   mode_met (InOrder purpose) k place f h μ w i p r from upto m rounds head has operands left closing now midst low begins leads mid fine safe =
@@ -496,15 +479,15 @@ module _ (number : ℕ) (u : Text) (cs : List ℕ) (laid : IsLaidOut u) (positiv
       let first = begins_by u f h w cs is.arrives in
       subst (λ z. Meets (lower_couple number u cs) μ (at_step f h p m) w (rest cs 0) (doing u.facts (record { frame = f; at = i; now = fortran.Doing z; loops = rounds }) w z)) (sym is.is)
       (mode_met is.mode is.free is.place f h μ w i p first.0 is.from is.upto m rounds is.head (subst (λ z. FormTransfer u.facts.program μ i z w.transfer) is.is has) is.operands is.left is.closing (fortran.Doing (On is.head is.left))
-      (record { called = called; whole = is.at_place; stand = stand; modes = is.modes; enough = is.enough; line = is.line; at_line = is.there; part = is.part; closes = is.closes; behind = is.behind; branches = is.branches })
+      (record { called = called; whole = is.at_place; stand = stand; modes = is.modes; enough = is.enough; line = is.line; at_line = is.there; part = is.part; closes = is.closes; behind = is.behind; functions = is.functions; branches = is.branches })
       is.low first.1 first.2 is.midway
-      (λ name e none. all_fine none_known u.facts f w.store called.none [] is.left tt (is.without name e none))
+      (λ name e hides. let written = is.written name e hides in subst (λ z. AllWritten z (reduce_all u.facts f w.store [] is.left)) written.1 (all_written u.facts f w.store called.none is.left written.0))
       (λ name e. safe_red u.facts f w.store called.none i is.left (call_branches u.facts.program i is.head is.left name e is.branches)))
 
   -- ## The condition of a DO WHILE, behind its range
 
   tested_met : (k : ℕ) (f : Frame) (h : ℕ) (μ : Found) (w : World) → w.transfer ≡ μ.transfer → (i p upto n : ℕ) (m : Temporaries) (rounds : List Round) (label : Option ℕ) (operands : Terms) (purpose : Purpose) (test : Pure) (now : fortran.Now) →
-      IsMidst k (Some i) f μ i upto m rounds (ToTestLoop label) operands operands (InOrder purpose) (Unless test n ∷ []) → (lower_all NoPure purpose k operands).value ≡ AndPure test NoPure →
+      IsMidst k (Some i) f μ i (own_of u i) upto m rounds (ToTestLoop label) operands operands (InOrder purpose) (Unless test n ∷ []) → (lower_all NoPure purpose k operands).value ≡ AndPure test NoPure →
       ((last : ℕ) → terminal_of u.facts.program i label ≡ Some last → IsLoop u i last × (ends_of u i + n ≡ loop_exit u.facts.program (record { first = i; last = last }))) →
       GoesBack u m (ends_of u i) p (own_of u i) → (x : Red (List Datum) Terms) →
       Follows u f h w k (own_of u i) m upto (λ ds m'. AllCome u.facts f w.store purpose (lower_all NoPure purpose k operands).free m' (lower_all NoPure purpose k operands).value ds) (λ rs' p' m'. AreMidway u f NoPure [] purpose k operands rs' p' m' upto) x →
@@ -541,7 +524,7 @@ module _ (number : ℕ) (u : Text) (cs : List ℕ) (laid : IsLaidOut u) (positiv
   unfolding TermsMet doing
   again_met f h μ w same called i p m rounds stand label operands line place is back code =
       tested_met (free_at u.facts.program i) f h μ w same i p code.upto code.n m rounds label operands code.purpose code.test (fortran.Doing (On (ToTestLoop label) operands))
-      (record { called = called; whole = own_place u laid f h μ w m same called (Unit {0}) i; stand = stand; modes = tt; enough = refl; line = line; at_line = place; part = is_whole is; closes = code.closes; behind = code.behind; branches = tt })
+      (record { called = called; whole = own_place u laid f h μ w m same called (Unit {0}) i; stand = stand; modes = tt; enough = refl; line = line; at_line = place; part = is_whole is; closes = code.closes; behind = code.behind; functions = code.functions; branches = tt })
       code.value code.stands back (reduce_all u.facts f w.store [] operands)
       (progress_all u f h w (all_start u f NoPure [] code.purpose (free_at u.facts.program i) operands (own_of u i) code.upto m code.before) tt).met
 
@@ -571,7 +554,7 @@ module _ (number : ℕ) (u : Text) (cs : List ℕ) (laid : IsLaidOut u) (positiv
   unfolding source.step
   placed_met f h μ w called open' i p m rounds stand _ has (is_doing {form = form} all is) = at_met f h μ w called i p m rounds (subst (λ z. AreRounds u f m z rounds) all stand) form has is
   placed_met f h μ w called open' i p m rounds stand _ same (is_testing {label = label} {operands = operands} all line place is back) =
-      again_met f h μ w same called i p m rounds (subst (λ z. AreRounds u f m z rounds) all stand) label operands line place is back (while_code u (free_at u.facts.program i) i label operands (own_of u i) (ends_of u i) line.form (laid.stands i line place) is)
+      again_met f h μ w same called i p m rounds (subst (λ z. AreRounds u f m z rounds) all stand) label operands line place is back (while_code u laid.returns (free_at u.facts.program i) i label operands (own_of u i) (ends_of u i) line.form (laid.stands i line place) is)
   placed_met f h μ w called open' i p m rounds stand _ same (is_turning r outer from all chain arr spans exit) =
       turning_met f h μ w same called i p from m r outer rounds (subst (λ z. AreRounds u f m z rounds) all stand) chain arr spans exit
 
@@ -601,47 +584,49 @@ module _ (number : ℕ) (u : Text) (cs : List ℕ) (laid : IsLaidOut u) (positiv
   fresh_with μ w f names (Gives bs) same called none =
       let f' = record f { dimensions = λ x. association.bounds_for x names bs } in
       fresh_by f' μ w (arrived u.facts.program f' [] f.called.start)
-      (arrives u laid f' 0 μ w none_kept same (record { labels = knows u.facts.program.kind called.labels; none = called.none }) (Unit {0}) [] (u.begins f.called.start) f.called.start (u.begins f.called.start) (subst (λ z. AreRounds u f' none_kept z []) (sym none) tt)
+      (arrives u laid f' 0 μ w none_kept same (record { knows = knows u.facts.program.kind called.knows; none = called.none }) (Unit {0}) [] (u.begins f.called.start) f.called.start (u.begins f.called.start) (subst (λ z. AreRounds u f' none_kept z []) (sym none) tt)
       (laid.before f.called.start) (plainly (omega arith) there))
     where
-      knows : (kind : UnitKind) → KnowsLabels kind f μ.labels → KnowsLabels kind (record f { dimensions = λ x. association.bounds_for x names bs }) μ.labels
+      knows : (kind : UnitKind) → KnowsCall kind f μ.wanted μ.labels → KnowsCall kind (record f { dimensions = λ x. association.bounds_for x names bs }) μ.wanted μ.labels
       knows MainProgram is = is
       knows SubroutineUnit is = is
       knows FunctionUnit is = is
       knows BlockDataUnit is = is
   fresh_with μ w f names (Fails act) same called none = tt
 
-  -- a subroutine was called as one
-  knows_by : (kind : UnitKind) (a : Attribute) (want : Wanted) (ds : List Datum) (labels : List ℕ) (f : Frame) → serves kind a want ≡ true → f.alternates ≡ labels_in ds → labels_for want ds ≡ labels → KnowsLabels kind f labels
+  -- what a unit that serves knows of its call
+  knows_by : (kind : UnitKind) (a : Attribute) (want wanted : Wanted) (ds : List Datum) (labels : List ℕ) (f : Frame) → serves kind a want ≡ true → f.alternates ≡ labels_in ds → want ≡ wanted → labels_for want ds ≡ labels → KnowsCall kind f wanted labels
   unfolding serves
-  knows_by SubroutineUnit a AsSubroutine ds labels f served is passed = is ∙ passed
-  knows_by SubroutineUnit a (AsFunction basic width) ds labels f served is passed = absurd (true≢false (sym served))
-  knows_by MainProgram a want ds labels f served is passed = tt
-  knows_by FunctionUnit a want ds labels f served is passed = tt
-  knows_by BlockDataUnit a want ds labels f served is passed = tt
+  knows_by MainProgram a AsSubroutine wanted ds labels f served is same passed = sym same
+  knows_by MainProgram a (AsFunction basic width) wanted ds labels f served is same passed = absurd (true≢false (sym served))
+  knows_by SubroutineUnit a AsSubroutine wanted ds labels f served is same passed = (sym same, is ∙ passed)
+  knows_by SubroutineUnit a (AsFunction basic width) wanted ds labels f served is same passed = absurd (true≢false (sym served))
+  knows_by FunctionUnit a AsSubroutine wanted ds labels f served is same passed = absurd (true≢false (sym served))
+  knows_by FunctionUnit a (AsFunction basic width) wanted ds labels f served is same passed = λ other. absurd (let bad : AsFunction basic width ≡ AsSubroutine = same ∙ other in cc)
+  knows_by BlockDataUnit a want wanted ds labels f served is same passed = tt
 
   fresh_bound : (μ : Found) (w : World) (e : EntryPoint) (a : Passed) (x : Checked Bindings) → bind_all u.facts.program e.formals a.actuals ≡ x → serves u.facts.program.kind (u.facts.program.attribute e.name) a.want ≡ true →
-      w.transfer ≡ μ.transfer → labels_for a.want a.actuals ≡ μ.labels → open_at u.facts.program e.start ≡ [] → Fresh μ (begun_bound u.facts w e a.result x)
+      w.transfer ≡ μ.transfer → a.want ≡ μ.wanted → labels_for a.want a.actuals ≡ μ.labels → open_at u.facts.program e.start ≡ [] → Fresh μ (begun_bound u.facts w e a.result x)
   unfolding begun_bound Fresh frame_of
-  fresh_bound μ w e a (Gives bs) is served same passed quiet =
+  fresh_bound μ w e a (Gives bs) is served same want passed quiet =
       let well = binds_well u.facts.program e.formals a.actuals bs is in
       let f = frame_of e bs (result_of u.facts.program.kind (u.facts.program.attribute e.name) a.result w.store) (length w.store) in
       fresh_with μ (record w { store = with_result u.facts.program.kind a.result w.store }) f bs.names _ same (record {
-        labels = knows_by u.facts.program.kind (u.facts.program.attribute e.name) a.want a.actuals μ.labels f served (sym well.0) passed;
+        knows = knows_by u.facts.program.kind (u.facts.program.attribute e.name) a.want μ.wanted a.actuals μ.labels f served (sym well.0) want passed;
         none = λ x d is'. bound_values x bs.names bs.values d well.1 is';
       }) quiet
-  fresh_bound μ w e a (Fails act) is served same passed quiet = tt
+  fresh_bound μ w e a (Fails act) is served same want passed quiet = tt
 
   fresh_if : (μ : Found) (b : Bool) (x y : Entry fortran.fortran_sorts) → (b ≡ true → Fresh μ x) → Fresh μ y → Fresh μ (if b then x else y)
   fresh_if μ true x y one other = one refl
   fresh_if μ false x y one other = other
 
-  fresh_at : (μ : Found) (a : Passed) (w : World) (x : Option EntryPoint) → w.transfer ≡ μ.transfer → labels_for a.want a.actuals ≡ μ.labels → ((e : EntryPoint) → x ≡ Some e → open_at u.facts.program e.start ≡ []) → Fresh μ (begun_at u.facts a w x)
+  fresh_at : (μ : Found) (a : Passed) (w : World) (x : Option EntryPoint) → w.transfer ≡ μ.transfer → a.want ≡ μ.wanted → labels_for a.want a.actuals ≡ μ.labels → ((e : EntryPoint) → x ≡ Some e → open_at u.facts.program e.start ≡ []) → Fresh μ (begun_at u.facts a w x)
   unfolding begun_at Fresh
-  fresh_at μ a w None same passed quiet = tt
-  fresh_at μ a w (Some e) same passed quiet =
+  fresh_at μ a w None same want passed quiet = tt
+  fresh_at μ a w (Some e) same want passed quiet =
       fresh_if μ (serves u.facts.program.kind (u.facts.program.attribute e.name) a.want) (begun_bound u.facts w e a.result (bind_all u.facts.program e.formals a.actuals)) _
-      (λ served. fresh_bound μ w e a (bind_all u.facts.program e.formals a.actuals) refl served same passed (quiet e refl)) tt
+      (λ served. fresh_bound μ w e a (bind_all u.facts.program e.formals a.actuals) refl served same want passed (quiet e refl)) tt
 
   opened_by : (μ : Found) (n : Called) (a : Passed) (w : World) (y : Entry fortran.fortran_sorts) → association.start u.facts n a w ≡ y → Fresh μ y → Opened (lower_couple number u cs) μ y w n a
   unfolding Fresh target.start begun
@@ -649,16 +634,16 @@ module _ (number : ℕ) (u : Text) (cs : List ℕ) (laid : IsLaidOut u) (positiv
       record { view = record { frame = v.frame; at = u.begins v.frame.called.start; kept = none_kept; height = 0 }; shared = w'; starts = ap (begun u) e; matched = fresh }
   opened_by μ n a w (Refused act) e fresh = tt
 
-  started : (μ : Found) (n : Called) (a : Passed) (w : World) → w.transfer ≡ μ.transfer → labels_for a.want a.actuals ≡ μ.labels → Opened (lower_couple number u cs) μ (association.start u.facts n a w) w n a
+  started : (μ : Found) (n : Called) (a : Passed) (w : World) → w.transfer ≡ μ.transfer → a.want ≡ μ.wanted → labels_for a.want a.actuals ≡ μ.labels → Opened (lower_couple number u cs) μ (association.start u.facts n a w) w n a
   unfolding association.start
-  started μ n a w same labels = opened_by μ n a w (association.start u.facts n a w) refl (fresh_at μ a w (entry_of u.facts.program.kind u.facts.program.entries n) same labels (λ e is. laid.entries n e is))
+  started μ n a w same want labels = opened_by μ n a w (association.start u.facts n a w) refl (fresh_at μ a w (entry_of u.facts.program.kind u.facts.program.entries n) same want labels (λ e is. laid.entries n e is))
 
   pub simulates : Local (lower_couple number u cs)
   simulates = record {
     starts = λ μ s n a t n' a' houses idle passed.
         subst (λ z. Opened (lower_couple number u cs) μ (association.start u.facts n a s) t n' z) passed.2
         (subst (λ z. Opened (lower_couple number u cs) μ (association.start u.facts n a s) t z a) passed.1
-        (subst (λ z. Opened (lower_couple number u cs) μ (association.start u.facts n a s) z n a) passed.0 (started μ n a s passed.3 passed.4)));
+        (subst (λ z. Opened (lower_couple number u cs) μ (association.start u.facts n a s) z n a) passed.0 (started μ n a s passed.3 passed.4 passed.5)));
     refuses = λ n a s x e claimed. claimed;
     follows = follows;
   }

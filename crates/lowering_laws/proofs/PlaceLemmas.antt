@@ -23,10 +23,10 @@ use Rattle.lowering.specs.Statements.{loop_operands}
 use Rattle.lowering_laws.proofs.OperandLemmas.{loop_start}
 use Rattle.lowering_laws.specs.Walks.{Spans, at_step, SameBelow}
 use Rattle.lowering_laws.specs.Midway.{first_of, AreMidway, none_left, at_first, at_start, Mode, InOrder, OfLoop, lowered_as, AreIn, LoopLast}
-use Rattle.lowering_laws.specs.Layer.{IsAnswered, labels_for, Found, IsCalled, Leads, there, Arrives, plainly, own_by, own_of, closing_from, ends_of, AllBefore, TurnsStand, no_turn, turn_then, AllEnd, NoneEnds, IsBehind, IsChain, IsTested, Runs, IsRound, AreRounds, Reaches, BranchesWell, HeadBranches, BranchesNow, HasTransfer, SameOpen, IsFlat, IsNextArm, IsCode, no_code, some_code, Stands, no_step, some_steps, IsLaidOut, IsPart, is_whole, is_under, IsAt, GoesBack, is_doing, is_testing, IsMatched, IsModeOf, IsClosing, for_set, for_set_label, for_go, for_pick, for_go_assigned, for_go_by_sign, for_guard, for_arm, for_test, for_loop, for_call, for_return, for_return_by, for_stop, for_end, for_begin, for_item, for_finish, for_auxiliary, is_turning}
+use Rattle.lowering_laws.specs.Layer.{IsGiven, BranchesBehind, labels_for, Found, IsCalled, Leads, there, Arrives, plainly, own_by, own_of, closing_from, ends_of, AllBefore, TurnsStand, no_turn, turn_then, AllEnd, NoneEnds, IsBehind, IsChain, IsTested, Runs, IsRound, AreRounds, Reaches, BranchesWell, HeadBranches, BranchesNow, HasTransfer, SameOpen, IsFlat, IsNextArm, IsCode, no_code, some_code, Stands, no_step, some_steps, IsLaidOut, IsPart, is_whole, is_under, IsAt, GoesBack, is_doing, is_testing, IsMatched, IsModeOf, IsClosing, for_set, for_set_label, for_go, for_pick, for_go_assigned, for_go_by_sign, for_guard, for_arm, for_test, for_loop, for_call, for_return, for_return_by, for_stop, for_end, for_begin, for_item, for_finish, for_auxiliary, is_turning}
 use Rattle.lowering_laws.proofs.WalkLemmas.{split, spans_nothing, spans_one, choose_true, choose_false, same_less, lasts_same, all_last_same}
 use Rattle.lowering_laws.proofs.CostLemmas.{arrives_on, arrives_low, arrives_up}
-use Rattle.lowering_laws.proofs.LabelLemmas.{no_other}
+use Rattle.lowering_laws.proofs.ReferenceLemmas.{calls_functions}
 
 -- operands at their start
 pub all_start : (u : Text) (f : Frame) (env : Pures) (es : List Datum) (purpose : Purpose) (k : ℕ) (ts : Terms) (p q : ℕ) (m : Temporaries) → Spans u p (lower_all env purpose k ts).steps q → AreMidway u f env es purpose k ts ts p m q
@@ -51,7 +51,7 @@ no_loop_closing u k x _ ts _ _ (for_guard code) modes none = modes
 no_loop_closing u k x _ ts _ _ (for_arm flat next) modes none = modes
 no_loop_closing u k x _ ts _ _ (for_test stands) modes none = modes
 no_loop_closing u k x _ ts _ _ (for_loop n stands) modes none = absurd (cc)
-no_loop_closing u k x _ ts _ _ for_call modes none = modes
+no_loop_closing u k x _ ts _ _ (for_call hides) modes none = modes
 no_loop_closing u k x _ ts _ _ for_return modes none = modes
 no_loop_closing u k x _ ts _ _ for_return_by modes none = modes
 no_loop_closing u k x _ ts _ _ for_stop modes none = modes
@@ -93,12 +93,18 @@ pub record BothCall (u : Text) (μ : Found) (o : Type 0) (v : fortran.View) (w :
   pub passed : labels_for a.want a.actuals ≡ labels
   pub frame : v.frame ≡ view.frame
   pub followed : o
-  pub goes_on : (s : World) (r : Datum) (t : World) (r' : Datum) → (s ≡ t) × (r ≡ r') × (s.transfer ≡ w.transfer) × IsAnswered labels r → GoesOn u μ (source_resume u.facts v r s) view r' t
+  pub goes_on : (s : World) (r : Datum) (t : World) (r' : Datum) → (s ≡ t) × (s.transfer ≡ w.transfer) × IsGiven a.want labels r r' → GoesOn u μ (source_resume u.facts v r s) view r' t
+
+pub record BothAnswer (μ : Found) (w : World) (d : Datum) (e : Doing) : Type 0 where
+  pub answer : Datum
+  pub is : e ≡ Answers w answer
+  pub transfer : w.transfer ≡ μ.transfer
+  pub given : IsGiven μ.wanted μ.labels d answer
 
 abbrev pub Alike : Text → Found → Type 0 → Happening → Doing → Type 0
 Alike u μ o (Goes v w) e = BothGo u μ v w e
 Alike u μ o (Ends z v w) e = BothEnd v w z e
-Alike u μ o (Answers w d) e = (e ≡ Answers w d) × (w.transfer ≡ μ.transfer) × IsAnswered μ.labels d
+Alike u μ o (Answers w d) e = BothAnswer μ w d e
 Alike u μ o (Breaks act) e = Unit {0}
 Alike u μ o (Calls v w n a) e = BothCall u μ o v w n a e
 
@@ -359,11 +365,11 @@ found_transfer p μ i (head.ToAuxiliary which controls) ts x well same = same
 found_transfer p μ i head.ToEnd ts x well same = same
 
 -- at a form with steps: a statement's own, one under a logical IF, or one of a list
-pub at_form : (u : Text) (f : Frame) (m : Temporaries) (k : ℕ) (x : Option ℕ) (i p from : ℕ) → free_at u.facts.program i ≡ k → ((j : ℕ) → x ≡ Some j → j ≡ i) → (line : Line) → slice_get u.facts.program.lines i ≡ Some line → u.begins i ≤ from →
+pub at_form : (u : Text) (behind : BranchesBehind u) (f : Frame) (m : Temporaries) (k : ℕ) (x : Option ℕ) (i p from : ℕ) → free_at u.facts.program i ≡ k → ((j : ℕ) → x ≡ Some j → j ≡ i) → (line : Line) → slice_get u.facts.program.lines i ≡ Some line → u.begins i ≤ from →
     (form : Form) → ((head : Head) (ts : Terms) → form ≡ On head ts → IsPart line.form x head ts) → FormNow u.facts.program i form → Stands u k x form from (ends_of u i) → Arrives u m 0 p from →
     (head : Head) (ts : Terms) → form ≡ On head ts → IsAt u f i (On head ts) p m
-at_form u f m k x i p from enough whole line there' low _ part well (no_step leads) before head ts is = absurd (cc)
-at_form u f m k x i p from enough whole line there' low _ part well (some_steps {head = head'} {ts = ts'} mode modes closing closes spans) before head ts is =
+at_form u behind f m k x i p from enough whole line there' low _ part well (no_step leads) before head ts is = absurd (cc)
+at_form u behind f m k x i p from enough whole line there' low _ part well (some_steps {head = head'} {ts = ts'} mode modes closing closes spans) before head ts is =
     let parts = split u (lowered_as mode k ts').steps spans in
     record {
       head = head';
@@ -386,7 +392,8 @@ at_form u f m k x i p from enough whole line there' low _ part well (some_steps 
       midway = mode_start u f mode k x head' ts' closing from parts.0 m modes closes parts.1;
       closes = closes;
       behind = parts.2;
-      without = λ name is' none. no_other ts' none;
+      functions = calls_functions u behind k x mode head' ts' closing from parts.0 (ends_of u i) closes parts.1 parts.2;
+      written = λ name is' hides. (hides, refl);
       part = part head' ts' refl;
       branches = well;
     }
@@ -507,7 +514,7 @@ module _ (u : Text) (laid : IsLaidOut u) (f : Frame) (h : ℕ) (μ : Found) (w :
 
   at_own : (i p : ℕ) (line : Line) → slice_get u.facts.program.lines i ≡ Some line → Arrives u m 0 p (own_of u i) → (head : Head) (ts : Terms) → line.form ≡ On head ts → IsAt u f i (On head ts) p m
   at_own i p line there' before head ts e =
-      at_form u f m (free_at u.facts.program i) (Some i) i p (own_of u i) refl (own_place i) line there' (own_low u i) line.form (λ head' ts' e'. is_whole e')
+      at_form u laid.returns f m (free_at u.facts.program i) (Some i) i p (own_of u i) refl (own_place i) line there' (own_low u i) line.form (λ head' ts' e'. is_whole e')
       (form_now u.facts.program i line.form (laid.branches i line there')) (laid.stands i line there') before head ts e
 
   own_form : (rounds : List Round) (b i p : ℕ) (line : Line) → slice_get u.facts.program.lines i ≡ Some line → AreRounds u f m (open_at u.facts.program i) rounds → AllBefore u b (open_at u.facts.program i) → Arrives u m b p (own_of u i) →

@@ -1,12 +1,11 @@
 -- Each step of a unit is followed by the steps of its text.
-use Rattle.std.specs.Prelude.{◌≡◌, ℕ, zero, suc, ◌+◌, ◌<◌, ◌≤◌, ℤ, pos, nat_lt, int_lt, Bool, true, false, not, ◌&&◌, List, [], ◌∷◌, length, map, Option, Some, None, slice_get, bytes_eq, negsuc, if◌then◌else◌}
+use Rattle.std.specs.Prelude.{◌≡◌, ℕ, suc, ◌+◌, ◌≤◌, ℤ, pos, int_lt, Bool, true, false, not, ◌&&◌, List, [], ◌∷◌, length, map, Option, Some, None, slice_get, bytes_eq, if◌then◌else◌}
 use Rattle.std.specs.Ordering.{int_eq}
 use Rattle.std.proofs.Common.{refl, sym, ap, ◌∙◌, subst, arith}
-use Rattle.std.proofs.lemmas.Bool.{lt-ltb, le-ltb}
 use Rattle.std.proofs.lemmas.List.{length-map}
-use Rattle.fortran_laws.specs.simulation.Machine.{Goes, Ends, Breaks}
+use Rattle.fortran_laws.specs.simulation.Machine.{Goes, Ends, Answers, Breaks}
 use Rattle.fortran_laws.specs.f_tree.Values as value
-use Rattle.fortran_laws.specs.f_tree.Values.{Bytes, Spot, Datum, IsLog, IsSpot, Nothing, BadAssignedLabel, Checked, Gives, Fails, given_that}
+use Rattle.fortran_laws.specs.f_tree.Values.{Bytes, Spot, Datum, IsInt, IsLog, IsSpot, Nothing, BadAssignedLabel, Checked, Gives, Fails, given_that}
 use Rattle.fortran_laws.specs.f_tree.Terms.{IsLess, IsEqual, AsSubroutine, Terms}
 use Rattle.fortran_laws.specs.f_tree.Store.{Store, Whole, Label, Number, Truth, define, define_label, label_at, fetch}
 use Rattle.fortran_laws.specs.f_tree.Facts.{ToSet, ToSetLabel, ToGo, ToPick, ToGoAssigned, ToGoBySign, ToGuard, ToEnterArm, ToTestLoop, ToCall, ToReturn, ToStop, ToBegin, ToTransfer, ToFinish, ToAuxiliary, ToEnd, Head, Form, Passes, On, Line, UnitKind, MainProgram, SubroutineUnit, FunctionUnit, BlockDataUnit, Frame, ToLoop}
@@ -19,17 +18,18 @@ use Rattle.fortran_laws.specs.f_tree.Places.{place_of_label, terminal_of, arm_af
 use Rattle.fortran_laws.specs.f_tree.Step.{onward, go, onward_with, guarded, arm_entered, loop_tested, nth_label, contains, is_allowed, enters_block, name_of, gone_by, by_sign, deed, stop_ending}
 use Rattle.fortran_laws.specs.f_tree.Step as source
 use Rattle.lowering.specs.l_core.Pures.{Pure, Constant, Operated, Pures, NoPure, AndPure, Temporaries, where_wanted, meant, all_meant}
-use Rattle.lowering.specs.l_core.Steps.{Acting, Starts, Takes, Finishes, Auxiliary, Step, Put, PutLabel, Unless, Jump, Select, JumpBy, CallSub, Back, BackBy, Halt, Acts, Text}
+use Rattle.lowering.specs.l_core.Steps.{Acting, Starts, Takes, Finishes, Auxiliary, Step, Put, PutLabel, Unless, Jump, Select, JumpBy, CallFor, CallSub, Back, BackBy, Halt, Acts, Text}
 use Rattle.lowering.specs.l_core.Machine.{Doing, step, done, storing, put_at, put_label_at, testing, to, jump, passed_by, selecting, label_held, passed_before, to_held, jumping, calling, answering, answering_by, resting, course_of, coursing, acting}
 use Rattle.lowering.specs.l_core.Machine as target
-use Rattle.lowering_laws.specs.Walks.{Spans, at_step, IsOrdinary, Keeps, stays, goes}
-use Rattle.lowering_laws.specs.Layer.{IsNoLabel, labels_in, IsAnswered, Found, KnowsLabels, IsCalled, IsFollowed, Leads, there, Arrives, plainly, ends_of, AllBefore, AreRounds, Reaches, BranchesWell, HeadBranches, BranchesNow, HasTransfer, IsFlat, IsNextArm, IsLoop, IsClosing, for_set, for_set_label, for_go, for_pick, for_go_assigned, for_go_by_sign, for_guard, for_arm, for_test, for_call, for_return, for_return_by, for_stop, for_end, for_begin, for_item, for_finish, for_auxiliary, by_sign_steps, IsCode, Stands, IsLaidOut, IsPart, is_whole, is_under, for_loop}
-use Rattle.lowering_laws.proofs.WalkLemmas.{IsNoBranch, ordinary_by, spans_one, spans_first, spans_length, choose_true, choose_false}
-use Rattle.lowering.specs.Statements.{each_once, passes_label}
+use Rattle.lowering_laws.specs.Walks.{IsNoBranch, Spans, at_step, IsOrdinary, Keeps, stays, goes}
+use Rattle.lowering_laws.specs.Layer.{IsNoLabel, labels_in, IsGiven, Found, KnowsCall, IsCalled, IsCall, IsFollowed, Leads, there, Arrives, plainly, ends_of, AllBefore, AreRounds, Reaches, BranchesWell, HeadBranches, BranchesNow, HasTransfer, IsFlat, IsNextArm, IsLoop, IsClosing, for_set, for_set_label, for_go, for_pick, for_go_assigned, for_go_by_sign, for_guard, for_arm, for_test, for_call, for_return, for_return_by, for_stop, for_end, for_begin, for_item, for_finish, for_auxiliary, by_sign_steps, IsCode, Stands, IsLaidOut, IsPart, is_whole, is_under, for_loop}
+use Rattle.lowering_laws.proofs.WalkLemmas.{ordinary_by, spans_one, spans_first, spans_length}
+use Rattle.lowering.specs.Statements.{each_once, labels_written, hides_labels, call_steps}
 use Rattle.lowering.specs.Units.{free_at, loop_exit}
-use Rattle.lowering_laws.proofs.LabelLemmas.{fetch_none, contains_nth, answered_none, alternate_answered}
+use Rattle.lowering_laws.proofs.LabelLemmas.{fetch_none}
+use Rattle.lowering_laws.proofs.PickedLabels.{nth_contained, step_stands, passes_to, passes_all}
 use Rattle.lowering_laws.proofs.HeldLabels.{contains_once, held_there, held_passes, contained_allowed, allowed_contained}
-use Rattle.lowering_laws.proofs.CallLemmas.{call_alike, called_back}
+use Rattle.lowering_laws.proofs.CallLemmas.{gives_function, call_alike, called_back}
 use Rattle.lowering_laws.proofs.TransferLemmas.{begin_alike, item_alike, finish_alike, auxiliary_alike}
 use Rattle.lowering_laws.proofs.PlaceLemmas.{code_stands, Alike, part_quiet, now_branches, at_form, leads_to_end, comes_to, arrives, next_arm_at, passes_behind, passes_on, goes_to_label}
 
@@ -72,50 +72,6 @@ unfolding all_meant
 no_value c f m s ds is = (let none : ds ≡ [] = cc in none)
 
 -- ## What a statement does once its operands are valued
-
--- the label that a number picks is one of the list
-nth_contained : (labels : List ℕ) (z : ℤ) (label : ℕ) → nth_label labels z ≡ Some label → contains labels label ≡ true
-unfolding nth_label
-nth_contained labels (pos zero) label e = absurd (cc)
-nth_contained labels (pos (suc n)) label e = contains_nth labels n label e
-nth_contained labels (negsuc n) label e = absurd (cc)
-
--- ## The jumps of a computed GO TO
-
--- they stand in the order of their labels
-jump_stands : (u : Text) {p q : ℕ} (labels : List ℕ) (n label : ℕ) → Spans u p (map Jump labels) q → slice_get labels n ≡ Some label → slice_get u.steps (p + n) ≡ Some (Jump label)
-jump_stands u [] n label spans e = absurd (cc)
-jump_stands u {p = p} (l ∷ ls) zero label spans e =
-    let at : p ≡ p + 0 = omega arith in
-    let same : l ≡ label = cc in
-    subst (λ z. slice_get u.steps z ≡ Some (Jump label)) at ((spans_first u spans).0 ∙ ap (λ l. Some (Jump l)) same)
-jump_stands u {p = p} (l ∷ ls) (suc n) label spans e =
-    let at : suc p + n ≡ p + suc n = omega arith in
-    subst (λ z. slice_get u.steps z ≡ Some (Jump label)) at (jump_stands u ls n label (spans_first u spans).1 e)
-
-is_one_of : (labels : List ℕ) (n label : ℕ) → slice_get labels n ≡ Some label → n < length labels
-is_one_of [] n label e = absurd (cc)
-is_one_of (l ∷ ls) zero label e = omega arith
-is_one_of (l ∷ ls) (suc n) label e = let less : n < length ls = is_one_of ls n label e in omega (arith, less)
-
-is_none_of : (labels : List ℕ) (n : ℕ) → slice_get labels n ≡ None → length labels ≤ n
-is_none_of [] n e = omega arith
-is_none_of (l ∷ ls) zero e = absurd (cc)
-is_none_of (l ∷ ls) (suc n) e = let less : length ls ≤ n = is_none_of ls n e in omega (arith, less)
-
--- as many are passed as stand before that of the label that a number picks
-passes_to : (labels : List ℕ) (z : ℤ) (label : ℕ) → nth_label labels z ≡ Some label → slice_get labels (passed_by (length labels) z) ≡ Some label
-unfolding nth_label passed_by
-passes_to labels (pos zero) label e = absurd (cc)
-passes_to labels (pos (suc n)) label e = subst (λ k. slice_get labels k ≡ Some label) (sym (choose_true (nat_lt n (length labels)) n (length labels) (lt-ltb n (length labels) (is_one_of labels n label e)))) e
-passes_to labels (negsuc n) label e = absurd (cc)
-
--- all are passed where it picks none
-passes_all : (labels : List ℕ) (z : ℤ) → nth_label labels z ≡ None → passed_by (length labels) z ≡ length labels
-unfolding nth_label passed_by
-passes_all labels (pos zero) e = refl
-passes_all labels (pos (suc n)) e = choose_false (nat_lt n (length labels)) n (length labels) (le-ltb n (length labels) (is_none_of labels n e))
-passes_all labels (negsuc n) e = refl
 
 pub whole_form : (form : Form) (j : ℕ) (head : Head) (ts : Terms) → IsPart form (Some j) head ts → form ≡ On head ts
 whole_form form j head ts (is_whole e) = e
@@ -172,7 +128,7 @@ module _ (u : Text) (laid : IsLaidOut u) (f : Frame) (h : ℕ) (μ : Found) (w :
       passes_on u laid f h μ w m same called (IsFollowed u q) rounds i (suc q) line place quiet stand (plainly (omega (arith, low)) (leads_to_end u laid f h μ w m same called (IsFollowed u q) k None (suc q) (ends_of u i) Passes stands refl))
   under_alike k (On head ts) enough quiet well stands =
       comes_to u laid f h μ w m same called (IsFollowed u q) rounds i (suc q) head ts well stand
-      (at_form u f m k None i (suc q) (suc q) enough (λ j e. absurd (cc)) line place (omega (arith, low)) (On head ts) (λ head' ts' e. is_under quiet)
+      (at_form u laid.returns f m k None i (suc q) (suc q) enough (λ j e. absurd (cc)) line place (omega (arith, low)) (On head ts) (λ head' ts' e. is_under quiet)
       (now_branches u.facts.program i head ts well) stands (plainly (omega arith) there) head ts refl)
 
   past_alike : (form : Form) (under : List Step) → loop_of line.form ≡ None → Spans u (suc q) under (ends_of u i) →
@@ -240,26 +196,35 @@ module _ (u : Text) (laid : IsLaidOut u) (f : Frame) (h : ℕ) (μ : Found) (w :
   test_alike o label ts n (value.IsLabel l) end is stands = tt
   test_alike o label ts n value.Nothing end is stands = tt
 
-  given_alike : (x : Checked Datum) → ((d : Datum) → x ≡ Gives d → IsNoLabel d) → Alike u μ (IsFollowed u q) (result_given f w x) (answering (result_given f w x))
+  given_alike : (x : Checked Datum) → (μ.wanted ≡ AsSubroutine → ⊥) → ((d : Datum) → x ≡ Gives d → IsNoLabel d) → Alike u μ (IsFollowed u q) (result_given f w x) (answering (result_given f w x))
   unfolding result_given answering cut_to
-  given_alike (Gives d) none = (refl, same, answered_none μ.labels d (none d refl))
-  given_alike (Fails act) none = tt
+  given_alike (Gives d) function none = record { answer = d; is = refl; transfer = same; given = gives_function μ.wanted μ.labels d function (none d refl) }
+  given_alike (Fails act) function none = tt
 
-  result_alike : (x : Option Spot) → Alike u μ (IsFollowed u q) (result_from f w x) (answering (result_from f w x))
+  result_alike : (x : Option Spot) → (μ.wanted ≡ AsSubroutine → ⊥) → Alike u μ (IsFollowed u q) (result_from f w x) (answering (result_from f w x))
   unfolding result_from answering
-  result_alike None = tt
-  result_alike (Some p) = given_alike (fetch w.store p) (λ d e l is. fetch_none w.store p l (e ∙ ap Gives is))
+  result_alike None function = tt
+  result_alike (Some p) function = given_alike (fetch w.store p) function (λ d e l is. fetch_none w.store p l (e ∙ ap Gives is))
 
-  answer_alike : (kind : UnitKind) (d : Datum) → KnowsLabels kind f μ.labels → IsAnswered f.alternates d → Alike u μ (IsFollowed u q) (answer kind (record { frame = f; at = i; now = now; loops = rounds }) w d) (answering (answer kind (resting f) w d))
-  unfolding answer answering resting
-  answer_alike MainProgram d knows is = (refl, same, tt)
-  answer_alike SubroutineUnit d knows is = (refl, same, subst (λ labels. IsAnswered labels d) knows is)
-  answer_alike FunctionUnit d knows is = result_alike f.result
-  answer_alike BlockDataUnit d knows is = tt
+  by_number : (d : Datum) (z : ℤ) → μ.wanted ≡ AsSubroutine → d ≡ alternate_of μ.labels z → Alike u μ (IsFollowed u q) (Answers w d) (Answers w (IsInt z))
+  by_number d z wants is = record { answer = IsInt z; is = refl; transfer = same; given = subst (λ want. IsGiven want μ.labels d (IsInt z)) (sym wants) (z, refl, is) }
+
+  answer_alike : (kind : UnitKind) (d : Datum) (z : ℤ) → KnowsCall kind f μ.wanted μ.labels → d ≡ alternate_of f.alternates z →
+      Alike u μ (IsFollowed u q) (answer kind (record { frame = f; at = i; now = now; loops = rounds }) w d) (answering (target.answer kind f w z))
+  unfolding answer target.answer answering resting alternate_of
+  answer_alike MainProgram d z knows is = by_number Nothing (pos 0) knows refl
+  answer_alike SubroutineUnit d z knows is = by_number d z knows.0 (is ∙ ap (λ labels. alternate_of labels z) knows.1)
+  answer_alike FunctionUnit d z knows is = result_alike f.result knows
+  answer_alike BlockDataUnit d z knows is = tt
+
+  -- none is taken
+  ended_alike : Alike u μ (IsFollowed u q) (answer u.facts.program.kind (record { frame = f; at = i; now = now; loops = rounds }) w Nothing) (answering (target.answer u.facts.program.kind f w (pos 0)))
+  unfolding alternate_of
+  ended_alike = answer_alike u.facts.program.kind Nothing (pos 0) called.knows refl
 
   answered_alike : (d : Datum) → Alike u μ (IsFollowed u q) (deed u.facts (record { frame = f; at = i; now = now; loops = rounds }) w ToReturn (d ∷ [])) (answering_by u (at_step f h q m) w (Gives d))
   unfolding deed answering_by
-  answered_alike (value.IsInt z) = answer_alike u.facts.program.kind (alternate_of f.alternates z) called.labels (alternate_answered f.alternates z)
+  answered_alike (IsInt z) = answer_alike u.facts.program.kind (alternate_of f.alternates z) z called.knows refl
   answered_alike (IsSpot p) = tt
   answered_alike (value.IsLog b) = tt
   answered_alike (value.IsText cs) = tt
@@ -383,7 +348,7 @@ module _ (u : Text) (laid : IsLaidOut u) (f : Frame) (h : ℕ) (μ : Found) (w :
   pick_led labels p z (Some label) e quiet reach spans is =
       let one = spans_first u spans in
       let r = suc q + passed_by (length labels) z in
-      let there' = jump_stands u labels (passed_by (length labels) z) label one.1 (passes_to labels z label e) in
+      let there' = step_stands u Jump labels (passed_by (length labels) z) label one.1 (passes_to labels z label e) in
       record {
         upto = r;
         kept = m;
@@ -461,7 +426,7 @@ module _ (u : Text) (laid : IsLaidOut u) (f : Frame) (h : ℕ) (μ : Found) (w :
       let one = spans_first u spans in
       let once = contains_once labels l ∙ among refl in
       let r = suc q + passed_before (each_once labels) l in
-      let there' = jump_stands u (each_once labels) (passed_before (each_once labels) l) l one.1 (held_there (each_once labels) l once) in
+      let there' = step_stands u Jump (each_once labels) (passed_before (each_once labels) l) l one.1 (held_there (each_once labels) l once) in
       record {
         upto = r;
         kept = m;
@@ -501,8 +466,34 @@ module _ (u : Text) (laid : IsLaidOut u) (f : Frame) (h : ℕ) (μ : Found) (w :
 
   -- ## All forms
 
+  -- ## CALL
+
+  subroutine_led : (k : ℕ) (name : Bytes) (labels : List ℕ) (ps : Pures) (ds : List Datum) (st : Step) → slice_get u.steps q ≡ Some st → IsCall st → IsNoBranch st →
+      done u (at_step f h q m) w (Some st) ≡ calling u (at_step f h q m) w (record { name = name; want = AsSubroutine }) (Gives ds) → free_at u.facts.program i ≡ k → loop_of line.form ≡ None → Spans u q (call_steps k name labels ps) (ends_of u i) →
+      labels_in ds ≡ labels → ((l : ℕ) → contains (labels_in ds) l ≡ true → Reaches u.facts.program i l) → Led u f h w μ q m (deed u.facts (record { frame = f; at = i; now = now; loops = rounds }) w (ToCall name) ds)
+  unfolding deed
+  subroutine_led k name labels ps ds st there' call' no_branch calls enough quiet spans are reach = record {
+    upto = q;
+    kept = m;
+    way = stays;
+    ordinary = ordinary_by u q st there' no_branch;
+    alike =
+        call_alike u f h μ w i q m rounds (IsFollowed u q) (laid.followed q st there' call') (record { name = name; want = AsSubroutine }) ds fortran.Returning now
+        (λ s r t r' given.
+        called_back u laid f (length w.store) μ called i q k m rounds line place quiet stand (omega (arith, enough)) low name ps (labels_in ds) (subst (λ z. Spans u q (call_steps k name z ps) (ends_of u i)) (sym are) spans) reach s r t r'
+        (given.0, given.1 ∙ same, given.2)) (step u (at_step f h q m) w) (step_at st there' ∙ calls);
+  }
+
+  call_led : (k : ℕ) (name : Bytes) (labels : List ℕ) (ps : Pures) (ds : List Datum) → free_at u.facts.program i ≡ k → loop_of line.form ≡ None → Spans u q (call_steps k name labels ps) (ends_of u i) → all_meant u.facts f m w.store ps ≡ Gives ds →
+      labels_in ds ≡ labels → ((l : ℕ) → contains (labels_in ds) l ≡ true → Reaches u.facts.program i l) → Led u f h w μ q m (deed u.facts (record { frame = f; at = i; now = now; loops = rounds }) w (ToCall name) ds)
+  unfolding call_steps done
+  call_led k name [] ps ds enough quiet spans is are reach =
+      subroutine_led k name [] ps ds (CallSub k name ps) (spans_first u spans).0 tt tt (ap (calling u (at_step f h q m) w (record { name = name; want = AsSubroutine })) is) enough quiet spans are reach
+  call_led k name (l ∷ ls) ps ds enough quiet spans is are reach =
+      subroutine_led k name (l ∷ ls) ps ds (CallFor k (record { name = name; want = AsSubroutine }) ps) (spans_first u spans).0 tt tt (ap (calling u (at_step f h q m) w (record { name = name; want = AsSubroutine })) is) enough quiet spans are reach
+
   pub deed_alike : (k : ℕ) (x : Option ℕ) → ((j : ℕ) → x ≡ Some j → j ≡ i) → (head : Head) (ts left : Terms) (ps : Pures) (closing : List Step) (ds : List Datum) → ((label : Option ℕ) → head ≡ ToLoop label → ⊥) → free_at u.facts.program i ≡ k → IsPart line.form x head ts → HeadBranches u.facts.program i head left → IsClosing u k x head ts ps closing → Spans u q closing (ends_of u i) → all_meant u.facts f m w.store ps ≡ Gives ds →
-      ((name : Bytes) → head ≡ ToCall name → passes_label ts ≡ false → labels_in ds ≡ []) → ((name : Bytes) → head ≡ ToCall name → (l : ℕ) → contains (labels_in ds) l ≡ true → Reaches u.facts.program i l) → Led u f h w μ q m (deed u.facts (record { frame = f; at = i; now = now; loops = rounds }) w head ds)
+      ((name : Bytes) → head ≡ ToCall name → hides_labels ts ≡ false → labels_in ds ≡ labels_written ts) → ((name : Bytes) → head ≡ ToCall name → (l : ℕ) → contains (labels_in ds) l ≡ true → Reaches u.facts.program i l) → Led u f h w μ q m (deed u.facts (record { frame = f; at = i; now = now; loops = rounds }) w head ds)
   unfolding deed done go given_that loop_of acting
   deed_alike k x whole _ ts left _ _ ds no_do enough part well (for_set {p = p} {place = place}) spans is none reach =
       let v = two_values u.facts f m w.store p place ds is in
@@ -548,22 +539,10 @@ module _ (u : Text) (laid : IsLaidOut u) (f : Frame) (h : ℕ) (μ : Found) (w :
       (test_alike (IsFollowed u q) label ts n v.first (sym one.1) (whole_form line.form j (ToTestLoop label) ts part)
       (subst (λ z. (last : ℕ) → terminal_of u.facts.program z label ≡ Some last → IsLoop u z last × (ends_of u z + n ≡ loop_exit u.facts.program (record { first = z; last = last }))) same_place stands))
   deed_alike k x whole _ ts left _ _ ds no_do enough part well (for_loop {label = label} n stands) spans is none reach = absurd (no_do label refl)
-  deed_alike k x whole _ ts left ps _ ds no_do enough part well (for_call {name = name}) spans is none reach =
-      let first = spans_first u spans in
-      record {
-        upto = q;
-        kept = m;
-        way = stays;
-        ordinary = ordinary_by u q (CallSub k name ps) first.0 tt;
-        alike =
-            call_alike u f h μ w i q m rounds (IsFollowed u q) (laid.followed q k name ps first.0) (record { name = name; want = AsSubroutine }) ds fortran.Returning now
-            (λ s r t r' given.
-            called_back u laid f (length w.store) μ called i q k m rounds line place (part_quiet line.form x (ToCall name) ts part refl) stand (omega (arith, enough)) low name ps (passes_label ts) (labels_in ds) spans (none name refl) (reach name refl) s r t r'
-            (given.0, given.1, given.2 ∙ same, given.3)) (step u (at_step f h q m) w)
-            (step_at (CallSub k name ps) first.0 ∙ ap (calling u (at_step f h q m) w (record { name = name; want = AsSubroutine })) is);
-      }
+  deed_alike k x whole _ ts left ps _ ds no_do enough part well (for_call {name = name} hides) spans is none reach =
+      call_led k name (labels_written ts) ps ds enough (part_quiet line.form x (ToCall name) ts part refl) spans is (none name refl hides) (reach name refl)
   deed_alike k x whole _ ts left _ _ ds no_do enough part well for_return spans is none reach =
-      here ToReturn ds [] Back (answering (answer u.facts.program.kind (resting f) w Nothing)) (spans_one u spans).0 tt (no_value u.facts f m w.store ds is) refl (answer_alike u.facts.program.kind Nothing called.labels tt)
+      here ToReturn ds [] Back (answering (target.answer u.facts.program.kind f w (pos 0))) (spans_one u spans).0 tt (no_value u.facts f m w.store ds is) refl ended_alike
   deed_alike k x whole _ ts left _ _ ds no_do enough part well (for_return_by {p = p}) spans is none reach =
       let v = one_value u.facts f m w.store p ds is in
       here ToReturn ds (v.first ∷ []) (BackBy p) (answering_by u (at_step f h q m) w (Gives v.first)) (spans_one u spans).0 tt v.are (ap (answering_by u (at_step f h q m) w) v.first_is) (answered_alike v.first)
@@ -582,7 +561,7 @@ module _ (u : Text) (laid : IsLaidOut u) (f : Frame) (h : ℕ) (μ : Found) (w :
   deed_alike k x whole _ ts left _ _ ds no_do enough part well (for_item code) spans is none reach = absurd well
   deed_alike k x whole _ ts left _ _ ds no_do enough part well for_finish spans is none reach = absurd well
   deed_alike k x whole _ ts left _ _ ds no_do enough part well for_end spans is none reach =
-      here ToEnd ds [] Back (answering (answer u.facts.program.kind (resting f) w Nothing)) (spans_one u spans).0 tt (no_value u.facts f m w.store ds is) refl (answer_alike u.facts.program.kind Nothing called.labels tt)
+      here ToEnd ds [] Back (answering (target.answer u.facts.program.kind f w (pos 0))) (spans_one u spans).0 tt (no_value u.facts f m w.store ds is) refl ended_alike
 
 -- the same, also in the midst of a list
 module _ (u : Text) (laid : IsLaidOut u) (f : Frame) (h : ℕ) (μ : Found) (w : World) (i q : ℕ) (m : Temporaries) (now : fortran.Now) (called : IsCalled u.facts.program.kind f μ)
@@ -603,7 +582,7 @@ module _ (u : Text) (laid : IsLaidOut u) (f : Frame) (h : ℕ) (μ : Found) (w :
 
   pub deed_met : (k : ℕ) (x : Option ℕ) → ((j : ℕ) → x ≡ Some j → j ≡ i) → (head : Head) → HasTransfer u.facts.program μ i head w.transfer → (ts left : Terms) (ps : Pures) (closing : List Step) (ds : List Datum) → ((label : Option ℕ) → head ≡ ToLoop label → ⊥) →
       free_at u.facts.program i ≡ k → IsPart line.form x head ts → BranchesNow u.facts.program i head left → IsClosing u k x head ts ps closing → Spans u q closing (ends_of u i) → all_meant u.facts f m w.store ps ≡ Gives ds →
-      ((name : Bytes) → head ≡ ToCall name → passes_label ts ≡ false → labels_in ds ≡ []) → ((name : Bytes) → head ≡ ToCall name → (l : ℕ) → contains (labels_in ds) l ≡ true → Reaches u.facts.program i l) →
+      ((name : Bytes) → head ≡ ToCall name → hides_labels ts ≡ false → labels_in ds ≡ labels_written ts) → ((name : Bytes) → head ≡ ToCall name → (l : ℕ) → contains (labels_in ds) l ≡ true → Reaches u.facts.program i l) →
       Led u f h w μ q m (deed u.facts (record { frame = f; at = i; now = now; loops = rounds }) w head ds)
   unfolding loop_of
   deed_met k x whole _ has ts left ps _ ds no_do enough part well (for_item {left = others} {items = items} code) spans is none reach =
@@ -623,7 +602,7 @@ module _ (u : Text) (laid : IsLaidOut u) (f : Frame) (h : ℕ) (μ : Found) (w :
   deed_met k x whole _ has ts left _ _ ds no_do enough part well (for_arm flat next) spans is none reach = deed_alike u laid f h μ w i q m now has called rounds stand line place low k x whole _ ts left _ _ ds no_do enough part well (for_arm flat next) spans is none reach
   deed_met k x whole _ has ts left _ _ ds no_do enough part well (for_test stands) spans is none reach = deed_alike u laid f h μ w i q m now has called rounds stand line place low k x whole _ ts left _ _ ds no_do enough part well (for_test stands) spans is none reach
   deed_met k x whole _ has ts left ps _ ds no_do enough part well (for_loop {label = label} n stands) spans is none reach = absurd (no_do label refl)
-  deed_met k x whole _ has ts left _ _ ds no_do enough part well for_call spans is none reach = deed_alike u laid f h μ w i q m now has called rounds stand line place low k x whole _ ts left _ _ ds no_do enough part well for_call spans is none reach
+  deed_met k x whole _ has ts left _ _ ds no_do enough part well (for_call hides) spans is none reach = deed_alike u laid f h μ w i q m now has called rounds stand line place low k x whole _ ts left _ _ ds no_do enough part well (for_call hides) spans is none reach
   deed_met k x whole _ has ts left _ _ ds no_do enough part well for_return spans is none reach = deed_alike u laid f h μ w i q m now has called rounds stand line place low k x whole _ ts left _ _ ds no_do enough part well for_return spans is none reach
   deed_met k x whole _ has ts left _ _ ds no_do enough part well for_return_by spans is none reach = deed_alike u laid f h μ w i q m now has called rounds stand line place low k x whole _ ts left _ _ ds no_do enough part well for_return_by spans is none reach
   deed_met k x whole _ has ts left _ _ ds no_do enough part well for_stop spans is none reach = deed_alike u laid f h μ w i q m now has called rounds stand line place low k x whole _ ts left _ _ ds no_do enough part well for_stop spans is none reach

@@ -30,7 +30,7 @@ module _ (u : Text) (laid : IsLaidOut u) (f : Frame) (h : ℕ) (μ : Found) (i q
       BothGo u μ (record { frame = f; at = i; now = fortran.Doing (On head ts); loops = rounds }) w (Goes (at_step f h (suc q) m) w)
   listed_at k enough w head ts has well stands =
       comes_in u f h μ w m called rounds i (suc q) head ts has stand
-      (at_form u f m k None i (suc q) (suc q) enough (λ j e. absurd (cc)) line place (omega (arith, low)) (On head ts) (λ head' ts' e. is_under quiet) well stands (plainly (omega arith) there) head ts refl)
+      (at_form u laid.returns f m k None i (suc q) (suc q) enough (λ j e. absurd (cc)) line place (omega (arith, low)) (On head ts) (λ head' ts' e. is_under quiet) well stands (plainly (omega arith) there) head ts refl)
 
   left_alike : (k : ℕ) → free_at u.facts.program i ≡ k → μ.transfer ≡ None → (work : Work) (items : List Step) → IsCode u k None (next_of work) items → Spans u (suc q) items (ends_of u i) → (w : World) → IsOwn u.facts.program i w.transfer →
       BothGo u μ (record { frame = f; at = i; now = fortran.Doing (next_of work); loops = rounds }) w (Goes (at_step f h (suc q) m) w)

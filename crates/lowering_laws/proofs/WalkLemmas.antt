@@ -8,8 +8,8 @@ use Rattle.fortran_laws.specs.f_tree.Store.{Store}
 use Rattle.fortran_laws.specs.f_tree.Valuing.{Red, Valued, Bad, Asks, then_by, at_once}
 use Rattle.fortran_laws.specs.f_tree.World.{World}
 use Rattle.lowering.specs.l_core.Pures.{Pure, Temporary, Pures, NoPure, AndPure, Temporaries, with_kept, if_kept, meant, all_meant}
-use Rattle.lowering.specs.l_core.Steps.{Step, Branch, Text}
-use Rattle.lowering_laws.specs.Walks.{Spans, nothing, further, IsOrdinary, Keeps, stays, goes, SameBelow, Lasts, AllLast, Follows, Met}
+use Rattle.lowering.specs.l_core.Steps.{Step, Text}
+use Rattle.lowering_laws.specs.Walks.{Spans, nothing, further, IsNoBranch, IsOrdinary, Keeps, stays, goes, SameBelow, Lasts, AllLast, Follows, Met}
 
 -- valuing comes to no call
 unfoldable pub IsAtOnce : {A T : Type 0} → Red A T → Type 0
@@ -43,12 +43,8 @@ spans_first u (further e s) = (e, s)
 
 -- ## Steps that are no branches behind a CALL
 
-abbrev pub IsNoBranch : Step → Type 0
-IsNoBranch (Branch k) = ⊥
-IsNoBranch st = Unit {0}
-
 pub ordinary_by : (u : Text) (p : ℕ) (st : Step) → slice_get u.steps p ≡ Some st → IsNoBranch st → IsOrdinary u p
-ordinary_by u p st e no_branch k e' = let same : st ≡ Branch k = cc in subst IsNoBranch same no_branch
+ordinary_by u p st e no_branch st' e' = let same : st ≡ st' = cc in subst IsNoBranch same no_branch
 
 -- ## Temporaries
 

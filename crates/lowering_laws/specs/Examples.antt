@@ -2,13 +2,13 @@
 use Rattle.std.specs.Prelude.{ℕ, pos, false, List, [], ◌∷◌, Option, Some, None, option_map}
 use Rattle.fortran_laws.specs.f_tree.declared.names.Basic.TheVariants.{Integer}
 use Rattle.fortran_laws.specs.f_tree.declared.names.Class.TheVariants as class
-use Rattle.fortran_laws.specs.f_tree.Values.{Bytes, IsInt}
-use Rattle.fortran_laws.specs.f_tree.Terms.{Add, IsLess, IsLessOrEqual, Both, AsFunction, Term, Val, Fetch, At, Alone, Between, Refer, NoMore, More, terms_opened}
-use Rattle.fortran_laws.specs.f_tree.Facts.{Input, Output, Listed, UnitWord, Controls, Item, Done, Before, MainProgram, ToSet, ToGo, ToGuard, ToEnterArm, ToLoop, ToTestLoop, ToBegin, ToEnd, Form, Passes, On, Mark, Plain, Opens, Arm, Closes, NoLoop, Line, Attribute, Facts}
+use Rattle.fortran_laws.specs.f_tree.Values.{Bytes, IsInt, IsLabel}
+use Rattle.fortran_laws.specs.f_tree.Terms.{Add, IsLess, IsLessOrEqual, Both, AsSubroutine, AsFunction, Term, Val, Fetch, At, Alone, Between, Refer, NoMore, More, terms_opened}
+use Rattle.fortran_laws.specs.f_tree.Facts.{Input, Output, Listed, UnitWord, Controls, Item, Done, Before, MainProgram, ToSet, ToGo, ToGuard, ToEnterArm, ToLoop, ToTestLoop, ToCall, ToBegin, ToEnd, Form, Passes, On, Mark, Plain, Opens, Arm, Closes, NoLoop, Line, Attribute, Facts}
 use Rattle.fortran_laws.specs.f_tree.Places.{place_of_label, places_opened}
 use Rattle.fortran_laws.specs.f_tree.Nests.{nests_opened}
 use Rattle.lowering.specs.l_core.Pures.{Pure, Constant, Temporary, Load, Name, FirstOf, Operated, NoPure, AndPure}
-use Rattle.lowering.specs.l_core.Steps.{Starts, Takes, Finishes, Text, Step, Keep, Put, Unless, Skip, Again, Jump, Pass, CallFor, Back, Acts}
+use Rattle.lowering.specs.l_core.Steps.{Starts, Takes, Finishes, Text, Step, Keep, Put, Unless, Skip, Again, Jump, Pass, CallFor, Branch, Way, Back, Acts}
 use Rattle.lowering.specs.Expressions.{expressions_opened}
 use Rattle.lowering.specs.Statements.{statements_opened}
 use Rattle.lowering.specs.Units.{start_of, lines_marks, lowered_unit, units_opened}
@@ -213,6 +213,32 @@ list_text = record {
   begins = start_of (unit_of a_list).program;
   position = λ label. option_map (start_of (unit_of a_list).program) (place_of_label (unit_of a_list).program label);
   marks = lines_marks (unit_of a_list).program 0 a_list;
+}
+
+-- CALL S (A, *20, *30); 20 A = B; and 30 CONTINUE
+abbrev pub a_choice : List Line
+a_choice =
+    line None Plain (On (ToCall (letter 83)) (More (At (letter 65)) (More (Val (IsLabel 20)) (More (Val (IsLabel 30)) NoMore))))
+    ∷ line (Some 20) Plain (On ToSet (More (variable 66) (More (At (letter 65)) NoMore)))
+    ∷ line (Some 30) Plain Passes
+    ∷ line None Plain (On ToEnd NoMore)
+    ∷ []
+
+abbrev pub choice_text : Text
+choice_text = record {
+  facts = unit_of a_choice;
+  steps =
+      CallFor 0 (record { name = letter 83; want = AsSubroutine }) (AndPure (name 65) (AndPure (Constant (IsLabel 20)) (AndPure (Constant (IsLabel 30)) NoPure)))
+      ∷ Branch 0 2
+      ∷ Way 20
+      ∷ Way 30
+      ∷ Put (name 65) (Load (name 66))
+      ∷ Pass
+      ∷ Back
+      ∷ [];
+  begins = start_of (unit_of a_choice).program;
+  position = λ label. option_map (start_of (unit_of a_choice).program) (place_of_label (unit_of a_choice).program label);
+  marks = lines_marks (unit_of a_choice).program 0 a_choice;
 }
 
 unfoldable pub example_opened : Unit {0}

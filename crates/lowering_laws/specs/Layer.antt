@@ -3,22 +3,22 @@
 use Rattle.std.specs.Prelude.{◌≡◌, ℕ, pos, true, false, zero, suc, ◌+◌, ◌-◌, ◌<◌, ◌≤◌, Bool, not, ◌||◌, List, [], ◌∷◌, ◌++◌, length, map, drop, filter, Option, Some, None, slice_get, ℤ, ◌-ℤ◌, int_div}
 use Rattle.fortran_laws.specs.simulation.LocalSimulation.{Kit, Pairing, Couple, Local}
 use Rattle.fortran_laws.specs.f_tree.Values.{Bytes, Datum, IsInt, IsLabel, Spot, IsSpot}
-use Rattle.fortran_laws.specs.f_tree.Terms.{IsLess, IsEqual, Wanted, AsSubroutine, AsFunction, Term, Val, Refer, Bind, Terms, NoMore, More}
-use Rattle.fortran_laws.specs.f_tree.Facts.{Direction, Layout, Controls, AuxiliaryKind, Work, ToSet, ToSetLabel, ToGo, ToPick, ToGoAssigned, ToGoBySign, ToGuard, ToEnterArm, ToTestLoop, ToCall, ToReturn, ToStop, ToBegin, ToTransfer, ToRepeat, ToTurn, ToFinish, ToAuxiliary, ToEnd, Head, Form, Passes, On, Plain, Opens, Arm, Closes, Line, EntryPoint, ProgramUnit, UnitKind, SubroutineUnit, Frame, ToLoop}
+use Rattle.fortran_laws.specs.f_tree.Terms.{IsLess, IsEqual, Wanted, AsSubroutine, AsFunction, Callee, Term, Val, Refer, Bind, Terms, NoMore, More}
+use Rattle.fortran_laws.specs.f_tree.Facts.{Direction, Layout, Controls, AuxiliaryKind, Work, ToSet, ToSetLabel, ToGo, ToPick, ToGoAssigned, ToGoBySign, ToGuard, ToEnterArm, ToTestLoop, ToCall, ToReturn, ToStop, ToBegin, ToTransfer, ToRepeat, ToTurn, ToFinish, ToAuxiliary, ToEnd, Head, Form, Passes, On, Plain, Opens, Arm, Closes, Line, EntryPoint, ProgramUnit, UnitKind, MainProgram, SubroutineUnit, FunctionUnit, BlockDataUnit, Frame, ToLoop}
 use Rattle.fortran_laws.specs.f_tree.Places.{place_of_label, terminal_of, arm_after}
 use Rattle.std.specs.Ordering.{int_eq}
 use Rattle.fortran_laws.specs.f_tree.Setting.{IsIn}
 use Rattle.fortran_laws.specs.f_tree.Nests.{Range, loop_of, is_within, open_at}
 use Rattle.fortran_laws.specs.f_tree.World as fortran
 use Rattle.fortran_laws.specs.f_tree.World.{World, Transfer, Round, RoundKind, While, Counted, Called, Passed}
-use Rattle.fortran_laws.specs.f_tree.Association.{entry_of}
+use Rattle.fortran_laws.specs.f_tree.Association.{entry_of, alternate_of}
 use Rattle.fortran_laws.specs.f_tree.Transfers.{next_of}
 use Rattle.fortran_laws.specs.f_tree.Step.{contains, enters_block, fortran as fortran_language, turns_of}
 use Rattle.lowering.specs.l_core.Pures.{Pure, Constant, Operated, Pures, NoPure, AndPure, Temporaries}
-use Rattle.lowering.specs.l_core.Steps.{Starts, Takes, Finishes, Auxiliary, Step, Put, PutLabel, Unless, Skip, Again, Jump, Select, JumpBy, Pass, CallSub, Branch, Back, BackBy, Halt, Acts, Text}
-use Rattle.lowering.specs.l_core.Machine.{View, lowered}
+use Rattle.lowering.specs.l_core.Steps.{Starts, Takes, Finishes, Auxiliary, Step, Put, PutLabel, Unless, Skip, Again, Jump, Select, JumpBy, Pass, CallFor, CallSub, Branch, Way, Back, BackBy, Halt, Acts, Text}
+use Rattle.lowering.specs.l_core.Machine.{View, lowered, passed_by}
 use Rattle.lowering.specs.l_core.Costs.{cost, rest}
-use Rattle.lowering.specs.Statements.{each_once, wants_no_value, passes_label, branch_code, loop_operands, test_by, loop_test}
+use Rattle.lowering.specs.Statements.{each_once, wants_no_value, labels_written, hides_labels, call_steps, loop_operands, test_by, loop_test}
 use Rattle.lowering.specs.Units.{free_at, own_start, own_end, loop_exit, turn_size, turn_of, loop_lowered}
 use Rattle.lowering_laws.specs.Walks.{Spans, at_step, IsOrdinary}
 use Rattle.lowering_laws.specs.Midway.{Mode, InOrder, OfLoop, lowered_as, AreIn, LoopLast}
@@ -39,14 +39,16 @@ abbrev pub labels_for : Wanted → List Datum → List ℕ
 labels_for AsSubroutine ds = labels_in ds
 labels_for (AsFunction basic width) ds = []
 
--- if an answer is a label, it is one of these
-abbrev pub IsAnswered : List ℕ → Datum → Type 0
-IsAnswered labels (IsLabel l) = contains labels l ≡ true
-IsAnswered labels d = Unit {0}
+-- An answer of a unit, and that of its text: of a subroutine the label of the alternate return that it takes, if it takes one, and the number
+-- that picks it among the labels that were passed (15.6.2.3); of a function the same value, which is no label (15.5.2).
+abbrev pub IsGiven : Wanted → List ℕ → Datum → Datum → Type 0
+IsGiven AsSubroutine labels r r' = (z : ℤ) × (r' ≡ IsInt z) × (r ≡ alternate_of labels z)
+IsGiven (AsFunction basic width) labels r r' = (r ≡ r') × IsNoLabel r
 
--- a procedure finds a transfer in progress or none, which it gives back, and the labels that were passed to it, of which it may answer one
+-- a procedure finds a transfer in progress or none, which it gives back, what is wanted of it, and the labels that were passed to it
 pub record Found : Type 0 where
   pub transfer : Option Transfer
+  pub wanted : Wanted
   pub labels : List ℕ
 
 -- The world is what the procedure that runs has found.
@@ -54,20 +56,22 @@ abbrev pub lower_kit : Kit fortran_language lowered
 lower_kit = record {
   World = Found;
   Grows = λ i μ μ'. Unit {0};
-  Passed = λ μ s n a t n' a'. (s ≡ t) × (n ≡ n') × (a ≡ a') × (s.transfer ≡ μ.transfer) × (labels_for a.want a.actuals ≡ μ.labels);
-  Given = λ μ s r t r'. (s ≡ t) × (r ≡ r') × (s.transfer ≡ μ.transfer) × IsAnswered μ.labels r;
+  Passed = λ μ s n a t n' a'. (s ≡ t) × (n ≡ n') × (a ≡ a') × (s.transfer ≡ μ.transfer) × (a.want ≡ μ.wanted) × (labels_for a.want a.actuals ≡ μ.labels);
+  Given = λ μ s r t r'. (s ≡ t) × (s.transfer ≡ μ.transfer) × IsGiven μ.wanted μ.labels r r';
   Claimed = λ x. ⊥;
   Told = λ x e. ⊥;
 }
 
--- a subroutine knows the labels that were passed to it
-abbrev pub KnowsLabels : UnitKind → Frame → List ℕ → Type 0
-KnowsLabels SubroutineUnit f labels = f.alternates ≡ labels
-KnowsLabels kind f labels = Unit {0}
+-- a unit serves what was wanted of it, and a subroutine knows the labels that were passed to it
+abbrev pub KnowsCall : UnitKind → Frame → Wanted → List ℕ → Type 0
+KnowsCall MainProgram f wanted labels = wanted ≡ AsSubroutine
+KnowsCall SubroutineUnit f wanted labels = (wanted ≡ AsSubroutine) × (f.alternates ≡ labels)
+KnowsCall FunctionUnit f wanted labels = wanted ≡ AsSubroutine → ⊥
+KnowsCall BlockDataUnit f wanted labels = Unit {0}
 
 -- the frame of a procedure that has found this
 pub record IsCalled (kind : UnitKind) (f : Frame) (μ : Found) : Type 0 where
-  pub labels : KnowsLabels kind f μ.labels
+  pub knows : KnowsCall kind f μ.wanted μ.labels
   pub none : (x : Bytes) (d : Datum) → f.bound x ≡ Some d → IsNoLabel d
 
 -- ## Steps that do nothing but go on
@@ -78,15 +82,21 @@ pub data Leads (u : Text) : ℕ → ℕ → Type 0 where
   by_pass : {p q : ℕ} → slice_get u.steps p ≡ Some Pass → Leads u (suc p) q → Leads u p q
   by_skip : {p n q : ℕ} → slice_get u.steps p ≡ Some (Skip n) → Leads u (suc p + n) q → Leads u p q
 
--- behind a CALL control goes on, or to the label that is answered
-abbrev pub BranchesTo : Text → ℕ → Datum → ℕ → Type 0
-BranchesTo u p (IsLabel l) r = u.position l ≡ Some r
-BranchesTo u p d r = r ≡ suc p
+-- behind the call of a subroutine the number that it answered picks a way
+pub record Picks (u : Text) (m : Temporaries) (p q : ℕ) : Type 0 where
+  pub kept : ℕ
+  pub count : ℕ
+  pub number : ℤ
+  pub there : slice_get u.steps p ≡ Some (Branch kept count)
+  pub holds : m kept ≡ Some (IsInt number)
+  pub past : suc p + passed_by count number ≡ q
 
--- the same from where the text stands, which may be behind a CALL; all but a branch there stands from a position on
+-- The same from where the text stands, which may be behind a CALL: there it goes past all ways, or by one of them. All but the branch and its
+-- way stands from a position on.
 pub data Arrives (u : Text) (m : Temporaries) (low : ℕ) : ℕ → ℕ → Type 0 where
   plainly : {p q : ℕ} → low ≤ p → Leads u p q → Arrives u m low p q
-  by_branch : {p q r k : ℕ} (d : Datum) → slice_get u.steps p ≡ Some (Branch k) → m k ≡ Some d → BranchesTo u p d r → low ≤ r → Leads u r q → Arrives u m low p q
+  by_branch : {p q r : ℕ} → Picks u m p r → low ≤ r → Leads u r q → Arrives u m low p q
+  by_way : {p q r s : ℕ} (label : ℕ) → Picks u m p s → slice_get u.steps s ≡ Some (Way label) → u.position label ≡ Some r → low ≤ r → Leads u r q → Arrives u m low p q
 
 -- ## Loops
 
@@ -327,7 +337,7 @@ mutual
     for_loop : {i : ℕ} {label : Option ℕ} {ts : Terms} {x first limit by : Pure} (n : ℕ) →
         ((last : ℕ) → terminal_of u.facts.program i label ≡ Some last → IsLoop u i last × (ends_of u i + n ≡ loop_exit u.facts.program (record { first = i; last = last }))) →
         IsClosing u k (Some i) (ToLoop label) ts (AndPure x (AndPure first (AndPure limit (AndPure by NoPure)))) (Put x first ∷ loop_test u.facts.program.onetrip (test_by x limit by) n)
-    for_call : {o : Option ℕ} {ts : Terms} {ps : Pures} {name : Bytes} → IsClosing u k o (ToCall name) ts ps (CallSub k name ps ∷ branch_code (passes_label ts) k)
+    for_call : {o : Option ℕ} {ts : Terms} {ps : Pures} {name : Bytes} → hides_labels ts ≡ false → IsClosing u k o (ToCall name) ts ps (call_steps k name (labels_written ts) ps)
     for_return : {o : Option ℕ} {ts : Terms} → IsClosing u k o ToReturn ts NoPure (Back ∷ [])
     for_return_by : {o : Option ℕ} {ts : Terms} {p : Pure} → IsClosing u k o ToReturn ts (AndPure p NoPure) (BackBy p ∷ [])
     for_stop : {o : Option ℕ} {ts : Terms} {text : Bytes} → IsClosing u k o (ToStop text) ts NoPure (Halt text ∷ [])
@@ -350,6 +360,12 @@ pub data Stands (u : Text) (k : ℕ) (o : Option ℕ) : Form → ℕ → ℕ →
   some_steps : {head : Head} {ts : Terms} {p q : ℕ} (mode : Mode) → IsModeOf mode head → (closing : List Step) →
       IsClosing u k o head ts (lowered_as mode k ts).value closing → Spans u p ((lowered_as mode k ts).steps ++ closing) q → Stands u k o (On head ts) p q
 
+-- a call
+abbrev pub IsCall : Step → Type 0
+IsCall (CallFor k callee ps) = Unit {0}
+IsCall (CallSub k name ps) = Unit {0}
+IsCall st = ⊥
+
 -- a step that is no branch behind a CALL stands behind a position
 pub record IsFollowed (u : Text) (p : ℕ) : Type 0 where
   pub at : ℕ
@@ -363,6 +379,19 @@ pub record IsFollowedBelow (u : Text) (p e : ℕ) : Type 0 where
   pub is : IsFollowed u p
   pub below : is.at < e
 
+-- where it is kept by which alternate return a subroutine comes back, the branch by it stands behind
+abbrev pub BranchesBehind : Text → Type 0
+BranchesBehind u = (p k : ℕ) (callee : Callee) (ps : Pures) → slice_get u.steps p ≡ Some (CallFor k callee ps) → callee.want ≡ AsSubroutine →
+    (j : ℕ) × (count : ℕ) × (slice_get u.steps (suc p) ≡ Some (Branch j count))
+
+-- no subroutine is called from a position up to another
+abbrev pub CallsFunctions : Text → ℕ → ℕ → Type 0
+CallsFunctions u p q = (at k : ℕ) (callee : Callee) (ps : Pures) → p ≤ at → at < q → slice_get u.steps at ≡ Some (CallFor k callee ps) → callee.want ≡ AsSubroutine → ⊥
+
+-- the labels among the operands of a CALL are written, and are these
+abbrev pub AreWritten : List ℕ → Terms → Type 0
+AreWritten labels ts = (hides_labels ts ≡ false) × (labels_written ts ≡ labels)
+
 -- Where the text of a unit stands: the own steps of each statement, behind them those of the loops that end there, labels where their
 -- statements begin, and before an ELSE IF or ELSE the way to the end of the block.
 pub record IsLaidOut (u : Text) : Type 0 where
@@ -374,7 +403,9 @@ pub record IsLaidOut (u : Text) : Type 0 where
   -- no loop begins or ends at a statement of an IF block
   pub flat : (i : ℕ) (line : Line) → slice_get u.facts.program.lines i ≡ Some line → (line.mark ≡ Plain → ⊥) → IsFlat u i
   pub labels : (label i : ℕ) → place_of_label u.facts.program label ≡ Some i → u.position label ≡ Some (u.begins i)
-  pub followed : (p k : ℕ) (name : Bytes) (ps : Pures) → slice_get u.steps p ≡ Some (CallSub k name ps) → IsFollowed u p
+  pub followed : (p : ℕ) (st : Step) → slice_get u.steps p ≡ Some st → IsCall st → IsFollowed u p
+  -- where the return of a subroutine is kept, the branch by it stands behind
+  pub returns : BranchesBehind u
   pub rises : (i : ℕ) → u.begins i ≤ ends_of u i
   pub own : (i : ℕ) → own_start u.facts.program i ≡ own_of u i
   -- behind a statement that begins no loop stand the steps of those that end there
@@ -391,10 +422,6 @@ pub record IsLaidOut (u : Text) : Type 0 where
 pub data IsPart (form : Form) : Option ℕ → Head → Terms → Type 0 where
   is_whole : {o : Option ℕ} {head : Head} {ts : Terms} → form ≡ On head ts → IsPart form o head ts
   is_under : {head : Head} {ts : Terms} → loop_of form ≡ None → IsPart form None head ts
-
--- no label is known
-abbrev pub none_known : ℕ → Bool
-none_known label = false
 
 -- in the midst of a statement's operands
 pub record IsAt (u : Text) (f : Frame) (i : ℕ) (form : Form) (p : ℕ) (m : Temporaries) : Type 0 where
@@ -418,8 +445,9 @@ pub record IsAt (u : Text) (f : Frame) (i : ℕ) (form : Form) (p : ℕ) (m : Te
   pub midway : AreIn u f mode free operands left from m upto
   pub closes : IsClosing u free place head operands (lowered_as mode free operands).value closing
   pub behind : Spans u upto closing (ends_of u i)
-  -- the operands that are left of a CALL without a label have none either
-  pub without : (name : Bytes) → head ≡ ToCall name → passes_label operands ≡ false → passes_other none_known left ≡ false
+  pub functions : CallsFunctions u from upto
+  -- the labels among the operands of a CALL are still those that were written
+  pub written : (name : Bytes) → head ≡ ToCall name → hides_labels operands ≡ false → AreWritten (labels_written operands) left
   pub part : IsPart line.form place head operands
   pub branches : BranchesNow u.facts.program i head left
 

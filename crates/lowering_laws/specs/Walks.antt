@@ -8,7 +8,7 @@ use Rattle.fortran_laws.specs.f_tree.Facts.{Facts, Frame}
 use Rattle.fortran_laws.specs.f_tree.Valuing.{Red, Valued, Bad, Asks}
 use Rattle.fortran_laws.specs.f_tree.World.{World}
 use Rattle.lowering.specs.l_core.Pures.{Pure, Pures, NoPure, AndPure, Temporaries, with_kept, meant, all_meant}
-use Rattle.lowering.specs.l_core.Steps.{Step, CallFor, Branch, Text}
+use Rattle.lowering.specs.l_core.Steps.{Step, CallFor, Branch, Way, Text}
 use Rattle.lowering.specs.l_core.Machine.{View, step}
 use Rattle.lowering.specs.Expressions.{Purpose, ForLater}
 
@@ -21,9 +21,15 @@ pub data Spans (u : Text) : ℕ → List Step → ℕ → Type 0 where
 abbrev pub at_step : Frame → ℕ → ℕ → Temporaries → View
 at_step f h p m = record { frame = f; at = p; kept = m; height = h }
 
--- a step that is no branch behind a CALL: such a step stands on no way, so that it may be taken before one
+-- a step that is no branch behind a CALL and none of its ways
+abbrev pub IsNoBranch : Step → Type 0
+IsNoBranch (Branch k count) = ⊥
+IsNoBranch (Way label) = ⊥
+IsNoBranch st = Unit {0}
+
+-- where such a step stands it may be taken on a way, before which a branch may be taken
 abbrev pub IsOrdinary : Text → ℕ → Type 0
-IsOrdinary u p = (k : ℕ) → slice_get u.steps p ≡ Some (Branch k) → ⊥
+IsOrdinary u p = (st : Step) → slice_get u.steps p ≡ Some st → IsNoBranch st
 
 -- a way forward that only keeps values
 pub data Keeps (u : Text) (f : Frame) (h : ℕ) (w : World) : ℕ → Temporaries → ℕ → Temporaries → Type 0 where

@@ -3,7 +3,7 @@
 ghost use Rattle.std.specs.Prelude.{◌≡◌, Some};
 ghost use Rattle.lowering.specs.Units.{lowered_unit};
 ghost use Rattle.lowering_laws.specs.Layer.{IsLaidOut};
-ghost use Rattle.lowering_laws.specs.Examples.{a_loop, loop_steps, loop_text, a_block, block_steps, a_sum, sum_text, a_search, search_text, a_list, list_text, unit_of, lowered_steps};
+ghost use Rattle.lowering_laws.specs.Examples.{a_loop, loop_steps, loop_text, a_block, block_steps, a_sum, sum_text, a_search, search_text, a_list, list_text, a_choice, choice_text, unit_of, lowered_steps};
 ghost use Rattle.lowering_laws.specs.Layout.{LoopsFit};
 
 /// A DO loop whose range adds up the values of a function, and a block of three arms with a guarded reference and a branch.
@@ -34,4 +34,11 @@ pub fn loops_are_laid_out()
 pub fn transfers_are_laid_out()
     ensures lowered { lowered_unit (unit_of a_list) ≡ Some list_text }
     ensures laid { IsLaidOut list_text }
+{}
+
+/// A CALL with two alternate returns: behind it stand the branch by the number that is answered, and the two ways; the text is laid out as the
+/// law of statements asks.
+pub fn alternate_returns_are_laid_out()
+    ensures lowered { lowered_unit (unit_of a_choice) ≡ Some choice_text }
+    ensures laid { IsLaidOut choice_text }
 {}
