@@ -118,12 +118,15 @@ pub enum Step {
     JumpBy(Pure, Items<u32>),
     /// Does nothing.
     Pass,
-    /// A temporary gets the answer of a function that is called. Sections 15.2 and 15.5.
+    /// A temporary gets the answer of a function that is called, or the number of the alternate return of a subroutine. Sections 15.2, 15.5 and 15.8.
     CallFor(usize, Callee, Items<Pure>),
-    /// A subroutine is called; a temporary gets the label of its alternate return, if it takes one. Section 15.6.
+    /// A subroutine is called to which no label is passed; a temporary gets nothing. Section 15.6.
     CallSub(usize, Text, Items<Pure>),
-    /// To the label that the temporary holds, or on where it holds none.
-    Branch(usize),
+    /// Behind the call of a subroutine to which labels are passed: to the step behind that the number in the temporary picks, of so many that each go to a
+    /// label, or past them all. Section 15.6.2.3.
+    Branch(usize, usize),
+    /// Such a step: to the label of an alternate return.
+    Way(u32),
     /// Answers the caller. Section 15.8.
     Back,
     /// Answers the caller by the number of an alternate return.

@@ -1,45 +1,35 @@
 -- The steps of a CALL.
-use Rattle.std.specs.Prelude.{◌≡◌, ℕ, suc, ◌+◌, ◌<◌, ◌≤◌, Bool, true, false, ◌||◌, ◌&&◌, List, [], ◌∷◌, ◌++◌, map, length, Option, Some, None, option_map, Result, Ok, Err, OnOk}
+use Rattle.std.specs.Prelude.{◌≡◌, ℕ, suc, ◌+◌, ◌<◌, ◌≤◌, Bool, true, false, ◌||◌, List, [], ◌∷◌, ◌++◌, ◌==◌, map, length, Option, Some, None, Result, Ok, Err, OnOk, if◌then◌else◌}
 use Rattle.std.specs.declared.alloc.AllocError.{AllocError}
-use Rattle.std.proofs.Common.{refl, ap, sym, subst, ◌∙◌, drop, get_or, drop-cons, add-one}
+use Rattle.std.proofs.Common.{refl, ap, sym, subst, ◌∙◌, drop, get_or, drop-cons, add-one, eqb-true, arith}
 use Rattle.std.proofs.lemmas.List.{drop_all}
-use Rattle.f_tree.specs.declared.names.Class.{Class}
-use Rattle.f_tree.specs.declared.names.Class.TheVariants as class
-use Rattle.f_tree.specs.declared.expressions.BinaryOp.{BinaryOp}
-use Rattle.f_tree.specs.declared.expressions.BinaryOp.TheVariants as op
-use Rattle.f_tree.specs.declared.expressions.Expr.{Expr, Int, Logical, Text, Name, Apply', Part', Minus', Plus', Not', Paren', Binary', AltReturn, Bind', Bound, more_of-Expr}
-use Rattle.f_tree.specs.Folds.{fold_expr, fold_exprs, fold_held}
+use Rattle.f_tree.specs.declared.expressions.Expr.{Expr}
 use Rattle.f_tree.specs.Values.{Bytes}
-use Rattle.f_tree.specs.Facts.{Attribute}
-use Rattle.f_tree.specs.Terms.{Function, Term, terms, refers, any_refers}
-use Rattle.f_tree.specs.Reading.{Read, read, valued_only, placed, function_named, function_read, intrinsic_read, expanded_read, joined_read, name_read, applied_read, binary_read, layer_read}
+use Rattle.f_tree.specs.Terms.{AsSubroutine, Term, Terms, terms, refers, any_refers}
+use Rattle.f_tree.specs.Reading.{read}
 use Rattle.f_tree.specs.Lines.{Naming, place_of, arguments_of}
 use Rattle.lowered_tree.specs.l_core.Pures as core
 use Rattle.lowered_tree.specs.l_core.Steps as act
 use Rattle.lowering.specs.Expressions as low
-use Rattle.lowering.specs.Statements as code
-use Rattle.lowering.specs.Statements.{wants_no_value, branch_code, call_code, with_operands, form_code, head_code}
+use Rattle.lowering.specs.Statements.{labels_written, call_steps, call_code, with_operands, form_code, head_code}
 use Rattle.lowered_tree.specs.declared.pures.Pure.{Pure}
 use Rattle.lowered_tree.specs.declared.steps.Step.{Step}
 use Rattle.lowered_tree.specs.Shapes.{pures_of, steps_of}
-use Rattle.name_facts.specs.declared.fact.ConstantValue.{ConstantValue}
-use Rattle.name_facts.specs.declared.fact.ConstantValue.TheVariants as constant
 use Rattle.name_facts.specs.declared.table.NameFacts.{NameFacts}
-use Rattle.name_facts.specs.GivenFacts.{datum_of, fact_in}
 use Rattle.expression_lowering.specs.declared.purpose.Purpose.{Purpose}
 use Rattle.expression_lowering.specs.declared.purpose.Aspect.TheVariants.{Actual}
 use Rattle.expression_lowering.specs.declared.answers.Lowered.{Lowered}
 use Rattle.expression_lowering.specs.Purposes.{purpose_of, aspect_term}
-use Rattle.expression_lowering.specs.TableNames.{attribute_of, attribute_in, reading, AreFactsOf, name_lowers, applied_lowers, operator_lowers, all_lower, layer_lowers, is_lowered_value}
-use Rattle.expression_lowering.specs.Outcomes.{IsLowered, IsLoweredFor}
-use Rattle.expression_lowering.proofs.Agreement.{read-agrees}
+use Rattle.expression_lowering.specs.TableNames.{AreFactsOf, all_lower, is_lowered_value}
+use Rattle.expression_lowering.specs.Outcomes.{IsLoweredFor}
 use Rattle.expression_lowering.proofs.CoveredForms.{and-left, and-right}
 use Rattle.expression_lowering.proofs.Walks.{IsOnward}
 use Rattle.statement_lowering.specs.declared.around.Around.{Around}
 use Rattle.statement_lowering.specs.StatementOutcomes.{AreAdded, IsLoweredForm}
 use Rattle.statement_lowering.specs.TransferForms.{calling, arguments_in}
-use Rattle.statement_lowering.specs.LoweredTransfers.{call_lowers, is_label, constant_is_label, name_is_label, layer_label, may_be_label, any_label, AreLoweredOperands, AreLoweredTerms}
+use Rattle.statement_lowering.specs.LoweredTransfers.{call_lowers, labels_passed, AreLoweredOperands, AreLoweredTerms}
 use Rattle.statement_lowering.proofs.Additions.{operands-closed}
+use Rattle.statement_lowering.proofs.CallLabels.{AreWritten, labels-agree}
 use Rattle.statement_lowering.proofs.ControlWalks.{walk-one, walk-ended, listed-none}
 use Rattle.statement_lowering.proofs.TargetForms.{refers-alike}
 
@@ -121,134 +111,62 @@ pub arguments-are : (names : Naming) (es : List Expr) → arguments_of names es 
 unfolding arguments_in
 arguments-are names es = refl
 
--- LABELS
-label-constant : (x : Bytes) (a : Attribute) (o : Option ConstantValue) →
-    (code.may_be_label (name_read x (record a { class = class.Constant; constant = option_map datum_of o })).value ≡ constant_is_label o)
-    × (code.may_be_label (name_read x (record a { class = class.Constant; constant = option_map datum_of o })).actual ≡ constant_is_label o)
-unfolding code.may_be_label name_read valued_only datum_of constant_is_label is_label
-label-constant x a None = (refl, refl)
-label-constant x a (Some (constant.Integer z)) = (refl, refl)
-label-constant x a (Some (constant.Logical b)) = (refl, refl)
-label-constant x a (Some (constant.Text cs)) = (refl, refl)
-label-constant x a (Some (constant.Label l)) = (refl, refl)
+-- BY THE LABELS
+none-passed : (labels : List ℕ) (b : Bool) → b ≡ (length labels == 0) → b ≡ true → labels ≡ []
+none-passed [] b is none = refl
+none-passed (l ∷ ls) b is none = let same : length (l ∷ ls) ≡ 0 = eqb-true (length (l ∷ ls)) 0 (sym is ∙ none) in absurd (omega (arith, same))
 
-label-name : (x : Bytes) (a : Attribute) (c : Class) (o : Option ConstantValue) → name_lowers c ≡ true →
-    (code.may_be_label (name_read x (record a { class = c; constant = option_map datum_of o })).value ≡ name_is_label c o)
-    × (code.may_be_label (name_read x (record a { class = c; constant = option_map datum_of o })).actual ≡ name_is_label c o)
-unfolding code.may_be_label name_read valued_only placed name_is_label name_lowers
-label-name x a class.Constant o h = label-constant x a o
-label-name x a class.StatementFunction o h = absurd (cc)
-label-name x a class.Stored o h = (refl, refl)
-label-name x a class.Dummy o h = (refl, refl)
-label-name x a class.Result o h = (refl, refl)
-label-name x a class.Procedure o h = (refl, refl)
-label-name x a class.DummyProcedure o h = (refl, refl)
-label-name x a class.Intrinsic o h = (refl, refl)
-label-name x a class.Unit o h = (refl, refl)
+pub call-alone : (k : ℕ) (x y : Bytes) (labels : List ℕ) (ps : core.Pures) (b : Bool) (r : Result (Unit {0}) AllocError) (before after : List Step) → y ≡ x →
+    b ≡ (length labels == 0) → b ≡ true → OnOk r (steps_of after ≡ steps_of before ++ act.CallSub k y ps ∷ []) → OnOk r (steps_of after ≡ steps_of before ++ call_steps k x labels ps)
+unfolding call_steps
+call-alone k x y labels ps b (Err e) before after same is none appended = appended
+call-alone k x y labels ps b (Ok u) before after same is none appended =
+    appended ∙ ap (λ z. steps_of before ++ act.CallSub k z ps ∷ []) same ∙ sym (ap (λ ls. steps_of before ++ call_steps k x ls ps) (none-passed labels b is none))
 
-label-intrinsic : (x : Bytes) (a : Attribute) (rs : List Read) (f : Option Function) →
-    (code.may_be_label (intrinsic_read x a rs f).value ≡ false) × (code.may_be_label (intrinsic_read x a rs f).actual ≡ false)
-unfolding code.may_be_label wants_no_value intrinsic_read function_read valued_only
-label-intrinsic x a rs None = (refl, refl)
-label-intrinsic x a rs (Some f) = (refl, refl)
+some-passed : (k : ℕ) (x : Bytes) (labels : List ℕ) (ps : core.Pures) (b : Bool) → b ≡ (length labels == 0) → b ≡ false →
+    act.CallFor k (record { name = x; want = AsSubroutine }) ps ∷ act.Branch k (length labels) ∷ map act.Way labels ≡ call_steps k x labels ps
+unfolding call_steps
+some-passed k x [] ps b is some = absurd (cc)
+some-passed k x (l ∷ ls) ps b is some = refl
 
-label-element : (x : Bytes) (a : Attribute) (rs : List Read) (c : Class) → applied_lowers x c ≡ true →
-    (code.may_be_label (applied_read x (record a { class = c }) rs).value ≡ false) × (code.may_be_label (applied_read x (record a { class = c }) rs).actual ≡ false)
-unfolding code.may_be_label wants_no_value applied_read applied_lowers function_read valued_only placed
-label-element x a rs class.Intrinsic h = label-intrinsic x (record a { class = class.Intrinsic }) rs (function_named x)
-label-element x a rs class.StatementFunction h = absurd (cc)
-label-element x a rs class.Constant h = (refl, refl)
-label-element x a rs class.Stored h = (refl, refl)
-label-element x a rs class.Dummy h = (refl, refl)
-label-element x a rs class.Result h = (refl, refl)
-label-element x a rs class.Procedure h = (refl, refl)
-label-element x a rs class.DummyProcedure h = (refl, refl)
-label-element x a rs class.Unit h = (refl, refl)
-
-label-binary : (o : BinaryOp) (r s : Read) → (code.may_be_label (binary_read o r s).value ≡ false) × (code.may_be_label (binary_read o r s).actual ≡ false)
-unfolding code.may_be_label binary_read valued_only joined_read
-label-binary op.Power r s = (refl, refl)
-label-binary op.Times r s = (refl, refl)
-label-binary op.Divide r s = (refl, refl)
-label-binary op.Plus r s = (refl, refl)
-label-binary op.Minus r s = (refl, refl)
-label-binary op.Concatenate r s = (refl, refl)
-label-binary op.Less r s = (refl, refl)
-label-binary op.LessOrEqual r s = (refl, refl)
-label-binary op.Equal r s = (refl, refl)
-label-binary op.NotEqual r s = (refl, refl)
-label-binary op.Greater r s = (refl, refl)
-label-binary op.GreaterOrEqual r s = (refl, refl)
-label-binary op.And r s = (refl, refl)
-label-binary op.Or r s = (refl, refl)
-label-binary op.Equivalent r s = (refl, refl)
-label-binary op.NotEquivalent r s = (refl, refl)
-
-label-tree : (table : NameFacts) (e : Expr) → fold_expr (layer_lowers table) e ≡ true →
-    (code.may_be_label (fold_expr (layer_read (attribute_in table)) e).value ≡ fold_expr (layer_label table) e)
-    × (code.may_be_label (fold_expr (layer_read (attribute_in table)) e).actual ≡ fold_expr (layer_label table) e)
-unfolding code.may_be_label fold_expr layer_read layer_label layer_lowers attribute_in attribute_of valued_only placed
-label-tree table (Int z) h = (refl, refl)
-label-tree table (Logical b) h = (refl, refl)
-label-tree table (Text cs) h = (refl, refl)
-label-tree table (Name x) h = label-name x (attribute_in table x) (fact_in table x).class (fact_in table x).constant h
-label-tree table (Apply' x s row) h =
-    label-element x (attribute_in table x) (fold_exprs (layer_read (attribute_in table)) row) (fact_in table x).class
-    (and-left (applied_lowers x (fact_in table x).class) (all_lower (fold_exprs (layer_lowers table) row)) h)
-label-tree table (Part' s (more_of-Expr e r) from to) h = absurd (cc)
-label-tree table (Minus' s (more_of-Expr e r)) h = (refl, refl)
-label-tree table (Plus' s (more_of-Expr e r)) h = let both = label-tree table e h in (both.0, both.0)
-label-tree table (Not' s (more_of-Expr e r)) h = (refl, refl)
-label-tree table (Paren' s (more_of-Expr e r)) h = let both = label-tree table e h in (both.0, both.0)
-label-tree table (Binary' o s (more_of-Expr a r) t (more_of-Expr b q)) h =
-    label-binary o (fold_expr (layer_read (attribute_in table)) a) (fold_expr (layer_read (attribute_in table)) b)
-label-tree table (AltReturn l) h = (refl, refl)
-label-tree table (Bind' s row t (more_of-Expr e q)) h = absurd (cc)
-label-tree table (Bound k) h = absurd (cc)
-
-label-agrees : (names : Naming) (table : NameFacts) → AreFactsOf names table → (e : Expr) → is_lowered_value table e ≡ true → code.may_be_label (place_of names e) ≡ may_be_label table e
-unfolding is_lowered_value reading read place_of may_be_label
-label-agrees names table told e h = ap (λ (r : Read). code.may_be_label r.actual) (read-agrees names table told e h) ∙ (label-tree table e h).1
-
-pub labels-agree : (names : Naming) (table : NameFacts) → AreFactsOf names table → (es : List Expr) → call_lowers table es ≡ true →
-    code.passes_label (terms (arguments_of names es)) ≡ any_label table es
-unfolding call_lowers all_lower code.passes_label terms arguments_of any_label
-labels-agree names table told [] h = refl
-labels-agree names table told (e ∷ es) h =
-    ap (λ b. b || code.passes_label (terms (arguments_of names es))) (label-agrees names table told e (and-left (is_lowered_value table e) (call_lowers table es) h))
-    ∙ ap (λ b. may_be_label table e || b) (labels-agree names table told es (and-right (is_lowered_value table e) (call_lowers table es) h))
+pub call-by : (k : ℕ) (x y : Bytes) (labels : List ℕ) (ps : core.Pures) (b : Bool) (r : Result (Unit {0}) AllocError) (before after : List Step) → y ≡ x →
+    b ≡ (length labels == 0) → b ≡ false →
+    OnOk r (steps_of after ≡ steps_of before ++ act.CallFor k (record { name = y; want = AsSubroutine }) ps ∷ act.Branch k (length labels) ∷ map act.Way labels) →
+    OnOk r (steps_of after ≡ steps_of before ++ call_steps k x labels ps)
+call-by k x y labels ps b (Err e) before after same is some appended = appended
+call-by k x y labels ps b (Ok u) before after same is some appended =
+    appended ∙ ap (λ ss. steps_of before ++ ss) (some-passed k y labels ps b is some) ∙ ap (λ z. steps_of before ++ call_steps k z labels ps) same
 
 -- THE WHOLE CALL
 code-calling : (once : Bool) (k n : ℕ) (x : Bytes) (es : List Expr) (names : Naming) →
     form_code once k n (calling x es names)
-    ≡ with_operands (low.lower_all core.NoPure low.ForCall k (terms (arguments_in es names))) (call_code k x (code.passes_label (terms (arguments_of names es))))
+    ≡ with_operands (low.lower_all core.NoPure low.ForCall k (terms (arguments_in es names))) (call_code k x (terms (arguments_of names es)))
 unfolding form_code head_code calling arguments_in
 code-calling once k n x es names = refl
 
-closes-call : (k : ℕ) (x : Bytes) (labels : Bool) (ps : core.Pures) → call_code k x labels ps ≡ Some (act.CallSub k x ps ∷ branch_code labels k)
+closes-call : (k : ℕ) (x : Bytes) (labels : List ℕ) (ts : Terms) (ps : core.Pures) → AreWritten ts labels → call_code k x ts ps ≡ Some (call_steps k x labels ps)
 unfolding call_code
-closes-call k x labels ps = refl
+closes-call k x labels ts ps are =
+    ap (λ b. if b then None else Some (call_steps k x (labels_written ts) ps)) are.hides ∙ ap (λ ls. Some (call_steps k x ls ps)) are.written
 
-call-lowered : (table : NameFacts) (around : Around) (x : Bytes) (es : List Expr) (before mid after : List Step) (vs : List Pure) (labels : Bool) → call_lowers table es ≡ true →
-    labels ≡ any_label table es → AreLoweredTerms table (arguments_in es) low.ForCall around.free before mid vs →
-    steps_of after ≡ steps_of mid ++ act.CallSub around.free x (pures_of vs) ∷ branch_code labels around.free →
-    IsLoweredForm table around (call_lowers table es) (calling x es) before after
-call-lowered table around x es before mid after vs labels lowers labelled operands appended = record {
+call-lowered : (table : NameFacts) (around : Around) (x : Bytes) (es : List Expr) (before mid after : List Step) (vs : List Pure) (labels : List ℕ) → call_lowers table es ≡ true →
+    labels ≡ labels_passed table es → AreLoweredTerms table (arguments_in es) low.ForCall around.free before mid vs →
+    steps_of after ≡ steps_of mid ++ call_steps around.free x labels (pures_of vs) → IsLoweredForm table around (call_lowers table es) (calling x es) before after
+call-lowered table around x es before mid after vs labels lowers passed operands appended = record {
   built = lowers;
   meant = λ names told.
       let are = operands.are names told in
-      let passes = labelled ∙ sym (labels-agree names table told es lowers) in
+      let ts = terms (arguments_of names es) in
       subst (λ (c : Option (List act.Step)). AreAdded c before after) (sym (code-calling around.once around.free around.room x es names))
-      (operands-closed (low.lower_all core.NoPure low.ForCall around.free (terms (arguments_in es names))) (call_code around.free x (code.passes_label (terms (arguments_of names es))))
-      (act.CallSub around.free x (pures_of vs) ∷ branch_code (code.passes_label (terms (arguments_of names es))) around.free) before mid after (pures_of vs)
-      (record { steps = are.steps; values = are.values }) (closes-call around.free x (code.passes_label (terms (arguments_of names es))) (pures_of vs))
-      (appended ∙ ap (λ b. steps_of mid ++ act.CallSub around.free x (pures_of vs) ∷ branch_code b around.free) passes));
+      (operands-closed (low.lower_all core.NoPure low.ForCall around.free (terms (arguments_in es names))) (call_code around.free x ts)
+      (call_steps around.free x labels (pures_of vs)) before mid after (pures_of vs) (record { steps = are.steps; values = are.values })
+      (closes-call around.free x labels ts (pures_of vs) (subst (AreWritten ts) (sym passed) (labels-agree names table told es lowers))) appended);
 }
 
-pub call-done : (table : NameFacts) (around : Around) (x : Bytes) (es : List Expr) (before mid after : List Step) (vs : List Pure) (labels : Bool) (r : Result (Unit {0}) AllocError) →
-    call_lowers table es ≡ true → labels ≡ any_label table es → AreLoweredTerms table (arguments_in es) low.ForCall around.free before mid vs →
-    OnOk r (steps_of after ≡ steps_of mid ++ act.CallSub around.free x (pures_of vs) ∷ branch_code labels around.free) →
+pub call-done : (table : NameFacts) (around : Around) (x : Bytes) (es : List Expr) (before mid after : List Step) (vs : List Pure) (labels : List ℕ) (r : Result (Unit {0}) AllocError) →
+    call_lowers table es ≡ true → labels ≡ labels_passed table es → AreLoweredTerms table (arguments_in es) low.ForCall around.free before mid vs →
+    OnOk r (steps_of after ≡ steps_of mid ++ call_steps around.free x labels (pures_of vs)) →
     OnOk r (IsLoweredForm table around (call_lowers table es) (calling x es) before after)
-call-done table around x es before mid after vs labels (Err e) lowers labelled operands appended = appended
-call-done table around x es before mid after vs labels (Ok u) lowers labelled operands appended =
-    call-lowered table around x es before mid after vs labels lowers labelled operands appended
+call-done table around x es before mid after vs labels (Err e) lowers passed operands appended = appended
+call-done table around x es before mid after vs labels (Ok u) lowers passed operands appended =
+    call-lowered table around x es before mid after vs labels lowers passed operands appended

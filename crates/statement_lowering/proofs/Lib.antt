@@ -18,4 +18,5 @@ pub mod TransferItems
 pub mod TransferLaws
 pub mod TransferRules
 pub mod CallForms
+pub mod CallLabels
 pub mod CallLaws

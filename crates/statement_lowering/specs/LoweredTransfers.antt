@@ -1,6 +1,6 @@
 -- Which statements of input and output and which CALLs are lowered, by what the table tells of their names, and what the code answers of their
 -- operands. ANSI X3.9-1978, sections 12.8, 12.10 and 15.6.
-use Rattle.std.specs.Prelude.{◌≡◌, ℕ, Bool, true, false, ◌&&◌, ◌||◌, List, [], ◌∷◌, ◌++◌, map, Option, Some, None}
+use Rattle.std.specs.Prelude.{◌≡◌, ℕ, Bool, true, false, ◌&&◌, List, [], ◌∷◌, ◌++◌, map, Option, Some, None}
 use Rattle.f_tree.specs.declared.names.Class.{Class}
 use Rattle.f_tree.specs.declared.names.Class.TheVariants as class
 use Rattle.f_tree.specs.declared.expressions.Expr.{Expr}
@@ -16,6 +16,7 @@ use Rattle.f_tree.specs.Terms.{Term, terms}
 use Rattle.f_tree.specs.Lines.{Naming}
 use Rattle.lowered_tree.specs.l_core.Pures as core
 use Rattle.lowering.specs.Expressions as low
+use Rattle.lowering.specs.Units.{label_in}
 use Rattle.lowered_tree.specs.declared.pures.Pure.{Pure}
 use Rattle.lowered_tree.specs.declared.steps.Step.{Step}
 use Rattle.lowered_tree.specs.Shapes.{pures_of, steps_of}
@@ -101,35 +102,35 @@ unfoldable pub is_fetched : NameFacts → Expr → Bool
 is_fetched table e = fold_expr (layer_fetched table) e
 
 -- LABELS THAT ARE PASSED
--- is the value of a constant a label
-unfoldable pub is_label : ConstantValue → Bool
-is_label (constant.Label l) = true
-is_label _ = false
+-- the label that is the value of a constant
+unfoldable pub label_valued : ConstantValue → Option ℕ
+label_valued (constant.Label l) = Some l
+label_valued _ = None
 
-unfoldable pub constant_is_label : Option ConstantValue → Bool
-constant_is_label None = false
-constant_is_label (Some v) = is_label v
+unfoldable pub constant_label : Option ConstantValue → Option ℕ
+constant_label None = None
+constant_label (Some v) = label_valued v
 
--- is a name alone that of a constant whose value is a label
-unfoldable pub name_is_label : Class → Option ConstantValue → Bool
-name_is_label class.Constant o = constant_is_label o
-name_is_label _ o = false
+-- the label that is the value of a name alone: that of a constant
+unfoldable pub name_label : Class → Option ConstantValue → Option ℕ
+name_label class.Constant o = constant_label o
+name_label _ o = None
 
--- is the value of an argument a label: parentheses and a sign + leave it so
-unfoldable pub layer_label : NameFacts → expr.Expr-F Bool → Bool
-layer_label table (expr.Name x) = name_is_label (fact_in table x).class (fact_in table x).constant
-layer_label table (expr.AltReturn l) = true
-layer_label table (expr.Plus b) = b
-layer_label table (expr.Paren b) = b
-layer_label table _ = false
+-- the label that is the value of an argument: parentheses and a sign + leave it so
+unfoldable pub layer_label : NameFacts → expr.Expr-F (Option ℕ) → Option ℕ
+layer_label table (expr.Name x) = name_label (fact_in table x).class (fact_in table x).constant
+layer_label table (expr.AltReturn l) = Some l
+layer_label table (expr.Plus o) = o
+layer_label table (expr.Paren o) = o
+layer_label table _ = None
 
-unfoldable pub may_be_label : NameFacts → Expr → Bool
-may_be_label table e = fold_expr (layer_label table) e
+unfoldable pub label_passed : NameFacts → Expr → Option ℕ
+label_passed table e = fold_expr (layer_label table) e
 
--- is that of any argument
-unfoldable pub any_label : NameFacts → List Expr → Bool
-any_label table [] = false
-any_label table (e ∷ es) = may_be_label table e || any_label table es
+-- those of all arguments, in their order
+unfoldable pub labels_passed : NameFacts → List Expr → List ℕ
+labels_passed table [] = []
+labels_passed table (e ∷ es) = label_in (label_passed table e) ++ labels_passed table es
 
 -- WHAT IS ANSWERED
 -- a term is lowered, whatever the names are of which the table tells
@@ -156,5 +157,5 @@ IsAddedIf None k before after n = (after ≡ before) × (n ≡ k)
 IsAddedIf (Some l) k before after n = (after ≡ before ++ l.value ∷ []) × (n ≡ l.free)
 
 unfoldable pub lowered_transfers_opened : Unit {0}
-unfolding value_lowers controls_lower layer_item item_lowers items_lower transfer_lowers call_lowers is_variable is_element layer_placed is_placed layer_fetched is_fetched is_label constant_is_label name_is_label layer_label may_be_label any_label
+unfolding value_lowers controls_lower layer_item item_lowers items_lower transfer_lowers call_lowers is_variable is_element layer_placed is_placed layer_fetched is_fetched label_valued constant_label name_label layer_label label_passed labels_passed
 lowered_transfers_opened = tt

@@ -1,6 +1,6 @@
 //! CALL. Section 15.6.
 
-ghost use Rattle.std.specs.Prelude.{◌≡◌, ◌++◌, ◌∷◌, true, IfOk, OnOk};
+ghost use Rattle.std.specs.Prelude.{◌≡◌, ◌++◌, ◌∷◌, true, length, map, IfOk, OnOk};
 ghost use Rattle.f_tree.specs.Terms as term;
 ghost use Rattle.f_tree.specs.Lines as lines;
 ghost use Rattle.f_tree.specs.Lines.{Naming};
@@ -8,7 +8,6 @@ ghost use Rattle.lowered_tree.specs.l_core.Steps as act;
 ghost use Rattle.lowering.specs.Expressions as low;
 ghost use Rattle.lowering.specs.Statements as code;
 ghost use Rattle.lowered_tree.specs.Shapes.{pures_of, steps_of};
-ghost use Rattle.name_facts.specs.GivenFacts.{fact_in};
 ghost use Rattle.expression_lowering.specs.Purposes.{purpose_of};
 ghost use Rattle.expression_lowering.specs.TableNames.{AreFactsOf, is_lowered_value};
 ghost use Rattle.statement_lowering.specs.TransferForms as form;
@@ -18,11 +17,11 @@ ghost use Rattle.statement_lowering.specs.StatementOutcomes.{IsOutcome, IsLowere
 use crate::appending::push_step;
 use crate::around::Around;
 use crate::controls::place_for;
+use crate::passed_labels::add_labels_passed;
 use expression_lowering::{LowerError, Purpose, has_reference, is_lowered};
 use f_tree::Expr;
-use f_tree::names::Class;
-use lowered_tree::{Pure, Step};
-use name_facts::{ConstantValue, NameFacts};
+use lowered_tree::{Callee, Pure, Step, Text, Wanted};
+use name_facts::NameFacts;
 use plain_data::Items;
 use std::alloc::{AllocError, Global};
 
@@ -86,95 +85,59 @@ fn lower_arguments(
     Ok(values)
 }
 
-/// Whether the value of a constant is a label.
-#[tactic(auto, unfolding(crate::specs::LoweredTransfers::is_label))]
-fn is_label(value: &ConstantValue) -> bool
-    ensures { result ≡ spec.is_label value.now }
+/// Appends the ways to the labels of the alternate returns.
+fn push_ways(labels: &[u32], steps: &mut Vec<Step>) -> Result<(), AllocError>
+    ensures { OnOk result (steps_of steps.new.items ≡ steps_of steps.old.items ++ map act.Way labels.now) }
 {
-    match value {
-        ConstantValue::Label(_) => true,
-        ConstantValue::Integer(_) | ConstantValue::Logical(_) | ConstantValue::Text(_) => false,
+    for label in labels {
+        push_step(steps, Step::Way(*label))?;
     }
+    Ok(())
 }
 
-/// Whether a name is that of a constant whose value is a label.
-#[tactic(auto, unfolding(crate::specs::LoweredTransfers::constant_is_label))]
-fn constant_is_label(table: &NameFacts, name: &[u8]) -> bool
-    ensures { result ≡ spec.constant_is_label (fact_in table.now name.now).constant }
+/// Appends the step by which the number of a return picks one of the labels, and a way to each of them behind it.
+fn push_branch(labels: &[u32], holder: usize, steps: &mut Vec<Step>) -> Result<(), AllocError>
+    ensures { OnOk result (steps_of steps.new.items ≡ steps_of steps.old.items ++ act.Branch holder (length labels.now) ∷ map act.Way labels.now) }
 {
-    match table.constant(name) {
-        Some(value) => is_label(value),
-        None => false,
-    }
+    push_step(steps, Step::Branch(holder, labels.len()))?;
+    push_ways(labels, steps)
 }
 
-/// Whether a name alone is that of a constant whose value is a label.
-#[tactic(auto, unfolding(crate::specs::LoweredTransfers::name_is_label))]
-fn name_is_label(table: &NameFacts, name: &[u8]) -> bool
-    ensures { result ≡ spec.name_is_label (fact_in table.now name.now).class (fact_in table.now name.now).constant }
-{
-    match table.class(name) {
-        Class::Constant => constant_is_label(table, name),
-        Class::Stored | Class::Dummy | Class::Result | Class::Procedure => false,
-        Class::DummyProcedure | Class::StatementFunction => false,
-        Class::Intrinsic | Class::Unit => false,
-    }
-}
-
-/// Whether the value of an argument is a label.
-#[tactic(auto, using(crate::proofs::CallForms::labelled_forms))]
-fn may_be_label(table: &NameFacts, e: &Expr) -> bool
-    ensures { result ≡ spec.may_be_label table.now e.now }
-{
-    match e {
-        Expr::AltReturn(_) => true,
-        Expr::Name(name) => name_is_label(table, name.as_slice()),
-        Expr::Plus(operand) | Expr::Paren(operand) => may_be_label(table, operand.get()),
-        Expr::Int(_) | Expr::Logical(_) | Expr::Text(_) | Expr::Apply(_, _) => false,
-        Expr::Part(_, _, _) | Expr::Minus(_) | Expr::Not(_) => false,
-        Expr::Binary(_, _, _) | Expr::Bind(_, _) | Expr::Bound(_) => false,
-    }
-}
-
-/// Whether a CALL passes a label.
-#[tactic(auto, unfolding(crate::specs::LoweredTransfers::any_label))]
-fn passes_label(table: &NameFacts, es: &[Expr]) -> bool
-    ensures { result ≡ spec.any_label table.now es.now }
-{
-    for e in es {
-        if may_be_label(table, e) {
-            return true;
-        }
-    }
-    false
-}
-
-/// Appends the step to the label that a subroutine answers, where a label is passed.
-#[tactic(auto, unfolding(lowering::specs::Statements::branch_code))]
-fn push_branch(labels: bool, holder: usize, steps: &mut Vec<Step>) -> Result<(), AllocError>
-    ensures { OnOk result (steps_of steps.new.items ≡ steps_of steps.old.items ++ code.branch_code labels holder) }
-{
-    if labels {
-        push_step(steps, Step::Branch(holder))
-    } else {
-        Ok(())
-    }
-}
-
-/// Appends the step that calls a subroutine, and the one to the label that it answers, where a label is passed.
-fn push_sub(
-    alloc: Global,
-    name: &[u8],
-    labels: bool,
+/// Appends the step that calls a subroutine to which labels are passed, and behind it the branch by the number of its return.
+fn push_call_by(
+    name: Text,
+    labels: &[u32],
     holder: usize,
     values: Items<Pure>,
     steps: &mut Vec<Step>,
 ) -> Result<(), AllocError>
-    ensures { OnOk result (steps_of steps.new.items ≡ steps_of steps.old.items ++ act.CallSub holder name.now (pures_of values) ∷ code.branch_code labels holder) }
+    ensures { OnOk result (steps_of steps.new.items ≡ steps_of steps.old.items ++ act.CallFor holder (record { name = name; want = term.AsSubroutine }) (pures_of values) ∷ act.Branch holder (length labels.now) ∷ map act.Way labels.now) }
+{
+    let called = Callee {
+        name,
+        want: Wanted::Subroutine,
+    };
+    push_step(steps, Step::CallFor(holder, called, values))?;
+    push_branch(labels, holder, steps)
+}
+
+/// Appends the steps of a CALL behind those of its arguments, given the labels that are passed.
+fn push_sub(
+    alloc: Global,
+    name: &[u8],
+    labels: &[u32],
+    holder: usize,
+    values: Items<Pure>,
+    steps: &mut Vec<Step>,
+) -> Result<(), AllocError>
+    ensures { OnOk result (steps_of steps.new.items ≡ steps_of steps.old.items ++ code.call_steps holder name.now labels.now (pures_of values)) }
 {
     let name = Items::from_slice(alloc, name)?;
-    push_step(steps, Step::CallSub(holder, name, values))?;
-    push_branch(labels, holder, steps)
+    if labels.is_empty() {
+        push_step(steps, Step::CallSub(holder, name, values))
+    } else {
+        push_call_by(name, labels, holder, values, steps)
+    }
 }
 
 /// Appends the steps of a CALL of a form that is lowered.
@@ -190,8 +153,9 @@ fn push_call(
     ensures { OnOk result (IsLoweredForm table.now around (spec.call_lowers table.now es.now) (form.calling name.now es.now) steps.old.items steps.new.items) }
 {
     let values = lower_arguments(alloc, table, around.free, es, steps)?;
-    let labels = passes_label(table, es);
-    push_sub(alloc, name, labels, around.free, values, steps)
+    let mut labels = Vec::new(alloc);
+    add_labels_passed(table, es, &mut labels)?;
+    push_sub(alloc, name, labels.as_slice(), around.free, values, steps)
 }
 
 /// CALL. Section 15.6.

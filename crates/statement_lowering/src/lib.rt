@@ -15,10 +15,12 @@ mod controls;
 mod copies;
 mod label_lists;
 mod loops;
+mod passed_labels;
 mod statement;
 mod transfers;
 mod turns;
 
 pub use around::Around;
+pub use passed_labels::add_labels_passed;
 pub use statement::lower_statement;
 pub use turns::{free_inside, lower_turn};

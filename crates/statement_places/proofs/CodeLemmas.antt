@@ -8,7 +8,7 @@ use Rattle.f_tree.specs.Facts.{Direction, Layout, Controls, AuxiliaryKind, Head,
 use Rattle.lowering.specs.l_core.Pures.{Pures, NoPure, AndPure}
 use Rattle.lowering.specs.l_core.Steps.{Step}
 use Rattle.lowering.specs.Expressions.{Lowered}
-use Rattle.lowering.specs.Statements.{behind_operands, with_operands, put_code, put_label_code, select_code, jump_by_code, sign_code, unless_code, guard_code, loop_code, call_code, back_code, begin_code, auxiliary_code, form_code, head_code}
+use Rattle.lowering.specs.Statements.{behind_operands, with_operands, put_code, put_label_code, select_code, jump_by_code, sign_code, unless_code, guard_code, loop_code, labels_written, hides_labels, call_steps, call_code, back_code, begin_code, auxiliary_code, form_code, head_code}
 use Rattle.lowering.specs.Units.{pass_code}
 use Rattle.statement_places.specs.StatementSizes.{with_pass}
 
@@ -77,9 +77,18 @@ loop_more once n (AndPure x (AndPure first (AndPure limit NoPure))) = no_code
 loop_more once n (AndPure x (AndPure first (AndPure limit (AndPure by NoPure)))) = one_more _ _
 loop_more once n (AndPure x (AndPure first (AndPure limit (AndPure by (AndPure p ps))))) = no_code
 
-call_more : (k : ℕ) (name : Bytes) (labels : Bool) (ps : Pures) → TakesSteps (call_code k name labels ps)
+labels_more : (k : ℕ) (name : Bytes) (labels : List ℕ) (ps : Pures) → TakesSteps (Some (call_steps k name labels ps))
+unfolding call_steps
+labels_more k name [] ps = one_more _ _
+labels_more k name (l ∷ ls) ps = one_more _ _
+
+unless_hidden : (hides : Bool) (k : ℕ) (name : Bytes) (labels : List ℕ) (ps : Pures) → TakesSteps (if hides then None else Some (call_steps k name labels ps))
+unless_hidden true k name labels ps = no_code
+unless_hidden false k name labels ps = labels_more k name labels ps
+
+call_more : (k : ℕ) (name : Bytes) (ts : Terms) (ps : Pures) → TakesSteps (call_code k name ts ps)
 unfolding call_code
-call_more k name labels ps = one_more _ _
+call_more k name ts ps = unless_hidden (hides_labels ts) k name (labels_written ts) ps
 
 back_more : (ps : Pures) → TakesSteps (back_code ps)
 unfolding back_code
@@ -119,7 +128,7 @@ head_more once k n (head.ToGuard form) ts = guard_more _ (form_code once k 0 for
 head_more once k n head.ToEnterArm ts = with_more _ (unless_code n []) (unless_more n [])
 head_more once k n (head.ToLoop label) ts = with_more _ (loop_code once n) (loop_more once n)
 head_more once k n (head.ToTestLoop label) ts = with_more _ (unless_code n []) (unless_more n [])
-head_more once k n (head.ToCall name) ts = with_more _ (call_code k name _) (call_more k name _)
+head_more once k n (head.ToCall name) ts = with_more _ (call_code k name ts) (call_more k name ts)
 head_more once k n head.ToReturn ts = with_more _ back_code back_more
 head_more once k n (head.ToStop text) NoMore = one_more _ _
 head_more once k n (head.ToStop text) (More t ts) = no_code

@@ -7,19 +7,20 @@ use Rattle.f_tree.specs.declared.statements.Control.{Control}
 use Rattle.f_tree.specs.declared.statements.Stmt.{Stmt}
 use Rattle.f_tree.specs.Attributes.{from_all, first_of_two}
 use Rattle.lowering.specs.Units.{is_named, label_in}
+use Rattle.name_facts.specs.declared.table.NameFacts.{NameFacts}
 use Rattle.name_table.specs.declared.LabelTable.{LabelTable}
 use Rattle.name_table.specs.Named.{labelled}
 use Rattle.statement_places.specs.NamedLabels.{label_for, label_among, control_labels, labels_of, IsLabelSet}
 use Rattle.statement_places.proofs.ListLemmas.{rest_is}
 
 -- ONE STATEMENT BEHIND ANOTHER
-pub labels_step : (s : Stmt) (ss : List Stmt) → from_all labels_of (s ∷ ss) ≡ labels_of s.body ++ from_all labels_of ss
+pub labels_step : (table : NameFacts) (s : Stmt) (ss : List Stmt) → from_all (labels_of table) (s ∷ ss) ≡ labels_of table s.body ++ from_all (labels_of table) ss
 unfolding from_all
-labels_step s ss = refl
+labels_step table s ss = refl
 
-pub labels_none : from_all labels_of [] ≡ []
+pub labels_none : (table : NameFacts) → from_all (labels_of table) [] ≡ []
 unfolding from_all
-labels_none = refl
+labels_none table = refl
 
 -- CONTROL WORDS
 none_first : (o p : Option ℕ) → is_some o ≡ false → first_of_two o p ≡ p

@@ -1,4 +1,4 @@
--- The labels that statements name are those that their forms name, whatever the names are.
+-- The labels that statements name are those that their forms name, whatever the names are of which the table tells.
 use Rattle.std.proofs.Common.{◌≡◌, ℕ, true, false, List, [], ◌∷◌, ◌++◌, map, Some, None, refl, ap, ◌∙◌}
 use Rattle.f_tree.specs.declared.expressions.Expr.{Expr}
 use Rattle.f_tree.specs.declared.statements.Body as whole
@@ -15,7 +15,13 @@ use Rattle.f_tree.specs.Facts.{Direction, Output, AuxiliaryKind}
 use Rattle.f_tree.specs.Attributes.{from_all, first_of_two}
 use Rattle.f_tree.specs.Lines.{Naming, Written, nothing_written, with_operand, control_written, controls_written, controls_of, transfer_form, auxiliary_of, auxiliary_form, way_of, assign_form, return_form, layer_form, form_of, line_of}
 use Rattle.lowering.specs.Units.{label_in, named_by, named_by_head, all_named}
+use Rattle.name_facts.specs.declared.table.NameFacts.{NameFacts}
+use Rattle.expression_lowering.specs.TableNames.{AreFactsOf, is_lowered_value}
+use Rattle.expression_lowering.proofs.CoveredForms.{and-left, and-right}
+use Rattle.statement_lowering.specs.LoweredStatements.{layer_lowers, is_lowered_statement}
+use Rattle.statement_lowering.proofs.CallLabels.{labels-agree}
 use Rattle.statement_places.specs.NamedLabels.{label_for, label_among, control_labels, layer_labels, labels_of}
+use Rattle.statement_places.specs.StatementPlaces.{statements_lower}
 use Rattle.statement_places.proofs.BodyForms.{of_assign}
 
 -- CONTROL WORDS
@@ -76,23 +82,26 @@ auxiliary_names : (which : AuxiliaryKind) (names : Naming) (cs : List Control) �
 unfolding auxiliary_form controls_of named_by named_by_head
 auxiliary_names which names cs = written_labels Output names cs
 
-pub form_names : (names : Naming) (b : Body) → named_by (form_of names b) ≡ labels_of b
-unfolding form_of fold_body layer_form labels_of layer_labels named_by named_by_head return_form
-form_names names (whole.Assign target e) = assign_names names target e
-form_names names (IfOne' e s (more_of-Body b r)) = form_names names b
-form_names names (whole.Return None) = refl
-form_names names (whole.Return (Some e)) = refl
-form_names names (whole.Transfer way controls items) = transfer_names (way_of way) names items controls
-form_names names (whole.Auxiliary which controls) = auxiliary_names (auxiliary_of which) names controls
-form_names names _ = refl
+module _ (names : Naming) (table : NameFacts) (told : AreFactsOf names table) where
+  form_names : (b : Body) → is_lowered_statement table b ≡ true → named_by (form_of names b) ≡ labels_of table b
+  unfolding form_of fold_body layer_form labels_of layer_labels named_by named_by_head return_form is_lowered_statement layer_lowers
+  form_names (whole.Assign target e) h = assign_names names target e
+  form_names (IfOne' e s (more_of-Body b r)) h = form_names b (and-left (is_lowered_statement table b) (is_lowered_value table e) h)
+  form_names (whole.Call x es) h = (labels-agree names table told es h).written
+  form_names (whole.Return None) h = refl
+  form_names (whole.Return (Some e)) h = refl
+  form_names (whole.Transfer way controls items) h = transfer_names (way_of way) names items controls
+  form_names (whole.Auxiliary which controls) h = auxiliary_names (auxiliary_of which) names controls
+  form_names _ h = refl
 
--- THE LINES OF STATEMENTS
-line_names : (names : Naming) (labels : List ℕ) (s : Stmt) → named_by (line_of names labels s).form ≡ labels_of s.body
-unfolding line_of
-line_names names labels s = form_names names s.body
+  -- THE LINES OF STATEMENTS
+  line_names : (labels : List ℕ) (s : Stmt) → is_lowered_statement table s.body ≡ true → named_by (line_of names labels s).form ≡ labels_of table s.body
+  unfolding line_of
+  line_names labels s h = form_names s.body h
 
-pub lines_names : (names : Naming) (labels : List ℕ) (ss : List Stmt) → all_named (map (line_of names labels) ss) ≡ from_all labels_of ss
-unfolding all_named from_all
-lines_names names labels [] = refl
-lines_names names labels (s ∷ ss) =
-    ap (λ ls. ls ++ all_named (map (line_of names labels) ss)) (line_names names labels s) ∙ ap (λ ls. labels_of s.body ++ ls) (lines_names names labels ss)
+  pub lines_names : (labels : List ℕ) (ss : List Stmt) → statements_lower table ss ≡ true → all_named (map (line_of names labels) ss) ≡ from_all (labels_of table) ss
+  unfolding all_named from_all statements_lower
+  lines_names labels [] h = refl
+  lines_names labels (s ∷ ss) h =
+      ap (λ ls. ls ++ all_named (map (line_of names labels) ss)) (line_names labels s (and-left (is_lowered_statement table s.body) (statements_lower table ss) h))
+      ∙ ap (λ ls. labels_of table s.body ++ ls) (lines_names labels ss (and-right (is_lowered_statement table s.body) (statements_lower table ss) h))

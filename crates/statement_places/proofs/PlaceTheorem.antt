@@ -87,8 +87,8 @@ line_there P names labels ss p k line lines at some =
     mapped_there P (line_of names labels) ss k line (ap (λ (ls : List Line). slice_get ls k) (sym lines) ∙ at) (λ s there is. some s there (line_is names labels s line is))
 
 module _ (table : NameFacts) (once : Bool) (u : WrittenUnit) (loops : List LoopPlace) (named : LabelTable (Unit {0})) (sizes : List Size) (layout : Layout) (places : List StatementPlace)
-    (loops_are : ArePlacesOf table once u.statements loops) (set : IsLabelSet (from_all labels_of u.statements) named)
-    (sizes_are : AreSizes table once (from_all labels_of u.statements) u.statements loops sizes) (laid : IsLaidOut once u loops named sizes layout)
+    (loops_are : ArePlacesOf table once u.statements loops) (set : IsLabelSet (from_all (labels_of table) u.statements) named)
+    (sizes_are : AreSizes table once (from_all (labels_of table) u.statements) u.statements loops sizes) (laid : IsLaidOut once u loops named sizes layout)
     (placed : ArePlacesIn u.statements layout places) where
   module _ (p : ProgramUnit) (names : Naming) (read : IsReadAs p once names u.statements) (told : AreFactsOf names table) where
     lengths : length p.lines ≡ length u.statements
@@ -97,11 +97,13 @@ module _ (table : NameFacts) (once : Bool) (u : WrittenUnit) (loops : List LoopP
     counts : (k : ℕ) → is_counted (slice_get p.lines k) ≡ is_do_at u.statements k
     counts k = ap (λ (ls : List Line). is_counted (slice_get ls k)) read.lines ∙ counted_lines names (from_all loop_label_in u.statements) u.statements k
 
-    labels_are : all_named p.lines ≡ from_all labels_of u.statements
-    labels_are = ap all_named read.lines ∙ lines_names names (from_all loop_label_in u.statements) u.statements
+    labels_are : all_named p.lines ≡ from_all (labels_of table) u.statements
+    labels_are =
+        ap all_named read.lines
+        ∙ lines_names names table told (from_all loop_label_in u.statements) u.statements (lowered_all table once (from_all (labels_of table) u.statements) u.statements loops sizes sizes_are)
 
-    named_is : (line : Line) (s : Stmt) → line.label ≡ s.label → is_named (all_named p.lines) line.label ≡ is_named (from_all labels_of u.statements) s.label
-    named_is line s is = ap (λ ls. is_named ls line.label) labels_are ∙ ap (is_named (from_all labels_of u.statements)) is
+    named_is : (line : Line) (s : Stmt) → line.label ≡ s.label → is_named (all_named p.lines) line.label ≡ is_named (from_all (labels_of table) u.statements) s.label
+    named_is line s is = ap (λ ls. is_named ls line.label) labels_are ∙ ap (is_named (from_all (labels_of table) u.statements)) is
 
     looped : AreLoopPlaces p loops
     looped = loops_are.meant p names read told
@@ -111,7 +113,7 @@ module _ (table : NameFacts) (once : Bool) (u : WrittenUnit) (loops : List LoopP
         line_there (SameSize p k line size) names (from_all loop_label_in u.statements) u.statements p k line read.lines at
         (λ s here is.
         let h = slice_get_within p.lines k line at in
-        same_size table names p k line once u.statements (free_in loops k) (ended_in loops k) (is_named (from_all labels_of u.statements) s.label) s.body size told read.onetrip
+        same_size table names p k line once u.statements (free_in loops k) (ended_in loops k) (is_named (from_all (labels_of table) u.statements) s.label) s.body size told read.onetrip
         (loop_free p loops k looped h) is.form is.mark (named_is line s is.label)
         (ap (turn_sizes_in u.statements) (loop_ended p loops k looped h) ∙ sym (turns_same p u.statements counts (ended_at p k))) (sizes_are.each k size there s here))
 
@@ -148,8 +150,8 @@ module _ (table : NameFacts) (once : Bool) (u : WrittenUnit) (loops : List LoopP
       within = within_is;
     }
 
-    set_is : IsLabelSet (from_all labels_of u.statements) layout.named
-    set_is = subst (IsLabelSet (from_all labels_of u.statements)) (sym laid.named_are) set
+    set_is : IsLabelSet (from_all (labels_of table) u.statements) layout.named
+    set_is = subst (IsLabelSet (from_all (labels_of table) u.statements)) (sym laid.named_are) set
 
     -- the loops that end with a statement
     turns_by : (from n : ℕ) (ks : List ℕ) (rs : List Range) (turns : List Turn) → n ≡ from → ks ≡ map first_of rs → turns ≡ turns_in layout.once u.statements layout.positions n ks → AreTurns p from rs turns
@@ -163,7 +165,7 @@ module _ (table : NameFacts) (once : Bool) (u : WrittenUnit) (loops : List LoopP
         let h = slice_get_within p.lines k line at in
         record {
           free = known.free ∙ ap (λ ls. free_in ls k) laid.loops_are ∙ loop_free p loops k looped h;
-          named = known.named (from_all labels_of u.statements) set_is ∙ sym (named_is line s is.label);
+          named = known.named (from_all (labels_of table) u.statements) set_is ∙ sym (named_is line s is.label);
           start = known.start ∙ (positioned k).start;
           begins = known.begins ∙ (positioned k).begins;
           ends = known.ends ∙ (positioned k).ends;
@@ -181,16 +183,16 @@ module _ (table : NameFacts) (once : Bool) (u : WrittenUnit) (loops : List LoopP
     }
 
   all_places : AreAllPlaces table once u.statements places
-  all_places = record { lowers = lowered_all table once (from_all labels_of u.statements) u.statements loops sizes sizes_are; meant = are_places }
+  all_places = record { lowers = lowered_all table once (from_all (labels_of table) u.statements) u.statements loops sizes sizes_are; meant = are_places }
 
 -- as the code hands on the lists
 pub all_placed : (table : NameFacts) (once : Bool) (u : WrittenUnit) (loops : List LoopPlace) (named : LabelTable (Unit {0})) (sizes : List Size) (layout : Layout) (places : List StatementPlace)
-    (ss : List Stmt) (ls : List LoopPlace) (zs : List Size) → ss ≡ u.statements → ls ≡ loops → zs ≡ sizes → ArePlacesOf table once u.statements loops → IsLabelSet (from_all labels_of ss) named
+    (ss : List Stmt) (ls : List LoopPlace) (zs : List Size) → ss ≡ u.statements → ls ≡ loops → zs ≡ sizes → ArePlacesOf table once u.statements loops → IsLabelSet (from_all (labels_of table) ss) named
     → ((labels : List ℕ) → IsLabelSet labels named → AreSizes table once labels ss ls sizes) → IsLaidOut once u loops named zs layout → ArePlacesIn ss layout places
     → AreAllPlaces table once u.statements places
 all_placed table once u loops named sizes layout places ss ls zs are_statements are_loops are_sizes looped set sized laid placed =
-    let all = subst (λ xs. IsLabelSet (from_all labels_of xs) named) are_statements set in
+    let all = subst (λ xs. IsLabelSet (from_all (labels_of table) xs) named) are_statements set in
     all_places table once u loops named sizes layout places looped all
-    (subst (λ xs. AreSizes table once (from_all labels_of u.statements) u.statements xs sizes) are_loops
-    (subst (λ xs. AreSizes table once (from_all labels_of u.statements) xs ls sizes) are_statements (sized (from_all labels_of u.statements) all)))
+    (subst (λ xs. AreSizes table once (from_all (labels_of table) u.statements) u.statements xs sizes) are_loops
+    (subst (λ xs. AreSizes table once (from_all (labels_of table) u.statements) xs ls sizes) are_statements (sized (from_all (labels_of table) u.statements) all)))
     (subst (λ xs. IsLaidOut once u loops named xs layout) are_sizes laid) (subst (λ xs. ArePlacesIn xs layout places) are_statements placed)

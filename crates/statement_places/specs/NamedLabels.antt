@@ -1,4 +1,5 @@
--- The labels that a statement names so that control may go there, by its form alone. ANSI X3.9-1978, sections 10.3, 11.1 to 11.5 and 12.7.
+-- The labels that a statement names so that control may go there, by what the table tells of the names that a CALL passes. ANSI X3.9-1978,
+-- sections 10.3, 11.1 to 11.5, 12.7 and 15.6.
 use Rattle.std.specs.Prelude.{◌≡◌, ℕ, nat_eq, Bool, true, false, List, [], ◌∷◌, ◌++◌, Option, Some, None, is_some}
 use Rattle.std.specs.List.{list_any}
 use Rattle.f_tree.specs.declared.statements.Body.{Body}
@@ -11,8 +12,10 @@ use Rattle.f_tree.specs.declared.statements.ControlWord.TheVariants as word
 use Rattle.f_tree.specs.Folds.{fold_body}
 use Rattle.f_tree.specs.Attributes.{first_of_two}
 use Rattle.lowering.specs.Units.{label_in}
+use Rattle.name_facts.specs.declared.table.NameFacts.{NameFacts}
 use Rattle.name_table.specs.declared.LabelTable.{LabelTable}
 use Rattle.name_table.specs.Named.{labelled}
+use Rattle.statement_lowering.specs.LoweredTransfers.{labels_passed}
 
 -- the label behind END, or behind ERR
 unfoldable pub label_for : Bool → ControlWord → ControlValue → Option ℕ
@@ -29,19 +32,20 @@ unfoldable pub control_labels : List Control → List ℕ
 control_labels cs = label_in (label_among false cs) ++ label_in (label_among true cs)
 
 -- of one layer of a statement, given those of the statement of a logical IF
-unfoldable pub layer_labels : body.Body-F (List ℕ) → List ℕ
-layer_labels (body.AssignLabel label x) = label ∷ []
-layer_labels (body.Goto label) = label ∷ []
-layer_labels (body.GotoList labels e) = labels
-layer_labels (body.GotoName x labels) = labels
-layer_labels (body.IfSign e below at above) = below ∷ at ∷ above ∷ []
-layer_labels (body.IfOne e labels) = labels
-layer_labels (body.Transfer way controls items) = control_labels controls
-layer_labels (body.Auxiliary which controls) = control_labels controls
-layer_labels _ = []
+unfoldable pub layer_labels : NameFacts → body.Body-F (List ℕ) → List ℕ
+layer_labels table (body.AssignLabel label x) = label ∷ []
+layer_labels table (body.Goto label) = label ∷ []
+layer_labels table (body.GotoList labels e) = labels
+layer_labels table (body.GotoName x labels) = labels
+layer_labels table (body.IfSign e below at above) = below ∷ at ∷ above ∷ []
+layer_labels table (body.IfOne e labels) = labels
+layer_labels table (body.Call x es) = labels_passed table es
+layer_labels table (body.Transfer way controls items) = control_labels controls
+layer_labels table (body.Auxiliary which controls) = control_labels controls
+layer_labels table _ = []
 
-unfoldable pub labels_of : Body → List ℕ
-labels_of b = fold_body layer_labels b
+unfoldable pub labels_of : NameFacts → Body → List ℕ
+labels_of table b = fold_body (layer_labels table) b
 
 -- a table has these labels, and no others
 pub record IsLabelSet (labels : List ℕ) (set : LabelTable (Unit {0})) : Type 0 where

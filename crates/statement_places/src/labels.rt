@@ -1,4 +1,4 @@
-//! The labels that branches name. Sections 10.3, 11.1 to 11.5 and 12.7.
+//! The labels that branches name. Sections 10.3, 11.1 to 11.5, 12.7 and 15.6.
 
 ghost use Rattle.std.specs.Prelude.{◌≡◌, ◌++◌, ◌∷◌, [], ℕ, List, OnOk, IfOk};
 ghost use Rattle.f_tree.specs.Attributes.{from_all};
@@ -8,7 +8,9 @@ ghost use Rattle.statement_places.specs.NamedLabels.{control_labels, labels_of, 
 
 use f_tree::statements::{Control, ControlValue, ControlWord};
 use f_tree::{Body, Stmt};
+use name_facts::NameFacts;
 use name_table::LabelTable;
+use statement_lowering::add_labels_passed;
 use std::alloc::{AllocError, Global};
 
 /// Adds a label.
@@ -74,8 +76,8 @@ fn add_control_labels(labels: &mut Vec<u32>, controls: &[Control]) -> Result<(),
 /// Adds the labels that a statement names, also as the statement of a logical IF.
 #[cycle(named)]
 #[tactic(auto, using(crate::proofs::LabelForms::label_forms))]
-fn add_named(labels: &mut Vec<u32>, body: &Body) -> Result<(), AllocError>
-    ensures { OnOk result (labels.new.items ≡ labels.old.items ++ labels_of body.now) }
+fn add_named(table: &NameFacts, labels: &mut Vec<u32>, body: &Body) -> Result<(), AllocError>
+    ensures { OnOk result (labels.new.items ≡ labels.old.items ++ labels_of table.now body.now) }
 {
     match body {
         Body::AssignLabel(label, _) => add_label(labels, *label),
@@ -83,7 +85,8 @@ fn add_named(labels: &mut Vec<u32>, body: &Body) -> Result<(), AllocError>
         Body::GotoList(more, _) => add_labels(labels, more.as_slice()),
         Body::GotoName(_, more) => add_labels(labels, more.as_slice()),
         Body::IfSign(_, below, at, above) => add_labels(labels, &[*below, *at, *above]),
-        Body::IfOne(_, body) => add_named(labels, body.get()),
+        Body::IfOne(_, body) => add_named(table, labels, body.get()),
+        Body::Call(_, es) => add_labels_passed(table, es.as_slice(), labels),
         Body::Transfer(_, controls, _) => add_control_labels(labels, controls.as_slice()),
         Body::Auxiliary(_, controls) => add_control_labels(labels, controls.as_slice()),
         _ => Ok(()),
@@ -91,12 +94,16 @@ fn add_named(labels: &mut Vec<u32>, body: &Body) -> Result<(), AllocError>
 }
 
 /// The labels that the branches of statements name.
-fn named_labels(alloc: Global, statements: &[Stmt]) -> Result<Vec<u32>, AllocError>
-    ensures { IfOk result (λ labels. labels.items ≡ from_all labels_of statements.now) }
+fn named_labels(
+    alloc: Global,
+    table: &NameFacts,
+    statements: &[Stmt],
+) -> Result<Vec<u32>, AllocError>
+    ensures { IfOk result (λ labels. labels.items ≡ from_all (labels_of table.now) statements.now) }
 {
     let mut labels = Vec::new(alloc);
     for statement in statements {
-        add_named(&mut labels, &statement.body)?;
+        add_named(table, &mut labels, &statement.body)?;
     }
     Ok(labels)
 }
@@ -115,11 +122,12 @@ fn label_set(alloc: Global, labels: &[u32]) -> Result<LabelTable<()>, AllocError
 /// The labels that the branches of statements name, as a set.
 pub(crate) fn branch_labels(
     alloc: Global,
+    table: &NameFacts,
     statements: &[Stmt],
 ) -> Result<LabelTable<()>, AllocError>
-    ensures { IfOk result (IsLabelSet (from_all labels_of statements.now)) }
+    ensures { IfOk result (IsLabelSet (from_all (labels_of table.now) statements.now)) }
 {
-    let labels = named_labels(alloc, statements)?;
+    let labels = named_labels(alloc, table, statements)?;
     label_set(alloc, labels.as_slice())
 }
 

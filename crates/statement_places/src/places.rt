@@ -146,7 +146,7 @@ pub fn statement_places(
 {
     let statements = unit.statements.as_slice();
     let loops = loop_places(alloc, once, table, unit)?;
-    let named = match branch_labels(alloc, statements) {
+    let named = match branch_labels(alloc, table, statements) {
         Ok(named) => named,
         Err(AllocError) => return Err(LowerError::NoMemory),
     };

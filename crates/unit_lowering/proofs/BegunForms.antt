@@ -1,12 +1,12 @@
 -- A statement that is lowered and does something takes a step.
-use Rattle.std.proofs.Common.{◌≡◌, ℕ, Bool, List, [], ◌∷◌, Option, Some, None, subst}
+use Rattle.std.proofs.Common.{◌≡◌, ℕ, Bool, true, false, List, [], ◌∷◌, Option, Some, None, if◌then◌else◌, subst}
 use Rattle.f_tree.specs.Values.{Bytes}
 use Rattle.f_tree.specs.Terms.{Terms, NoMore, More}
 use Rattle.f_tree.specs.Facts.{Direction, Layout, Controls, AuxiliaryKind, Head, ToSet, ToSetLabel, ToGo, ToPick, ToGoAssigned, ToGoBySign, ToGuard, ToEnterArm, ToLoop, ToTestLoop, ToCall, ToReturn, ToStop, ToBegin, ToAuxiliary, ToEnd, On}
 use Rattle.lowered_tree.specs.l_core.Pures.{Pures, NoPure, AndPure}
 use Rattle.lowered_tree.specs.l_core.Steps.{Step}
 use Rattle.lowering.specs.Expressions.{Lowered}
-use Rattle.lowering.specs.Statements.{behind_operands, with_operands, put_code, put_label_code, select_code, jump_by_code, sign_code, unless_code, guard_code, loop_code, call_code, back_code, begin_code, auxiliary_code, form_code, head_code}
+use Rattle.lowering.specs.Statements.{behind_operands, with_operands, put_code, put_label_code, select_code, jump_by_code, sign_code, unless_code, guard_code, loop_code, labels_written, hides_labels, call_steps, call_code, back_code, begin_code, auxiliary_code, form_code, head_code}
 
 -- there is a step, if there are steps
 abbrev pub IsBegun : Option (List Step) → Type 0
@@ -76,9 +76,18 @@ begun_loop once n (AndPure x (AndPure first (AndPure limit NoPure))) = tt
 begun_loop once n (AndPure x (AndPure first (AndPure limit (AndPure by NoPure)))) = tt
 begun_loop once n (AndPure x (AndPure first (AndPure limit (AndPure by (AndPure p ps))))) = tt
 
-begun_call : (k : ℕ) (name : Bytes) (labels : Bool) (ps : Pures) → IsBegun (call_code k name labels ps)
+begun_labels : (k : ℕ) (name : Bytes) (labels : List ℕ) (ps : Pures) → IsBegun (Some (call_steps k name labels ps))
+unfolding call_steps
+begun_labels k name [] ps = tt
+begun_labels k name (l ∷ ls) ps = tt
+
+unless_hidden : (hides : Bool) (k : ℕ) (name : Bytes) (labels : List ℕ) (ps : Pures) → IsBegun (if hides then None else Some (call_steps k name labels ps))
+unless_hidden true k name labels ps = tt
+unless_hidden false k name labels ps = begun_labels k name labels ps
+
+begun_call : (k : ℕ) (name : Bytes) (ts : Terms) (ps : Pures) → IsBegun (call_code k name ts ps)
 unfolding call_code
-begun_call k name labels ps = tt
+begun_call k name ts ps = unless_hidden (hides_labels ts) k name (labels_written ts) ps
 
 begun_back : (ps : Pures) → IsBegun (back_code ps)
 unfolding back_code
@@ -108,7 +117,7 @@ begun_head once k n (ToGuard form) operands = begun_guard _ (form_code once k 0 
 begun_head once k n ToEnterArm operands = begun_with _ (unless_code n []) (begun_unless n [])
 begun_head once k n (ToLoop label) operands = begun_with _ (loop_code once n) (begun_loop once n)
 begun_head once k n (ToTestLoop label) operands = begun_with _ (unless_code n []) (begun_unless n [])
-begun_head once k n (ToCall name) operands = begun_with _ _ (begun_call k name _)
+begun_head once k n (ToCall name) operands = begun_with _ (call_code k name operands) (begun_call k name operands)
 begun_head once k n ToReturn operands = begun_with _ back_code begun_back
 begun_head once k n (ToStop text) NoMore = tt
 begun_head once k n (ToStop text) (More t ts) = tt

@@ -11,4 +11,7 @@ pub mod PlacedLines
 pub mod PlacedSteps
 pub mod PlacedMarks
 pub mod PlacedLabels
+pub mod FunctionTerms
+pub mod FunctionForms
+pub mod FunctionReads
 pub mod UnitTexts

@@ -1,12 +1,12 @@
 -- The text of a unit, from its steps, its marks and its labels.
-use Rattle.std.proofs.Common.{◌≡◌, ℕ, nat_eq, Bool, List, length, map, Some, option_map, refl, sym, ap, ◌∙◌}
+use Rattle.std.proofs.Common.{◌≡◌, ℕ, nat_eq, Bool, true, List, length, map, Option, Some, None, option_map, if◌then◌else◌, refl, sym, ap, ◌∙◌}
 use Rattle.std.specs.HashMap.{get_by}
 use Rattle.f_tree.specs.declared.statements.Stmt.{Stmt}
 use Rattle.f_tree.specs.Facts.{Facts}
 use Rattle.f_tree.specs.Lines.{Naming}
 use Rattle.f_tree.specs.Places.{place_of_label}
 use Rattle.lowered_tree.specs.l_core.Steps.{Step, Text}
-use Rattle.lowering.specs.Units.{start_of, text_with, lowered_unit}
+use Rattle.lowering.specs.Units.{start_of, text_with, calls_well, if_called_well, lowered_unit}
 use Rattle.lowering.specs.Units as unit
 use Rattle.lowered_tree.specs.declared.steps.Step as tree
 use Rattle.lowered_tree.specs.Shapes.{steps_of}
@@ -20,10 +20,11 @@ use Rattle.statement_places.specs.StatementPlaces.{AreStatementPlaces, AreAllPla
 use Rattle.unit_lowering.specs.LineSteps.{lines_steps}
 use Rattle.unit_lowering.specs.LineMarks.{lines_marks}
 use Rattle.unit_lowering.specs.LabelStarts.{label_start}
-use Rattle.unit_lowering.specs.LoweredUnits.{IsTextOf, IsLoweredUnit}
+use Rattle.unit_lowering.specs.LoweredUnits.{IsTextOf, IsLoweredUnit, UnitsAreLoweredToTheirSteps}
 use Rattle.unit_lowering.proofs.PlacedSteps.{steps_are}
 use Rattle.unit_lowering.proofs.PlacedMarks.{marks_are}
 use Rattle.unit_lowering.proofs.PlacedLabels.{label_is}
+use Rattle.unit_lowering.proofs.FunctionReads.{calls_are_well}
 
 -- the text of these steps
 abbrev whole_text : Facts → List Step → Text
@@ -35,16 +36,17 @@ whole_text c steps = record {
   marks = unit.lines_marks c.program 0 c.program.lines;
 }
 
-lowered_by : (c : Facts) (steps : List Step) → unit.lines_code c.program 0 c.program.lines ≡ Some steps → lowered_unit c ≡ Some (whole_text c steps)
-unfolding lowered_unit text_with
-lowered_by c steps is = ap (text_with c) is
+lowered_by : (c : Facts) (steps : List Step) → unit.lines_code c.program 0 c.program.lines ≡ Some steps → calls_well steps ≡ true → lowered_unit c ≡ Some (whole_text c steps)
+unfolding lowered_unit text_with if_called_well
+lowered_by c steps is well = ap (λ code. text_with c (if_called_well code)) is ∙ ap (λ b. text_with c (if b then Some steps else None)) well
 
 text_of : (c : Facts) (once : Bool) (names : Naming) (ss : List Stmt) (places : List StatementPlace) (t : LoweredText) → IsReadAs c.program once names ss → AreStatementPlaces c.program places →
     lines_steps once names ss places (length ss) ≡ Some (steps_of t.steps.items) →
+    (unit.lines_code c.program 0 c.program.lines ≡ Some (steps_of t.steps.items) → calls_well (steps_of t.steps.items) ≡ true) →
     ((l : ℕ) → get_by (nat_eq l) t.labels ≡ label_start l ss places (length ss)) → map marked_of t.marks.items ≡ lines_marks once ss places (length ss) → IsTextOf c t
-text_of c once names ss places t told are steps labels marks = record {
+text_of c once names ss places t told are steps well labels marks = record {
   text = whole_text c (steps_of t.steps.items);
-  lowered = lowered_by c (steps_of t.steps.items) (sym (steps_are c.program once names ss places told are) ∙ steps);
+  lowered = let code = sym (steps_are c.program once names ss places told are) ∙ steps in lowered_by c (steps_of t.steps.items) code (well code);
   is = record {
     steps = refl;
     marks = marks ∙ marks_are c.program once names ss places told are;
@@ -58,7 +60,9 @@ unit_lowered : (table : NameFacts) (once : Bool) (ss : List Stmt) (places : List
     IsLoweredUnit table once ss t
 unit_lowered table once ss places t all steps labels marks = record {
   lowers = all.lowers;
-  meant = λ c names told facts. text_of c once names ss places t told (all.meant c.program names told facts) (steps names facts) labels marks;
+  meant = λ c names told facts.
+      text_of c once names ss places t told (all.meant c.program names told facts) (steps names facts)
+      (calls_are_well c.program once names table ss (steps_of t.steps.items) told facts all.lowers) labels marks;
 }
 
 -- the statements and the places being read as slices
@@ -74,3 +78,14 @@ unit_read_lowered table once ss seen places before behind steps t same first lat
     ∙ ap (λ xs. Some (steps_of xs)) (sym kept))
     (λ l. labels l ∙ ap (λ ps. label_start l seen ps (length seen)) later ∙ ap (λ xs. label_start l xs places (length xs)) same)
     (marks ∙ ap (λ ps. lines_marks once seen ps (length seen)) later ∙ ap (λ xs. lines_marks once xs places (length xs)) same)
+
+-- LAW
+whole_code : (c : Facts) (code : Option (List Step)) → ((steps : List Step) → code ≡ Some steps → calls_well steps ≡ true) → text_with c (if_called_well code) ≡ text_with c code
+unfolding if_called_well
+whole_code c None well = refl
+whole_code c (Some steps) well = ap (λ b. text_with c (if b then Some steps else None)) (well steps refl)
+
+pub to_their_steps : UnitsAreLoweredToTheirSteps
+unfolding lowered_unit
+to_their_steps table once ss c names told facts lowers =
+    whole_code c (unit.lines_code c.program 0 c.program.lines) (λ steps is. calls_are_well c.program once names table ss steps told facts lowers is)

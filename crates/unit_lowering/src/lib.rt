@@ -11,4 +11,4 @@ mod steps;
 mod turns;
 mod unit;
 
-pub use unit::lower_unit;
+pub use unit::{lower_unit, units_are_lowered_to_their_steps};

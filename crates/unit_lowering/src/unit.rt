@@ -7,7 +7,7 @@ ghost use Rattle.lowered_text.specs.Texts.{marked_of};
 ghost use Rattle.statement_places.specs.StatementPlaces.{statements_lower};
 ghost use Rattle.unit_lowering.specs.LabelStarts.{label_start};
 ghost use Rattle.unit_lowering.specs.LineMarks.{lines_marks};
-ghost use Rattle.unit_lowering.specs.LoweredUnits.{IsLoweredUnit};
+ghost use Rattle.unit_lowering.specs.LoweredUnits.{IsLoweredUnit, UnitsAreLoweredToTheirSteps};
 
 use crate::labels::label_starts;
 use crate::lines::lower_lines;
@@ -64,3 +64,8 @@ pub fn lower_unit(
         Err(AllocError) => Err(LowerError::NoMemory),
     }
 }
+
+/// A unit whose statements are lowered is lowered to their steps. This function does nothing; its contract is the law.
+pub fn units_are_lowered_to_their_steps()
+    ensures { UnitsAreLoweredToTheirSteps }
+{}

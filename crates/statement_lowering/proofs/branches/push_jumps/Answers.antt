@@ -6,10 +6,10 @@ use Rattle.statement_lowering.proofs.branches.push_jumps.Goals as goal
 
 pub loop-label-preserved : goal.loop-label-preserved
 loop-label-preserved c =
-    jumps-more c.args.labels.now c.loop-label.label-index (get_or c.args.labels.now c.loop-label.label-index 0) c.loop-label.steps.items c.push_step.new.steps.items
+    jumps-more act.Jump c.args.labels.now c.loop-label.label-index (get_or c.args.labels.now c.loop-label.label-index 0) c.loop-label.steps.items c.push_step.new.steps.items
     (steps_of c.args.steps.now.items ++ map act.Jump c.args.labels.now) c.loop-label-test.true refl c.loop-label.invariant c.in_ok-push_step.ensures
 
 pub returns : goal.returns
 returns c =
-    jumps-done c.args.labels.now c.loop-label.label-index c.loop-label.steps.items (steps_of c.args.steps.now.items ++ map act.Jump c.args.labels.now) c.loop-label-test.false
+    jumps-done act.Jump c.args.labels.now c.loop-label.label-index c.loop-label.steps.items (steps_of c.args.steps.now.items ++ map act.Jump c.args.labels.now) c.loop-label-test.false
     c.loop-label.invariant

@@ -8,9 +8,9 @@ use Rattle.statement_places.proofs.labels.named_labels.Goals as goal
 
 pub loop-statement-preserved : goal.loop-statement-preserved
 loop-statement-preserved c =
-    each_more (from_all labels_of) (λ (s : Stmt). labels_of s.body) labels_step c.args.statements.now c.loop-statement.statement-index c.statement-item.result _ _ _ _ c.loop-statement-test.true
+    each_more (from_all (labels_of c.args.table.now)) (λ (s : Stmt). labels_of c.args.table.now s.body) (labels_step c.args.table.now) c.args.statements.now c.loop-statement.statement-index c.statement-item.result _ _ _ _ c.loop-statement-test.true
     c.statement-item.is c.loop-statement.invariant c.in_ok-add_named.ensures
 
 pub returns : goal.returns
 returns c =
-    each_end (from_all labels_of) (λ (s : Stmt). labels_of s.body) labels_none c.args.statements.now c.loop-statement.statement-index _ _ (omega arith) c.loop-statement.invariant
+    each_end (from_all (labels_of c.args.table.now)) (λ (s : Stmt). labels_of c.args.table.now s.body) (labels_none c.args.table.now) c.args.statements.now c.loop-statement.statement-index _ _ (omega arith) c.loop-statement.invariant

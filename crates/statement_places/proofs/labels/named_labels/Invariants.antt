@@ -4,4 +4,4 @@ use Rattle.statement_places.specs.NamedLabels.{labels_of}
 use Rattle.statement_places.proofs.labels.named_labels.Given as goal
 
 abbrev pub invariant-loop-statement : goal.invariant-loop-statement
-invariant-loop-statement l = from_all labels_of l.statements ≡ l.labels.items ++ from_all labels_of (drop l.statement-index l.statements)
+invariant-loop-statement l = from_all (labels_of l.table) l.statements ≡ l.labels.items ++ from_all (labels_of l.table) (drop l.statement-index l.statements)
