@@ -4,6 +4,7 @@
 use Rattle.std.specs.Prelude.{ℕ, zero, suc, ◌+◌, ◌-◌, pos, List, [], ◌∷◌, length, Option, Some, None, option_map}
 use Rattle.l_core.specs.f_tree.Values.{IsInt}
 use Rattle.l_core.specs.f_tree.Facts.{Output, Listed, UnitKind, MainProgram, SubroutineUnit}
+use Rattle.l_core.specs.Pures.{Temporary}
 use Rattle.l_core.specs.Steps as step
 use Rattle.l_core.specs.Steps.{Step}
 use Rattle.c_image.specs.c_tree.Access.{ToNumber}
@@ -57,6 +58,8 @@ flat_of w place label n (step.Again m) = Some (Jump (place (n - m)))
 flat_of w place label n (step.Jump l) = jump_to place (label l)
 flat_of w place label n (step.Select p count) = option_map (λ value. Select value (cases_to place 1 (suc n) count) (place (suc n + count))) (value_term w p)
 flat_of w place label n (step.JumpBy p labels) = switch_to place n labels (place_term w p)
+flat_of w place label n (step.Branch k count) = option_map (λ value. Select value (cases_to place 1 (suc n) count) (place (suc n + count))) (value_term w (Temporary k))
+flat_of w place label n (step.Way l) = jump_to place (label l)
 flat_of w place label n step.Pass = Some Nothing
 flat_of w place label n step.Back = returned_by w.facts.program.kind
 flat_of w place label n (step.Acts (step.Starts Output Listed controls) ps m) = start_item w n controls ps

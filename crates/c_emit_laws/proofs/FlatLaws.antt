@@ -7,8 +7,8 @@ use Rattle.c_emit.specs.f_tree.Values as fortran_values
 use Rattle.c_emit.specs.f_tree.Store.{Store, Label}
 use Rattle.c_emit.specs.f_tree.World as fortran
 use Rattle.c_emit.specs.f_tree.Step.{contains}
-use Rattle.c_emit.specs.l_core.Pures.{Pure, meant}
-use Rattle.c_emit.specs.l_core.Steps.{Step, Keep, Put, PutText, PutLabel, Compute, Unless, AgainIf, Skip, Again, Jump, Select, JumpBy, Pass, CallFor, CallSub, Branch, Back, BackBy, Halt, Acts, Text}
+use Rattle.c_emit.specs.l_core.Pures.{Pure, Temporary, meant}
+use Rattle.c_emit.specs.l_core.Steps.{Step, Keep, Put, PutText, PutLabel, Compute, Unless, AgainIf, Skip, Again, Jump, Select, JumpBy, Pass, CallFor, CallSub, Branch, Way, Back, BackBy, Halt, Acts, Text}
 use Rattle.c_emit.specs.l_core.Machine.{View, Doing, to, onward, past, storing, put_at, put_label_at, testing, to_place, jump, passed_by, selecting, label_held, passed_before, jumping, done, step}
 use Rattle.c_emit.specs.c_tree.Flat as flat
 use Rattle.c_emit.specs.c_tree.Flat.{Flat}
@@ -25,7 +25,7 @@ use Rattle.c_image_laws.proofs.TestedValues.{switches_are_meant}
 use Rattle.c_emit.specs.Numbers.{Writing, constant_value, value_term, place_term}
 use Rattle.c_emit.specs.Flats.{assigned, jump_to, cases_to, cases_for, switch_to, flat_of}
 use Rattle.c_emit_laws.specs.EmittedNumbers.{IsKnown}
-use Rattle.c_emit_laws.specs.EmittedFlats.{Steers, by_put, by_label, by_test, by_test_back, by_skip, by_return, by_jump, by_select, by_held, by_pass, GoesAlike, FlatsGoOn}
+use Rattle.c_emit_laws.specs.EmittedFlats.{Steers, by_put, by_label, by_test, by_test_back, by_skip, by_return, by_jump, by_select, by_held, by_branch, by_way, by_pass, GoesAlike, FlatsGoOn}
 use Rattle.c_emit_laws.proofs.CaseLaws.{switch_goes, label_goes}
 use Rattle.c_emit_laws.proofs.Choices.{got, mapped_by, some_same}
 use Rattle.c_emit_laws.proofs.LabelLaws.{labels_are_put, labels_are_held, held_by}
@@ -270,7 +270,6 @@ module _ (u : Text) (v v' : View) (x x' : fortran.World) (μ : World) (w : Writi
   each (JumpBy _ []) item none emitted goes = elim none [ ]
   each (CallFor _ _ _) item none emitted goes = elim none [ ]
   each (CallSub _ _ _) item none emitted goes = elim none [ ]
-  each (Branch _) item none emitted goes = elim none [ ]
   each Back item none emitted goes = elim none [ ]
   each (BackBy _) item none emitted goes = elim none [ ]
   each (Halt _) item none emitted goes = elim none [ ]
@@ -284,6 +283,8 @@ module _ (u : Text) (v v' : View) (x x' : fortran.World) (μ : World) (w : Writi
   each (Jump l) item (by_jump _) emitted goes = labels (u.position l) item emitted goes
   each (Select p count) item (by_select _ _) emitted goes = selects p count item emitted goes
   each (JumpBy p (k ∷ ks)) item (by_held _ _ _) emitted goes = held p k ks item emitted goes
+  each (Branch k count) item (by_branch _ _) emitted goes = selects (Temporary k) count item emitted goes
+  each (Way l) item (by_way _) emitted goes = labels (u.position l) item emitted goes
   each Pass item by_pass emitted goes = does_nothing item emitted goes
 
 pub flats_go_on : FlatsGoOn

@@ -5,7 +5,7 @@ use Rattle.c_emit.specs.f_tree.Values.{IsInt}
 use Rattle.c_emit.specs.f_tree.Terms.{Function}
 use Rattle.c_emit.specs.f_tree.World as fortran
 use Rattle.c_emit.specs.l_core.Pures.{Pure, Pures}
-use Rattle.c_emit.specs.l_core.Steps.{Step, Put, PutLabel, Keep, Compute, Unless, AgainIf, Skip, Again, Jump, Select, JumpBy, Pass, Text}
+use Rattle.c_emit.specs.l_core.Steps.{Step, Put, PutLabel, Keep, Compute, Unless, AgainIf, Skip, Again, Jump, Select, JumpBy, Branch, Way, Pass, Text}
 use Rattle.c_emit.specs.l_core.Machine.{View, step}
 use Rattle.c_emit.specs.c_tree.Objects as objects_of
 use Rattle.c_emit.specs.c_tree.Flat.{Flat}
@@ -33,6 +33,8 @@ pub data Steers : Step → Type 0 where
   by_jump : (label : ℕ) → Steers (Jump label)
   by_select : (p : Pure) (count : ℕ) → Steers (Select p count)
   by_held : (place : Pure) (label : ℕ) (labels : List ℕ) → Steers (JumpBy place (label ∷ labels))
+  by_branch : (k count : ℕ) → Steers (Branch k count)
+  by_way : (label : ℕ) → Steers (Way label)
   by_pass : Steers Pass
 
 -- where the lowered text has gone, the C function goes: at the item of the step that is next, over a store that stands; what the procedure knows is as
@@ -43,7 +45,7 @@ pub record GoesAlike (μ : World) (v v' : View) (x' : fortran.World) (place : �
   pub height : v'.height ≡ v.height
   pub after : StandsAfter μ x'.store (λ objects. deed function view world item ≡ Goes (record view { position = place v'.at }) (record world { objects = objects }))
 
--- Each step of a text that puts a number or a label at a place, tests, jumps, chooses by a number or by a label that is held, or does nothing, and goes on, is the one item that is emitted for it.
+-- Each step of a text that puts a number or a label at a place, tests, jumps, chooses by a number, by a label that is held or by the answer of a subroutine, or does nothing, and goes on, is the one item that is emitted for it.
 abbrev pub FlatsGoOn : Type 0
 FlatsGoOn = (u : Text) (v v' : View) (x x' : fortran.World) (μ : World) (w : Writing) (place : ℕ → ℕ) (function : linking.Function) (view : c_steps.View) (world : c.World) (st : Step) (item : Flat) →
     w.facts ≡ u.facts → slice_get u.steps v.at ≡ Some st → Steers st → flat_of w place u.position v.at st ≡ Some item →

@@ -1,4 +1,4 @@
--- What a procedure answers: nothing, the number of an alternate return, or the value of its result.
+-- What a procedure answers: the number of an alternate return, or the value of its result.
 use Rattle.std.specs.Prelude.{◌≡◌, ◌≢◌, ℕ, ℤ, pos, true, List, [], ◌∷◌, take, Option, Some, None, option_map, Ok, slice_get}
 use Rattle.std.proofs.Common.{refl, sym, ap, ◌∙◌, subst}
 use Rattle.procedure_emission.specs.simulation.Machine.{Answers}
@@ -13,10 +13,11 @@ use Rattle.procedure_emission.specs.f_tree.Facts.{Attribute, UnitKind, MainProgr
 use Rattle.procedure_emission.specs.f_tree.Setting.{IsIn, first_in, later_in}
 use Rattle.procedure_emission.specs.f_tree.World as fortran
 use Rattle.procedure_emission.specs.f_tree.Valuing.{stored_at, if_bound, if_there, named_as, whole, fetched}
-use Rattle.procedure_emission.specs.f_tree.Association.{same_basic, same_width, serves, cut_to, alternate_of, result_given, result_from, answer}
+use Rattle.procedure_emission.specs.f_tree.Association.{same_basic, same_width, serves, cut_to, result_given, result_from}
+use Rattle.procedure_emission.specs.f_tree.Association as association
 use Rattle.procedure_emission.specs.l_core.Pures.{Pure, Load, Name, meant}
 use Rattle.procedure_emission.specs.l_core.Steps.{Step, Back, BackBy, Text}
-use Rattle.procedure_emission.specs.l_core.Machine.{View, Doing, resting, answering, answering_by, done, step}
+use Rattle.procedure_emission.specs.l_core.Machine.{View, Doing, resting, answering, answer, answering_by, done, step}
 use Rattle.procedure_emission.specs.l_core.Costs.{cost}
 use Rattle.procedure_emission.specs.c_tree.declared.outcome.CValue.TheVariants.{Number}
 use Rattle.procedure_emission.specs.c_tree.Objects as c_objects
@@ -51,10 +52,6 @@ use Rattle.emitted_procedures.proofs.ReadNumbers.{integer_read, value_read}
 
 -- ## What is answered
 
-no_alternate : (labels : List ℕ) → Nothing ≡ alternate_of labels (pos 0)
-unfolding alternate_of
-no_alternate labels = refl
-
 wanted_subroutine : (kind : UnitKind) (a : Attribute) (want : Wanted) → kind ≢ FunctionUnit → serves kind a want ≡ true → want ≡ AsSubroutine
 unfolding serves
 wanted_subroutine kind a AsSubroutine other h = refl
@@ -71,8 +68,8 @@ same_type basic.Character basic.Character h = refl
 same_type _ _ h = absurd (cc)
 
 -- a subroutine's answer
-nothing_answered : (μ : CallWorld) (store : Store) (want : Wanted) (d : Datum) (z : ℤ) → want ≡ AsSubroutine → d ≡ alternate_of μ.labels z → IsAnswer μ want store d (Some z)
-nothing_answered μ store want d z is alternate = subst (λ w. IsAnswer μ w store d (Some z)) (sym is) (z, refl, alternate)
+subroutine_answered : (μ : CallWorld) (store : Store) (want : Wanted) (z : ℤ) → want ≡ AsSubroutine → in_range z ≡ true → IsAnswer μ want store (IsInt z) (Some z)
+subroutine_answered μ store want z is fits = subst (λ w. IsAnswer μ w store (IsInt z) (Some z)) (sym is) (z, refl, fits, refl)
 
 -- a function's answer of the type that was wanted
 typed_answer : (μ : CallWorld) (store : Store) (b : Basic) (width : ℕ) (d : Datum) (whole : Whole) → HasType b d → whole_for d ≡ Some whole → in_range (number_for whole) ≡ true → IsAnswer μ (AsFunction b width) store d (Some (number_for whole))
@@ -150,9 +147,9 @@ module _ (s : Surroundings) (number : ℕ) (u : Text) (costs : List ℕ) (e : Em
   no_function : u.facts.program.kind ≢ FunctionUnit → μ.wanted ≡ AsSubroutine
   no_function other = wanted_subroutine e.writing.facts.program.kind (e.writing.facts.program.attribute v.frame.called.name) μ.wanted (λ same. other (sym kind_is ∙ same)) active.frame.served
 
-  answer_number : (term : Term) (z : ℤ) (d : Datum) → u.facts.program.kind ≢ FunctionUnit → is_return st ≡ true → flat.Return (Some term) ≡ item.item → value_of y.objects term ≡ Ok (Number z) → d ≡ alternate_of μ.labels z
-      → Meets (call_couple s number u costs e) μ w y (cost costs v.at) (Answers x d)
-  answer_number term z d other return item_is valued alternate =
+  answer_number : (term : Term) (z : ℤ) → u.facts.program.kind ≢ FunctionUnit → is_return st ≡ true → flat.Return (Some term) ≡ item.item → value_of y.objects term ≡ Ok (Number z) → in_range z ≡ true
+      → Meets (call_couple s number u costs e) μ w y (cost costs v.at) (Answers x (IsInt z))
+  answer_number term z other return item_is valued fits =
       let gives : given_by e.function.result (Number z) ≡ Ok (Some z) = ap (λ r. given_by r (Number z)) (is.gives other) in
       let does : deed e.function w y item.item ≡ Answers y (Some z) = subst (λ i. deed e.function w y i ≡ Answers y (Some z)) item_is (return_answers e.function w y term (Number z) (Some z) valued gives) in
       record {
@@ -161,12 +158,16 @@ module _ (s : Surroundings) (number : ℕ) (u : Text) (costs : List ℕ) (e : Em
         ans = Some z;
         does = last (step_at e.function w y item.item here ∙ does) refl;
         few = is.positive v.at st at;
-        given = record { now = active.now; both = active.both; found = given_back return; answers = nothing_answered μ x.store μ.wanted d z (no_function other) alternate };
+        given = record { now = active.now; both = active.both; found = given_back return; answers = subroutine_answered μ x.store μ.wanted z (no_function other) fits };
       }
 
   zero_valued : value_of y.objects (Constant (pos 0)) ≡ Ok (Number (pos 0))
   unfolding c_values.seen
   zero_valued = refl
+
+  zero_fits : in_range (pos 0) ≡ true
+  unfolding in_range
+  zero_fits = refl
 
   -- ## Of a function
 
@@ -236,15 +237,15 @@ module _ (s : Surroundings) (number : ℕ) (u : Text) (costs : List ℕ) (e : Em
       some_same (flat.Return (Some (Constant (pos 0)))) item.item
       (sym returns ∙ sym plain ∙ ap (back_item e.writing) (sym (kind_is ∙ is_kind)) ∙ ap (procedure_item s.numbers e.writing e.place u.position v.at) (sym back) ∙ item.emitted)
 
-  by_kind : (kind : UnitKind) → u.facts.program.kind ≡ kind → st ≡ Back → Meets (call_couple s number u costs e) μ w y (cost costs v.at) (answering (answer kind (resting v.frame) x Nothing))
-  unfolding answer answering resting back_item returned_by is_return
+  by_kind : (kind : UnitKind) → u.facts.program.kind ≡ kind → st ≡ Back → Meets (call_couple s number u costs e) μ w y (cost costs v.at) (answering (answer kind v.frame x (pos 0)))
+  unfolding answer association.answer answering resting back_item returned_by is_return
   by_kind MainProgram is_kind back =
-      answer_number (Constant (pos 0)) (pos 0) Nothing (λ same. other (sym is_kind ∙ same)) (ap is_return back) (plain_return MainProgram is_kind back refl refl) zero_valued (no_alternate μ.labels)
+      answer_number (Constant (pos 0)) (pos 0) (λ same. other (sym is_kind ∙ same)) (ap is_return back) (plain_return MainProgram is_kind back refl refl) zero_valued zero_fits
     where
       other : MainProgram ≡ FunctionUnit → ⊥
       other same = cc
   by_kind SubroutineUnit is_kind back =
-      answer_number (Constant (pos 0)) (pos 0) Nothing (λ same. other (sym is_kind ∙ same)) (ap is_return back) (plain_return SubroutineUnit is_kind back refl refl) zero_valued (no_alternate μ.labels)
+      answer_number (Constant (pos 0)) (pos 0) (λ same. other (sym is_kind ∙ same)) (ap is_return back) (plain_return SubroutineUnit is_kind back refl refl) zero_valued zero_fits
     where
       other : SubroutineUnit ≡ FunctionUnit → ⊥
       other same = cc
@@ -254,13 +255,13 @@ module _ (s : Surroundings) (number : ℕ) (u : Text) (costs : List ℕ) (e : Em
   pub answers : st ≡ Back → Meets (call_couple s number u costs e) μ w y (cost costs v.at) (step u v x)
   unfolding done
   answers back =
-      let event : step u v x ≡ answering (answer u.facts.program.kind (resting v.frame) x Nothing) = sym (done_is (step u v x) refl) ∙ ap (λ o. done u v x (Some o)) back in
+      let event : step u v x ≡ answering (answer u.facts.program.kind v.frame x (pos 0)) = sym (done_is (step u v x) refl) ∙ ap (λ o. done u v x (Some o)) back in
       subst (Meets (call_couple s number u costs e) μ w y (cost costs v.at)) (sym event) (by_kind u.facts.program.kind refl back)
 
   -- ## RETURN by a number
 
   by_number : (p : Pure) → st ≡ BackBy p → u.facts.program.kind ≡ SubroutineUnit → (found : Checked Datum) → meant u.facts v.frame v.kept x.store p ≡ found → Meets (call_couple s number u costs e) μ w y (cost costs v.at) (answering_by u v x found)
-  unfolding answering_by answering answer resting procedure_item back_by_item is_return
+  unfolding answering_by answering answer procedure_item back_by_item is_return
   by_number p back kind (Fails act) found = λ claimed. absurd claimed
   by_number p back kind (Gives (IsLog b)) found = λ claimed. absurd claimed
   by_number p back kind (Gives (IsText cs)) found = λ claimed. absurd claimed
@@ -278,8 +279,9 @@ module _ (s : Surroundings) (number : ℕ) (u : Text) (costs : List ℕ) (e : Em
       let means = numbers_are_emitted active.now x.store y.objects e.writing v.frame (numbers_kept v.kept) p m.one (IsInt z) active.both.stands active.known m.one_is gives in
       let same : means.whole ≡ ANumber z = some_same means.whole (ANumber z) (sym means.is) in
       let valued : value_of y.objects m.one ≡ Ok (Number z) = value_of-number y.objects m.one z (means.counts ∙ ap (λ k. Ok (c_objects.plain (Number (number_for k)))) same) in
-      subst (λ k. Meets (call_couple s number u costs e) μ w y (cost costs v.at) (answering (answer k (resting v.frame) x (alternate_of v.frame.alternates z)))) (sym kind)
-      (answer_number m.one z (alternate_of v.frame.alternates z) (λ function. other (sym kind ∙ function)) (ap is_return back) m.is valued (ap (λ labels. alternate_of labels z) active.frame.labels))
+      let fits = numbers_fit active.now x.store y.objects e.writing v.frame (numbers_kept v.kept) p m.one (IsInt z) (ANumber z) active.both.stands active.known m.one_is gives refl in
+      subst (λ k. Meets (call_couple s number u costs e) μ w y (cost costs v.at) (answering (answer k v.frame x z))) (sym kind)
+      (answer_number m.one z (λ function. other (sym kind ∙ function)) (ap is_return back) m.is valued fits)
     where
       other : SubroutineUnit ≡ FunctionUnit → ⊥
       other same = cc

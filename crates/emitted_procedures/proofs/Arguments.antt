@@ -5,7 +5,7 @@ use Rattle.procedure_emission.specs.f_tree.declared.names.Basic.{Basic}
 use Rattle.procedure_emission.specs.f_tree.declared.names.Basic.TheVariants as basic
 use Rattle.procedure_emission.specs.f_tree.declared.names.Class.{Class}
 use Rattle.procedure_emission.specs.f_tree.declared.names.Class.TheVariants as class
-use Rattle.procedure_emission.specs.f_tree.Values.{Bytes, Spot, Datum, IsInt, IsLog, IsText, IsSpot, IsProc, IsLabel, Nothing, NoMeaning, Gives, Fails}
+use Rattle.procedure_emission.specs.f_tree.Values.{Bytes, Spot, Datum, IsInt, IsLog, IsText, IsSpot, IsProc, IsLabel, Nothing, NoMeaning, Gives, Fails, given_that}
 use Rattle.procedure_emission.specs.f_tree.Store.{Store, Whole, Truth}
 use Rattle.procedure_emission.specs.f_tree.Facts.{Frame}
 use Rattle.procedure_emission.specs.f_tree.Valuing.{stored_at, if_bound, if_there, named_as, whole}
@@ -42,7 +42,7 @@ use Rattle.procedure_emission.specs.CallLayer.{function_object}
 use Rattle.procedure_emission.specs.Reading.{IsPlain, plain_number, plain_truth, plain_nothing, number_kept, numbers_kept}
 use Rattle.procedure_emission.specs.ProcedureItems.{pointer_term, procedure_argument, routine_term, name_argument, argument_term, argument_terms}
 use Rattle.emitted_procedures.proofs.KeptNumbers.{right_true}
-use Rattle.emitted_procedures.proofs.Passing.{IsFar, IsGiven, integer_given, truth_given, place_given, nothing_given, procedure_given, AreGiven, none_given, one_given, data_of}
+use Rattle.emitted_procedures.proofs.Passing.{IsFar, IsGiven, integer_given, truth_given, place_given, nothing_given, procedure_given, AreGiven, none_given, one_given, label_given, data_of}
 use Rattle.emitted_procedures.proofs.ReadNumbers.{place_read}
 
 given_same : {A : Type 0} (a b : A) → Gives a ≡ Gives b → a ≡ b
@@ -338,18 +338,15 @@ module _ (s : Surroundings) (number : ℕ) (ν : World) (store : Store) (objects
   argument_valued (Applied function ps) d term gives h = absurd (cc)
   argument_valued (Chosen p q r) d term gives h = absurd (cc)
 
-  pub arguments_valued : (ps : Pures) (ds : List Datum) (terms : List Term) → all_meant w.facts frame kept store ps ≡ Gives ds → argument_terms s.numbers w ps ≡ Some terms → AreValued s number ν objects terms ds
-  unfolding argument_terms all_meant
-  arguments_valued NoPure ds terms gives h =
-      let none : [] ≡ ds = given_same [] ds gives in
-      let nothing : [] ≡ terms = some_same [] terms h in
-      subst (λ ts. AreValued s number ν objects ts ds) nothing (record { arguments = []; data_are = none; values = []; valued = refl; given = none_given })
-  arguments_valued (AndPure p ps) ds terms gives h =
+  argument_more : (p : Pure) (ps : Pures) (ds : List Datum) (terms : List Term) → all_meant w.facts frame kept store (AndPure p ps) ≡ Gives ds → one_more (argument_term s.numbers w p) (argument_terms s.numbers w ps) ≡ Some terms
+      → ((later : List Datum) (ts : List Term) → all_meant w.facts frame kept store ps ≡ Gives later → argument_terms s.numbers w ps ≡ Some ts → AreValued s number ν objects ts later) → AreValued s number ν objects terms ds
+  unfolding all_meant
+  argument_more p ps ds terms gives h valued_later =
       let m = more_by (argument_term s.numbers w p) (argument_terms s.numbers w ps) terms h in
       let g = got (meant w.facts frame kept store p) _ ds gives in
       let rest = got (all_meant w.facts frame kept store ps) (λ later. Gives (g.value ∷ later)) ds g.gives in
       let one = argument_valued p g.value m.first g.is m.first_is in
-      let more = arguments_valued ps rest.value m.later rest.is m.later_is in
+      let more = valued_later rest.value m.later rest.is m.later_is in
       subst (λ ts. AreValued s number ν objects ts ds) m.is (record {
         arguments = one.argument ∷ more.arguments;
         data_are = (λ i. one.datum_is i ∷ more.data_are i) ∙ given_same (g.value ∷ rest.value) ds rest.gives;
@@ -357,3 +354,21 @@ module _ (s : Surroundings) (number : ℕ) (ν : World) (store : Store) (objects
         valued = values_of-cons objects m.first m.later one.value more.values one.valued more.valued;
         given = one_given one.argument one.value more.arguments more.values one.given more.given;
       })
+
+  pub arguments_valued : (ps : Pures) (ds : List Datum) (terms : List Term) → all_meant w.facts frame kept store ps ≡ Gives ds → argument_terms s.numbers w ps ≡ Some terms → AreValued s number ν objects terms ds
+  unfolding argument_terms all_meant meant given_that
+  arguments_valued NoPure ds terms gives h =
+      let none : [] ≡ ds = given_same [] ds gives in
+      let nothing : [] ≡ terms = some_same [] terms h in
+      subst (λ ts. AreValued s number ν objects ts ds) nothing (record { arguments = []; data_are = none; values = []; valued = refl; given = none_given })
+  arguments_valued (AndPure (Constant (IsLabel label)) ps) ds terms gives h =
+      let rest = got (all_meant w.facts frame kept store ps) (λ later. Gives (IsLabel label ∷ later)) ds gives in
+      let more = arguments_valued ps rest.value terms rest.is h in
+      record {
+        arguments = record { datum = IsLabel label; object = 0 } ∷ more.arguments;
+        data_are = ap (λ later. IsLabel label ∷ later) more.data_are ∙ given_same (IsLabel label ∷ rest.value) ds rest.gives;
+        values = more.values;
+        valued = more.valued;
+        given = label_given label more.arguments more.values more.given;
+      }
+  arguments_valued (AndPure p ps) ds terms gives h = argument_more p ps ds terms gives h (λ later ts gives' h'. arguments_valued ps later ts gives' h')

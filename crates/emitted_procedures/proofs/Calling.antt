@@ -1,5 +1,5 @@
 -- What a procedure does to call another one, and how it goes on with each answer.
-use Rattle.std.specs.Prelude.{◌≡◌, ℕ, zero, suc, ◌+◌, ◌-◌, ◌≤◌, nat_eq, nat_lt, ℤ, pos, negsuc, Bool, true, false, List, [], ◌++◌, length, take, Option, Some, None, option_map, Ok, slice_get, slice_set, if◌then◌else◌}
+use Rattle.std.specs.Prelude.{◌≡◌, ℕ, suc, ◌+◌, ◌-◌, ◌≤◌, nat_eq, nat_lt, ℤ, Bool, true, false, List, [], ◌++◌, length, take, Option, Some, None, option_map, Ok, slice_get, slice_set, if◌then◌else◌}
 use Rattle.std.proofs.Common.{refl, sym, ap, ◌∙◌, subst}
 use Rattle.std.proofs.lemmas.List.{length-set, append-nil}
 use Rattle.procedure_emission.specs.simulation.Machine.{Calls, Breaks, Enters}
@@ -15,7 +15,7 @@ use Rattle.procedure_emission.specs.f_tree.Facts.{Attribute, Facts, Frame}
 use Rattle.procedure_emission.specs.f_tree.Setting.{IsIn, first_in}
 use Rattle.procedure_emission.specs.f_tree.World as fortran
 use Rattle.procedure_emission.specs.f_tree.World.{Called, Procedure, Returning}
-use Rattle.procedure_emission.specs.f_tree.Association.{Passing, passing, ready_for, passed_procedure, procedure_named, called_as, call, cut_to, alternate_of}
+use Rattle.procedure_emission.specs.f_tree.Association.{Passing, passing, ready_for, passed_procedure, procedure_named, called_as, call, cut_to}
 use Rattle.procedure_emission.specs.l_core.Pures.{Pures, Temporaries, with_kept, all_meant}
 use Rattle.procedure_emission.specs.l_core.Steps.{Step, CallFor, CallSub, Text}
 use Rattle.procedure_emission.specs.l_core.Machine.{View, Doing, lowered_sorts, resting, waiting, calling, done, step, gone_on, resumed_at}
@@ -64,7 +64,7 @@ use Rattle.procedure_emission.specs.CallLayer.{CallWorld, function_object, Resul
 use Rattle.procedure_emission.specs.EmittedUnits.{leads_on, IsItem, IsEmittedUnit}
 use Rattle.emitted_procedures.proofs.KeptNumbers.{whole_number, numbers_behind, numbers_left}
 use Rattle.emitted_procedures.proofs.Transfers.{transfers_stand_later}
-use Rattle.emitted_procedures.proofs.Passing.{data_of, all_held, all_passed, no_lengths, no_labels, others_free}
+use Rattle.emitted_procedures.proofs.Passing.{data_of, all_held, all_passed, no_lengths, others_free}
 use Rattle.emitted_procedures.proofs.Arguments.{AreValued, function_value, arguments_valued}
 use Rattle.emitted_procedures.proofs.Steering.{made_far, not_held_yet, kept_there, typed_behind, plain_behind, procedures_kept}
 
@@ -102,7 +102,7 @@ plain_by (AsFunction basic.Integer width) b h = tt
 plain_by (AsFunction basic.Logical width) b h = tt
 plain_by (AsFunction basic.Character width) b h = absurd (cc)
 plain_by (AsFunction basic.Untyped width) b h = absurd (cc)
-plain_by AsSubroutine b h = absurd (cc)
+plain_by AsSubroutine b h = tt
 
 -- the procedure of a name of a class
 procedure_by : (f : Frame) (x : Bytes) (a : Attribute) (k : Class) → a.class ≡ k → procedure_named f x a ≡ (elim k [
@@ -160,14 +160,7 @@ variable_wanted objects k = refl
 
 -- ## Answers
 
-no_alternate : (z : ℤ) → alternate_of [] z ≡ Nothing
-unfolding alternate_of
-no_alternate (pos zero) = refl
-no_alternate (pos (suc zero)) = refl
-no_alternate (pos (suc (suc n))) = refl
-no_alternate (negsuc n) = refl
-
--- a number or a truth value of the type that was wanted
+-- a number or a truth value of the type that was wanted; a subroutine answers a number
 record IsNumberAnswer (want : Wanted) (d : Datum) (answer : Option ℤ) : Type 0 where
   whole : Whole
   is : whole_for d ≡ Some whole
@@ -203,7 +196,13 @@ number_answer ν (AsFunction basic.Logical width) b store d answer h is = record
 }
 number_answer ν (AsFunction basic.Character width) b store d answer h is = absurd (cc)
 number_answer ν (AsFunction basic.Untyped width) b store d answer h is = absurd (cc)
-number_answer ν AsSubroutine b store d answer h is = absurd (cc)
+number_answer ν AsSubroutine b store d answer h is = record {
+  whole = ANumber is.0;
+  is = ap whole_for is.1;
+  fits = is.2;
+  answers = is.3;
+  typed = λ t same. subst (λ k. HasType k d) (some_same basic.Integer t same) (subst (HasType basic.Integer) (sym is.1) tt);
+}
 
 -- ## What is known behind a call
 
@@ -262,7 +261,7 @@ staged_after μ x x' y y' (Some unit) one other units staged = (
 
 -- the world in which another procedure is called
 abbrev pub called_world : World → List Argument → Wanted → fortran.World → c.World → CallWorld
-called_world now arguments want x y = record { image = with_arguments now arguments; wanted = want; result = None; labels = []; transfer = x.transfer; other = y.transfer }
+called_world now arguments want x y = record { image = with_arguments now arguments; wanted = want; result = None; transfer = x.transfer; other = y.transfer }
 
 module _ (s : Surroundings) (number : ℕ) (u : Text) (costs : List ℕ) (e : Emission) (is : IsEmittedUnit s number u costs e) (μ : CallWorld) (v : View) (x : fortran.World) (w : c_steps.View) (y : c.World) (now : IsAtStep s number e μ v x w y)
     (st : Step) (at : slice_get u.steps v.at ≡ Some st) (item : IsItem s u e v.at st) where
@@ -368,7 +367,6 @@ module _ (s : Surroundings) (number : ℕ) (u : Text) (costs : List ℕ) (e : Em
             };
             want = refl;
             place = refl;
-            labels = no_labels s number active.now x.store are.arguments are.values are.given;
             found = (refl, refl);
             named = is_called.known;
             result = [];
@@ -406,10 +404,9 @@ module _ (s : Surroundings) (number : ℕ) (u : Text) (costs : List ℕ) (e : Em
   unfolding lower.resume resumed_at gone_on cut_to c_steps.resume leads leads_on stage_behind kind_after number_kept with_kept
   resumed_subroutine k name ps form arguments x' d y' answer given stands transfers =
       let found : slice_get u.steps v.at ≡ Some (CallSub k name ps) = at ∙ ap Some form in
-      let nothing : number_kept (Some d) ≡ None = ap (λ z. number_kept (Some z)) (given.answers.2 ∙ no_alternate given.answers.0) in
       let led : IsIn (suc v.at) (leads_on u v.at st) = subst (λ o. IsIn (suc v.at) (leads_on u v.at o)) (sym form) first_in in
       let stage = same_stage led (ap (stage_behind (e.stage v.at)) form) in
-      let later : View = record v { height = length x.store; at = suc v.at; kept = with_kept k d v.kept } in
+      let later : View = record v { height = length x.store; at = suc v.at; kept = with_kept k Nothing v.kept } in
       let x'' : fortran.World = record x' { store = take (length x.store) x'.store } in
       subst (λ entry. Resumed (call_couple s number u costs e) μ entry (record w { wants = WantsNothing }) answer y') (sym (ap (λ o. resumed_at o (record v { height = length x.store }) d x') found)) (
         past (record w { wants = WantsNothing }),
@@ -417,8 +414,8 @@ module _ (s : Surroundings) (number : ℕ) (u : Text) (costs : List ℕ) (e : Em
         refl,
         record {
           position = behind;
-          plain = λ j value holds. plain_behind s number u costs e is μ v x w y now st at item (nat_eq j k) j d value (subst IsPlain (sym (given.answers.2 ∙ no_alternate given.answers.0)) plain_nothing) holds;
-          typed = λ j value basic holds kind. typed_behind s number u costs e is μ v x w y now st at item (nat_eq j k) j k None d value basic holds
+          plain = λ j value holds. plain_behind s number u costs e is μ v x w y now st at item (nat_eq j k) j Nothing value plain_nothing holds;
+          typed = λ j value basic holds kind. typed_behind s number u costs e is μ v x w y now st at item (nat_eq j k) j k None Nothing value basic holds
               (ap (λ o. kind_after e.writing v.at o j) (sym form) ∙ is.fit.kinds v.at st (suc v.at) at led j basic kind) (λ none. no_kind basic none);
           staged = subst (IsStaged μ x'' y') (sym stage) (staged_after μ x x'' y y' (e.stage v.at) given.found.0 given.found.1 given.both.units now.staged);
           active = record {
@@ -428,7 +425,7 @@ module _ (s : Surroundings) (number : ℕ) (u : Text) (costs : List ℕ) (e : Em
             free = active.free;
             others = active.others;
             frame = active.frame;
-            known = known_fewer active.now e.writing v.frame (numbers_kept v.kept) (numbers_kept (with_kept k d v.kept)) (numbers_left k d v.kept nothing) active.known;
+            known = known_fewer active.now e.writing v.frame (numbers_kept v.kept) (numbers_kept (with_kept k Nothing v.kept)) (numbers_left k Nothing v.kept refl) active.known;
             temporaries = active.temporaries;
             procedures = active.procedures;
           };
@@ -438,7 +435,7 @@ module _ (s : Surroundings) (number : ℕ) (u : Text) (costs : List ℕ) (e : Em
       no_kind : {A : Type 0} (basic : Basic) → None ≡ Some basic → A
       no_kind basic h = absurd (cc)
 
-  -- ## A function
+  -- ## A function, and a subroutine whose number is kept
 
   resumed_function : (k : ℕ) (callee : Callee) (ps : Pures) (b : Basic) → st ≡ CallFor k callee ps → basic_wanted callee.want ≡ Some b → e.writing.is_number k ≡ true → (arguments : List Argument) → (x' : fortran.World) (d : Datum) (y' : c.World) (answer : Option ℤ)
       → AnswersAlike s (called_world active.now arguments callee.want x y) x' d y' answer → Stands active.now (take (length x.store) x'.store) y'.objects → TransfersStand μ.image x'.transfer y'.transfer

@@ -20,7 +20,7 @@ use Rattle.procedure_emission.specs.c_image.Addresses.{HasShape, IsSound}
 use Rattle.procedure_emission.specs.c_emit.Numbers.{is_numeric}
 use Rattle.procedure_emission.proofs.c_emit_laws.Choices.{got, some_same}
 use Rattle.procedure_emission.specs.emitted_texts.SecondLayer.{Surroundings, Emission, length_of_text, lengths_of}
-use Rattle.procedure_emission.specs.CallLayer.{ArePassed, none_passed, place_passed, procedure_passed, label_passed, nothing_passed, labels_passed}
+use Rattle.procedure_emission.specs.CallLayer.{ArePassed, none_passed, place_passed, procedure_passed, label_passed, nothing_passed}
 use Rattle.procedure_emission.specs.DummyBounds.{dummies_named}
 use Rattle.procedure_emission.specs.EmittedUnits.{is_number_pointer, IsParameter, is_function_pointer, IsProcedureParameter, AreParameters, no_parameters, named, named_procedure, alternate}
 
@@ -141,7 +141,6 @@ pub record AreBound (s : Surroundings) (u : Text) (e : Emission) (μ : World) (a
   pub fit : all_fit types values ≡ true
   pub as_many : length values ≡ length types
   pub no_lengths : lengths_of ds ≡ []
-  pub labels : bindings.labels ≡ labels_passed ds
   pub dummy : (x : Bytes) (d : Datum) → value_for x bindings.names bindings.values ≡ Some d → IsBoundTo s u e μ at values x d
   pub numeric : (x : Bytes) (n : ℕ) → length_for x bindings.names bindings.lengths ≡ Some n → (u.facts.program.attribute x).class ≡ class.Dummy → is_numeric (u.facts.program.attribute x).basic ≡ true
 
@@ -155,7 +154,6 @@ module _ (s : Surroundings) (u : Text) (e : Emission) (μ : World) where
     fit = refl;
     as_many = refl;
     no_lengths = refl;
-    labels = refl;
     dummy = λ x d h. none_some d h;
     numeric = λ x n h dummy. none_some n h;
   }
@@ -203,7 +201,6 @@ module _ (s : Surroundings) (u : Text) (e : Emission) (μ : World) where
     fit = (λ i. pointer_fits type object p.first is.pointer i && more.fit i);
     as_many = ap suc more.as_many;
     no_lengths = (λ i. no_text p.basic p.width number_spot i ++ more.no_lengths i);
-    labels = more.labels;
     dummy = λ y d h. dummy_by y d (bytes_eq y x) refl h;
     numeric = λ y n h dummy. numeric_by y n (bytes_eq y x) refl h dummy;
   }
@@ -245,7 +242,6 @@ module _ (s : Surroundings) (u : Text) (e : Emission) (μ : World) where
     fit = (λ i. function_fits type number is.pointer i && more.fit i);
     as_many = ap suc more.as_many;
     no_lengths = more.no_lengths;
-    labels = more.labels;
     dummy = λ y d h. dummy_by y d (bytes_eq y x) refl h;
     numeric = λ y n h dummy. numeric_by y n (bytes_eq y x) refl h dummy;
   }
@@ -273,7 +269,6 @@ module _ (s : Surroundings) (u : Text) (e : Emission) (μ : World) where
     fit = more.fit;
     as_many = more.as_many;
     no_lengths = more.no_lengths;
-    labels = ap (λ ls. label ∷ ls) more.labels;
     dummy = more.dummy;
     numeric = more.numeric;
   }

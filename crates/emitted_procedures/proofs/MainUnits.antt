@@ -4,7 +4,7 @@ use Rattle.std.proofs.Common.{refl, sym, ap, ◌∙◌, subst, arith}
 use Rattle.procedure_emission.specs.f_tree.Values.{Bytes}
 use Rattle.procedure_emission.specs.f_tree.Facts.{MainProgram, FunctionUnit, BlockDataUnit, Formal, Facts}
 use Rattle.procedure_emission.specs.f_tree.Setting.{IsIn}
-use Rattle.procedure_emission.specs.l_core.Steps.{Step, Keep, Put, PutText, PutLabel, Compute, Unless, AgainIf, Skip, Again, Jump, Select, JumpBy, Pass, CallFor, CallSub, Branch, Back, BackBy, Halt, Acts, Text}
+use Rattle.procedure_emission.specs.l_core.Steps.{Step, Keep, Put, PutText, PutLabel, Compute, Unless, AgainIf, Skip, Again, Jump, Select, JumpBy, Pass, CallFor, CallSub, Branch, Way, Back, BackBy, Halt, Acts, Text}
 use Rattle.procedure_emission.specs.c_tree.declared.types.ParameterType.{ParameterType}
 use Rattle.procedure_emission.specs.c_tree.Flat.{Flat}
 use Rattle.procedure_emission.specs.c_emit.Flats.{returned_by, flat_of}
@@ -47,7 +47,8 @@ module _ (s : Surroundings) (number : ℕ) (u : Text) (costs : List ℕ) (e : Em
   emitted n (Select p count) item h = h
   emitted n (JumpBy p labels) item h = h
   emitted n Pass item h = h
-  emitted n (Branch k) item h = h
+  emitted n (Branch k count) item h = h
+  emitted n (Way label) item h = h
   emitted n (Halt text) item h = h
   emitted n (Acts act ps m) item h = h
 
@@ -74,7 +75,8 @@ module _ (s : Surroundings) (number : ℕ) (u : Text) (costs : List ℕ) (e : Em
   leads_same n (Select p count) item h = refl
   leads_same n (JumpBy p labels) item h = refl
   leads_same n Pass item h = refl
-  leads_same n (Branch k) item h = refl
+  leads_same n (Branch k count) item h = refl
+  leads_same n (Way label) item h = refl
   leads_same n (Halt text) item h = refl
   leads_same n (Acts act ps m) item h = refl
 
@@ -97,7 +99,8 @@ module _ (s : Surroundings) (number : ℕ) (u : Text) (costs : List ℕ) (e : Em
   kinds_same n (Select p count) k item h = refl
   kinds_same n (JumpBy p labels) k item h = refl
   kinds_same n Pass k item h = refl
-  kinds_same n (Branch j) k item h = refl
+  kinds_same n (Branch j count) k item h = refl
+  kinds_same n (Way label) k item h = refl
   kinds_same n (Halt text) k item h = refl
   kinds_same n (Acts act ps m) k item h = refl
 

@@ -378,7 +378,6 @@ module _ (s : Surroundings) (number : ℕ) (u : Text) (costs : List ℕ) (e : Em
             ∙ ap (λ (f : Facts). serves f.program.kind (f.program.attribute is.entry.name) μ.wanted) is.facts
             ∙ ap (serves u.facts.program.kind (u.facts.program.attribute is.entry.name)) (sym calls.want) ∙ begins.served;
         base = ap (λ (f : Frame). f.base) begins.frame ∙ high;
-        labels = ap (λ (f : Frame). f.alternates) begins.frame ∙ binds.labels ∙ calls.labels;
         no_result = λ other. ap (λ (f : Frame). f.result) begins.frame ∙ ap (λ r. result_of u.facts.program.kind (u.facts.program.attribute is.entry.name) r x.store) nothing.0
             ∙ no_result_of u.facts.program.kind (u.facts.program.attribute is.entry.name) x.store (λ function. other (ap (λ (f : Facts). f.program.kind) is.facts ∙ function));
         result = λ function. (

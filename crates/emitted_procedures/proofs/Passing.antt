@@ -4,7 +4,7 @@ use Rattle.std.proofs.Common.{refl, sym, ◌∙◌, subst, arith}
 use Rattle.std.proofs.lemmas.List.{length-append}
 use Rattle.procedure_emission.specs.f_tree.declared.names.Basic.{Basic}
 use Rattle.procedure_emission.specs.f_tree.declared.names.Basic.TheVariants.{Integer, Logical, Character, Untyped}
-use Rattle.procedure_emission.specs.f_tree.Values.{Bytes, Spot, Datum, IsInt, IsLog, IsSpot, IsProc, Nothing}
+use Rattle.procedure_emission.specs.f_tree.Values.{Bytes, Spot, Datum, IsInt, IsLog, IsSpot, IsProc, IsLabel, Nothing}
 use Rattle.procedure_emission.specs.f_tree.Store.{Store, Sequence, Number, Truth, with_whole}
 use Rattle.procedure_emission.specs.f_tree.World.{Procedure}
 use Rattle.procedure_emission.specs.f_tree.Association.{sequence_of, basic_of, passing_one, passing_more, passing, made}
@@ -24,7 +24,7 @@ use Rattle.procedure_emission.proofs.c_image_laws.Knowledge.{holds_later}
 use Rattle.procedure_emission.proofs.c_image_laws.Parameters.{value_at, value_sound}
 use Rattle.procedure_emission.proofs.c_image_laws.SoundPlaces.{sound_later}
 use Rattle.procedure_emission.specs.emitted_texts.SecondLayer.{Surroundings, IsFree, length_of_text, lengths_of}
-use Rattle.procedure_emission.specs.CallLayer.{ArePassed, none_passed, place_passed, procedure_passed, nothing_passed, labels_passed}
+use Rattle.procedure_emission.specs.CallLayer.{ArePassed, none_passed, place_passed, procedure_passed, nothing_passed, label_passed}
 
 -- an object that is of no frame of another function
 abbrev pub IsFar : Surroundings → ℕ → ℕ → Type 0
@@ -38,9 +38,11 @@ pub data IsGiven (s : Surroundings) (number : ℕ) (ν : World) : Argument → C
   nothing_given : (object : ℕ) → IsGiven s number ν (record { datum = Nothing; object = object }) (Pointer object 0)
   procedure_given : (x : Bytes) (function : ℕ) → s.numbers (Procedure x) ≡ Some function → IsGiven s number ν (record { datum = IsProc x; object = 0 }) (Function function)
 
+-- all of them; a label is passed as nothing
 pub data AreGiven (s : Surroundings) (number : ℕ) (ν : World) : List Argument → List CValue → Type 0 where
   none_given : AreGiven s number ν [] []
   one_given : (argument : Argument) (value : CValue) (later : List Argument) (values : List CValue) → IsGiven s number ν argument value → AreGiven s number ν later values → AreGiven s number ν (argument ∷ later) (value ∷ values)
+  label_given : (label : ℕ) (later : List Argument) (values : List CValue) → AreGiven s number ν later values → AreGiven s number ν (record { datum = IsLabel label; object = 0 } ∷ later) values
 
 -- the arguments as they are valued
 abbrev pub data_of : List Argument → List Datum
@@ -66,6 +68,7 @@ module _ (s : Surroundings) (number : ℕ) where
   all_given_later ν ξ _ _ grown none_given = none_given
   all_given_later ν ξ _ _ grown (one_given argument value later values one more) =
       one_given argument value later values (given_later ν ξ argument value grown one) (all_given_later ν ξ later values grown more)
+  all_given_later ν ξ _ _ grown (label_given label later values more) = label_given label later values (all_given_later ν ξ later values grown more)
 
   pub all_held : (ν : World) (arguments : List Argument) (values : List CValue) → AreGiven s number ν arguments values → AreHeld ν.frozen arguments
   unfolding sequence_of
@@ -75,6 +78,7 @@ module _ (s : Surroundings) (number : ℕ) where
   all_held ν _ _ (one_given _ _ later values (place_given p object sound numeric home) more) = no_value (record { datum = IsSpot p; object = object }) later refl (all_held ν later values more)
   all_held ν _ _ (one_given _ _ later values (nothing_given object) more) = no_value (record { datum = Nothing; object = object }) later refl (all_held ν later values more)
   all_held ν _ _ (one_given _ _ later values (procedure_given x function is) more) = no_value (record { datum = IsProc x; object = 0 }) later refl (all_held ν later values more)
+  all_held ν _ _ (label_given label later values more) = no_value (record { datum = IsLabel label; object = 0 }) later refl (all_held ν later values more)
 
   -- ## What is passed
 
@@ -113,8 +117,9 @@ module _ (s : Surroundings) (number : ℕ) where
       nothing_passed (Pointer object 0) (passing store (data_of later)).actuals values (all_passed ν store later values high more)
   all_passed ν store (argument ∷ later) (value ∷ values) high (one_given _ _ _ _ (procedure_given x function is) more) =
       procedure_passed x function (passing store (data_of later)).actuals values is (all_passed ν store later values high more)
+  all_passed ν store (argument ∷ later) values high (label_given label _ _ more) = label_passed label (passing store (data_of later)).actuals values (all_passed ν store later values high more)
 
-  -- numbers have no lengths, and none is a label
+  -- numbers have no lengths
   pub no_lengths : (ν : World) (store : Store) (arguments : List Argument) (values : List CValue) → AreGiven s number ν arguments values → lengths_of (passing store (data_of arguments)).actuals ≡ []
   unfolding sequence_of basic_of passing_one passing_more passing made
   no_lengths ν store _ _ none_given = refl
@@ -123,15 +128,7 @@ module _ (s : Surroundings) (number : ℕ) where
   no_lengths ν store (argument ∷ later) (value ∷ values) (one_given _ _ _ _ (place_given p object sound numeric home) more) = (λ i. no_text p.basic p.width numeric i ++ no_lengths ν store later values more i)
   no_lengths ν store (argument ∷ later) (value ∷ values) (one_given _ _ _ _ (nothing_given object) more) = no_lengths ν store later values more
   no_lengths ν store (argument ∷ later) (value ∷ values) (one_given _ _ _ _ (procedure_given x function is) more) = no_lengths ν store later values more
-
-  pub no_labels : (ν : World) (store : Store) (arguments : List Argument) (values : List CValue) → AreGiven s number ν arguments values → labels_passed (passing store (data_of arguments)).actuals ≡ []
-  unfolding sequence_of basic_of passing_one passing_more passing made
-  no_labels ν store _ _ none_given = refl
-  no_labels ν store (argument ∷ later) (value ∷ values) (one_given _ _ _ _ (integer_given z object holds far) more) = no_labels ν (store ++ record { cells = with_whole (Number z) 0 []; read_only = true } ∷ []) later values more
-  no_labels ν store (argument ∷ later) (value ∷ values) (one_given _ _ _ _ (truth_given b object holds far) more) = no_labels ν (store ++ record { cells = with_whole (Truth b) 0 []; read_only = true } ∷ []) later values more
-  no_labels ν store (argument ∷ later) (value ∷ values) (one_given _ _ _ _ (place_given p object sound numeric home) more) = no_labels ν store later values more
-  no_labels ν store (argument ∷ later) (value ∷ values) (one_given _ _ _ _ (nothing_given object) more) = no_labels ν store later values more
-  no_labels ν store (argument ∷ later) (value ∷ values) (one_given _ _ _ _ (procedure_given x function is) more) = no_labels ν store later values more
+  no_lengths ν store (argument ∷ later) values (label_given label _ _ more) = no_lengths ν store later values more
 
   -- the frames of others stay nobody's
   pub others_free : (ν : World) (arguments : List Argument) (values : List CValue) (j : ℕ) → nat_eq j number ≡ false → AreGiven s number ν arguments values → IsFree (s.rooms j) ν → IsFree (s.rooms j) (with_arguments ν arguments)
@@ -148,3 +145,4 @@ module _ (s : Surroundings) (number : ℕ) where
   others_free ν (argument ∷ later) (value ∷ values) j apart (one_given _ _ _ _ (place_given p object sound numeric home) more) free = others_free ν later values j apart more free
   others_free ν (argument ∷ later) (value ∷ values) j apart (one_given _ _ _ _ (nothing_given object) more) free = others_free ν later values j apart more free
   others_free ν (argument ∷ later) (value ∷ values) j apart (one_given _ _ _ _ (procedure_given x function is) more) free = others_free ν later values j apart more free
+  others_free ν (argument ∷ later) values j apart (label_given label _ _ more) free = others_free ν later values j apart more free

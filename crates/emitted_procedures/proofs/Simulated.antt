@@ -4,7 +4,7 @@ use Rattle.std.proofs.Common.{refl, sym, subst}
 use Rattle.procedure_emission.specs.simulation.LocalSimulation.{Meets, Local}
 use Rattle.procedure_emission.specs.f_tree.World as fortran
 use Rattle.procedure_emission.specs.f_tree.Association as association
-use Rattle.procedure_emission.specs.l_core.Steps.{Step, Keep, Put, PutText, PutLabel, Compute, Unless, AgainIf, Skip, Again, Jump, Select, JumpBy, Pass, CallFor, CallSub, Branch, Back, BackBy, Halt, Acts, Text}
+use Rattle.procedure_emission.specs.l_core.Steps.{Step, Keep, Put, PutText, PutLabel, Compute, Unless, AgainIf, Skip, Again, Jump, Select, JumpBy, Pass, CallFor, CallSub, Branch, Way, Back, BackBy, Halt, Acts, Text}
 use Rattle.procedure_emission.specs.l_core.Machine.{View, done, step}
 use Rattle.procedure_emission.specs.l_core.Machine as lower
 use Rattle.procedure_emission.specs.l_core.Costs.{cost}
@@ -16,7 +16,7 @@ use Rattle.procedure_emission.specs.c_emit.Numbers.{Writing, if_number}
 use Rattle.procedure_emission.specs.c_emit.LibraryFunctions.{LibraryFunction}
 use Rattle.procedure_emission.specs.c_emit.Calls.{computed_item}
 use Rattle.procedure_emission.specs.c_emit.Flats.{assigned, switch_to, flat_of}
-use Rattle.procedure_emission.specs.c_emit_laws.EmittedFlats.{by_put, by_label, by_test, by_test_back, by_skip, by_return, by_jump, by_select, by_held, by_pass}
+use Rattle.procedure_emission.specs.c_emit_laws.EmittedFlats.{by_put, by_label, by_test, by_test_back, by_skip, by_return, by_jump, by_select, by_held, by_branch, by_way, by_pass}
 use Rattle.procedure_emission.proofs.c_emit_laws.Choices.{some_same}
 use Rattle.procedure_emission.specs.emitted_texts.SecondLayer.{Surroundings, Emission}
 use Rattle.procedure_emission.specs.ProcedureItems.{procedure_item}
@@ -57,6 +57,8 @@ module _ (s : Surroundings) (number : ℕ) (u : Text) (costs : List ℕ) (e : Em
   each μ v x w y now (Select p count) at item = steered s number u costs e is μ v x w y now (Select p count) at item (by_select p count) item.emitted (step u v x) refl
   each μ v x w y now (JumpBy p (label ∷ labels)) at item =
       steered s number u costs e is μ v x w y now (JumpBy p (label ∷ labels)) at item (by_held p label labels) item.emitted (step u v x) refl
+  each μ v x w y now (Branch k count) at item = steered s number u costs e is μ v x w y now (Branch k count) at item (by_branch k count) item.emitted (step u v x) refl
+  each μ v x w y now (Way label) at item = steered s number u costs e is μ v x w y now (Way label) at item (by_way label) item.emitted (step u v x) refl
   each μ v x w y now Pass at item = steered s number u costs e is μ v x w y now Pass at item by_pass item.emitted (step u v x) refl
   each μ v x w y now (Keep k p) at item =
       keeps s number u costs e is μ v x w y now (Keep k p) at item k p refl (numeric_by (e.writing.is_number k) _ _ item.item item.emitted) item.emitted
@@ -68,7 +70,6 @@ module _ (s : Surroundings) (number : ℕ) (u : Text) (costs : List ℕ) (e : Em
   each μ v x w y now (Compute k f ps) at item =
       computes s number u costs e is μ v x w y now (Compute k f ps) at item k f ps refl (computed_number e.writing (e.writing.is_number k) _ _ _ item.item item.emitted) item.emitted
   each μ v x w y now (JumpBy p []) at item = none_emitted item.item item.emitted
-  each μ v x w y now (Branch k) at item = none_emitted item.item item.emitted
   each μ v x w y now (Halt text) at item = halted s number u costs e is μ v x w y now (Halt text) at item text refl (sym (some_same _ item.item item.emitted))
   each μ v x w y now (Acts act ps n) at item = acted s number u costs e is μ v x w y now (Acts act ps n) at item act ps n refl item.emitted
 

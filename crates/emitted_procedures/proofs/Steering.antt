@@ -35,7 +35,7 @@ use Rattle.procedure_emission.specs.c_emit.Flats.{flat_of}
 use Rattle.procedure_emission.specs.c_emit.Types.{HasType, type_of}
 use Rattle.procedure_emission.specs.c_emit_laws.EmittedNumbers.{IsKnown}
 use Rattle.procedure_emission.specs.c_emit_laws.EmittedTypes.{AreTyped}
-use Rattle.procedure_emission.specs.c_emit_laws.EmittedFlats.{KeepsAlike, CallsLibrary, Steers, by_put, by_label, by_test, by_test_back, by_skip, by_return, by_jump, by_select, by_held, by_pass}
+use Rattle.procedure_emission.specs.c_emit_laws.EmittedFlats.{KeepsAlike, CallsLibrary, Steers, by_put, by_label, by_test, by_test_back, by_skip, by_return, by_jump, by_select, by_held, by_branch, by_way, by_pass}
 use Rattle.procedure_emission.proofs.c_emit_laws.Choices.{got, some_same}
 use Rattle.procedure_emission.proofs.c_emit_laws.ComputedNumbers.{computed_by, integers_of, library_types_are_right}
 use Rattle.procedure_emission.proofs.c_emit_laws.LabelLaws.{held_by}
@@ -67,6 +67,8 @@ steering_kinds w n _ k (by_return m) = refl
 steering_kinds w n _ k (by_jump label) = refl
 steering_kinds w n _ k (by_select p count) = refl
 steering_kinds w n _ k (by_held place label labels) = refl
+steering_kinds w n _ k (by_branch j count) = refl
+steering_kinds w n _ k (by_way label) = refl
 steering_kinds w n _ k by_pass = refl
 
 steering_on : (u : Text) (n : ℕ) (st : Step) → Steers st → leads_on u n st ≡ leads u n st
@@ -80,6 +82,8 @@ steering_on u n _ (by_return m) = refl
 steering_on u n _ (by_jump label) = refl
 steering_on u n _ (by_select p count) = refl
 steering_on u n _ (by_held place label labels) = refl
+steering_on u n _ (by_branch k count) = refl
+steering_on u n _ (by_way label) = refl
 steering_on u n _ by_pass = refl
 
 -- the transfer is as it was
@@ -122,6 +126,8 @@ steering_keeps u v v' x x' _ (by_jump label) e = placing_keeps v v' x x' (u.posi
 steering_keeps u v v' x x' _ (by_select p count) e = ap (λ (z : View). z.kept) (selected_by count v x v' x' _ e).goes.view
 steering_keeps u v v' x x' _ (by_held place label labels) e =
     let is = held_by u label labels v x v' x' _ e in ap (λ (z : View). z.kept) (to_by (suc v.at + passed_before (label ∷ labels) is.label) v x v' x' is.goes).view
+steering_keeps u v v' x x' _ (by_branch k count) e = ap (λ (z : View). z.kept) (selected_by count v x v' x' _ e).goes.view
+steering_keeps u v v' x x' _ (by_way label) e = placing_keeps v v' x x' (u.position label) e
 steering_keeps u v v' x x' _ by_pass e = ap (λ (z : View). z.kept) (to_by (suc v.at) v x v' x' e).view
 
 kept_itself : (k : ℕ) (d : Datum) (m : Temporaries) → with_kept k d m k ≡ Some d

@@ -6,7 +6,7 @@ use Rattle.procedure_emission.specs.f_tree.Values.{Bytes, Datum, IsInt, IsLog, I
 use Rattle.procedure_emission.specs.f_tree.Store.{Store, Label}
 use Rattle.procedure_emission.specs.f_tree.World as fortran
 use Rattle.procedure_emission.specs.f_tree.Step.{is_allowed, name_of}
-use Rattle.procedure_emission.specs.l_core.Pures.{Pure, Temporaries, meant}
+use Rattle.procedure_emission.specs.l_core.Pures.{Pure, Temporary, Temporaries, meant}
 use Rattle.procedure_emission.specs.l_core.Steps.{Step, Text}
 use Rattle.procedure_emission.specs.l_core.Machine.{View, Doing, to, onward, past, storing, put_at, put_label_at, testing, to_place, jump, selecting, label_held, passed_before, to_held, jumping, done}
 use Rattle.procedure_emission.specs.c_tree.Terms.{Term}
@@ -14,7 +14,7 @@ use Rattle.procedure_emission.specs.c_tree.Flat as flat
 use Rattle.procedure_emission.specs.c_tree.Flat.{Flat}
 use Rattle.procedure_emission.specs.c_emit.Numbers.{Writing, constant_value, value_term, place_term}
 use Rattle.procedure_emission.specs.c_emit.Flats.{assigned, cases_to, cases_for, switch_to, flat_of}
-use Rattle.procedure_emission.specs.c_emit_laws.EmittedFlats.{Steers, by_put, by_label, by_test, by_test_back, by_skip, by_return, by_jump, by_select, by_held, by_pass}
+use Rattle.procedure_emission.specs.c_emit_laws.EmittedFlats.{Steers, by_put, by_label, by_test, by_test_back, by_skip, by_return, by_jump, by_select, by_held, by_branch, by_way, by_pass}
 use Rattle.procedure_emission.proofs.c_emit_laws.Choices.{got, mapped_by}
 use Rattle.procedure_emission.proofs.c_emit_laws.LabelLaws.{held_by}
 use Rattle.procedure_emission.proofs.c_emit_laws.FlatLaws.{assigned_by, selected_by}
@@ -172,4 +172,7 @@ module _ (u : Text) (w : Writing) (facts : w.facts ≡ u.facts) (v v' : View) (x
       let is = mapped_by (λ value. flat.Select value (cases_to place 1 (suc n) count) (place (suc n + count))) (value_term w p) item emitted in select_over count p is.one is.one_is h
   same_done place label n _ item (by_held p l ls) emitted h =
       let is = mapped_by (λ value. flat.Select value (cases_for place (suc n) (l ∷ ls)) (place (suc n + length (l ∷ ls)))) (place_term w p) item emitted in held_over p l ls is.one is.one_is h
+  same_done place label n _ item (by_branch k count) emitted h =
+      let is = mapped_by (λ value. flat.Select value (cases_to place 1 (suc n) count) (place (suc n + count))) (value_term w (Temporary k)) item emitted in select_over count (Temporary k) is.one is.one_is h
+  same_done place label n _ item (by_way l) emitted h = placing_same (numbers_kept v.kept) v x (u.position l) ∙ ap (with_temporaries (numbers_kept v.kept)) h
   same_done place label n _ item by_pass emitted h = ap (with_temporaries (numbers_kept v.kept)) h

@@ -7,7 +7,7 @@ use Rattle.std.proofs.lemmas.Bool.{eqb-true, eq-eqb}
 use Rattle.output_laws.specs.simulation.Machine.{Goes, Ends, Calls, Answers, Breaks, Entry, Enters, Refused}
 use Rattle.output_laws.specs.simulation.LocalSimulation.{last, Meets, Opened, Local}
 use Rattle.output_laws.specs.f_tree.declared.names.Basic.{Basic}
-use Rattle.output_laws.specs.f_tree.Values.{Datum, Nothing, Checked, Gives, given_that}
+use Rattle.output_laws.specs.f_tree.Values.{Datum, IsInt, Checked, Gives, given_that}
 use Rattle.output_laws.specs.f_tree.Terms.{Function}
 use Rattle.output_laws.specs.f_tree.Facts.{EntryPoint, Facts}
 use Rattle.output_laws.specs.f_tree.Setting.{IsIn, first_in}
@@ -15,10 +15,9 @@ use Rattle.output_laws.specs.f_tree.Valuing.{applied}
 use Rattle.output_laws.specs.f_tree.World as fortran
 use Rattle.output_laws.specs.f_tree.World.{Called, Passed, fortran_sorts}
 use Rattle.output_laws.specs.f_tree.Association as association
-use Rattle.output_laws.specs.f_tree.Association.{answer}
 use Rattle.c_emit_laws.specs.l_core.Pures.{Pure, Pures, Temporaries, none_kept, with_kept, meant, all_meant}
-use Rattle.c_emit_laws.specs.l_core.Steps.{Step, Keep, Put, PutText, PutLabel, Compute, Unless, AgainIf, Skip, Again, Jump, Select, JumpBy, Pass, CallFor, CallSub, Branch, Back, BackBy, Halt, Acts, Text}
-use Rattle.c_emit_laws.specs.l_core.Machine.{View, Doing, resting, answering, keeping, done, step, begun}
+use Rattle.c_emit_laws.specs.l_core.Steps.{Step, Keep, Put, PutText, PutLabel, Compute, Unless, AgainIf, Skip, Again, Jump, Select, JumpBy, Pass, CallFor, CallSub, Branch, Way, Back, BackBy, Halt, Acts, Text}
+use Rattle.c_emit_laws.specs.l_core.Machine.{View, Doing, answering, answer, keeping, done, step, begun}
 use Rattle.c_emit_laws.specs.l_core.Machine as lower
 use Rattle.c_emit_laws.specs.l_core.Costs.{cost}
 use Rattle.output_laws.specs.c_tree.declared.outcome.CValue.{CValue}
@@ -46,7 +45,7 @@ use Rattle.c_emit_laws.specs.c_emit.Types.{HasType, type_of}
 use Rattle.c_emit_laws.specs.EmittedTypes.{AreTyped}
 use Rattle.c_emit_laws.proofs.TypeLaws.{types_are_right}
 use Rattle.c_emit_laws.specs.EmittedNumbers.{IsKnown}
-use Rattle.c_emit_laws.specs.EmittedFlats.{KeepsAlike, CallsLibrary, Steers, by_put, by_label, by_test, by_test_back, by_skip, by_return, by_jump, by_select, by_held, by_pass}
+use Rattle.c_emit_laws.specs.EmittedFlats.{KeepsAlike, CallsLibrary, Steers, by_put, by_label, by_test, by_test_back, by_skip, by_return, by_jump, by_select, by_held, by_branch, by_way, by_pass}
 use Rattle.c_emit_laws.proofs.Choices.{got, some_same}
 use Rattle.c_emit_laws.proofs.ComputedNumbers.{library_types_are_right}
 use Rattle.c_emit_laws.proofs.FlatLaws.{flats_go_on}
@@ -251,7 +250,7 @@ module _ (s : Surroundings) (number : ℕ) (u : Text) (costs : List ℕ) (e : Em
     answers : st ≡ Back → Meets (emit_couple s number u costs e) μ w y (cost costs v.at) (step u v x)
     unfolding done answering answer flat_of returned_by c_values.seen
     answers back =
-        let event : step u v x ≡ Answers x Nothing = sym (done_is (step u v x) refl) ∙ ap (λ o. done u v x (Some o)) back ∙ ap (λ k. answering (answer k (resting v.frame) x Nothing)) is.kind in
+        let event : step u v x ≡ Answers x (IsInt (pos 0)) = sym (done_is (step u v x) refl) ∙ ap (λ o. done u v x (Some o)) back ∙ ap (λ k. answering (answer k v.frame x (pos 0))) is.kind in
         let main : returned_by e.writing.facts.program.kind ≡ Some (flat.Return (Some (Constant (pos 0)))) = ap (λ k. returned_by k) (ap (λ f. f.program.kind) is.facts ∙ is.kind) in
         let returned : flat.Return (Some (Constant (pos 0))) ≡ item.item =
         some_same (flat.Return (Some (Constant (pos 0)))) item.item (sym main ∙ ap (flat_of e.writing e.place u.position v.at) (sym back) ∙ item.emitted) in
@@ -292,6 +291,8 @@ module _ (s : Surroundings) (number : ℕ) (u : Text) (costs : List ℕ) (e : Em
   each μ v x w y now' (Jump label) at item = steered μ v x w y now' (Jump label) at item (by_jump label) (step u v x) refl
   each μ v x w y now' (Select p count) at item = steered μ v x w y now' (Select p count) at item (by_select p count) (step u v x) refl
   each μ v x w y now' (JumpBy p (label ∷ labels)) at item = steered μ v x w y now' (JumpBy p (label ∷ labels)) at item (by_held p label labels) (step u v x) refl
+  each μ v x w y now' (Branch k count) at item = steered μ v x w y now' (Branch k count) at item (by_branch k count) (step u v x) refl
+  each μ v x w y now' (Way label) at item = steered μ v x w y now' (Way label) at item (by_way label) (step u v x) refl
   each μ v x w y now' Pass at item = steered μ v x w y now' Pass at item by_pass (step u v x) refl
   each μ v x w y now' (Keep k p) at item =
       keeps μ v x w y now' (Keep k p) at item k p refl (numeric_by (e.writing.is_number k) _ _ item.item item.emitted)
@@ -301,7 +302,6 @@ module _ (s : Surroundings) (number : ℕ) (u : Text) (costs : List ℕ) (e : Em
   each μ v x w y now' (JumpBy p []) at item = none_emitted item.item item.emitted
   each μ v x w y now' (CallFor k callee ps) at item = none_emitted item.item item.emitted
   each μ v x w y now' (CallSub k name ps) at item = none_emitted item.item item.emitted
-  each μ v x w y now' (Branch k) at item = none_emitted item.item item.emitted
   each μ v x w y now' (BackBy p) at item = none_emitted item.item item.emitted
   each μ v x w y now' (Halt text) at item = halted s number u costs e is μ v x w y now' (Halt text) at item text refl (sym (some_same _ item.item item.emitted))
   each μ v x w y now' (Acts act ps n) at item = acted s number u costs e is μ v x w y now' (Acts act ps n) at item act ps n refl item.emitted

@@ -9,7 +9,7 @@ use Rattle.output_laws.specs.f_tree.Facts.{Direction, Layout, Controls, Bounds, 
 use Rattle.output_laws.specs.f_tree.Setting.{IsIn}
 use Rattle.output_laws.specs.f_tree.Valuing.{whole, size_of_dimension}
 use Rattle.c_emit_laws.specs.l_core.Pures.{Pures}
-use Rattle.c_emit_laws.specs.l_core.Steps.{Starts, Takes, Finishes, Step, Keep, Compute, Unless, AgainIf, Skip, Again, Jump, Select, JumpBy, Back, Halt, Acts, Text}
+use Rattle.c_emit_laws.specs.l_core.Steps.{Starts, Takes, Finishes, Step, Keep, Compute, Unless, AgainIf, Skip, Again, Jump, Select, JumpBy, Branch, Way, Back, Halt, Acts, Text}
 use Rattle.c_emit_laws.specs.l_core.Costs.{cost}
 use Rattle.output_laws.specs.c_tree.declared.types.ResultType.TheVariants as result
 use Rattle.output_laws.specs.c_tree.Objects as objects_of
@@ -59,6 +59,8 @@ leads u n (Again m) = (n - m) ∷ []
 leads u n (Jump label) = labelled (u.position label)
 leads u n (Select p count) = suc n ∷ places_from (suc (suc n)) count
 leads u n (JumpBy p labels) = suc n ∷ places_from (suc (suc n)) (length labels)
+leads u n (Branch k count) = suc n ∷ places_from (suc (suc n)) count
+leads u n (Way label) = labelled (u.position label)
 leads u n Back = []
 leads u n (Halt text) = []
 leads u n st = suc n ∷ []

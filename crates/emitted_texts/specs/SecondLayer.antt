@@ -5,7 +5,7 @@ use Rattle.std.specs.Prelude.{◌≡◌, ℕ, ◌<◌, ◌≤◌, nat_eq, ℤ, p
 use Rattle.output_laws.specs.simulation.LocalSimulation.{Kit, Pairing, Couple}
 use Rattle.output_laws.specs.f_tree.declared.names.Basic.{Basic}
 use Rattle.output_laws.specs.f_tree.declared.names.Basic.TheVariants.{Character}
-use Rattle.output_laws.specs.f_tree.Values.{Bytes, Spot, Datum, IsInt, IsLog, IsText, IsSpot, IsProc, IsLabel, Nothing}
+use Rattle.output_laws.specs.f_tree.Values.{Bytes, Spot, Datum, IsInt, IsLog, IsText, IsSpot, IsProc, IsLabel}
 use Rattle.output_laws.specs.f_tree.Terms.{AsSubroutine}
 use Rattle.output_laws.specs.f_tree.Facts.{FunctionUnit, ProgramUnit, Frame}
 use Rattle.output_laws.specs.f_tree.Setting.{IsIn}
@@ -104,12 +104,11 @@ pub record CallsAlike (s : Surroundings) (μ : World) (x : fortran.World) (n : C
   pub are_passed : ArePassed s μ a.actuals arguments
   pub values_are : values ≡ result ++ arguments ++ lengths_of a.actuals
 
--- an answer: the number of a numeric function, none of a character function, and 0 of a procedure that goes on behind its call
+-- an answer: the number of a numeric function or of the alternate return of a procedure, and none of a character function
 abbrev pub IsAnswer : Datum → Option ℤ → Type 0
 IsAnswer (IsInt z) answer = answer ≡ Some z
 IsAnswer (IsLog b) answer = answer ≡ Some (number_for (Truth b))
 IsAnswer (IsText cs) answer = answer ≡ None
-IsAnswer Nothing answer = answer ≡ Some (pos 0)
 IsAnswer other answer = ⊥
 
 pub record AnswersAlike (s : Surroundings) (μ : World) (x : fortran.World) (d : Datum) (y : c.World) (answer : Option ℤ) : Type 0 where

@@ -363,6 +363,10 @@ module _ (names : Names) (w : Writing) (known : Knowledge) (label : ℕ → Opti
       select-agrees names (cases_to (λ m. m) 1 (suc n) count) (suc n + count) (value_term w p)
       ∙ (λ j. select_step (value-known p j) (cases-agree 1 (suc n) count j) (suc n + count))
   step-known n (step.JumpBy p labels) there = switch-agrees names n labels (place_term w p) ∙ ap (switch_step n labels) (place-known p)
+  step-known n (step.Branch k count) there =
+      select-agrees names (cases_to (λ m. m) 1 (suc n) count) (suc n + count) (value_term w (Temporary k))
+      ∙ (λ j. select_step (value-known (Temporary k) j) (cases-agree 1 (suc n) count j) (suc n + count))
+  step-known n (step.Way l) there = jump-agrees names (label l) ∙ ap (option_map item.Jump) (agrees.labels l)
   step-known n step.Pass there = refl
   step-known n (step.Acts (step.Starts Output Listed controls) ps m) there = start-known n there.0 controls ps there.1 there.2
   step-known n (step.Acts step.Takes ps m) there = takes-known n ps

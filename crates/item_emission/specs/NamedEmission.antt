@@ -4,9 +4,9 @@
 use Rattle.std.specs.Prelude.{ℕ, zero, suc, ◌+◌, ◌-◌, nat_eq, nat_lt, ℤ, pos, negsuc, ◌+ℤ◌, Bool, true, false, ◌&&◌, List, [], ◌∷◌, map, length, Option, Some, None, option_map, option_and_then, slice_get, unwrap_or, codes, if◌then◌else◌}
 use Rattle.std.specs.Ordering.{int_eq}
 use Rattle.main_file.specs.f_tree.declared.names.Basic.{Basic}
-use Rattle.main_file.specs.f_tree.Values.{Bytes, Datum, IsInt, IsLog, in_range}
+use Rattle.main_file.specs.f_tree.Values.{Bytes, Datum, IsInt, IsLog, IsLabel, in_range}
 use Rattle.main_file.specs.f_tree.Terms as fortran
-use Rattle.main_file.specs.f_tree.Terms.{Wanted, AsFunction}
+use Rattle.main_file.specs.f_tree.Terms.{Wanted, AsSubroutine, AsFunction}
 use Rattle.main_file.specs.f_tree.Facts.{Output, Listed, Controls}
 use Rattle.main_file.specs.f_tree.CNames.{variable_name, made_name, FunctionResult, NumberTemporary, ControlList, ConstantOf, DimensionOf, LowerBoundOf}
 use Rattle.main_file.specs.l_core.Pures.{Pure, Constant, Temporary, Load, Name, ElementOf, Prefixed, Operated, Applied, Chosen, Pures, NoPure, AndPure}
@@ -357,9 +357,10 @@ argument_expr known (Name x) = name_passed known x
 argument_expr known (ElementOf x ps) = option_map address_expr (place_expr known (ElementOf x ps))
 argument_expr known p = None
 
--- arguments one after the other
+-- arguments one after the other; a label is none
 unfoldable pub argument_exprs : Knowledge → Pures → Option (List CExpr)
 argument_exprs known NoPure = Some []
+argument_exprs known (AndPure (Constant (IsLabel label)) ps) = argument_exprs known ps
 argument_exprs known (AndPure p ps) = one_more (argument_expr known p) (argument_exprs known ps)
 
 -- ## Calls of procedures
@@ -369,12 +370,12 @@ unfoldable pub call_step : Option Callee → Option (List CExpr) → Option Item
 call_step None arguments = None
 call_step (Some callee) arguments = call_by callee arguments
 
--- is a function of numbers wanted
+-- is a number wanted: that of a function of numbers, or of the alternate return of a subroutine
 unfoldable pub wants_number : Wanted → Bool
 wants_number (AsFunction basic width) = is_numeric basic
-wants_number other = false
+wants_number AsSubroutine = true
 
--- a function of numbers: what it gives is kept
+-- what is called gives a number, which is kept
 unfoldable pub call_for_step : Bool → Option CExpr → Option Callee → Option (List CExpr) → Option Item
 call_for_step true target (Some callee) arguments = set_call_by target callee arguments
 call_for_step wanted target callee arguments = None
@@ -444,6 +445,8 @@ item_step known kind n (step.Again m) = Some (item.Jump (n - m))
 item_step known kind n (step.Jump l) = option_map item.Jump (known.label l)
 item_step known kind n (step.Select p count) = select_step (value_expr known p) (cases_from 1 (suc n) count) (suc n + count)
 item_step known kind n (step.JumpBy p labels) = switch_step n labels (place_expr known p)
+item_step known kind n (step.Branch k count) = select_step (value_expr known (Temporary k)) (cases_from 1 (suc n) count) (suc n + count)
+item_step known kind n (step.Way l) = option_map item.Jump (known.label l)
 item_step known kind n step.Pass = Some item.Nothing
 item_step known kind n (step.CallFor k callee ps) = call_for_step (wants_number callee.want) (temporary_expr known k) (known.routine callee.name) (argument_exprs known ps)
 item_step known kind n (step.CallSub k x ps) = call_step (known.routine x) (argument_exprs known ps)

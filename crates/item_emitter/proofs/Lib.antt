@@ -6,4 +6,5 @@ pub mod StepForms
 pub mod CallForms
 pub mod LibraryForms
 pub mod ArgumentForms
+pub mod ArgumentWalks
 pub mod SelectionWalks

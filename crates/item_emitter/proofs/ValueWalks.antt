@@ -10,21 +10,21 @@ unfoldable pub behind : List CExpr → Option (List CExpr) → Option (List CExp
 behind es None = None
 behind es (Some later) = Some (es ++ later)
 
-behind-more : (es : List CExpr) (e : CExpr) (o : Option (List CExpr)) → behind es (one_more (Some e) o) ≡ behind (es ++ e ∷ []) o
+pub behind-more : (es : List CExpr) (e : CExpr) (o : Option (List CExpr)) → behind es (one_more (Some e) o) ≡ behind (es ++ e ∷ []) o
 unfolding behind one_more
 behind-more es e None = refl
 behind-more es e (Some later) = ap Some (sym (append_assoc es (e ∷ []) later))
 
-behind-none : (es : List CExpr) (o : Option (List CExpr)) → behind es (one_more None o) ≡ None
+pub behind-none : (es : List CExpr) (o : Option (List CExpr)) → behind es (one_more None o) ≡ None
 unfolding behind one_more
 behind-none es o = refl
 
-behind-nothing : (o : Option (List CExpr)) → o ≡ behind [] o
+pub behind-nothing : (o : Option (List CExpr)) → o ≡ behind [] o
 unfolding behind
 behind-nothing None = refl
 behind-nothing (Some es) = refl
 
-behind-all : (es : List CExpr) → behind es (Some []) ≡ Some es
+pub behind-all : (es : List CExpr) → behind es (Some []) ≡ Some es
 unfolding behind
 behind-all es = ap Some (append-nil es)
 

@@ -1,7 +1,7 @@
--- Acts of a transfer by their operands: the unit of one that begins, and what ends; and the operands of functions of the library. ANSI X3.9-1978, sections
--- 12.8, 13.6 and 15.10.
-use Rattle.std.specs.Prelude.{ℕ, zero, suc, ℤ, ◌&&◌, List, map, Option, Some, None, option_map}
-use Rattle.f_tree.specs.Values.{IsInt, in_range}
+-- Acts of a transfer by their operands: the unit of one that begins, and what ends; the operands of functions of the library; and which arguments of a
+-- subroutine are labels. ANSI X3.9-1978, sections 12.8, 13.6, 15.6.2.3 and 15.10.
+use Rattle.std.specs.Prelude.{ℕ, zero, suc, ℤ, Bool, true, false, ◌&&◌, List, map, Option, Some, None, option_map}
+use Rattle.f_tree.specs.Values.{Datum, IsInt, IsLabel, in_range}
 use Rattle.f_tree.specs.Facts.{Direction, Output, Layout, Listed, Controls}
 use Rattle.lowered_tree.specs.l_core.Pures.{Pure, Constant, Pures}
 use Rattle.c_tree.specs.declared.expression.CExpr.{CExpr}
@@ -11,6 +11,15 @@ use Rattle.named_items.specs.declared.item.Item.{Item}
 use Rattle.named_items.specs.declared.item.Item.TheVariants as item
 use Rattle.named_items.specs.Items.{by_name}
 use Rattle.item_emission.specs.NamedEmission.{Knowledge, address_expr, held_expr, held_exprs, start_if, start_step, finish_step}
+
+-- is what is passed a label
+unfoldable pub is_label_written : Datum → Bool
+is_label_written (IsLabel label) = true
+is_label_written d = false
+
+unfoldable pub is_label : Pure → Bool
+is_label (Constant d) = is_label_written d
+is_label p = false
 
 -- the integer that a value is
 unfoldable pub integer_in : Pure → Option ℤ
@@ -45,5 +54,5 @@ called (Some target) (Some function) (Some arguments) = Some (item.SetCall targe
 called target function arguments = None
 
 unfoldable pub operands_opened : Unit {0}
-unfolding integer_in start_unit begin_step finish_at passed_expr passed_exprs called
+unfolding is_label_written is_label integer_in start_unit begin_step finish_at passed_expr passed_exprs called
 operands_opened = tt

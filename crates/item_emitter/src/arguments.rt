@@ -1,8 +1,9 @@
 //! Actual arguments of procedures. ANSI X3.9-1978, sections 15.5.2, 15.6.2 and 15.9; C89, 3.3.2.2.
 
 ghost use Rattle.std.specs.Prelude.{◌≡◌, option_map, IfOk};
-ghost use Rattle.lowered_tree.specs.Shapes.{pure_of, pures_of};
+ghost use Rattle.lowered_tree.specs.Shapes.{datum_of, pure_of, pures_of};
 ghost use Rattle.item_emitter.specs.Knowing.{known_of};
+ghost use Rattle.item_emitter.specs.Operands as operands;
 ghost use Rattle.item_emission.specs.NamedEmission as spec;
 
 use crate::calls::{address, cast, literal_held};
@@ -12,7 +13,7 @@ use crate::values::{place, temporary};
 use c_tree::expression::CExpr;
 use c_tree::types::{CastType, FunctionType};
 use item_emission::Standing;
-use lowered_tree::Pure;
+use lowered_tree::{Literal, Pure};
 use named_items::Callee;
 use plain_data::Items;
 use std::alloc::{AllocError, Global};
@@ -122,7 +123,26 @@ fn argument(alloc: Global, known: &Known, source: &Pure) -> Result<Option<CExpr>
     }
 }
 
-/// Actual arguments one after the other, where all have expressions.
+/// Whether a value that is written is a label.
+#[tactic(auto, unfolding(crate::specs::Operands::is_label_written))]
+fn is_label_written(value: &Literal) -> bool
+    ensures { result ≡ operands.is_label_written (datum_of value.now) }
+{
+    matches!(value, Literal::Label(_))
+}
+
+/// Whether an actual argument is the label of an alternate return.
+#[tactic(auto, using(crate::proofs::ArgumentForms::label_forms))]
+fn is_label(source: &Pure) -> bool
+    ensures { result ≡ operands.is_label (pure_of source.now) }
+{
+    match source {
+        Pure::Constant(value) => is_label_written(value),
+        _ => false,
+    }
+}
+
+/// Actual arguments one after the other, where all have expressions. A label is passed as nothing.
 pub(crate) fn arguments(
     alloc: Global,
     known: &Known,
@@ -132,6 +152,9 @@ pub(crate) fn arguments(
 {
     let mut row = Vec::new(alloc);
     for source in sources {
+        if is_label(source) {
+            continue;
+        }
         match argument(alloc, known, source)? {
             Some(one) => row.push(one)?,
             None => return Ok(None),

@@ -64,7 +64,7 @@ pub(crate) fn call(
     Ok(plain_call(callee, arguments))
 }
 
-/// Whether a function of numbers or truth values is wanted.
+/// Whether a number or a truth value is wanted: that of a function, or the number of the alternate return of a subroutine.
 #[tactic(auto, unfolding(item_emission::specs::NamedEmission::wants_number, c_emit::specs::Numbers::is_numeric))]
 fn wants_number(want: Wanted) -> bool
     ensures { result ≡ spec.wants_number (wanted_of want) }
@@ -74,7 +74,7 @@ fn wants_number(want: Wanted) -> bool
         Wanted::Function(Basic::Logical, _) => true,
         Wanted::Function(Basic::Character, _) => false,
         Wanted::Function(Basic::Untyped, _) => false,
-        Wanted::Subroutine => false,
+        Wanted::Subroutine => true,
     }
 }
 
@@ -92,7 +92,7 @@ fn stored_call(target: Option<CExpr>, callee: Callee, arguments: Option<Vec<CExp
     }
 }
 
-/// A call of a function whose value is stored, where one of numbers is wanted.
+/// A call whose value is stored, where a number is wanted.
 #[tactic(auto, unfolding(item_emission::specs::NamedEmission::call_for_step))]
 fn wanted_call(
     wanted: bool,
@@ -109,7 +109,7 @@ fn wanted_call(
     }
 }
 
-/// A temporary gets what a function gives.
+/// A temporary gets what a function gives, or the number of the alternate return of a subroutine.
 pub(crate) fn call_for(
     alloc: Global,
     known: &Known,

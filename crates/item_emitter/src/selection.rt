@@ -1,13 +1,15 @@
-//! The `switch` of a computed and of an assigned GO TO. ANSI X3.9-1978, sections 11.2 and 11.3; C89, 3.6.4.2.
+//! The `switch` of a computed GO TO, of an assigned one, and behind a CALL with alternate returns. ANSI X3.9-1978, sections 11.2, 11.3 and 15.6.2.3; C89,
+//! 3.6.4.2.
 
 ghost use Rattle.std.specs.Prelude.{◌≡◌, ◌+◌, suc, IfOk};
+ghost use Rattle.lowered_tree.specs.l_core.Pures.{Temporary};
 ghost use Rattle.lowered_tree.specs.Shapes.{pure_of};
 ghost use Rattle.item_emitter.specs.Knowing.{known_of};
 ghost use Rattle.item_emission.specs.NamedEmission as spec;
 
 use crate::known::Known;
 use crate::positions::{following, onward};
-use crate::values::{place, value};
+use crate::values::{place, temporary, value};
 use c_tree::expression::CExpr;
 use lowered_tree::Pure;
 use named_items::{Case, Item};
@@ -67,6 +69,23 @@ pub(crate) fn select(
     let cases = cases(alloc, position, count)?;
     let number = value(alloc, known, source)?;
     Ok(selection(number, cases, otherwise))
+}
+
+/// The number in a temporary picks one of so many jumps behind it, or none.
+#[tactic(auto, unfolding(item_emission::specs::NamedEmission::value_expr))]
+pub(crate) fn branch_by(
+    alloc: Global,
+    known: &Known,
+    position: usize,
+    number: usize,
+    count: usize,
+) -> Result<Option<Item>, AllocError>
+    ensures { IfOk result (λ i. i ≡ spec.select_step (spec.value_expr (known_of known.now) (Temporary number)) (spec.cases_from 1 (suc position) count) (suc position + count)) }
+{
+    let otherwise = onward(position, count)?;
+    let cases = cases(alloc, position, count)?;
+    let held = temporary(alloc, known, number)?;
+    Ok(selection(held, cases, otherwise))
 }
 
 /// The cases of a `switch` before a jump to each of some labels, by the labels.

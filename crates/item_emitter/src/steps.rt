@@ -14,7 +14,7 @@ use crate::known::Known;
 use crate::library::compute;
 use crate::positions::{following, onward};
 use crate::procedures::{back, back_by, call, call_for};
-use crate::selection::{select, switch};
+use crate::selection::{branch_by, select, switch};
 use crate::stops::stop;
 use crate::values::{place, temporary, value};
 use c_tree::expression::CExpr;
@@ -174,6 +174,8 @@ pub fn emit_step(
         Step::JumpBy(source, labels) => {
             switch(alloc, known, position, source, labels.as_slice())
         }
+        Step::Branch(number, count) => branch_by(alloc, known, position, *number, *count),
+        Step::Way(label) => Ok(jump(known, *label)),
         Step::Pass => Ok(Some(Item::Nothing)),
         Step::Back => back(alloc, known),
         Step::BackBy(source) => back_by(alloc, known, source),
@@ -194,6 +196,5 @@ pub fn emit_step(
             *passed,
         ),
         Step::PutText(_, _) => Ok(None),
-        Step::Branch(_) => Ok(None),
     }
 }

@@ -12,7 +12,7 @@ use Rattle.emitted_texts.specs.f_tree.Facts.{FunctionUnit, ProgramUnit, Frame}
 use Rattle.emitted_texts.specs.f_tree.Setting.{IsIn}
 use Rattle.emitted_texts.specs.f_tree.World as fortran
 use Rattle.emitted_texts.specs.f_tree.World.{Called, Procedure, Passed}
-use Rattle.emitted_texts.specs.f_tree.Association.{serves, alternate_of}
+use Rattle.emitted_texts.specs.f_tree.Association.{serves}
 use Rattle.emitted_texts.specs.l_core.Pures.{none_kept}
 use Rattle.emitted_texts.specs.l_core.Steps.{Text}
 use Rattle.emitted_texts.specs.l_core.Machine.{View, lowered}
@@ -40,10 +40,9 @@ use Rattle.procedure_emission.specs.Reading.{IsPlain, numbers_kept}
 pub record CallWorld : Type 0 where
   -- where storage stands, and what objects hold
   pub image : World
-  -- what is wanted of the procedure, the place for the result of a character function, and the labels of alternate returns
+  -- what is wanted of the procedure, and the place for the result of a character function
   pub wanted : Wanted
   pub result : Option Spot
-  pub labels : List ℕ
   -- the transfer in progress that the procedure finds and gives back, in both runs
   pub transfer : Option fortran.Transfer
   pub other : Option c.Transfer
@@ -66,11 +65,6 @@ pub data ArePassed (s : Surroundings) (μ : World) : List Datum → List CValue 
   nothing_passed : (value : CValue) (ds : List Datum) (values : List CValue) → ArePassed s μ ds values → ArePassed s μ (Nothing ∷ ds) (value ∷ values)
   label_passed : (label : ℕ) (ds : List Datum) (values : List CValue) → ArePassed s μ ds values → ArePassed s μ (IsLabel label ∷ ds) values
 
-abbrev pub labels_passed : List Datum → List ℕ
-labels_passed [] = []
-labels_passed (IsLabel label ∷ ds) = label ∷ labels_passed ds
-labels_passed (d ∷ ds) = labels_passed ds
-
 -- before the arguments the place for the result of a character function, and its length; no other procedure is given one
 abbrev pub ResultIsPassed : World → Wanted → Option Spot → List CValue → Type 0
 ResultIsPassed μ (AsFunction Character width) (Some p) values =
@@ -82,7 +76,6 @@ pub record CallsAlike (s : Surroundings) (μ : CallWorld) (x : fortran.World) (n
   pub both : BothStand s μ.image μ.image x y
   pub want : a.want ≡ μ.wanted
   pub place : a.result ≡ μ.result
-  pub labels : labels_passed a.actuals ≡ μ.labels
   pub found : IsGivenBack μ x y
   pub named : s.numbers n ≡ Some number
   pub result : List CValue
@@ -94,7 +87,7 @@ pub record CallsAlike (s : Surroundings) (μ : CallWorld) (x : fortran.World) (n
 -- An answer is what was wanted: the number of a numeric function; nothing of a character function, whose text stands in the place for it; and of a
 -- subroutine the number of its alternate return, which is none of them where it goes on behind the call.
 abbrev pub IsAnswer : CallWorld → Wanted → Store → Datum → Option ℤ → Type 0
-IsAnswer μ AsSubroutine store d answer = (z : ℤ) × (answer ≡ Some z) × (d ≡ alternate_of μ.labels z)
+IsAnswer μ AsSubroutine store d answer = (z : ℤ) × (d ≡ IsInt z) × (in_range z ≡ true) × (answer ≡ Some z)
 IsAnswer μ (AsFunction Integer width) store d answer = (z : ℤ) × (d ≡ IsInt z) × (in_range z ≡ true) × (answer ≡ Some z)
 IsAnswer μ (AsFunction Logical width) store d answer = (b : Bool) × (d ≡ IsLog b) × (answer ≡ Some (number_for (Truth b)))
 IsAnswer μ (AsFunction Character width) store d answer = (p : Spot) × (cs : Bytes) × (μ.result ≡ Some p) × (d ≡ IsText cs) × (fetch store p ≡ Gives d) × (answer ≡ None)
@@ -125,7 +118,6 @@ pub record IsFrameOf (u : ProgramUnit) (μ : CallWorld) (f : Frame) : Type 0 whe
   pub called : IsIn f.called u.entries
   pub served : serves u.kind (u.attribute f.called.name) μ.wanted ≡ true
   pub base : f.base ≡ μ.image.height
-  pub labels : f.alternates ≡ μ.labels
   pub no_result : (u.kind ≡ FunctionUnit → ⊥) → f.result ≡ None
   pub result : u.kind ≡ FunctionUnit → (p : Spot) × (f.result ≡ Some p) × (p.basic ≡ (u.attribute f.called.name).basic)
 

@@ -1,13 +1,13 @@
 -- The flat C items for calls of procedures and for their returns; all other steps have those of `flat_of`. An actual argument goes by the address of
--- its place, or of the object that holds its value; a procedure by its function, and a dummy procedure by its parameter. Alternate returns are not passed
--- yet. ANSI X3.9-1978, sections 15.5, 15.6, 15.8 and 15.9; C89, 3.3.2.2 and 3.6.6.4.
+-- its place, or of the object that holds its value; a procedure by its function, and a dummy procedure by its parameter. Labels are not
+-- passed. ANSI X3.9-1978, sections 15.5, 15.6, 15.8 and 15.9; C89, 3.3.2.2 and 3.6.6.4.
 use Rattle.std.specs.Prelude.{ℕ, Bool, true, false, List, [], ◌∷◌, Option, Some, None, option_map}
 use Rattle.emitted_texts.specs.f_tree.declared.names.Basic.{Basic}
 use Rattle.emitted_texts.specs.f_tree.declared.names.Basic.TheVariants.{Integer, Logical}
 use Rattle.emitted_texts.specs.f_tree.declared.names.Class.{Class}
 use Rattle.emitted_texts.specs.f_tree.declared.names.Class.TheVariants as class
-use Rattle.emitted_texts.specs.f_tree.Values.{Bytes}
-use Rattle.emitted_texts.specs.f_tree.Terms.{Wanted, AsFunction, Callee}
+use Rattle.emitted_texts.specs.f_tree.Values.{Bytes, IsLabel}
+use Rattle.emitted_texts.specs.f_tree.Terms.{Wanted, AsSubroutine, AsFunction, Callee}
 use Rattle.emitted_texts.specs.f_tree.Facts.{UnitKind, SubroutineUnit, FunctionUnit, EntryPoint}
 use Rattle.emitted_texts.specs.f_tree.World.{Called, Procedure}
 use Rattle.emitted_texts.specs.l_core.Pures.{Pure, Constant, Temporary, Name, ElementOf, Pures, NoPure, AndPure}
@@ -59,8 +59,10 @@ argument_term numbers w (Name x) = name_argument numbers w x (has_number w x)
 argument_term numbers w (ElementOf x ps) = option_map address_of (place_term w (ElementOf x ps))
 argument_term numbers w p = None
 
+-- a label is passed as nothing: what the subroutine gives back tells which one is taken
 unfoldable pub argument_terms : Numbers → Writing → Pures → Option (List Term)
 argument_terms numbers w NoPure = Some []
+argument_terms numbers w (AndPure (Constant (IsLabel label)) ps) = argument_terms numbers w ps
 argument_terms numbers w (AndPure p ps) = one_more (argument_term numbers w p) (argument_terms numbers w ps)
 
 -- ## Calls
@@ -80,13 +82,14 @@ unfoldable pub call_item : Use → Option flat.Callee → Option (List Term) →
 call_item how (Some callee) (Some terms) = Some (Invoke how callee terms)
 call_item how callee terms = None
 
--- the type of what a function of numbers gives
+-- the type of what a function of numbers gives; a subroutine gives the number of its alternate return
 unfoldable pub basic_wanted : Wanted → Option Basic
+basic_wanted AsSubroutine = Some Integer
 basic_wanted (AsFunction Integer width) = Some Integer
 basic_wanted (AsFunction Logical width) = Some Logical
 basic_wanted want = None
 
--- what a function gives goes into a temporary
+-- what a function gives goes into a temporary, and so does the number of an alternate return
 unfoldable pub kept_item : Option Basic → Option Term → Option flat.Callee → Option (List Term) → Option Flat
 kept_item (Some basic) (Some target) callee terms = call_item (Kept target) callee terms
 kept_item basic target callee terms = None

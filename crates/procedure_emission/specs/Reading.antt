@@ -1,5 +1,5 @@
 -- What temporaries keep, and of what type that is which they keep behind each step: numbers and truth values, and nothing behind a call of a
--- subroutine. ANSI X3.9-1978, sections 6.1 and 15.6.
+-- subroutine to which no label is passed. ANSI X3.9-1978, sections 6.1 and 15.6.
 use Rattle.std.specs.Prelude.{ℕ, nat_eq, ℤ, Bool, Option, Some, None, if◌then◌else◌}
 use Rattle.emitted_texts.specs.f_tree.declared.names.Basic.{Basic}
 use Rattle.emitted_texts.specs.f_tree.Values.{Datum, IsInt, IsLog, Nothing}
