@@ -1,7 +1,7 @@
 -- The calls of the library and of procedures do not depend on how steps are numbered, but for the control list and the text of a step.
 use Rattle.std.specs.Prelude.{◌≡◌, ℕ, ◌+◌, ℤ, Bool, true, false, List, [], ◌∷◌, Option, Some, None, option_map, option_and_then}
 use Rattle.std.proofs.Common.{refl, ap}
-use Rattle.procedure_emission.specs.f_tree.Values.{Bytes, IsInt}
+use Rattle.procedure_emission.specs.f_tree.Values.{Bytes, IsInt, IsLabel}
 use Rattle.procedure_emission.specs.f_tree.Facts.{Controls, UnitKind, FunctionUnit, SubroutineUnit, EntryPoint}
 use Rattle.procedure_emission.specs.l_core.Pures.{Pure, Constant, Temporary, Name, ElementOf, Pures, NoPure, AndPure}
 use Rattle.procedure_emission.specs.c_tree.Terms.{Term}
@@ -81,6 +81,7 @@ module _ (w : Writing) (first : ℕ) where
     pub arguments_same : (ps : Pures) → argument_terms numbers w ps ≡ argument_terms numbers v ps
     unfolding argument_terms
     arguments_same NoPure = refl
+    arguments_same (AndPure (Constant (IsLabel label)) ps) = arguments_same ps
     arguments_same (AndPure p ps) = λ i. one_more (argument_same p i) (arguments_same ps i)
 
   result_same : (entries : List EntryPoint) → result_term w entries ≡ result_term v entries

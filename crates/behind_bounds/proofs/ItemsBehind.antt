@@ -3,7 +3,7 @@ use Rattle.std.specs.Prelude.{◌≡◌, ℕ, zero, suc, ◌+◌, ◌-◌, ◌�
 use Rattle.std.proofs.Common.{refl, ap, ◌∙◌, arith}
 use Rattle.procedure_emission.specs.f_tree.Values.{IsInt}
 use Rattle.procedure_emission.specs.f_tree.Facts.{Output, Listed}
-use Rattle.procedure_emission.specs.l_core.Pures.{Pure}
+use Rattle.procedure_emission.specs.l_core.Pures.{Pure, Temporary}
 use Rattle.procedure_emission.specs.l_core.Steps as step
 use Rattle.procedure_emission.specs.l_core.Steps.{Step}
 use Rattle.procedure_emission.specs.c_tree.Access.{ToNumber}
@@ -94,7 +94,8 @@ module _ (first : ℕ) where
       flat_same n (step.BackBy p) within = refl
       flat_same n (step.CallFor k callee ps) within = refl
       flat_same n (step.CallSub k name ps) within = refl
-      flat_same n (step.Branch k) within = refl
+      flat_same n (step.Branch k count) within = select_same n count (Temporary k)
+      flat_same n (step.Way l) within = jump_same (position l)
       flat_same n (step.Halt text) within = ap Some (stop_same w first n text)
       flat_same n (step.Acts (step.Starts Output Listed controls) ps m) within = start_same w first n controls ps
       flat_same n (step.Acts (step.Starts way layout controls) ps m) within = refl

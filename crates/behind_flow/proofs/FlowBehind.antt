@@ -4,7 +4,7 @@ use Rattle.std.specs.Prelude.{nat_eq, ◌≡◌, ℕ, zero, suc, ◌+◌, ◌-�
 use Rattle.std.proofs.Common.{refl, sym, ap, ◌∙◌, subst, arith}
 use Rattle.unit_translation.specs.f_tree.Facts.{Facts}
 use Rattle.unit_translation.specs.l_core.Pures.{Pure, Temporary, NoPure, AndPure}
-use Rattle.unit_translation.specs.l_core.Steps.{Takes, Step, Keep, Unless, AgainIf, Skip, Again, Jump, Select, JumpBy, Pass, Acts, Text}
+use Rattle.unit_translation.specs.l_core.Steps.{Takes, Step, Keep, Unless, AgainIf, Skip, Again, Jump, Select, JumpBy, Pass, Branch, Way, Acts, Text}
 use Rattle.unit_translation.specs.c_emit.Calls.{kind_number}
 use Rattle.unit_translation.specs.main_translation.Flow.{target_in, targets_on, targets_of, targets_from, is_target, kept_at, stage_after, stage_behind, stage_at, is_on}
 use Rattle.unit_translation.specs.main_translation.Contents.{kind_value, own_value}
@@ -52,6 +52,8 @@ module _ (first : ℕ) (u : Text) where
   targets_of_further n at (Jump label) is within = target_further first (u.position label)
   targets_of_further n at (Select p count) is within = targets_on_further first (suc (suc n)) (suc (suc at)) count (omega (arith, is))
   targets_of_further n at (JumpBy p labels) is within = targets_on_further first (suc (suc n)) (suc (suc at)) (length labels) (omega (arith, is))
+  targets_of_further n at (Branch k count) is within = targets_on_further first (suc (suc n)) (suc (suc at)) count (omega (arith, is))
+  targets_of_further n at (Way label) is within = target_further first (u.position label)
   targets_of_further n at st is within = refl
 
   targets_further : (n at : ℕ) (steps : List Step) → at ≡ first + n → ((k : ℕ) (st : Step) → slice_get steps k ≡ Some st → GoesBackWithin (n + k) st) → targets_from b at steps ≡ further first (targets_from u n steps)

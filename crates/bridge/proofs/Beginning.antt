@@ -6,6 +6,7 @@ use Rattle.lowering_laws.specs.simulation.Law.{Alike}
 use Rattle.lowering_laws.proofs.simulation.Corollaries.{begins_alike}
 use Rattle.lowering_laws.specs.run_state.Units.{Units}
 use Rattle.lowering_laws.specs.f_tree.Values.{Checked, Gives, Fails}
+use Rattle.lowering_laws.specs.f_tree.Terms.{AsSubroutine}
 use Rattle.lowering_laws.specs.f_tree.Store.{Store}
 use Rattle.lowering_laws.specs.f_tree.Facts.{ProgramUnit}
 use Rattle.lowering_laws.specs.f_tree.Setting.{Setting}
@@ -49,13 +50,13 @@ module _ (g : Setting) (S : List ProgramUnit) (files : List CFile) (t : Translat
   pub first_alike : (i : ℕ) → found_from 0 S TheMain ≡ Some i → Alike (linking_of g S files t) (started g S units) (begun language (machine (linking.program files)) (main_number (linking.program files)) [] (first_world (linking.program files) units))
   unfolding source.program started call_of_main
   first_alike i found =
-      begins_alike (linking_of g S files t) (step_factor files) (linked g S files t is) (record { transfer = None; labels = [] }, t.surroundings.first) TheMain call_of_main (start_world g S units) (main_number (linking.program files)) []
+      begins_alike (linking_of g S files t) (step_factor files) (linked g S files t is) (record { transfer = None; wanted = AsSubroutine; labels = [] }, t.surroundings.first) TheMain call_of_main (start_world g S units) (main_number (linking.program files)) []
       (first_world (linking.program files) units) i found refl
       (record { houses = λ j known. (tt, extends_itself t.surroundings.first); idle = λ j known none. (tt, (is.units j known).idle) }) (
         start_world g S units,
         TheMain,
         call_of_main,
-        (refl, refl, refl, none_yet, refl),
+        (refl, refl, refl, none_yet, refl, refl),
         record {
           both = record {
             extends = extends_itself t.surroundings.first;

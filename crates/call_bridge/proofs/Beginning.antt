@@ -41,7 +41,7 @@ none_is x one none some = absurd (cc)
 
 -- the main program is called in the first world, and nothing is in progress
 abbrev first_call : World → CallWorld
-first_call μ = record { image = μ; wanted = AsSubroutine; result = None; labels = []; transfer = None; other = None }
+first_call μ = record { image = μ; wanted = AsSubroutine; result = None; transfer = None; other = None }
 
 module _ (g : Setting) (S : List ProgramUnit) (files : List CFile) (t : Translation) (is : IsTranslated g S files t) (units : Units) where
   none_yet : (start_world g S units).transfer ≡ None
@@ -55,13 +55,13 @@ module _ (g : Setting) (S : List ProgramUnit) (files : List CFile) (t : Translat
   pub first_alike : (i : ℕ) → found_from 0 S TheMain ≡ Some i → Alike (linking_of g S files t) (started g S units) (begun language (machine (linking.program files)) (main_number (linking.program files)) [] (first_world (linking.program files) units))
   unfolding source.program started call_of_main
   first_alike i found =
-      begins_alike (linking_of g S files t) (step_factor files) (linked g S files t is) (record { transfer = None; labels = [] }, first_call t.surroundings.first) TheMain call_of_main (start_world g S units) (main_number (linking.program files)) []
+      begins_alike (linking_of g S files t) (step_factor files) (linked g S files t is) (record { transfer = None; wanted = AsSubroutine; labels = [] }, first_call t.surroundings.first) TheMain call_of_main (start_world g S units) (main_number (linking.program files)) []
       (first_world (linking.program files) units) i found refl
       (record { houses = λ j known. (tt, extends_itself t.surroundings.first); idle = λ j known none. (tt, (is.units j known).idle) }) (
         start_world g S units,
         TheMain,
         call_of_main,
-        (refl, refl, refl, none_yet, refl),
+        (refl, refl, refl, none_yet, refl, refl),
         record {
           both = record {
             extends = extends_itself t.surroundings.first;
@@ -75,7 +75,6 @@ module _ (g : Setting) (S : List ProgramUnit) (files : List CFile) (t : Translat
           };
           want = refl;
           place = refl;
-          labels = refl;
           found = (none_yet, refl);
           named = (is.units i (TheMain, found)).called TheMain found ∙ ap Some (sym (is.main i found));
           result = [];

@@ -82,7 +82,7 @@ module _ (S : List ProgramUnit) (files : List CFile) (homes : Homes) (objects : 
   }
 
 frame_without : (u : ProgramUnit) (μ : CallWorld) (f : fortran_facts.Frame) → IsFrameOf u μ f → IsFrameOf u μ (without_bounds f)
-frame_without u μ f is = record { called = is.called; served = is.served; base = is.base; labels = is.labels; no_result = is.no_result; result = is.result }
+frame_without u μ f is = record { called = is.called; served = is.served; base = is.base; no_result = is.no_result; result = is.result }
 
 module _ (g : Setting) (S : List ProgramUnit) (files : List CFile) (t : Translation) (is : IsTranslated g S files t) where
   -- ## Stored names

@@ -210,6 +210,10 @@ module _ (scope : Scope) (names : Names) where
     whole place label n (step.Jump l) item knows h = plainly n (step.Jump l) item refl (goto_plain place (label l) item h)
     whole place label n (step.Select p count) item knows h =
         plainly n (step.Select p count) item refl (select_plain (cases_to place 1 (suc n) count) (place (suc n + count)) (value_term w p) item h (value_plain scope names w known p))
+    whole place label n (step.Branch k count) item knows h =
+        plainly n (step.Branch k count) item refl
+        (select_plain (cases_to place 1 (suc n) count) (place (suc n + count)) (value_term w (Temporary k)) item h (value_plain scope names w known (Temporary k)))
+    whole place label n (step.Way l) item knows h = plainly n (step.Way l) item refl (goto_plain place (label l) item h)
     whole place label n (step.JumpBy p []) item knows h = absurd (cc)
     whole place label n (step.JumpBy p (l ∷ ls)) item knows h =
         plainly n (step.JumpBy p (l ∷ ls)) item refl

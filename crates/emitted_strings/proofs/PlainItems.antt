@@ -1,7 +1,7 @@
 -- The items of lowered steps have no strings but the texts of STOP statements.
 use Rattle.std.specs.Prelude.{◌≡◌, ℕ, zero, suc, ◌+◌, ◌-◌, ◌≤◌, ℤ, pos, Bool, true, false, ◌&&◌, List, [], ◌∷◌, ◌++◌, map, length, Option, Some, None, option_map, option_and_then, codes, if◌then◌else◌}
 use Rattle.std.proofs.Common.{refl, ap, ◌∙◌, arith}
-use Rattle.item_emission.specs.f_tree.Values.{Bytes, Datum, IsInt, IsLog, in_range}
+use Rattle.item_emission.specs.f_tree.Values.{Bytes, Datum, IsInt, IsLog, IsLabel, in_range}
 use Rattle.item_emission.specs.f_tree.Facts.{Output, Listed, Controls}
 use Rattle.item_emission.specs.f_tree.CNames.{made_name, ControlList, ConstantOf}
 use Rattle.item_emission.specs.l_core.Pures.{Pure, Constant, Temporary, Load, Name, ElementOf, Pures, NoPure, AndPure}
@@ -19,7 +19,7 @@ use Rattle.item_emission.specs.named_items.declared.item.Case.{Case}
 use Rattle.item_emission.specs.named_items.declared.item.Item.{Item}
 use Rattle.item_emission.specs.named_items.declared.item.Item.TheVariants as item
 use Rattle.item_emission.specs.named_items.Items.{by_name, assign_by, call_by, set_call_by}
-use Rattle.item_emission.specs.named_items.c_structure.Expressions.{number_expr}
+use Rattle.item_emission.specs.named_items.c_structure.Expressions.{number_expr, one_more}
 use Rattle.item_emission.specs.declared.known.Standing.{Standing}
 use Rattle.item_emission.specs.declared.known.Standing.TheVariants.{Own, Parameter, Result}
 use Rattle.item_emission.specs.declared.known.Giving.{Giving}
@@ -213,10 +213,14 @@ argument_bare known (Name x) = name_bare known x
 argument_bare known (ElementOf x ps) = map_bare address_expr (place_expr known (ElementOf x ps)) address_plain (place_bare known (ElementOf x ps))
 argument_bare known p = tt
 
+argument_more_bare : (known : Knowledge) (p : Pure) (es : Option (List CExpr)) → AllBare es → AllBare (one_more (argument_expr known p) es)
+argument_more_bare known p es others = more_bare (argument_expr known p) es (argument_bare known p) others
+
 arguments_bare : (known : Knowledge) (ps : Pures) → AllBare (argument_exprs known ps)
 unfolding argument_exprs
 arguments_bare known NoPure = tt
-arguments_bare known (AndPure p ps) = more_bare (argument_expr known p) (argument_exprs known ps) (argument_bare known p) (arguments_bare known ps)
+arguments_bare known (AndPure (Constant (IsLabel label)) ps) = arguments_bare known ps
+arguments_bare known (AndPure p ps) = argument_more_bare known p (argument_exprs known ps) (arguments_bare known ps)
 
 -- ## Steps
 
@@ -294,6 +298,8 @@ step_few known kinds n (step.Again m) = jump_few (n - m)
 step_few known kinds n (step.Jump l) = label_few (known.label l)
 step_few known kinds n (step.Select p count) = select_few (value_expr known p) (cases_from 1 (suc n) count) (suc n + count) (value_bare known p)
 step_few known kinds n (step.JumpBy p labels) = switch_few n labels (place_expr known p) (place_bare known p)
+step_few known kinds n (step.Branch k count) = select_few (value_expr known (Temporary k)) (cases_from 1 (suc n) count) (suc n + count) (value_bare known (Temporary k))
+step_few known kinds n (step.Way l) = label_few (known.label l)
 step_few known kinds n step.Pass = nothing_few
 step_few known kinds n (step.CallFor k callee ps) = call_for_few (wants_number callee.want) (temporary_expr known k) (known.routine callee.name) (argument_exprs known ps) (temporary_bare known k) (arguments_bare known ps)
 step_few known kinds n (step.CallSub k x ps) = call_step_few (known.routine x) (argument_exprs known ps) (arguments_bare known ps)
@@ -302,7 +308,6 @@ step_few known kinds n (step.BackBy p) = alternate_few known.gives (value_expr k
 step_few known kinds n (step.Acts what ps m) = acting_few known kinds n what ps m
 step_few known kinds n (step.Halt text) = stop_few text
 step_few known kinds n (step.PutText place ps) = tt
-step_few known kinds n (step.Branch k) = tt
 
 few_of : (n : ℕ) (x : Option Item) (i : Item) → Few n x → x ≡ Some i → item_bytes i ≤ n
 few_of n None i h is = absurd (cc)

@@ -133,7 +133,7 @@ module _ (built : EachStructureIsKept) (marked : EachTextMarksItsLoops) (branche
         function = function;
         among = first_in;
         named = ap function_name made.unit;
-        keeps = unit_keeps built marked branches stand options given c (own_program (map (unit_read options) units) j (unit_read options given)) (plain_unit options given made.plain) constants all u function made.text
+        keeps = unit_keeps built marked branches stand options given c (own_program (map (unit_read options) units) j (unit_read options given)) (plain_unit options given made.plain) made.lowers constants all u function made.text
             (nothing_implied (given_names given) given.statements made.lowers) is;
       }
 

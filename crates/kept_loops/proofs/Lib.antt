@@ -1,3 +1,4 @@
+pub mod ArgumentLabels
 pub mod SourceForms
 pub mod Direct
 pub mod Items

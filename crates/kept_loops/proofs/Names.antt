@@ -14,6 +14,7 @@ use Rattle.translated_files.specs.c_tree.declared.statement.CStmt.{CStmt}
 use Rattle.translated_files.specs.main_translation.Outlined.{labels_in, stands_at, label_before, whiles_in, name_by, label_at}
 use Rattle.translated_files.specs.named_units.named_items.Layouts.{Layout}
 use Rattle.loop_marks.specs.c_loops.KeptLayouts.{AreLabels, no_name, one_name}
+use Rattle.translated_files.specs.declaration_rows.NameRows.{given_names}
 use Rattle.kept_loops.specs.SourceLoops.{labels_named, is_label_of, statement_labels, made_labels, labels_allowed, transfers, do_whiles}
 use Rattle.kept_loops.specs.KeptFunctions.{ForwardJumps}
 use Rattle.kept_loops.proofs.Mentions.{ahead_by}
@@ -115,7 +116,7 @@ each_name u l passes _ each same no_name = refl
 each_name u l passes _ each same (one_name n name names is later) =
     and_from (passes name) (list_all passes names) (each name (label_is u n name (sym (same n) ∙ is))) (each_name u l passes names each same later)
 
-module _ (given : GivenUnit) (u : Text) (known : (label n : ℕ) → IsIn label (labels_in u.steps) → stands_at (u.position label) n ≡ true → IsIn label (filter (is_label_of given.statements) (labels_named given.statements)))
+module _ (given : GivenUnit) (u : Text) (known : (label n : ℕ) → IsIn label (labels_in u.steps) → stands_at (u.position label) n ≡ true → IsIn label (filter (is_label_of given.statements) (labels_named (given_names given) given.statements)))
     (whiles : length (whiles_in u.marks) ≡ do_whiles given) where
   abbrev statement_name : ℕ → List ℕ
   statement_name label = made_name (StatementLabel label)
@@ -127,7 +128,7 @@ module _ (given : GivenUnit) (u : Text) (known : (label n : ℕ) → IsIn label 
   of_statement : (name : List ℕ) (label n : ℕ) → IsIn label (labels_in u.steps) → stands_at (u.position label) n ≡ true → name ≡ statement_name label → IsIn name (statement_labels given)
   unfolding statement_labels
   of_statement name label n among stands is =
-      subst (λ x. IsIn x (statement_labels given)) (sym is) (in_map statement_name label (filter (is_label_of given.statements) (labels_named given.statements)) (known label n among stands))
+      subst (λ x. IsIn x (statement_labels given)) (sym is) (in_map statement_name label (filter (is_label_of given.statements) (labels_named (given_names given) given.statements)) (known label n among stands))
 
   of_loop : (name : List ℕ) (k count : ℕ) → k < length (whiles_in u.marks) → do_whiles given ≤ count → name ≡ made_name (MadeLabel (suc k)) → IsIn name (made_labels count)
   of_loop name k count less most is = subst (λ x. IsIn x (made_labels count)) (sym is) (in_made k count (omega (arith, whiles, less, most)))

@@ -1,6 +1,8 @@
 -- What is read of the statements of a unit has their loops and their labels.
+use Rattle.std.specs.List.{list_all}
 use Rattle.std.specs.Prelude.{◌≡◌, ℕ, ◌+◌, Bool, true, false, List, [], ◌∷◌, ◌++◌, map, Option, Some, None, if◌then◌else◌}
-use Rattle.std.proofs.Common.{refl}
+use Rattle.std.proofs.Common.{refl, subst}
+use Rattle.std.proofs.lemmas.Bool.{and_parts}
 use Rattle.loop_marks.specs.l_core.f_tree.declared.expressions.Expr.{Expr}
 use Rattle.loop_marks.specs.l_core.f_tree.declared.names.Options.{Options}
 use Rattle.loop_marks.specs.l_core.f_tree.declared.statements.Body as whole
@@ -21,7 +23,10 @@ use Rattle.loop_marks.specs.l_core.f_tree.Reading.{Read, read}
 use Rattle.loop_marks.specs.l_core.f_tree.Uses.{heading_of}
 use Rattle.loop_marks.specs.l_core.f_tree.Setting.{IsIn, first_in, later_in}
 use Rattle.loop_marks.specs.lowering.Units.{label_in, named_by, named_by_head, all_named}
+use Rattle.translated_files.specs.declaration_rows.NameRows.{given_names}
+use Rattle.translated_files.specs.translated_forms.LoweredForms.{value_lowers, layer_statement, statement_lowers, statements_lower}
 use Rattle.kept_loops.specs.SourceLoops.{layer_do, layer_while, count_in, label_after, labels_of_controls, layer_labels, labels_named}
+use Rattle.kept_loops.proofs.ArgumentLabels.{arguments_pass}
 
 -- ## Assignments
 
@@ -200,15 +205,15 @@ nowhere : {A : Type 0} → (x : A) (xs ys : List A) → xs ≡ [] → IsIn x xs 
 nowhere x [] ys none among = elim among [ ]
 nowhere x (y ∷ xs) ys none among = absurd (cc)
 
-labels_read : (names : Naming) (b : Body) (label : ℕ) → IsIn label (named_by (form_of names b)) → IsIn label (fold_body layer_labels b)
-unfolding form_of fold_body layer_form layer_labels named_by named_by_head transfer_form auxiliary_form controls_of
-labels_read names (IfOne' e s (more_of-Body b r)) label among = labels_read names b label among
-labels_read names (whole.Assign target e) label among = nowhere label (named_by (assign_form names target e)) [] (named_assigned (assign_form names target e) (assignment_is names target e)) among
-labels_read names (whole.Return e) label among = nowhere label (named_by (return_form names e)) [] (named_returned names e) among
-labels_read names (whole.Call x es) label among = elim among [ ]
-labels_read names (whole.Transfer way controls items) label among = controls_named _ names controls label among
-labels_read names (whole.Auxiliary which controls) label among = controls_named _ names controls label among
-labels_read names b label among = among
+labels_read : (names : Naming) (b : Body) → statement_lowers names b ≡ true → (label : ℕ) → IsIn label (named_by (form_of names b)) → IsIn label (fold_body (layer_labels names) b)
+unfolding form_of fold_body layer_form layer_labels named_by named_by_head transfer_form auxiliary_form controls_of statement_lowers layer_statement
+labels_read names (IfOne' e s (more_of-Body b r)) h label among = labels_read names b (and_parts (statement_lowers names b) (value_lowers names e) h).0 label among
+labels_read names (whole.Assign target e) h label among = nowhere label (named_by (assign_form names target e)) [] (named_assigned (assign_form names target e) (assignment_is names target e)) among
+labels_read names (whole.Return e) h label among = nowhere label (named_by (return_form names e)) [] (named_returned names e) among
+labels_read names (whole.Call x es) h label among = subst (IsIn label) (arguments_pass names es h) among
+labels_read names (whole.Transfer way controls items) h label among = controls_named _ names controls label among
+labels_read names (whole.Auxiliary which controls) h label among = controls_named _ names controls label among
+labels_read names b h label among = among
 
 -- ## Statements in their order
 
@@ -222,19 +227,25 @@ unfolding line_of count_in
 whiles_of_lines names labels [] = refl
 whiles_of_lines names labels (s ∷ ss) = (λ k. whiles_read names s.body k + whiles_of_lines names labels ss k)
 
-pub labels_of_lines : (names : Naming) (labels : List ℕ) (ss : List Stmt) (label : ℕ) → IsIn label (all_named (map (line_of names labels) ss)) → IsIn label (labels_named ss)
-unfolding line_of all_named labels_named
-labels_of_lines names labels [] label among = among
-labels_of_lines names labels (s ∷ ss) label among =
-    from_two label (named_by (form_of names s.body)) (all_named (map (line_of names labels) ss)) (fold_body layer_labels s.body ++ labels_named ss) among
-    (λ one. to_front label (fold_body layer_labels s.body) (labels_named ss) (labels_read names s.body label one))
-    (λ other. to_back label (fold_body layer_labels s.body) (labels_named ss) (labels_of_lines names labels ss label other))
+-- where the statements are lowered
+pub labels_of_lines : (names : Naming) (labels : List ℕ) (ss : List Stmt) → statements_lower names ss ≡ true → (label : ℕ) → IsIn label (all_named (map (line_of names labels) ss)) → IsIn label (labels_named names ss)
+unfolding line_of all_named labels_named statements_lower
+labels_of_lines names labels [] h label among = among
+labels_of_lines names labels (s ∷ ss) h label among =
+    let parts = and_parts (statement_lowers names s.body) (list_all (λ (x : Stmt). statement_lowers names x.body) ss) h in
+    from_two label (named_by (form_of names s.body)) (all_named (map (line_of names labels) ss)) (fold_body (layer_labels names) s.body ++ labels_named names ss) among
+    (λ one. to_front label (fold_body (layer_labels names) s.body) (labels_named names ss) (labels_read names s.body parts.0 label one))
+    (λ other. to_back label (fold_body (layer_labels names) s.body) (labels_named names ss) (labels_of_lines names labels ss parts.1 label other))
 
 -- ## The unit
 
 pub lines_read : (options : Options) (u : GivenUnit) → (labels : List ℕ) × ((unit_read options u).lines ≡ map (line_of (unit_read options u).attribute labels) u.statements)
 unfolding unit_read with_ties program_of
 lines_read options u = (_, refl)
+
+pub names_read : (options : Options) (u : GivenUnit) → (unit_read options u).attribute ≡ given_names u
+unfolding unit_read with_ties program_of given_names
+names_read options u = refl
 
 pub once_read : (options : Options) (u : GivenUnit) → (unit_read options u).onetrip ≡ options.onetrip
 unfolding unit_read with_ties program_of

@@ -7,6 +7,7 @@ use Rattle.translated_files.specs.f_tree.Facts.{ProgramUnit, Facts}
 use Rattle.translated_files.specs.f_tree.Lines.{line_of, unit_read}
 use Rattle.translated_files.specs.f_tree.Meaning.{facts_at}
 use Rattle.translated_files.specs.f_tree.Setting.{IsIn}
+use Rattle.translated_files.specs.declaration_rows.NameRows.{given_names}
 use Rattle.translated_files.specs.l_core.Steps.{Text}
 use Rattle.translated_files.specs.lowering.Units.{start_of, all_named, lowered_unit}
 use Rattle.translated_files.specs.c_tree.CLabels.{labels_of_all}
@@ -22,6 +23,7 @@ use Rattle.translated_files.specs.unit_translation.behind_bounds.BehindBounds.{b
 use Rattle.translated_files.specs.unit_translation.UnitFlow.{kind_before, are_in_place}
 use Rattle.translated_files.specs.named_units.NamedUnits.{known_for, layout_for, named_items_of, named_body_of}
 use Rattle.translated_files.specs.unit_forms.OwnSetting.{own_facts}
+use Rattle.translated_files.specs.translated_forms.LoweredForms.{statements_lower}
 use Rattle.behind_units.specs.BehindUnits.{LoweredUnitsStandBehind}
 use Rattle.loop_marks.specs.c_loops.Loops.{Loops, loops_by, loops_of_all}
 use Rattle.loop_marks.specs.c_loops.KeptLayouts.{loops_from, EachStructureIsKept}
@@ -30,7 +32,7 @@ use Rattle.loop_marks.specs.MarkedLoops.{EachTextMarksItsLoops, EachBranchIsName
 use Rattle.loop_marks.proofs.Whole.{text_of}
 use Rattle.kept_loops.specs.SourceLoops.{do_statements, do_whiles, implied_dos, labels_named, is_label_of}
 use Rattle.kept_loops.specs.KeptFunctions.{KeepsLoops}
-use Rattle.kept_loops.proofs.SourceForms.{all_dos, all_whiles, dos_of_lines, whiles_of_lines, labels_of_lines, lines_read, once_read}
+use Rattle.kept_loops.proofs.SourceForms.{all_dos, all_whiles, dos_of_lines, whiles_of_lines, labels_of_lines, lines_read, names_read, once_read}
 use Rattle.kept_loops.proofs.Direct.{IsPlain, dos_are, whiles_are, dos_plain}
 use Rattle.kept_loops.proofs.BehindKept.{labels_same, stood_before, late, marked_behind}
 use Rattle.kept_loops.proofs.Items.{many_behind, made_behind, begin_from}
@@ -87,7 +89,8 @@ dos_by : (once : Bool) (n : ℕ) → (loops_by once n).dos ≡ (if once then n e
 dos_by true n = refl
 dos_by false n = refl
 
-module _ (built : EachStructureIsKept) (marked : EachTextMarksItsLoops) (branches : EachBranchIsNamed) (stand : LoweredUnitsStandBehind) (options : Options) (given : GivenUnit) (c : Facts) (program : c.program ≡ unit_read options given) (plain : IsPlain (unit_read options given)) where
+module _ (built : EachStructureIsKept) (marked : EachTextMarksItsLoops) (branches : EachBranchIsNamed) (stand : LoweredUnitsStandBehind) (options : Options) (given : GivenUnit) (c : Facts) (program : c.program ≡ unit_read options given) (plain : IsPlain (unit_read options given))
+    (lowers : statements_lower (given_names given) given.statements ≡ true) where
   lines_are : (labels : List ℕ) × (c.program.lines ≡ map (line_of (unit_read options given).attribute labels) given.statements)
   lines_are = let read = lines_read options given in (read.0, ap (λ (p : ProgramUnit). p.lines) program ∙ read.1)
 
@@ -103,9 +106,11 @@ module _ (built : EachStructureIsKept) (marked : EachTextMarksItsLoops) (branche
   whiles_counted : whiles_among c.program.lines ≡ do_whiles given
   whiles_counted = whiles_are c.program.lines plain_lines.direct ∙ ap all_whiles lines_are.1 ∙ whiles_of_lines (unit_read options given).attribute lines_are.0 given.statements
 
-  labels_known : (u : Text) → lowered_unit c ≡ Some u → (label : ℕ) → IsIn label (labels_in u.steps) → IsIn label (labels_named given.statements)
+  labels_known : (u : Text) → lowered_unit c ≡ Some u → (label : ℕ) → IsIn label (labels_in u.steps) → IsIn label (labels_named (given_names given) given.statements)
   labels_known u lowered label among =
-      labels_of_lines (unit_read options given).attribute lines_are.0 given.statements label (subst (λ ls. IsIn label (all_named ls)) lines_are.1 (branches c u lowered label among))
+      subst (λ names. IsIn label (labels_named names given.statements)) (names_read options given)
+      (labels_of_lines (unit_read options given).attribute lines_are.0 given.statements (subst (λ names. statements_lower names given.statements ≡ true) (sym (names_read options given)) lowers) label
+      (subst (λ ls. IsIn label (all_named ls)) lines_are.1 (branches c u lowered label among)))
 
   labels_stand : (u : Text) → lowered_unit c ≡ Some u → (label n : ℕ) → stands_at (u.position label) n ≡ true → is_label_of given.statements label ≡ true
   labels_stand u lowered label n stands =
@@ -113,13 +118,13 @@ module _ (built : EachStructureIsKept) (marked : EachTextMarksItsLoops) (branche
       let lines : u.facts.program.lines ≡ map (line_of (unit_read options given).attribute lines_are.0) given.statements = ap (λ (d : Facts). d.program.lines) (sym text.facts) ∙ lines_are.1 in
       of_statements u.facts.program (start_of u.facts.program) (unit_read options given).attribute lines_are.0 given.statements label n lines (ap (λ place. stands_at (place label) n) (sym text.places) ∙ stands)
 
-  labels_are_own : (u : Text) → lowered_unit c ≡ Some u → (label n : ℕ) → IsIn label (labels_in u.steps) → stands_at (u.position label) n ≡ true → IsIn label (filter (is_label_of given.statements) (labels_named given.statements))
+  labels_are_own : (u : Text) → lowered_unit c ≡ Some u → (label n : ℕ) → IsIn label (labels_in u.steps) → stands_at (u.position label) n ≡ true → IsIn label (filter (is_label_of given.statements) (labels_named (given_names given) given.statements))
   labels_are_own u lowered label n among stands =
-      in_filter (is_label_of given.statements) label (labels_named given.statements) (labels_known u lowered label among) (labels_stand u lowered label n stands)
+      in_filter (is_label_of given.statements) label (labels_named (given_names given) given.statements) (labels_known u lowered label among) (labels_stand u lowered label n stands)
 
   -- and behind what is kept before the text
   labels_stay_own : (u : Text) → lowered_unit c ≡ Some u → (first label n : ℕ) → IsIn label (labels_in (behind first u).steps) → stands_at ((behind first u).position label) n ≡ true
-      → IsIn label (filter (is_label_of given.statements) (labels_named given.statements))
+      → IsIn label (filter (is_label_of given.statements) (labels_named (given_names given) given.statements))
   labels_stay_own u lowered first label n among stands =
       let own = stood_before first n u.position label stands in
       labels_are_own u lowered label own.0 (subst (IsIn label) (labels_same first u.steps) among) own.1

@@ -25,6 +25,7 @@ use Rattle.translated_files.specs.f_tree.declared.statements.Stmt.{Stmt}
 use Rattle.translated_files.specs.f_tree.declared.statements.UnitKind.TheVariants as kind
 use Rattle.translated_files.specs.f_tree.declared.units.Unit.{Unit as GivenUnit}
 use Rattle.translated_files.specs.f_tree.CNames.{is_among}
+use Rattle.translated_files.specs.declaration_rows.NameRows.{given_names}
 use Rattle.translated_files.specs.c_tree.CLabels.{labels_of_all}
 use Rattle.translated_files.specs.c_tree.declared.expression.BinaryOp.TheVariants as c_op
 use Rattle.translated_files.specs.c_tree.declared.expression.CExpr.TheVariants as c_expr
@@ -127,7 +128,7 @@ pub record ExampleIsCounted : Type 0 where
   pub whiles : do_whiles looped ≡ 1
   pub no_transfers : transfers looped ≡ 0
   pub no_implied : implied_dos looped ≡ 0
-  pub labels : labels_named looped.statements ≡ 20 ∷ []
+  pub labels : labels_named (given_names looped) looped.statements ≡ 20 ∷ []
   pub allowed : labels_allowed looped ≡ codes "L20" ∷ codes "L__1" ∷ []
   -- it is translated; where loops are run at least once, with a `do` for each DO
   pub loops : translated false ≡ Some (((record { fors = 2; dos = 0 }, codes "L__1" ∷ codes "L20" ∷ [], in_order) ∷ []) ∷ [])

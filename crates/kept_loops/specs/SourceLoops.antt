@@ -1,8 +1,10 @@
 -- The loops and the transfers of a program unit, and the labels where its statements may lead; a statement that a logical IF guards counts as any other.
 -- ANSI X3.9-1978, sections 3.4, 10.3, 11.1 to 11.4, 11.10, 12.7, 12.8 and 15.6.2.3; MIL-STD-1753 for DO WHILE.
 use Rattle.std.specs.List.{sum, list_any, flat_map}
-use Rattle.std.specs.Prelude.{ℕ, zero, suc, ◌+◌, Bool, List, [], ◌∷◌, ◌++◌, map, filter}
+use Rattle.std.specs.Prelude.{ℕ, zero, suc, ◌+◌, Bool, List, [], ◌∷◌, ◌++◌, map, filter, Option, Some}
 use Rattle.loop_marks.specs.l_core.f_tree.declared.expressions.Expr.TheOpen as expr
+use Rattle.loop_marks.specs.l_core.f_tree.declared.names.Class.{Class}
+use Rattle.loop_marks.specs.l_core.f_tree.declared.names.Class.TheVariants as class
 use Rattle.loop_marks.specs.l_core.f_tree.declared.statements.Body.TheOpen as body
 use Rattle.loop_marks.specs.l_core.f_tree.declared.statements.Control.{Control}
 use Rattle.loop_marks.specs.l_core.f_tree.declared.statements.ControlValue.{ControlValue}
@@ -12,10 +14,13 @@ use Rattle.loop_marks.specs.l_core.f_tree.declared.statements.ControlWord.TheVar
 use Rattle.loop_marks.specs.l_core.f_tree.declared.statements.ListItem.TheOpen as item
 use Rattle.loop_marks.specs.l_core.f_tree.declared.statements.Stmt.{Stmt}
 use Rattle.loop_marks.specs.l_core.f_tree.declared.units.Unit.{Unit as GivenUnit}
+use Rattle.loop_marks.specs.l_core.f_tree.Values.{Datum, IsLabel}
 use Rattle.loop_marks.specs.l_core.f_tree.CNames.{made_name, StatementLabel, EntryLabel, MadeLabel}
 use Rattle.loop_marks.specs.l_core.f_tree.Attributes.{own_names}
 use Rattle.loop_marks.specs.l_core.f_tree.Folds.{fold_body, fold_expr, fold_item}
+use Rattle.loop_marks.specs.l_core.f_tree.Lines.{Naming}
 use Rattle.loop_marks.specs.l_core.f_tree.Places.{has_label}
+use Rattle.translated_files.specs.declaration_rows.NameRows.{given_names}
 
 -- ## Loops and transfers
 
@@ -67,10 +72,18 @@ implied_dos u = count_in layer_implied u.statements
 
 -- ## Labels that are named
 
--- the label of an alternate return argument (15.6.2.3)
-unfoldable pub layer_argument : expr.Expr-F (List ℕ) → List ℕ
-layer_argument (expr.AltReturn label) = label ∷ []
-layer_argument e = []
+-- the label that a constant is, if it is one
+unfoldable pub constant_label : Class → Option Datum → List ℕ
+constant_label class.Constant (Some (IsLabel label)) = label ∷ []
+constant_label other datum = []
+
+-- the label that an argument passes: that of an alternate return (15.6.2.3), which a constant, a sign or parentheses would only hand on
+unfoldable pub layer_argument : Naming → expr.Expr-F (List ℕ) → List ℕ
+layer_argument names (expr.Name x) = constant_label (names x).class (names x).constant
+layer_argument names (expr.Plus labels) = labels
+layer_argument names (expr.Paren labels) = labels
+layer_argument names (expr.AltReturn label) = label ∷ []
+layer_argument names e = []
 
 -- the labels of ERR= and END= (12.7.1 and 12.7.2)
 unfoldable pub label_after : ControlWord → ControlValue → List ℕ
@@ -84,21 +97,21 @@ labels_of_controls (c ∷ cs) = label_after c.word c.value ++ labels_of_controls
 
 -- one layer of a statement, given the labels that the statement of a logical IF names: ASSIGN (10.3), GO TO (11.1 to 11.3), the arithmetic IF (11.4), CALL,
 -- and input and output
-unfoldable pub layer_labels : body.Body-F (List ℕ) → List ℕ
-layer_labels (body.AssignLabel label x) = label ∷ []
-layer_labels (body.Goto label) = label ∷ []
-layer_labels (body.GotoList labels e) = labels
-layer_labels (body.GotoName x labels) = labels
-layer_labels (body.IfSign e below at above) = below ∷ at ∷ above ∷ []
-layer_labels (body.IfOne e labels) = labels
-layer_labels (body.Call x es) = flat_map (fold_expr layer_argument) es
-layer_labels (body.Transfer way controls items) = labels_of_controls controls
-layer_labels (body.Auxiliary which controls) = labels_of_controls controls
-layer_labels b = []
+unfoldable pub layer_labels : Naming → body.Body-F (List ℕ) → List ℕ
+layer_labels names (body.AssignLabel label x) = label ∷ []
+layer_labels names (body.Goto label) = label ∷ []
+layer_labels names (body.GotoList labels e) = labels
+layer_labels names (body.GotoName x labels) = labels
+layer_labels names (body.IfSign e below at above) = below ∷ at ∷ above ∷ []
+layer_labels names (body.IfOne e labels) = labels
+layer_labels names (body.Call x es) = flat_map (fold_expr (layer_argument names)) es
+layer_labels names (body.Transfer way controls items) = labels_of_controls controls
+layer_labels names (body.Auxiliary which controls) = labels_of_controls controls
+layer_labels names b = []
 
-unfoldable pub labels_named : List Stmt → List ℕ
-labels_named [] = []
-labels_named (s ∷ ss) = fold_body layer_labels s.body ++ labels_named ss
+unfoldable pub labels_named : Naming → List Stmt → List ℕ
+labels_named names [] = []
+labels_named names (s ∷ ss) = fold_body (layer_labels names) s.body ++ labels_named names ss
 
 -- one of some statements has a label (3.4)
 unfoldable pub is_label_of : List Stmt → ℕ → Bool
@@ -108,7 +121,7 @@ is_label_of ss label = list_any (λ (s : Stmt). has_label s.label label) ss
 
 -- of the labels of a unit that its statements name
 unfoldable pub statement_labels : GivenUnit → List (List ℕ)
-statement_labels u = map (λ label. made_name (StatementLabel label)) (filter (is_label_of u.statements) (labels_named u.statements))
+statement_labels u = map (λ label. made_name (StatementLabel label)) (filter (is_label_of u.statements) (labels_named (given_names u) u.statements))
 
 -- so many made labels
 unfoldable pub made_labels : ℕ → List (List ℕ)
@@ -121,5 +134,5 @@ unfoldable pub labels_allowed : GivenUnit → List (List ℕ)
 labels_allowed u = statement_labels u ++ (map (λ x. made_name (EntryLabel x)) (own_names u) ++ made_labels (transfers u + do_whiles u))
 
 unfoldable pub source_loops_opened : Unit {0}
-unfolding layer_do layer_while layer_transfer layer_item layer_implied count_in layer_argument label_after labels_of_controls layer_labels labels_named is_label_of statement_labels made_labels labels_allowed
+unfolding layer_do layer_while layer_transfer layer_item layer_implied count_in constant_label layer_argument label_after labels_of_controls layer_labels labels_named is_label_of statement_labels made_labels labels_allowed
 source_loops_opened = tt

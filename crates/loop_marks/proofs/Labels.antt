@@ -10,9 +10,9 @@ use Rattle.lowering.specs.l_core.f_tree.Nests.{Range}
 use Rattle.lowering.specs.l_core.f_tree.Step.{contains}
 use Rattle.lowering.specs.l_core.f_tree.Setting.{IsIn, first_in, later_in}
 use Rattle.lowering.specs.l_core.Pures.{Pure, Pures, NoPure, AndPure}
-use Rattle.lowering.specs.l_core.Steps.{Step, Keep, Jump, Again, AgainIf}
+use Rattle.lowering.specs.l_core.Steps.{Step, Keep, Jump, Way, Again, AgainIf}
 use Rattle.lowering.specs.Expressions.{Purpose, ForUse, ForCall, ForReading, ForLater, Lowered, plain, and_then, no_operand, ahead, is_library, for_place, for_function, for_fetch, Shape, AsFetch, AsElement, AsAlone, AsPart, AsJoined, AsBefore, AsBetween, AsFunction, AsReference, pure_of, kept_steps, function_steps, closing, shaped, may_decide, takes_steps, guarded, lowered_between, in_order, lower, lower_all}
-use Rattle.lowering.specs.Statements.{behind_operands, with_operands, put_code, put_label_code, select_code, each_once, jump_by_code, sign_code, unless_code, guard_code, loop_operands, test_by, loop_test, loop_code, back_by, turn_code, passes_label, branch_code, call_code, back_code, item_purpose, item_code, work_code, begin_code, auxiliary_code, form_code, head_code}
+use Rattle.lowering.specs.Statements.{behind_operands, with_operands, put_code, put_label_code, select_code, each_once, jump_by_code, sign_code, unless_code, guard_code, loop_operands, test_by, loop_test, loop_code, back_by, turn_code, labels_written, hides_labels, call_steps, call_code, back_code, item_purpose, item_code, work_code, begin_code, auxiliary_code, form_code, head_code}
 use Rattle.lowering.specs.Units.{free_at, label_in, named_by, named_by_head, all_named, is_named, pass_code, is_counted, turn_size, own_end, ended_at, room_of, way_back, turn_of, turns_of, skip_code, line_code, lines_code, loop_lowered}
 use Rattle.main_translation.specs.Outlined.{labels_in}
 use Rattle.loop_marks.proofs.Codes.{tests_back}
@@ -25,6 +25,7 @@ labels_both : (xs ys : List Step) → labels_in (xs ++ ys) ≡ labels_in xs ++ l
 unfolding labels_in
 labels_both [] ys = refl
 labels_both (Jump label ∷ xs) ys = ap (λ ls. label ∷ ls) (labels_both xs ys)
+labels_both (Way label ∷ xs) ys = ap (λ ls. label ∷ ls) (labels_both xs ys)
 labels_both (st ∷ xs) ys = labels_both xs ys
 
 record Within (labels : List ℕ) (xs : List Step) : Type 0 where
@@ -46,9 +47,10 @@ within_both labels xs ys one other = record { at = λ label among. from_both lab
 
 -- ## Steps that go on behind them
 
--- neither a branch to a label nor a test that goes back
+-- neither a branch to a label, nor a way to one, nor a test that goes back
 abbrev pub is_quiet : Step → Bool
 is_quiet (Jump label) = false
+is_quiet (Way label) = false
 is_quiet (AgainIf test size) = false
 is_quiet st = true
 
@@ -63,6 +65,7 @@ quiet_labels : (xs : List Step) → are_quiet xs ≡ true → labels_in xs ≡ [
 unfolding labels_in
 quiet_labels [] quiet = refl
 quiet_labels (Jump label ∷ xs) quiet = absurd (cc)
+quiet_labels (Way label ∷ xs) quiet = absurd (cc)
 quiet_labels (st ∷ xs) quiet = quiet_labels xs (and_parts (is_quiet st) (are_quiet xs) quiet).1
 
 still_one : (st : Step) → is_quiet st ≡ true → tests_back st ≡ false
@@ -266,14 +269,36 @@ unfolding loop_code labels_in
 loop_within labels once n (AndPure x (AndPure first (AndPure limit (AndPure by NoPure)))) later h = given labels _ later (test_quiet once (test_by x limit by) n) h
 loop_within labels once n ps later h = absurd (cc)
 
-branch_quiet : (labels : Bool) (k : ℕ) → are_quiet (branch_code labels k) ≡ true
-unfolding branch_code labels_in
-branch_quiet true k = refl
-branch_quiet false k = refl
+ways_are : (labels : List ℕ) → labels_in (map Way labels) ≡ labels
+unfolding labels_in
+ways_are [] = refl
+ways_are (label ∷ labels) = ap (λ ls. label ∷ ls) (ways_are labels)
 
-call_within : (labels : List ℕ) (k : ℕ) (name : _) (passes : Bool) (ps : Pures) (later : List Step) → call_code k name passes ps ≡ Some later → Onward labels later
-unfolding call_code labels_in
-call_within labels k name passes ps later h = given labels _ later (branch_quiet passes k) h
+ways_still : (labels : List ℕ) → list_any tests_back (map Way labels) ≡ false
+ways_still [] = refl
+ways_still (label ∷ labels) = ways_still labels
+
+-- a CALL branches to the labels that are written among its operands
+call_labels : (k : ℕ) (name : _) (labels : List ℕ) (ps : Pures) → labels_in (call_steps k name labels ps) ≡ labels
+unfolding call_steps labels_in
+call_labels k name [] ps = refl
+call_labels k name (label ∷ labels) ps = ways_are (label ∷ labels)
+
+call_still : (k : ℕ) (name : _) (labels : List ℕ) (ps : Pures) → list_any tests_back (call_steps k name labels ps) ≡ false
+unfolding call_steps
+call_still k name [] ps = refl
+call_still k name (label ∷ labels) ps = ways_still (label ∷ labels)
+
+shown_within : (hidden : Bool) (labels : List ℕ) (code later : List Step) → ((label : ℕ) → IsIn label (labels_in code) → IsIn label labels) → list_any tests_back code ≡ false → (if hidden then None else Some code) ≡ Some later
+    → Onward labels later
+shown_within true labels code later each still h = absurd (cc)
+shown_within false labels code later each still h = is_within labels code later each still h
+
+call_within : (k : ℕ) (name : _) (operands : Terms) (ps : Pures) (later : List Step) → call_code k name operands ps ≡ Some later → Onward (labels_written operands) later
+unfolding call_code
+call_within k name operands ps later h =
+    let labels = labels_written operands in
+    shown_within (hides_labels operands) labels (call_steps k name labels ps) later (λ label among. subst (IsIn label) (call_labels k name labels ps) among) (call_still k name labels ps) h
 
 back_within : (labels : List ℕ) (ps : Pures) (later : List Step) → back_code ps ≡ Some later → Onward labels later
 unfolding back_code labels_in
@@ -320,7 +345,7 @@ form_within once k n (On (head.ToGuard form) ts) own h = guard_within (named_by 
 form_within once k n (On head.ToEnterArm ts) own h = with_within [] _ (unless_code n []) own (lower_all_quiet NoPure ForUse k ts) (λ ps later is. unless_within [] n [] ps later (quiet [] [] refl) is) h
 form_within once k n (On (head.ToLoop label) ts) own h = with_within [] _ (loop_code once n) own (loop_quiet k ts) (λ ps later is. loop_within [] once n ps later is) h
 form_within once k n (On (head.ToTestLoop label) ts) own h = with_within [] _ (unless_code n []) own (lower_all_quiet NoPure ForUse k ts) (λ ps later is. unless_within [] n [] ps later (quiet [] [] refl) is) h
-form_within once k n (On (head.ToCall name) ts) own h = with_within [] _ (call_code k name (passes_label ts)) own (lower_all_quiet NoPure ForCall k ts) (λ ps later is. call_within [] k name (passes_label ts) ps later is) h
+form_within once k n (On (head.ToCall name) ts) own h = with_within (labels_written ts) _ (call_code k name ts) own (lower_all_quiet NoPure ForCall k ts) (λ ps later is. call_within k name ts ps later is) h
 form_within once k n (On head.ToReturn ts) own h = with_within [] _ back_code own (lower_all_quiet NoPure ForUse k ts) (λ ps later is. back_within [] ps later is) h
 form_within once k n (On (head.ToStop text) NoMore) own h = given [] _ own refl h
 form_within once k n (On (head.ToStop text) (More t ts)) own h = absurd (cc)

@@ -8,6 +8,7 @@ use Rattle.lowering.specs.l_core.f_tree.Places.{place_of_label}
 use Rattle.lowering.specs.l_core.Steps.{Step, Text}
 use Rattle.lowering.specs.Units.{start_of, all_named, lines_code, lines_marks, text_with, lowered_unit}
 use Rattle.loop_marks.specs.MarkedLoops.{dos_are_plain, EachTextMarksItsLoops, EachBranchIsNamed}
+use Rattle.ways_back.proofs.LoweredTexts.{text_lowered}
 use Rattle.loop_marks.proofs.Labels.{lines_within}
 use Rattle.loop_marks.proofs.Starts.{loops_are_marked}
 
@@ -32,8 +33,7 @@ text_by c u (Some steps) is h =
     subst (IsTextOf c) same (record { facts = refl; steps = is; places = refl; marks = refl })
 
 pub text_of : (c : Facts) (u : Text) → lowered_unit c ≡ Some u → IsTextOf c u
-unfolding lowered_unit
-text_of c u h = text_by c u (lines_code c.program 0 c.program.lines) refl h
+text_of c u h = text_by c u (lines_code c.program 0 c.program.lines) refl (text_lowered c u h)
 
 pub each_text_marks_its_loops : EachTextMarksItsLoops
 each_text_marks_its_loops c u plain ends h =

@@ -1,14 +1,14 @@
 -- Each node of a statement as it is read keeps one temporary at most, and passes three values at most.
-use Rattle.std.specs.Prelude.{ℕ, suc, ◌+◌, ◌*◌, ◌≤◌, Bool, true, false, List, [], ◌∷◌, ◌++◌, length, map, Option, Some, None}
+use Rattle.std.specs.Prelude.{ℕ, suc, ◌+◌, ◌*◌, ◌≤◌, Bool, true, false, List, [], ◌∷◌, ◌++◌, length, map, Option, Some, None, if◌then◌else◌}
 use Rattle.std.proofs.Common.{arith}
 use Rattle.lowered_sizes.specs.l_core.f_tree.Values.{Bytes}
 use Rattle.lowered_sizes.specs.l_core.f_tree.Terms.{Term, Terms, NoMore, More, any_refers}
 use Rattle.lowered_sizes.specs.l_core.f_tree.Facts as work
 use Rattle.lowered_sizes.specs.l_core.f_tree.Facts.{Direction, Layout, Controls, AuxiliaryKind, Work, Done, Head, ToSet, ToSetLabel, ToGo, ToPick, ToGoAssigned, ToGoBySign, ToGuard, ToEnterArm, ToLoop, ToTestLoop, ToCall, ToReturn, ToStop, ToBegin, ToAuxiliary, ToEnd, Form, Passes, On}
 use Rattle.lowered_sizes.specs.l_core.Pures.{Pure, Pures, NoPure, AndPure}
-use Rattle.lowered_sizes.specs.l_core.Steps.{Takes, Step, Put, Jump, CallSub, Back, Halt, Acts}
+use Rattle.lowered_sizes.specs.l_core.Steps.{Takes, Step, Put, Jump, Way, Back, Halt, Acts}
 use Rattle.lowered_sizes.specs.lowering.Expressions.{ForUse, ForCall, ForLater, Lowered, ahead, lower, lower_all}
-use Rattle.lowered_sizes.specs.lowering.Statements.{behind_operands, with_operands, put_code, put_label_code, select_code, each_once, jump_by_code, sign_code, unless_code, guard_code, loop_operands, test_by, loop_test, loop_code, passes_label, branch_code, call_code, back_code, item_purpose, item_code, work_code, begin_code, auxiliary_code, form_code, head_code}
+use Rattle.lowered_sizes.specs.lowering.Statements.{behind_operands, with_operands, put_code, put_label_code, select_code, each_once, jump_by_code, sign_code, unless_code, guard_code, loop_operands, test_by, loop_test, loop_code, labels_written, hides_labels, call_steps, call_code, back_code, item_purpose, item_code, work_code, begin_code, auxiliary_code, form_code, head_code}
 use Rattle.lowered_sizes.specs.lowering.Units.{steps_of}
 use Rattle.lowered_sizes.specs.ReadNodes.{term_nodes, terms_nodes, job_nodes, work_nodes, form_nodes, head_nodes}
 use Rattle.unit_translation.specs.UnitContents.{temporaries_kept}
@@ -115,20 +115,36 @@ auxiliary_idle which controls ps = record { kept = omega arith; values = omega a
 
 -- ## Calls, conditions and loops
 
-branch_has : (labels : Bool) (k : ℕ) (name : Bytes) (ps : Pures) → Has 0 (count ps) 0 (CallSub k name ps ∷ branch_code labels k)
-unfolding branch_code temporaries_kept all_passed passed strings_bytes string_bytes
-branch_has true k name ps = record { kept = omega arith; values = omega arith; bytes = omega arith }
-branch_has false k name ps = record { kept = omega arith; values = omega arith; bytes = omega arith }
+ways_idle : (labels : List ℕ) → Has 0 0 0 (map Way labels)
+unfolding temporaries_kept all_passed passed strings_bytes string_bytes
+ways_idle [] = has_none 0
+ways_idle (label ∷ labels) = idle_ahead (Way label) (map Way labels) (record { kept = omega arith; values = omega arith; bytes = omega arith }) (ways_idle labels)
 
-call_has : (k : ℕ) (name : Bytes) (labels : Bool) (ps : Pures) → Has 0 (count ps) 0 (steps_of (call_code k name labels ps))
-unfolding call_code steps_of
-call_has k name labels ps = branch_has labels k name ps
+-- the call of a subroutine to which labels are passed keeps the number of its alternate return
+steps_have : (k : ℕ) (name : Bytes) (labels : List ℕ) (ps : Pures) → Has (suc k) (count ps) 0 (call_steps k name labels ps)
+unfolding call_steps temporaries_kept all_passed passed strings_bytes string_bytes
+steps_have k name [] ps = record { kept = omega arith; values = omega arith; bytes = omega arith }
+steps_have k name (label ∷ labels) ps =
+    let ways = ways_idle (label ∷ labels) in
+    let kept = ways.kept in
+    let values = ways.values in
+    let bytes = ways.bytes in
+    record { kept = omega (arith, kept); values = omega (arith, values); bytes = omega (arith, bytes) }
 
-called : (k n : ℕ) (name : Bytes) (labels : Bool) (l : Lowered Pures) → FewAll k n l → Needs k (suc (0 + n)) 0 (with_operands l (call_code k name labels))
-called k n name labels l few =
-    has_more (k + (n + 0)) (k + suc (0 + n)) (3 * (n + 0)) (3 * suc (0 + n)) (n + 0 + 0) (suc (0 + n) + 0) (steps_of (with_operands l (call_code k name labels))) (omega arith) (omega arith) (omega arith)
-    (with_needs k n 0 0 l (call_code k name labels) few
-    (λ ps. has_more 0 (k + (n + 0)) (count ps) (count ps + 3 * 0) 0 (0 + 0) (steps_of (call_code k name labels ps)) (omega arith) (omega arith) (omega arith) (call_has k name labels ps)))
+shown_has : (hidden : Bool) (top most : ℕ) (steps : List Step) → Has top most 0 steps → Has top most 0 (steps_of (if hidden then None else Some steps))
+unfolding steps_of
+shown_has true top most steps h = has_more 0 top 0 most 0 0 [] (omega arith) (omega arith) (omega arith) (has_none 0)
+shown_has false top most steps h = h
+
+call_has : (k : ℕ) (name : Bytes) (operands : Terms) (ps : Pures) → Has (suc k) (count ps) 0 (steps_of (call_code k name operands ps))
+unfolding call_code
+call_has k name operands ps = shown_has (hides_labels operands) (suc k) (count ps) (call_steps k name (labels_written operands) ps) (steps_have k name (labels_written operands) ps)
+
+called : (k n : ℕ) (name : Bytes) (operands : Terms) (l : Lowered Pures) → FewAll k n l → Needs k (suc (0 + n)) 0 (with_operands l (call_code k name operands))
+called k n name operands l few =
+    has_more (k + (n + 1)) (k + suc (0 + n)) (3 * (n + 1)) (3 * suc (0 + n)) (n + 1 + 0) (suc (0 + n) + 0) (steps_of (with_operands l (call_code k name operands))) (omega arith) (omega arith) (omega arith)
+    (with_needs k n 1 0 l (call_code k name operands) few
+    (λ ps. has_more (suc k) (k + (n + 1)) (count ps) (count ps + 3 * 1) 0 (1 + 0) (steps_of (call_code k name operands ps)) (omega arith) (omega arith) (omega arith) (call_has k name operands ps)))
 
 unless_has : (top most long n : ℕ) (under : List Step) (ps : Pures) → Has top most long under → Has top most long (steps_of (unless_code n under ps))
 unfolding unless_code steps_of temporaries_kept all_passed passed strings_bytes string_bytes
@@ -221,7 +237,7 @@ mutual
   head_needs once k n ToEnterArm ts = idly k (terms_nodes ts) 0 _ (unless_code n []) (all_few NoPure ForUse k ts) (unless_idle n)
   head_needs once k n (ToLoop label) ts = idly k (terms_nodes ts) 0 _ (loop_code once n) (loop_few k ts) (loop_idle once n)
   head_needs once k n (ToTestLoop label) ts = idly k (terms_nodes ts) 0 _ (unless_code n []) (all_few NoPure ForUse k ts) (unless_idle n)
-  head_needs once k n (ToCall name) ts = called k (terms_nodes ts) name (passes_label ts) _ (all_few NoPure ForCall k ts)
+  head_needs once k n (ToCall name) ts = called k (terms_nodes ts) name ts _ (all_few NoPure ForCall k ts)
   head_needs once k n ToReturn ts = idly k (terms_nodes ts) 0 _ back_code (all_few NoPure ForUse k ts) back_idle
   head_needs once k n (ToStop text) NoMore = step_needs k 0 (length text) (Halt text) (record { kept = omega arith; values = omega arith; bytes = omega arith })
   head_needs once k n (ToBegin way layout controls items) ts = begun k (terms_nodes ts) way layout controls items _ (all_few NoPure ForUse k ts)

@@ -10,12 +10,13 @@ use Rattle.lowered_sizes.specs.l_core.f_tree.Places.{terminal_of, place_of_label
 use Rattle.lowered_sizes.specs.l_core.Pures.{Pure, Constant, Pures, NoPure, AndPure}
 use Rattle.lowered_sizes.specs.l_core.Steps.{Takes, Step, Put, Compute, Again, Pass, CallFor, CallSub, Acts, Text}
 use Rattle.lowered_sizes.specs.lowering.Statements.{loop_operands, test_by, back_by, turn_code, form_code}
-use Rattle.lowered_sizes.specs.lowering.Units.{loop_at_line, free_of, free_at, loop_lowered, all_named, is_named, pass_code, steps_of, is_counted, turn_size, ended_at, own_end, room_of, way_back, turn_of, turns_of, skip_code, line_code, both_codes, lines_code, start_of, lines_marks, text_with, lowered_unit}
+use Rattle.lowered_sizes.specs.lowering.Units.{loop_at_line, free_of, free_at, loop_lowered, all_named, is_named, pass_code, steps_of, is_counted, turn_size, ended_at, own_end, room_of, way_back, turn_of, turns_of, skip_code, line_code, both_codes, lines_code, start_of, lines_marks, text_with}
 use Rattle.lowered_sizes.specs.ReadNodes.{terms_nodes, head_nodes, form_nodes, lines_nodes}
 use Rattle.unit_translation.specs.main_translation.Contents.{own_value, own_values, kind_value}
 use Rattle.unit_translation.specs.behind_bounds.BehindBounds.{behind, steps_behind}
 use Rattle.unit_translation.specs.UnitContents.{temporaries_kept, values_passed, values_from}
 use Rattle.lowered_objects.specs.FewObjects.{form_text, lines_text, string_bytes, strings_bytes, EachTextNeedsFewObjects}
+use Rattle.lowered_sizes.proofs.ways_back.LoweredTexts.{text_lowered}
 use Rattle.lowered_objects.proofs.ExpressionObjects.{count, passed, all_passed, Has, has_none, has_more, has_both}
 use Rattle.lowered_objects.proofs.StatementObjects.{loop_few, form_needs}
 
@@ -262,11 +263,10 @@ behind_has top most long (suc first) steps h =
     (has_both top 0 most 0 long (Pass ∷ []) (steps_behind first steps) (has_more 0 top 0 0 0 0 (Pass ∷ []) (omega arith) (omega arith) (omega arith) stand_idle) (behind_has top most long first steps h))
 
 pub each_text_needs_few : EachTextNeedsFewObjects
-unfolding lowered_unit
 each_text_needs_few c u h first =
     let n = lines_nodes c.program.lines in
     let own : Has (2 * n) (3 * n) (n + lines_text c.program.lines) u.steps =
-    subst (λ (steps : List Step). Has (2 * n) (3 * n) (n + lines_text c.program.lines) steps) (sym (steps_by c (lines_code c.program 0 c.program.lines) u h)) (lines_has c.program 0 c.program.lines (omega arith)) in
+    subst (λ (steps : List Step). Has (2 * n) (3 * n) (n + lines_text c.program.lines) steps) (sym (steps_by c (lines_code c.program 0 c.program.lines) u (text_lowered c u h))) (lines_has c.program 0 c.program.lines (omega arith)) in
     let all = behind_has (2 * n) (3 * n) (n + lines_text c.program.lines) first u.steps own in
     let values = all.values in
     let constants = all_few (behind first u) 0 (steps_behind first u.steps) in

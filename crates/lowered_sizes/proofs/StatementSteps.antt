@@ -2,15 +2,15 @@
 use Rattle.std.specs.Prelude.{ℕ, suc, ◌+◌, ◌*◌, ◌≤◌, Bool, true, false, List, [], ◌∷◌, length, Option, Some, None, if◌then◌else◌}
 use Rattle.std.proofs.Common.{arith}
 use Rattle.std.proofs.lemmas.List.{length-append, length-map}
-use Rattle.lowering.specs.l_core.f_tree.Values.{Bytes}
-use Rattle.lowering.specs.l_core.f_tree.Terms.{Term, Terms, NoMore, More, any_refers}
+use Rattle.lowering.specs.l_core.f_tree.Values.{Bytes, IsLabel}
+use Rattle.lowering.specs.l_core.f_tree.Terms.{Term, Val, Terms, NoMore, More, any_refers}
 use Rattle.lowering.specs.l_core.f_tree.Facts as work
 use Rattle.lowering.specs.l_core.f_tree.Facts.{Direction, Layout, Controls, AuxiliaryKind, Work, Done, Head, ToSet, ToSetLabel, ToGo, ToPick, ToGoAssigned, ToGoBySign, ToGuard, ToEnterArm, ToLoop, ToTestLoop, ToCall, ToReturn, ToStop, ToBegin, ToAuxiliary, ToEnd, Form, Passes, On}
 use Rattle.lowering.specs.l_core.f_tree.Step.{contains}
 use Rattle.lowering.specs.l_core.Pures.{Pure, Pures, NoPure, AndPure}
-use Rattle.lowering.specs.l_core.Steps.{Takes, Step, Jump, Acts}
+use Rattle.lowering.specs.l_core.Steps.{Takes, Step, Jump, Way, Acts}
 use Rattle.lowering.specs.Expressions.{Purpose, ForUse, ForCall, ForLater, Lowered, ahead, lower, lower_all}
-use Rattle.lowering.specs.Statements.{behind_operands, with_operands, put_code, put_label_code, select_code, each_once, jump_by_code, sign_code, unless_code, guard_code, loop_operands, test_by, loop_test, loop_code, passes_label, branch_code, call_code, back_code, item_purpose, item_code, work_code, begin_code, auxiliary_code, form_code, head_code}
+use Rattle.lowering.specs.Statements.{behind_operands, with_operands, put_code, put_label_code, select_code, each_once, jump_by_code, sign_code, unless_code, guard_code, loop_operands, test_by, loop_test, loop_code, label_written, labels_written, hides_labels, call_steps, call_code, back_code, item_purpose, item_code, work_code, begin_code, auxiliary_code, form_code, head_code}
 use Rattle.lowering.specs.Units.{steps_of}
 use Rattle.lowered_sizes.specs.ReadNodes.{term_nodes, terms_nodes, job_nodes, work_nodes, form_nodes, head_nodes}
 use Rattle.lowered_sizes.proofs.ExpressionSteps.{and_size, lower_size, all_size}
@@ -90,14 +90,37 @@ unfolding loop_code steps_of
 loop_size once n (AndPure x (AndPure first (AndPure limit (AndPure by NoPure)))) = let test = test_size once (test_by x limit by) n in omega (arith, test)
 loop_size once n ps = omega arith
 
-branch_size : (labels : Bool) (k : ℕ) → length (branch_code labels k) ≤ 1
-unfolding branch_code
-branch_size true k = omega arith
-branch_size false k = omega arith
+label_size : (t : Term) → length (label_written t) ≤ term_nodes t
+unfolding label_written term_nodes
+label_size (Val (IsLabel l)) = omega arith
+label_size t = omega arith
 
-call_size : (k : ℕ) (name : Bytes) (labels : Bool) (ps : Pures) → count (call_code k name labels ps) ≤ 2
-unfolding call_code steps_of
-call_size k name labels ps = let branch = branch_size labels k in omega (arith, branch)
+labels_size : (ts : Terms) → length (labels_written ts) ≤ terms_nodes ts
+unfolding labels_written terms_nodes
+labels_size NoMore = omega arith
+labels_size (More t ts) =
+    let whole = length-append (label_written t) (labels_written ts) in
+    let one = label_size t in
+    let more = labels_size ts in
+    omega (arith, whole, one, more)
+
+-- a way for each label that is written
+steps_size : (k : ℕ) (name : Bytes) (labels : List ℕ) (ps : Pures) → length (call_steps k name labels ps) ≤ 2 + length labels
+unfolding call_steps
+steps_size k name [] ps = omega arith
+steps_size k name (l ∷ labels) ps = let many = length-map (l ∷ labels) Way in omega (arith, many)
+
+unless_hidden : (hidden : Bool) (steps : List Step) (m : ℕ) → length steps ≤ m → count (if hidden then None else Some steps) ≤ m
+unfolding steps_of
+unless_hidden true steps m le = omega arith
+unless_hidden false steps m le = le
+
+call_size : (k : ℕ) (name : Bytes) (operands : Terms) (ps : Pures) → count (call_code k name operands ps) ≤ 2 + terms_nodes operands
+unfolding call_code
+call_size k name operands ps =
+    let steps = steps_size k name (labels_written operands) ps in
+    let labels = labels_size operands in
+    unless_hidden (hides_labels operands) (call_steps k name (labels_written operands) ps) (2 + terms_nodes operands) (omega (arith, steps, labels))
 
 back_size : (ps : Pures) → count (back_code ps) ≤ 1
 unfolding back_code steps_of
@@ -150,6 +173,10 @@ used k purpose ts close m each = with_size (lower_all NoPure purpose k ts) close
 within : (x t m h : ℕ) → x ≤ 3 * t + m → m ≤ 5 * suc h → x ≤ 5 * suc (h + t)
 within x t m h one two = omega (arith, one, two)
 
+-- where the operands have steps of their own once more, at most one for each node
+within_more : (x t m h : ℕ) → x ≤ 3 * t + (m + t) → m ≤ 5 * suc h → x ≤ 5 * suc (h + t)
+within_more x t m h one two = omega (arith, one, two)
+
 mutual
   unfolding form_code head_code form_nodes head_nodes steps_of terms_nodes
 
@@ -170,7 +197,7 @@ mutual
   head_size once k n ToEnterArm ts = within _ (terms_nodes ts) 1 0 (used k ForUse ts (unless_code n []) 1 (unless_size n [])) (omega arith)
   head_size once k n (ToLoop label) ts = within _ (terms_nodes ts) 2 0 (with_size (loop_operands k ts) (loop_code once n) (terms_nodes ts) 2 (operands_size k ts) (loop_size once n)) (omega arith)
   head_size once k n (ToTestLoop label) ts = within _ (terms_nodes ts) 1 0 (used k ForUse ts (unless_code n []) 1 (unless_size n [])) (omega arith)
-  head_size once k n (ToCall name) ts = within _ (terms_nodes ts) 2 0 (used k ForCall ts (call_code k name (passes_label ts)) 2 (call_size k name (passes_label ts))) (omega arith)
+  head_size once k n (ToCall name) ts = within_more _ (terms_nodes ts) 2 0 (used k ForCall ts (call_code k name ts) (2 + terms_nodes ts) (call_size k name ts)) (omega arith)
   head_size once k n ToReturn ts = within _ (terms_nodes ts) 1 0 (used k ForUse ts back_code 1 back_size) (omega arith)
   head_size once k n (ToStop text) NoMore = omega arith
   head_size once k n (ToBegin way layout controls items) ts =

@@ -8,8 +8,9 @@ use Rattle.lowering.specs.l_core.f_tree.Places.{terminal_of, place_of_label}
 use Rattle.lowering.specs.l_core.Pures.{Pures, NoPure, AndPure}
 use Rattle.lowering.specs.l_core.Steps.{Step, Again, Text}
 use Rattle.lowering.specs.Statements.{turn_code, form_code}
-use Rattle.lowering.specs.Units.{free_at, loop_lowered, all_named, is_named, pass_code, steps_of, is_counted, turn_size, ended_at, own_end, room_of, way_back, turn_of, turns_of, skip_code, line_code, both_codes, lines_code, start_of, lines_marks, text_with, lowered_unit}
+use Rattle.lowering.specs.Units.{free_at, loop_lowered, all_named, is_named, pass_code, steps_of, is_counted, turn_size, ended_at, own_end, room_of, way_back, turn_of, turns_of, skip_code, line_code, both_codes, lines_code, start_of, lines_marks, text_with}
 use Rattle.lowered_sizes.specs.ReadNodes.{form_nodes, lines_nodes, EachTextIsBounded}
+use Rattle.ways_back.proofs.LoweredTexts.{text_lowered}
 use Rattle.lowered_sizes.proofs.StatementSteps.{form_size}
 
 abbrev count : Option (List Step) → ℕ
@@ -142,7 +143,6 @@ steps_by c (Some steps) u h =
     ap (λ (t : Text). t.steps) (sym same)
 
 pub each_text_is_bounded : EachTextIsBounded
-unfolding lowered_unit
 each_text_is_bounded c u h =
-    subst (λ (steps : List Step). length steps ≤ 5 * lines_nodes c.program.lines + 2 * (length c.program.lines * length c.program.lines)) (sym (steps_by c (lines_code c.program 0 c.program.lines) u h))
+    subst (λ (steps : List Step). length steps ≤ 5 * lines_nodes c.program.lines + 2 * (length c.program.lines * length c.program.lines)) (sym (steps_by c (lines_code c.program 0 c.program.lines) u (text_lowered c u h)))
     (lines_size c.program 0 c.program.lines)

@@ -153,6 +153,9 @@ module _ (w : Writing) where
   flat_fieldless place label n (step.Skip m) item h = subst ItemHasNoField (some_same (Jump (place (suc n + m))) item h) tt
   flat_fieldless place label n (step.Again m) item h = subst ItemHasNoField (some_same (Jump (place (n - m))) item h) tt
   flat_fieldless place label n (step.Jump l) item h = goto_fieldless place (label l) item h
+  flat_fieldless place label n (step.Branch k count) item h =
+      select_fieldless (cases_to place 1 (suc n) count) (place (suc n + count)) (value_term w (Temporary k)) item h (value_fieldless w (Temporary k))
+  flat_fieldless place label n (step.Way l) item h = goto_fieldless place (label l) item h
   flat_fieldless place label n step.Pass item h = subst ItemHasNoField (some_same Nothing item h) tt
   flat_fieldless place label n step.Back item h = return_fieldless w.facts.program.kind item h
   flat_fieldless place label n (step.Acts (step.Starts Output Listed controls) ps m) item h = started n controls ps item h

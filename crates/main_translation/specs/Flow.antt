@@ -5,7 +5,7 @@ use Rattle.std.specs.Prelude.{ℕ, zero, suc, ◌+◌, ◌-◌, nat_eq, ℤ, Boo
 use Rattle.main_file.specs.f_tree.declared.names.Basic.{Basic}
 use Rattle.main_file.specs.f_tree.Facts.{Facts}
 use Rattle.main_file.specs.l_core.Pures.{Pure, Constant, Load, Name, ElementOf, Prefixed, Operated, Applied}
-use Rattle.main_file.specs.l_core.Steps.{Starts, Takes, Finishes, Step, Keep, Compute, Unless, AgainIf, Skip, Again, Jump, Select, JumpBy, Acts, Text}
+use Rattle.main_file.specs.l_core.Steps.{Starts, Takes, Finishes, Step, Keep, Compute, Unless, AgainIf, Skip, Again, Jump, Select, JumpBy, Branch, Way, Acts, Text}
 use Rattle.main_file.specs.c_emit.LibraryFunctions.{library_type}
 use Rattle.main_file.specs.c_emit.Types.{type_of_datum, type_behind, type_between, type_by, if_numeric}
 use Rattle.main_file.specs.c_emit.Calls.{unit_of}
@@ -28,6 +28,8 @@ targets_of u n (Again m) = (n - m) ∷ []
 targets_of u n (Jump label) = target_in (u.position label)
 targets_of u n (Select p count) = targets_on (suc (suc n)) count
 targets_of u n (JumpBy p labels) = targets_on (suc (suc n)) (length labels)
+targets_of u n (Branch k count) = targets_on (suc (suc n)) count
+targets_of u n (Way label) = target_in (u.position label)
 targets_of u n st = []
 
 unfoldable pub targets_from : Text → ℕ → List Step → List ℕ

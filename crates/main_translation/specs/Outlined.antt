@@ -3,7 +3,7 @@ use Rattle.std.specs.List.{list_any}
 use Rattle.std.specs.Prelude.{ℕ, suc, nat_eq, nat_lt, Bool, true, false, ◌&&◌, List, [], ◌∷◌, length, drop, position, Option, Some, None, is_none, option_and_then, slice_get, if◌then◌else◌}
 use Rattle.main_file.specs.f_tree.Facts.{ProgramUnit}
 use Rattle.main_file.specs.f_tree.CNames.{made_name, StatementLabel, MadeLabel}
-use Rattle.main_file.specs.l_core.Steps.{Step, Unless, AgainIf, Skip, Jump, Mark, Marked, OpensLoop, OpensLoopOnce, OpensWhile, Text}
+use Rattle.main_file.specs.l_core.Steps.{Step, Unless, AgainIf, Skip, Jump, Way, Mark, Marked, OpensLoop, OpensLoopOnce, OpensWhile, Text}
 use Rattle.main_file.specs.c_tree.declared.statement.CStmt as stmt
 use Rattle.main_file.specs.c_tree.declared.statement.CStmt.{CStmt}
 use Rattle.main_file.specs.c_tree.Flat.{Flat}
@@ -19,6 +19,7 @@ use Rattle.main_translation.specs.Contents.{inventory_of, first_objects}
 unfoldable pub labels_in : List Step → List ℕ
 labels_in [] = []
 labels_in (Jump label ∷ later) = label ∷ labels_in later
+labels_in (Way label ∷ later) = label ∷ labels_in later
 labels_in (st ∷ later) = labels_in later
 
 unfoldable pub stands_at : Option ℕ → ℕ → Bool

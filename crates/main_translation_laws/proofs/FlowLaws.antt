@@ -8,7 +8,7 @@ use Rattle.main_programs.specs.f_tree.Terms.{Function}
 use Rattle.main_programs.specs.f_tree.Facts.{Facts}
 use Rattle.main_programs.specs.f_tree.Setting.{IsIn, first_in, later_in}
 use Rattle.main_programs.specs.l_core.Pures.{Pure, Constant, Temporary, Load, Name, AllOf, ElementOf, FirstOf, Substring, Concatenated, Prefixed, Operated, Applied, Chosen, Pures}
-use Rattle.main_programs.specs.l_core.Steps.{Starts, Takes, Finishes, Auxiliary, Step, Keep, Put, PutText, PutLabel, Compute, Unless, Skip, Again, AgainIf, Jump, Select, JumpBy, Pass, CallFor, CallSub, Branch, Back, BackBy, Halt, Acts, Text}
+use Rattle.main_programs.specs.l_core.Steps.{Starts, Takes, Finishes, Auxiliary, Step, Keep, Put, PutText, PutLabel, Compute, Unless, Skip, Again, AgainIf, Jump, Select, JumpBy, Pass, CallFor, CallSub, Branch, Way, Back, BackBy, Halt, Acts, Text}
 use Rattle.main_programs.specs.c_emit.Numbers.{Writing}
 use Rattle.main_programs.specs.c_emit.LibraryFunctions.{library_type}
 use Rattle.main_programs.specs.c_emit.Types.{type_of, type_at}
@@ -66,7 +66,9 @@ leads_to u n (JumpBy p labels) m (later_in o) = to_target (subst (IsIn m) (sym (
 leads_to u n Pass m o = only_next u n Pass m o
 leads_to u n (CallFor k callee ps) m o = only_next u n (CallFor k callee ps) m o
 leads_to u n (CallSub k x ps) m o = only_next u n (CallSub k x ps) m o
-leads_to u n (Branch k) m o = only_next u n (Branch k) m o
+leads_to u n (Branch k count) _ first_in = to_next refl
+leads_to u n (Branch k count) m (later_in o) = to_target (subst (IsIn m) (sym (same_places (suc (suc n)) count)) o)
+leads_to u n (Way label) m o = to_target (subst (IsIn m) (sym (same_label (u.position label))) o)
 leads_to u n (BackBy p) m o = only_next u n (BackBy p) m o
 leads_to u n (Acts what ps k) m o = only_next u n (Acts what ps k) m o
 
@@ -184,7 +186,8 @@ same_stage now (JumpBy p ls) = refl
 same_stage now Pass = refl
 same_stage now (CallFor k callee ps) = refl
 same_stage now (CallSub k x ps) = refl
-same_stage now (Branch k) = refl
+same_stage now (Branch k count) = refl
+same_stage now (Way label) = refl
 same_stage now Back = refl
 same_stage now (BackBy p) = refl
 same_stage now (Halt text) = refl

@@ -13,3 +13,4 @@ pub use Rattle.main_programs.proofs.fortran_laws
 pub use Rattle.main_programs.proofs.linking_laws
 pub use Rattle.main_programs.proofs.main_file_laws
 pub use Rattle.main_programs.proofs as main_programs
+pub use Rattle.ways_back.proofs as ways_back

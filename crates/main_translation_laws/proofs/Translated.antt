@@ -34,6 +34,7 @@ use Rattle.main_programs.proofs.MainRuns.{main_programs_run_alike, constants_cou
 use Rattle.main_programs.specs.main_translation.Flow.{kind_at, stage_at}
 use Rattle.main_programs.specs.main_translation.Contents.{constants_of, variable_of, text_at, inventory_of, first_objects}
 use Rattle.main_programs.specs.main_translation.Outlined.{outline_of, returns_last}
+use Rattle.ways_back.proofs.LoweredTexts.{text_lowered}
 use Rattle.main_translation_laws.specs.PlainMains.{IsPlainMain, IsPlainText, PlainMainsRunAlike}
 use Rattle.main_translation_laws.proofs.Lists.{in_at, in_map}
 use Rattle.main_translation_laws.proofs.FlowLaws.{steps_fit}
@@ -54,8 +55,7 @@ text_by c u (Some steps) h = record { facts = ap (λ (t : Text). t.facts) (sym (
 text_by c u None h = absurd (cc)
 
 pub text_is : (c : Facts) (u : Text) → lowered_unit c ≡ Some u → IsTextOf c u
-unfolding lowered_unit
-text_is c u h = text_by c u (lines_code c.program 0 c.program.lines) h
+text_is c u h = text_by c u (lines_code c.program 0 c.program.lines) (text_lowered c u h)
 
 none_before : (u : ProgramUnit) (lines : List Line) → size_before u 0 lines 0 ≡ 0
 unfolding size_before

@@ -3,7 +3,7 @@ use Rattle.std.specs.List.{list_all}
 use Rattle.std.specs.Prelude.{◌≡◌, ℕ, zero, suc, ◌+◌, ◌-◌, nat_eq, nat_le, nat_lt, ℤ, pos, negsuc, ◌+ℤ◌, Bool, true, false, ◌&&◌, List, [], ◌∷◌, map, length, Option, Some, None, option_map, option_and_then, if◌then◌else◌}
 use Rattle.std.specs.Ordering.{int_eq}
 use Rattle.std.proofs.Common.{refl}
-use Rattle.named_mains.specs.f_tree.Values.{Bytes, Datum, IsInt, IsLog, in_range}
+use Rattle.named_mains.specs.f_tree.Values.{Bytes, Datum, IsInt, IsLog, IsLabel, in_range}
 use Rattle.named_mains.specs.f_tree.Terms as fortran
 use Rattle.named_mains.specs.f_tree.Facts.{Output, Listed, Controls}
 use Rattle.named_mains.specs.f_tree.CNames.{variable_name, made_name, FunctionResult, NumberTemporary, ControlList, ConstantOf, DimensionOf, LowerBoundOf}
@@ -463,10 +463,14 @@ argument known (Name x) = name_passed known x
 argument known (ElementOf x ps) = mapped expression_of_bytes expression_of_bytes emission.address_expr (emission.place_expr known (ElementOf x ps)) address (place known (ElementOf x ps))
 argument known p = refl
 
+argument_more : (known : Knowledge) (p : Pure) (xs : Option (List CExpr)) → passes of_expressions xs ≡ true → passes of_expressions (one_more (emission.argument_expr known p) xs) ≡ true
+argument_more known p xs others = more (emission.argument_expr known p) xs (argument known p) others
+
 arguments : (known : Knowledge) (ps : Pures) → passes of_expressions (emission.argument_exprs known ps) ≡ true
 unfolding emission.argument_exprs
 arguments known NoPure = refl
-arguments known (AndPure p ps) = more (emission.argument_expr known p) (emission.argument_exprs known ps) (argument known p) (arguments known ps)
+arguments known (AndPure (Constant (IsLabel label)) ps) = arguments known ps
+arguments known (AndPure p ps) = argument_more known p (emission.argument_exprs known ps) (arguments known ps)
 
 called : (callee : Option Callee) (xs : Option (List CExpr)) → passes of_expressions xs ≡ true → passes item_of_bytes (emission.call_step callee xs) ≡ true
 unfolding emission.call_step call_by
@@ -528,6 +532,9 @@ one_step known kind n (step.Again m) h = refl
 one_step known kind n (step.Jump l) h = made item_of_bytes item.Jump (known.label l) (λ position. refl)
 one_step known kind n (step.Select p count) h = selected (emission.value_expr known p) (emission.cases_from 1 (suc n) count) (suc n + count) (value known p)
 one_step known kind n (step.JumpBy p labels) h = switched known n labels p
+one_step known kind n (step.Branch k count) h =
+    selected (emission.value_expr known (Temporary k)) (emission.cases_from 1 (suc n) count) (suc n + count) (value known (Temporary k))
+one_step known kind n (step.Way l) h = made item_of_bytes item.Jump (known.label l) (λ position. refl)
 one_step known kind n step.Pass h = refl
 one_step known kind n (step.CallFor k callee ps) h =
     called_for (emission.wants_number callee.want) (emission.temporary_expr known k) (known.routine callee.name) (emission.argument_exprs known ps) (temporary known k) (arguments known ps)

@@ -4,7 +4,7 @@ use Rattle.std.proofs.Common.{refl, sym, ap, ◌∙◌, arith}
 use Rattle.named_mains.specs.f_tree.Facts.{Facts, ProgramUnit}
 use Rattle.named_mains.specs.f_tree.Values.{Bytes}
 use Rattle.named_mains.specs.l_core.Steps.{Step, Halt, Text}
-use Rattle.main_translation_laws.specs.lowering.Units.{lines_code, text_with, lowered_unit}
+use Rattle.main_translation_laws.specs.lowering.Units.{lines_code, text_with, if_called_well, lowered_unit}
 use Rattle.c_spelling.specs.c_tree.declared.statement.CStmt.{CStmt}
 use Rattle.named_mains.specs.c_structure.Statements.{statements_for}
 use Rattle.named_mains.specs.c_emit.Numbers.{Writing}
@@ -40,7 +40,7 @@ facts_by c u None h = absurd (cc)
 
 pub program_is : (unit : ProgramUnit) (u : Text) → lowered_unit (plain_facts unit) ≡ Some u → u.facts.program ≡ unit
 unfolding lowered_unit
-program_is unit u h = ap (λ (f : Facts). f.program) (facts_by (plain_facts unit) u (lines_code (plain_facts unit).program 0 (plain_facts unit).program.lines) h)
+program_is unit u h = ap (λ (f : Facts). f.program) (facts_by (plain_facts unit) u (if_called_well (lines_code (plain_facts unit).program 0 (plain_facts unit).program.lines)) h)
 
 -- ## What a body by names was made by
 

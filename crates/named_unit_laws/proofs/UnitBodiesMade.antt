@@ -7,7 +7,7 @@ use Rattle.named_units.specs.f_tree.Facts.{Facts, ProgramUnit}
 use Rattle.named_units.specs.f_tree.Setting.{IsIn, first_in, later_in}
 use Rattle.named_units.specs.f_tree.Meaning.{facts_at}
 use Rattle.named_units.specs.l_core.Steps.{Step, Halt, Text}
-use Rattle.named_main_laws.specs.lowering.Units.{lines_code, lowered_unit}
+use Rattle.named_main_laws.specs.lowering.Units.{lines_code, if_called_well, lowered_unit}
 use Rattle.unit_translation_laws.specs.unit_forms.OwnSetting.{own_facts}
 use Rattle.named_units.specs.c_tree.Flat.{Flat}
 use Rattle.named_units.specs.c_tree.declared.statement.CStmt.{CStmt}
@@ -118,7 +118,7 @@ module _ (us : List LoweredUnit) (j : ℕ) (s : Site) (owned : s.bases.own ≡ l
 
   facts_are : u.text.facts ≡ own_facts (program_units us) j u.unit
   unfolding lowered_unit
-  facts_are = let c = own_facts (program_units us) j u.unit in facts_by c u.text (lines_code c.program 0 c.program.lines) plain.lowered
+  facts_are = let c = own_facts (program_units us) j u.unit in facts_by c u.text (if_called_well (lines_code c.program 0 c.program.lines)) plain.lowered
 
   program_is : u.text.facts.program ≡ u.unit
   program_is = ap (λ (f : Facts). f.program) facts_are ∙ program_of (program_units us) j u.unit

@@ -3,7 +3,6 @@
 -- own, which call procedures of the set, and of the statements that lowering and emission know. ANSI X3.9-1978, sections 2.4, 3.5, 4.1, 8 to 12, 14 and 15.
 use Rattle.std.specs.List.{list_all, list_any}
 use Rattle.std.specs.Prelude.{ℕ, suc, ◌+◌, ◌^◌, nat_lt, nat_le, ℤ, Bool, true, false, ◌&&◌, List, [], ◌∷◌, ◌++◌, map, length, Option, Some, None, option_map, option_and_then, bytes_eq, if◌then◌else◌}
-use Rattle.unit_forms.specs.f_tree.declared.expressions.Expr.TheOpen as expr
 use Rattle.unit_forms.specs.f_tree.declared.names.Class.{Class}
 use Rattle.unit_forms.specs.f_tree.declared.names.Class.TheVariants as class
 use Rattle.unit_forms.specs.f_tree.declared.names.Options.{Options}
@@ -16,7 +15,7 @@ use Rattle.unit_forms.specs.f_tree.declared.units.File.{File}
 use Rattle.unit_forms.specs.f_tree.declared.units.Unit.{Unit as GivenUnit}
 use Rattle.unit_forms.specs.f_tree.Values.{Bytes}
 use Rattle.unit_forms.specs.f_tree.Facts.{UnitKind, MainProgram, SubroutineUnit, FunctionUnit, BlockDataUnit}
-use Rattle.unit_forms.specs.f_tree.Folds.{fold_body, fold_expr}
+use Rattle.unit_forms.specs.f_tree.Folds.{fold_body}
 use Rattle.unit_forms.specs.f_tree.Uses.{uses_of_statements}
 use Rattle.unit_forms.specs.f_tree.Reading.{name_or_none}
 use Rattle.unit_forms.specs.f_tree.Attributes.{arrays_of, Described, all_described}
@@ -120,14 +119,9 @@ files_of options fs = option_map c_files (made_files options fs)
 
 -- ## Statements by their form
 
--- no label of an alternate return
-unfoldable pub layer_value : expr.Expr-F Bool → Bool
-layer_value (expr.AltReturn label) = false
-layer_value e = true
-
 -- one layer of a statement, given whether the statement of a logical IF is of such a form: calls and returns besides those of main programs
 unfoldable pub layer_unit_form : body.Body-F Bool → Bool
-layer_unit_form (body.Call x es) = list_all (fold_expr layer_value) es
+layer_unit_form (body.Call x es) = true
 layer_unit_form (body.Return e) = true
 layer_unit_form b = layer_form b
 
@@ -180,5 +174,5 @@ unfoldable pub files_not_translated : Options → List File → List Refusal
 files_not_translated options fs = files_without_units 0 fs ++ units_not_translated options fs
 
 unfoldable pub translated_files_opened : Unit {0}
-unfolding text_fits is_procedure procedure_names is_defined procedures_are_defined passes_tests lowered_by lowered_at lowered_before lowered_from files_before lowered_files has_units each_has_units made_files files_of layer_value layer_unit_form is_translated_form form_row row_unless rows_of_lowering rows_of_bodies rows_of_files rows_behind units_not_translated row_of_none files_without_units files_not_translated
+unfolding text_fits is_procedure procedure_names is_defined procedures_are_defined passes_tests lowered_by lowered_at lowered_before lowered_from files_before lowered_files has_units each_has_units made_files files_of layer_unit_form is_translated_form form_row row_unless rows_of_lowering rows_of_bodies rows_of_files rows_behind units_not_translated row_of_none files_without_units files_not_translated
 translated_files_opened = tt

@@ -7,7 +7,7 @@ use Rattle.std.proofs.Math.Bool.{and-true}
 use Rattle.std.proofs.lemmas.List.{length-map}
 use Rattle.std.proofs.lemmas.List.Folds.{list_all-map}
 use Rattle.f_tree.specs.Values.{Bytes}
-use Rattle.lowered_tree.specs.l_core.Steps.{Step, Keep, Compute, CallFor, Jump}
+use Rattle.lowered_tree.specs.l_core.Steps.{Step, Keep, Compute, CallFor, Jump, Way}
 use Rattle.lowered_tree.specs.declared.pures.Function.{Function}
 use Rattle.lowered_tree.specs.declared.pures.Pure.{Pure as LoweredPure}
 use Rattle.lowered_tree.specs.declared.steps.Callee.{Callee}
@@ -62,6 +62,7 @@ jumps_fit : (steps : List Step) → list_all (λ label. nat_lt label (2 ^ 64)) (
 unfolding labels_in jump_fits
 jumps_fit [] = refl
 jumps_fit (Jump label ∷ later) = ap (λ b. nat_lt label (2 ^ 64) && b) (jumps_fit later)
+jumps_fit (Way label ∷ later) = ap (λ b. nat_lt label (2 ^ 64) && b) (jumps_fit later)
 jumps_fit (_ ∷ later) = jumps_fit later
 
 -- ## The whole
@@ -121,16 +122,21 @@ pub fits-Jump : (label : ℕ) → nat_lt label (2 ^ 64) ≡ step_fits (step_of (
 unfolding step_fits keep_fits jump_fits stop_fits
 fits-Jump label = sym (and-true (nat_lt label (2 ^ 64)))
 
+pub fits-Way : (label : ℕ) → nat_lt label (2 ^ 64) ≡ step_fits (step_of (lowered.Way label))
+unfolding step_fits keep_fits jump_fits stop_fits
+fits-Way label = sym (and-true (nat_lt label (2 ^ 64)))
+
 pub fits-Halt : (text : Bytes) → (list_all (λ byte. nat_lt byte 256) text && nat_lt (length text) 2147483648) ≡ step_fits (step_of (lowered.Halt text))
 unfolding step_fits keep_fits jump_fits stop_fits
 fits-Halt text = refl
 
-pub fits-other : (st : LoweredStep) → ((k : ℕ) (p : LoweredPure) → st ≡ lowered.Keep k p → ⊥) → ((k : ℕ) (f : Function) (ps : List LoweredPure) → st ≡ lowered.Compute k f ps → ⊥) → ((k : ℕ) (callee : Callee) (ps : List LoweredPure) → st ≡ lowered.CallFor k callee ps → ⊥) → ((label : ℕ) → st ≡ lowered.Jump label → ⊥) → ((text : Bytes) → st ≡ lowered.Halt text → ⊥)
+pub fits-other : (st : LoweredStep) → ((k : ℕ) (p : LoweredPure) → st ≡ lowered.Keep k p → ⊥) → ((k : ℕ) (f : Function) (ps : List LoweredPure) → st ≡ lowered.Compute k f ps → ⊥) → ((k : ℕ) (callee : Callee) (ps : List LoweredPure) → st ≡ lowered.CallFor k callee ps → ⊥) → ((label : ℕ) → st ≡ lowered.Jump label → ⊥) → ((label : ℕ) → st ≡ lowered.Way label → ⊥) → ((text : Bytes) → st ≡ lowered.Halt text → ⊥)
     → true ≡ step_fits (step_of st)
 unfolding step_fits keep_fits jump_fits stop_fits
-fits-other (lowered.Keep k p) h0 h1 h2 h3 h4 = absurd (h0 k p refl)
-fits-other (lowered.Compute k f ps) h0 h1 h2 h3 h4 = absurd (h1 k f ps refl)
-fits-other (lowered.CallFor k callee ps) h0 h1 h2 h3 h4 = absurd (h2 k callee ps refl)
-fits-other (lowered.Jump label) h0 h1 h2 h3 h4 = absurd (h3 label refl)
-fits-other (lowered.Halt text) h0 h1 h2 h3 h4 = absurd (h4 text refl)
-fits-other _ h0 h1 h2 h3 h4 = refl
+fits-other (lowered.Keep k p) h0 h1 h2 h3 h4 h5 = absurd (h0 k p refl)
+fits-other (lowered.Compute k f ps) h0 h1 h2 h3 h4 h5 = absurd (h1 k f ps refl)
+fits-other (lowered.CallFor k callee ps) h0 h1 h2 h3 h4 h5 = absurd (h2 k callee ps refl)
+fits-other (lowered.Jump label) h0 h1 h2 h3 h4 h5 = absurd (h3 label refl)
+fits-other (lowered.Way label) h0 h1 h2 h3 h4 h5 = absurd (h4 label refl)
+fits-other (lowered.Halt text) h0 h1 h2 h3 h4 h5 = absurd (h5 text refl)
+fits-other _ h0 h1 h2 h3 h4 h5 = refl

@@ -1,10 +1,7 @@
 -- Which forms of items and statements are translated.
-use Rattle.std.specs.List.{list_all}
 use Rattle.std.proofs.Common.{◌≡◌, ℕ, true, false, List, refl}
 use Rattle.f_tree.specs.Values.{Bytes}
-use Rattle.f_tree.specs.declared.expressions.Expr as given
-use Rattle.f_tree.specs.declared.expressions.Expr.{Expr, Part', Minus', Plus', Not', Paren', Binary', Bind', more_of-Expr}
-use Rattle.f_tree.specs.declared.expressions.Expr.TheVariants as expr
+use Rattle.f_tree.specs.declared.expressions.Expr.{Expr}
 use Rattle.f_tree.specs.declared.statements.AuxiliaryKind.{AuxiliaryKind}
 use Rattle.f_tree.specs.declared.statements.Body as whole
 use Rattle.f_tree.specs.declared.statements.Body.{Body, IfOne', more_of-Body, end_of-Body}
@@ -20,9 +17,9 @@ use Rattle.f_tree.specs.declared.statements.ListItem.{ListItem}
 use Rattle.f_tree.specs.declared.statements.ListItem.TheVariants as listed
 use Rattle.f_tree.specs.declared.statements.LoopControl.{LoopControl}
 use Rattle.f_tree.specs.declared.statements.TypeSpec.{TypeSpec}
-use Rattle.f_tree.specs.Folds.{fold_expr, fold_item, folds_opened}
+use Rattle.f_tree.specs.Folds.{fold_item, folds_opened}
 use Rattle.translated_forms.specs.TranslatedForms.{is_number, layer_single, is_listed, are_written, layer_form}
-use Rattle.translated_files.specs.TranslatedFiles.{layer_value, layer_unit_form, is_translated_form}
+use Rattle.translated_files.specs.TranslatedFiles.{layer_unit_form, is_translated_form}
 
 pub single-Item : (e : Expr) → fold_item layer_single (listed.Item e) ≡ true
 unfolding folds_opened layer_single
@@ -33,25 +30,6 @@ unfolding folds_opened layer_single
 single-Loop items control = refl
 
 pub ruleset item_forms = (single-Item, single-Loop)
-
-pub value-AltReturn : (label : ℕ) → fold_expr layer_value (expr.AltReturn label) ≡ false
-unfolding folds_opened layer_value
-value-AltReturn label = refl
-
-pub ruleset value_forms = (value-AltReturn)
-
--- each other argument is a value
-pub value-other : (e : Expr) → ((label : ℕ) → e ≡ expr.AltReturn label → ⊥) → true ≡ fold_expr layer_value e
-unfolding folds_opened layer_value
-value-other (given.AltReturn label) h = absurd (h label refl)
-value-other (Part' s (more_of-Expr e r) from to) h = refl
-value-other (Minus' s (more_of-Expr e r)) h = refl
-value-other (Plus' s (more_of-Expr e r)) h = refl
-value-other (Not' s (more_of-Expr e r)) h = refl
-value-other (Paren' s (more_of-Expr e r)) h = refl
-value-other (Binary' op s (more_of-Expr a r) t (more_of-Expr b q)) h = refl
-value-other (Bind' s row t (more_of-Expr e q)) h = refl
-value-other _ h = refl
 
 pub form-Declare : (spec : TypeSpec) (items : List Declarator) → is_translated_form (body.Declare spec items) ≡ is_number spec.basic
 unfolding folds_opened is_translated_form layer_unit_form layer_form
@@ -81,10 +59,6 @@ pub form-IfOne : (e : Expr) (b : Body) → is_translated_form (body.IfOne e b) �
 unfolding folds_opened is_translated_form layer_unit_form layer_form
 form-IfOne e b = refl
 
-pub form-Call : (x : Bytes) (es : List Expr) → is_translated_form (body.Call x es) ≡ list_all (fold_expr layer_value) es
-unfolding folds_opened is_translated_form layer_unit_form layer_form
-form-Call x es = refl
-
 pub form-Transfer : (way : Direction) (controls : List Control) (items : List ListItem) → is_translated_form (body.Transfer way controls items) ≡ is_listed way controls items
 unfolding folds_opened is_translated_form layer_unit_form layer_form
 form-Transfer way controls items = refl
@@ -97,7 +71,7 @@ pub form-Include : (name : Bytes) → is_translated_form (body.Include name) ≡
 unfolding folds_opened is_translated_form layer_unit_form layer_form
 form-Include name = refl
 
-pub ruleset body_forms = (form-Declare, form-Common, form-Equivalence, form-Init, form-Entry, form-GotoName, form-IfOne, form-Call, form-Transfer, form-Auxiliary, form-Include)
+pub ruleset body_forms = (form-Declare, form-Common, form-Equivalence, form-Init, form-Entry, form-GotoName, form-IfOne, form-Transfer, form-Auxiliary, form-Include)
 
 -- each other form is translated
 pub form-other : (b : Body)
@@ -107,22 +81,20 @@ pub form-other : (b : Body)
     → ((groups : List DataGroup) → b ≡ body.Init groups → ⊥)
     → ((x : Bytes) (dummies : List DummyArgument) → b ≡ body.Entry x dummies → ⊥)
     → ((x : Bytes) (labels : List ℕ) → b ≡ body.GotoName x labels → ⊥)
-    → ((x : Bytes) (es : List Expr) → b ≡ body.Call x es → ⊥)
     → ((which : AuxiliaryKind) (controls : List Control) → b ≡ body.Auxiliary which controls → ⊥)
     → ((name : Bytes) → b ≡ body.Include name → ⊥)
     → ((e : Expr) (inner : Body) → b ≡ body.IfOne e inner → ⊥)
     → ((way : Direction) (controls : List Control) (items : List ListItem) → b ≡ body.Transfer way controls items → ⊥)
     → true ≡ is_translated_form b
 unfolding is_translated_form layer_unit_form layer_form folds_opened
-form-other (whole.Declare spec items) h0 h1 h2 h3 h4 h5 h6 h7 h8 h9 h10 = absurd (h0 spec items refl)
-form-other (whole.Common groups) h0 h1 h2 h3 h4 h5 h6 h7 h8 h9 h10 = absurd (h1 groups refl)
-form-other (whole.Equivalence groups) h0 h1 h2 h3 h4 h5 h6 h7 h8 h9 h10 = absurd (h2 groups refl)
-form-other (whole.Init groups) h0 h1 h2 h3 h4 h5 h6 h7 h8 h9 h10 = absurd (h3 groups refl)
-form-other (whole.Entry x dummies) h0 h1 h2 h3 h4 h5 h6 h7 h8 h9 h10 = absurd (h4 x dummies refl)
-form-other (whole.GotoName x labels) h0 h1 h2 h3 h4 h5 h6 h7 h8 h9 h10 = absurd (h5 x labels refl)
-form-other (whole.Call x es) h0 h1 h2 h3 h4 h5 h6 h7 h8 h9 h10 = absurd (h6 x es refl)
-form-other (whole.Auxiliary which controls) h0 h1 h2 h3 h4 h5 h6 h7 h8 h9 h10 = absurd (h7 which controls refl)
-form-other (whole.Include name) h0 h1 h2 h3 h4 h5 h6 h7 h8 h9 h10 = absurd (h8 name refl)
-form-other (IfOne' e s (more_of-Body b end_of-Body)) h0 h1 h2 h3 h4 h5 h6 h7 h8 h9 h10 = absurd (h9 e b refl)
-form-other (whole.Transfer way controls items) h0 h1 h2 h3 h4 h5 h6 h7 h8 h9 h10 = absurd (h10 way controls items refl)
-form-other _ h0 h1 h2 h3 h4 h5 h6 h7 h8 h9 h10 = refl
+form-other (whole.Declare spec items) h0 h1 h2 h3 h4 h5 h6 h7 h8 h9 = absurd (h0 spec items refl)
+form-other (whole.Common groups) h0 h1 h2 h3 h4 h5 h6 h7 h8 h9 = absurd (h1 groups refl)
+form-other (whole.Equivalence groups) h0 h1 h2 h3 h4 h5 h6 h7 h8 h9 = absurd (h2 groups refl)
+form-other (whole.Init groups) h0 h1 h2 h3 h4 h5 h6 h7 h8 h9 = absurd (h3 groups refl)
+form-other (whole.Entry x dummies) h0 h1 h2 h3 h4 h5 h6 h7 h8 h9 = absurd (h4 x dummies refl)
+form-other (whole.GotoName x labels) h0 h1 h2 h3 h4 h5 h6 h7 h8 h9 = absurd (h5 x labels refl)
+form-other (whole.Auxiliary which controls) h0 h1 h2 h3 h4 h5 h6 h7 h8 h9 = absurd (h6 which controls refl)
+form-other (whole.Include name) h0 h1 h2 h3 h4 h5 h6 h7 h8 h9 = absurd (h7 name refl)
+form-other (IfOne' e s (more_of-Body b end_of-Body)) h0 h1 h2 h3 h4 h5 h6 h7 h8 h9 = absurd (h8 e b refl)
+form-other (whole.Transfer way controls items) h0 h1 h2 h3 h4 h5 h6 h7 h8 h9 = absurd (h9 way controls items refl)
+form-other _ h0 h1 h2 h3 h4 h5 h6 h7 h8 h9 = refl

@@ -10,7 +10,7 @@ use Rattle.f_tree.specs.Lines.{unit_read, with_ties, program_of}
 use Rattle.f_tree.specs.Meaning.{facts_at}
 use Rattle.declaration_rows.specs.NameRows.{given_names}
 use Rattle.lowered_tree.specs.l_core.Steps.{Step, Text}
-use Rattle.expression_lowering.specs.lowering.Units.{lines_code, text_with, lowered_unit}
+use Rattle.expression_lowering.specs.lowering.Units.{lines_code, text_with, if_called_well, lowered_unit}
 use Rattle.lowered_text.specs.declared.text.LoweredText.{LoweredText}
 use Rattle.name_facts.specs.declared.table.NameFacts.{NameFacts}
 use Rattle.name_facts.specs.GivenFacts.{AreNameFacts}
@@ -70,7 +70,7 @@ facts_kept c (Some steps) = refl
 -- a lowered text is that of its unit
 same_facts : (c : Facts) (t : Text) → lowered_unit c ≡ Some t → t.facts ≡ c
 unfolding lowered_unit
-same_facts c t is = ap (facts_or c) (sym is) ∙ facts_kept c (lines_code c.program 0 c.program.lines)
+same_facts c t is = ap (facts_or c) (sym is) ∙ facts_kept c (if_called_well (lines_code c.program 0 c.program.lines))
 
 module _ (options : Options) (procedures : List Bytes) (u : GivenUnit) where
   abbrev lowers : Bool

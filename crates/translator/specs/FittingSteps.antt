@@ -1,6 +1,6 @@
 -- Which steps fit into memory, each by itself. ANSI X3.9-1978, sections 3.4, 10.3, 11.12 and 15.5.
 use Rattle.std.specs.Prelude.{◌≡◌, suc, ◌^◌, nat_lt, Bool, true, ◌&&◌}
-use Rattle.lowered_tree.specs.l_core.Steps.{Step, Keep, Compute, CallFor, Jump, Text}
+use Rattle.lowered_tree.specs.l_core.Steps.{Step, Keep, Compute, CallFor, Jump, Way, Text}
 use Rattle.lowered_text.specs.declared.text.LoweredText.{LoweredText}
 use Rattle.lowered_text.specs.Texts.{IsText}
 use Rattle.translated_forms.specs.TranslatedForms.{stop_fits}
@@ -16,6 +16,7 @@ keep_fits st = true
 -- the label to which it goes is a number
 unfoldable pub jump_fits : Step → Bool
 jump_fits (Jump label) = nat_lt label (2 ^ 64)
+jump_fits (Way label) = nat_lt label (2 ^ 64)
 jump_fits st = true
 
 unfoldable pub step_fits : Step → Bool

@@ -34,6 +34,7 @@ fn step_fits(step: &Step) -> bool
         Step::Compute(temporary, _, _) => *temporary < usize::MAX,
         Step::CallFor(temporary, _, _) => *temporary < usize::MAX,
         Step::Jump(label) => label_fits(*label),
+        Step::Way(label) => label_fits(*label),
         Step::Halt(text) => stop_fits(text.as_slice()),
         _ => true,
     }

@@ -1,15 +1,14 @@
-//! The forms of statements that are translated: no shared storage, no initial values, no type CHARACTER, no GO TO by a variable without its labels, no label
-//! as an argument, and no input or output but by lists. Sections 8 to 12 and 15.
+//! The forms of statements that are translated: no shared storage, no initial values, no type CHARACTER, no GO TO by a variable without its labels, and no
+//! input or output but by lists. Sections 8 to 12 and 15.
 
 ghost use Rattle.std.specs.List.{list_all};
 ghost use Rattle.std.specs.Prelude.{◌≡◌};
-ghost use Rattle.f_tree.specs.Folds.{fold_expr, fold_item};
+ghost use Rattle.f_tree.specs.Folds.{fold_item};
 ghost use Rattle.f_tree.specs.declared.statements.Control.{Control as WrittenControl};
 ghost use Rattle.translated_forms.specs.TranslatedForms as spec;
 ghost use Rattle.translated_files.specs.TranslatedFiles as files;
 
 use f_tree::Basic;
-use f_tree::expressions::Expr;
 use f_tree::statements::{Body, Control, ControlValue, ControlWord, Direction, ListItem};
 
 /// Whether a type is one of numbers or truth values, or none is written.
@@ -94,24 +93,6 @@ fn is_listed(direction: Direction, controls: &[Control], items: &[ListItem]) -> 
     is_output(direction) && (are_plain_words(controls) && are_single(items))
 }
 
-/// Whether an argument is no label of an alternate return.
-#[tactic(auto, using(crate::proofs::FormLemmas::value_forms))]
-fn is_value(argument: &Expr) -> bool
-    ensures { result ≡ fold_expr files.layer_value argument.now }
-{
-    match argument {
-        Expr::AltReturn(_) => false,
-        _ => true,
-    }
-}
-
-/// Whether no argument is a label of an alternate return.
-fn are_values(arguments: &[Expr]) -> bool
-    ensures { result ≡ list_all (fold_expr files.layer_value) arguments.now }
-{
-    arguments.iter().all(|argument| is_value(argument))
-}
-
 /// Whether labels are written.
 #[tactic(auto, unfolding(translated_forms::specs::TranslatedForms::are_written))]
 fn are_written(labels: &[u32]) -> bool
@@ -131,7 +112,6 @@ pub(crate) fn is_translated_form(body: &Body) -> bool
         Body::Common(_) | Body::Equivalence(_) | Body::Init(_) | Body::Entry(..) => false,
         Body::GotoName(_, labels) => are_written(labels.as_slice()),
         Body::Auxiliary(..) | Body::Include(_) => false,
-        Body::Call(_, arguments) => are_values(arguments.as_slice()),
         Body::IfOne(_, body) => is_translated_form(body.get()),
         Body::Transfer(direction, controls, items) => {
             is_listed(*direction, controls.as_slice(), items.as_slice())

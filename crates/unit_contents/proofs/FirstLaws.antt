@@ -1,5 +1,5 @@
 -- Tables of what stands first at each position: one more.
-use Rattle.std.specs.Prelude.{◌≡◌, ℕ, suc, ◌+◌, ◌<◌, ◌≤◌, nat_eq, nat_lt, Bool, true, false, not, List, [], ◌∷◌, ◌++◌, map, length, position, Option, Some, None, option_map, if◌then◌else◌}
+use Rattle.std.specs.Prelude.{◌≡◌, ℕ, suc, ◌+◌, ◌<◌, ◌≤◌, nat_eq, nat_lt, Bool, true, false, not, List, [], ◌∷◌, ◌++◌, map, length, position, Option, Some, None, option_map, option_to_list, if◌then◌else◌}
 use Rattle.std.specs.List.{position_or_len}
 use Rattle.std.specs.Option.{option_or}
 use Rattle.std.proofs.Common.{refl, ap, sym, ◌∙◌, subst, drop, get_or, ⊎_elim, arith, append_assoc}
@@ -8,12 +8,12 @@ use Rattle.std.proofs.lemmas.Bool.Decides.{nat_tests}
 use Rattle.std.proofs.lemmas.List.{at_drop_more, at_drop_all, append-nil}
 use Rattle.lowered_tree.specs.l_core.Steps as core
 use Rattle.lowered_tree.specs.declared.steps.Step.{Step}
-use Rattle.lowered_tree.specs.declared.steps.Step.TheVariants as step
 use Rattle.lowered_tree.specs.Shapes.{step_of, steps_of}
 use Rattle.lowered_text.specs.declared.text.LoweredText.{LoweredText}
 use Rattle.lowered_text.specs.declared.text.Marked.{Marked}
 use Rattle.lowered_text.specs.Texts.{mark_of, marked_of}
 use Rattle.main_translation.specs.Outlined.{labels_in, stands_at, label_before, opens_while, whiles_in}
+use Rattle.unit_contents.specs.Parts.{label_in}
 use Rattle.unit_contents.specs.Tables.{place_in, AreLabels, AreWhiles}
 use Rattle.unit_contents.proofs.WalkLaws.{next_step, no_step}
 
@@ -46,26 +46,18 @@ label_kept o label n place' is = sym (ap (λ p. option_or o (if stands_at p n th
 
 -- ## The labels that steps branch to
 
-labels-split : (st : core.Step) (later : List core.Step) → labels_in (st ∷ later) ≡ labels_in (st ∷ []) ++ labels_in later
-unfolding labels_in
+labels-split : (st : core.Step) (later : List core.Step) → labels_in (st ∷ later) ≡ option_to_list (label_in st) ++ labels_in later
+unfolding labels_in label_in
 labels-split (core.Jump label) later = refl
+labels-split (core.Way label) later = refl
 labels-split st later = refl
 
-pub label_of_jump : (s : Step) (label : ℕ) → s ≡ step.Jump label → labels_in (step_of s ∷ []) ≡ label ∷ []
-unfolding labels_in
-label_of_jump s label is = ap (λ r. labels_in (step_of r ∷ [])) is
-
-pub no_label : (so_far : List ℕ) (s : Step) → ((label : ℕ) → s ≡ step.Jump label → ⊥) → so_far ≡ so_far ++ labels_in (step_of s ∷ [])
-unfolding labels_in
-no_label so_far (step.Jump label) other = absurd (other label refl)
-no_label so_far s other = sym (append-nil so_far)
-
-pub labels_more : (steps : List Step) (i : ℕ) (s : Step) (so_far after all : List ℕ) → i < length steps → s ≡ get_or steps i s
-    → after ≡ so_far ++ labels_in (step_of s ∷ []) → so_far ++ labels_in (steps_of (drop i steps)) ≡ all → after ++ labels_in (steps_of (drop (i + 1) steps)) ≡ all
-labels_more steps i s so_far after all within is put known =
+pub labels_more : (steps : List Step) (i : ℕ) (s : Step) (label : Option ℕ) (so_far after all : List ℕ) → i < length steps → s ≡ get_or steps i s → label ≡ label_in (step_of s)
+    → after ≡ so_far ++ option_to_list label → so_far ++ labels_in (steps_of (drop i steps)) ≡ all → after ++ labels_in (steps_of (drop (i + 1) steps)) ≡ all
+labels_more steps i s label so_far after all within is one put known =
     let later = steps_of (drop (i + 1) steps) in
-    ap (λ ls. ls ++ labels_in later) put ∙ append_assoc so_far (labels_in (step_of s ∷ [])) (labels_in later)
-    ∙ ap (λ ls. so_far ++ ls) (sym (next_step labels_in steps i s within is ∙ labels-split (step_of s) later)) ∙ known
+    ap (λ ls. ls ++ labels_in later) put ∙ append_assoc so_far (option_to_list label) (labels_in later)
+    ∙ ap (λ ls. so_far ++ ls) (ap (λ o. option_to_list o ++ labels_in later) one ∙ sym (next_step labels_in steps i s within is ∙ labels-split (step_of s) later)) ∙ known
 
 pub labels_whole : (steps : List Step) (i : ℕ) (so_far all : List ℕ) → length steps ≤ i → so_far ++ labels_in (steps_of (drop i steps)) ≡ all → so_far ≡ all
 unfolding labels_in

@@ -18,7 +18,7 @@ use Rattle.lowered_text.specs.declared.text.LoweredText.{LoweredText}
 use Rattle.lowered_text.specs.declared.text.Marked.{Marked}
 use Rattle.lowered_text.specs.Texts.{mark_of, marked_of}
 use Rattle.named_items.specs.declared.layout.Layout.{Layout}
-use Rattle.main_translation.specs.Outlined.{labels_in, label_before, whiles_in, name_by, label_at, passes_arms, is_opening, opens_loop, turn_of, is_opening_once, opens_once, goes_back_by, turn_behind, loop_at}
+use Rattle.main_translation.specs.Outlined.{labels_in, label_before, whiles_in, name_by, label_at, passes_arms, opens_loop, turn_of, opens_once, goes_back_by, turn_behind, loop_at}
 use Rattle.unit_contents.specs.Tables.{text_of, place_in, AreNames, is_opening_by, opens_by, AreOpenings, AreArms, turn_by, turn_opened, AreTurns, AreLaidOut}
 use Rattle.unit_contents.proofs.Lists.{flat_read}
 use Rattle.unit_contents.proofs.TargetLaws.{or_none, equal_either_way}

@@ -1,17 +1,24 @@
--- Parts of what a text has, by its steps: the unit of an output that begins, what is passed by a step before which a temporary's type is known, whether
--- the step is in its place, and the procedure that an operand passes. ANSI X3.9-1978, sections 4.1, 12.8, 15.8 and 15.9.
-use Rattle.std.specs.Prelude.{ℤ, pos, Bool, true, false, List, [], ◌∷◌, ◌++◌, Option, Some, None, is_some, is_none, option_and_then, if◌then◌else◌}
+-- Parts of what a text has, by its steps: the label that a step branches to, the unit of an output that begins, what is passed by a step before which a
+-- temporary's type is known, whether the step is in its place, and the procedure that an operand passes. ANSI X3.9-1978, sections 4.1, 11, 12.8, 15.6.2.3,
+-- 15.8 and 15.9.
+use Rattle.std.specs.Prelude.{ℕ, ℤ, pos, Bool, true, false, List, [], ◌∷◌, ◌++◌, Option, Some, None, is_some, is_none, option_and_then, if◌then◌else◌}
 use Rattle.f_tree.specs.declared.names.Basic.{Basic}
 use Rattle.f_tree.specs.Values.{Bytes, Datum, IsInt, IsLog, in_range}
 use Rattle.f_tree.specs.Facts.{Facts}
 use Rattle.lowered_tree.specs.l_core.Pures.{Pure, Constant, Temporary, Name, Pures, NoPure, AndPure}
-use Rattle.lowered_tree.specs.l_core.Steps.{Acting, Starts, Takes, Step, Keep, Compute, CallFor, CallSub, Back, BackBy, Acts}
+use Rattle.lowered_tree.specs.l_core.Steps.{Acting, Starts, Takes, Step, Keep, Compute, Jump, CallFor, CallSub, Way, Back, BackBy, Acts}
 use Rattle.c_emit.specs.Calls.{unit_of, kind_number}
 use Rattle.lowered_text.specs.declared.kept.Kept.{Kept}
 use Rattle.lowered_text.specs.Texts.{kinds_of}
 use Rattle.main_translation.specs.Flow.{kept_type, is_on}
 use Rattle.main_translation.specs.Contents.{own_value, own_values, kind_value}
 use Rattle.unit_file.specs.UnitItems.{procedure_passed}
+
+-- the label that a step branches to, that of an alternate return among them
+unfoldable pub label_in : Step → Option ℕ
+label_in (Jump label) = Some label
+label_in (Way label) = Some label
+label_in st = None
 
 -- an integer that is written
 unfoldable pub integer_in : Datum → Option ℤ

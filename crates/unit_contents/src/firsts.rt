@@ -1,10 +1,11 @@
 //! What stands first at each position: a label that steps branch to, or a loop that goes by a condition alone. CSTR 149.
 
-ghost use Rattle.std.specs.Prelude.{◌≡◌, ◌<◌, ℕ, None, Some, nat_eq, OnOk, IfOk, length, map, slice_index_or, if◌then◌else◌};
+ghost use Rattle.std.specs.Prelude.{◌≡◌, ◌<◌, ◌++◌, ℕ, None, Some, nat_eq, OnOk, IfOk, length, map, option_to_list, slice_index_or, if◌then◌else◌};
 ghost use Rattle.std.specs.Option.{option_or};
-ghost use Rattle.lowered_tree.specs.Shapes.{steps_of};
+ghost use Rattle.lowered_tree.specs.Shapes.{step_of, steps_of};
 ghost use Rattle.lowered_text.specs.Texts.{mark_of, marked_of};
 ghost use Rattle.main_translation.specs.Outlined as spec;
+ghost use Rattle.unit_contents.specs.Parts as parts;
 ghost use Rattle.unit_contents.specs.Tables.{AreLabels, AreWhiles};
 
 use crate::targets::place_of;
@@ -12,15 +13,35 @@ use lowered_text::{LoweredText, Mark, Marked};
 use lowered_tree::Step;
 use std::alloc::{AllocError, Global};
 
+/// The label that a step branches to, that of an alternate return among them.
+#[tactic(auto, unfolding(crate::specs::Parts::label_in))]
+fn label_in(step: &Step) -> Option<u32>
+    ensures { result ≡ parts.label_in (step_of step.now) }
+{
+    match step {
+        Step::Jump(label) => Some(*label),
+        Step::Way(label) => Some(*label),
+        _ => None,
+    }
+}
+
+/// Adds a label, where there is one.
+fn add_label(labels: &mut Vec<u32>, label: Option<u32>) -> Result<(), AllocError>
+    ensures { OnOk result (labels.new.items ≡ labels.old.items ++ option_to_list label) }
+{
+    if let Some(label) = label {
+        labels.push(label)?;
+    }
+    Ok(())
+}
+
 /// The labels that steps branch to.
 fn labels_in(alloc: Global, steps: &[Step]) -> Result<Vec<u32>, AllocError>
     ensures { IfOk result (λ labels. labels.items ≡ spec.labels_in (steps_of steps.now)) }
 {
     let mut labels = Vec::new(alloc);
     for step in steps {
-        if let Step::Jump(label) = step {
-            labels.push(*label)?;
-        }
+        add_label(&mut labels, label_in(step))?;
     }
     Ok(labels)
 }

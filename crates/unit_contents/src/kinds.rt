@@ -151,12 +151,13 @@ fn kept(temporary: usize, basic: Option<Basic>) -> Option<Kept>
     Some(Kept { temporary, basic })
 }
 
-/// The type of what a function gives of which this is wanted, if it is a number in C.
+/// The type of what is given where this is wanted, if it is a number in C: that of a function, or the number of the alternate return of a subroutine.
 #[tactic(auto, unfolding(procedure_emission::specs::ProcedureItems::basic_wanted))]
 fn basic_wanted(want: Wanted) -> Option<Basic>
     ensures { result ≡ items.basic_wanted (wanted_of want) }
 {
     match want {
+        Wanted::Subroutine => Some(Basic::Integer),
         Wanted::Function(Basic::Integer, _) => Some(Basic::Integer),
         Wanted::Function(Basic::Logical, _) => Some(Basic::Logical),
         _ => None,

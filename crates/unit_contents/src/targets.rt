@@ -72,6 +72,8 @@ fn note_targets(table: &mut [bool], text: &LoweredText, position: usize, step: &
         Step::Jump(label) => note_if(table, place_of(text, *label)),
         Step::Select(_, count) => note_each(table, position, *count),
         Step::JumpBy(_, labels) => note_each(table, position, labels.as_slice().len()),
+        Step::Branch(_, count) => note_each(table, position, *count),
+        Step::Way(label) => note_if(table, place_of(text, *label)),
         _ => {}
     }
 }

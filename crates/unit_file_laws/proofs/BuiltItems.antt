@@ -7,7 +7,7 @@ use Rattle.unit_places.specs.f_tree.declared.names.Basic.{Basic}
 use Rattle.unit_places.specs.f_tree.declared.names.Class.{Class}
 use Rattle.unit_places.specs.f_tree.declared.names.Class.TheVariants as class
 use Rattle.unit_places.specs.f_tree.Terms as fortran
-use Rattle.unit_places.specs.f_tree.Values.{Bytes}
+use Rattle.unit_places.specs.f_tree.Values.{Bytes, IsLabel}
 use Rattle.unit_places.specs.f_tree.World.{Procedure}
 use Rattle.unit_places.specs.l_core.Pures.{Pure, Constant, Temporary, Name, ElementOf, Pures, NoPure, AndPure}
 use Rattle.unit_places.specs.l_core.Steps.{Starts, Takes, Finishes, Step, Compute, CallFor, CallSub, Halt, Acts, Text}
@@ -238,11 +238,15 @@ module _ (routines : Routines) (objects : List ℕ → Option ℕ) (functions : 
   more_plain (Some t) None ts h one others = absurd (cc)
   more_plain None xs ts h one others = absurd (cc)
 
+  argument_more : (p : Pure) (ps : Pures) (xs : Option (List Term)) (ts : List Term) → AreDeclared numbers vs v (procedures_passed u.facts (AndPure p ps)) → one_more (argument_term numbers writing p) xs ≡ Some ts
+      → ((later : List Term) → xs ≡ Some later → ArePlain scope names later) → ArePlain scope names ts
+  argument_more p ps xs ts declared h others = more_plain (argument_term numbers writing p) xs ts h (λ t at. argument_plain p ps t declared at) others
+
   arguments_plain : (ps : Pures) (ts : List Term) → AreDeclared numbers vs v (procedures_passed u.facts ps) → argument_terms numbers writing ps ≡ Some ts → ArePlain scope names ts
   unfolding argument_terms strings_in_all
   arguments_plain NoPure ts declared h = subst (ArePlain scope names) (some_same [] ts h) (record { knows = tt; no_strings = refl })
-  arguments_plain (AndPure p ps) ts declared h =
-      more_plain (argument_term numbers writing p) (argument_terms numbers writing ps) ts h (λ t at. argument_plain p ps t declared at) (λ later at. arguments_plain ps later (later_declared p ps declared) at)
+  arguments_plain (AndPure (Constant (IsLabel label)) ps) ts declared h = arguments_plain ps ts (later_declared (Constant (IsLabel label)) ps declared) h
+  arguments_plain (AndPure p ps) ts declared h = argument_more p ps (argument_terms numbers writing ps) ts declared h (λ later at. arguments_plain ps later (later_declared p ps declared) at)
 
   call_known : (x : Bytes) (ps : Pures) → AreDeclared numbers vs v (procedures_named u.facts x ps) → KnowsCall scope names numbers writing x ps
   unfolding procedures_named

@@ -4,7 +4,7 @@ use Rattle.std.proofs.Common.{refl, subst}
 use Rattle.main_file_texts.specs.f_tree.declared.names.Basic.{Basic}
 use Rattle.main_file_texts.specs.f_tree.declared.names.Class.{Class}
 use Rattle.main_file_texts.specs.f_tree.declared.names.Class.TheVariants as class
-use Rattle.main_file_texts.specs.f_tree.Values.{Bytes}
+use Rattle.main_file_texts.specs.f_tree.Values.{Bytes, IsLabel}
 use Rattle.main_file_texts.specs.f_tree.Facts as facts
 use Rattle.main_file_texts.specs.f_tree.Facts.{UnitKind, EntryPoint}
 use Rattle.main_file_texts.specs.f_tree.World.{Procedure}
@@ -17,7 +17,7 @@ use Rattle.c_spelling.specs.c_tree.Terms.{Term}
 use Rattle.c_spelling.specs.c_tree.Flat.{Flat, Assign, Invoke, Ignored, Kept, Return, Callee}
 use Rattle.main_file_texts.specs.c_image.Addresses.{Address, Alone, Inside, InTexts, Through}
 use Rattle.main_file_texts.proofs.c_structure_laws.DrawnExpressions.{mapped_by}
-use Rattle.main_file_texts.specs.c_emit.Numbers.{Writing, if_number, value_term, place_term, has_number, has_shape}
+use Rattle.main_file_texts.specs.c_emit.Numbers.{Writing, one_more, if_number, value_term, place_term, has_number, has_shape}
 use Rattle.main_file_texts.specs.c_emit.Calls.{held_term, address_of}
 use Rattle.main_file_texts.proofs.linking_laws.Places.{some_same}
 use Rattle.unit_programs.specs.procedure_emission.bound_items.BoundItems.{Saving, saving_item}
@@ -84,10 +84,14 @@ module _ (w : Writing) (numbers : Numbers) where
   argument_fieldless (ElementOf x ps) term h = addressed_fieldless (place_term w (ElementOf x ps)) term h (target_fieldless w (ElementOf x ps))
   argument_fieldless p term h = absurd (cc)
 
+  argument_more : (p : Pure) (xs : Option (List Term)) (ts : List Term) → one_more (argument_term numbers w p) xs ≡ Some ts → ((later : List Term) → xs ≡ Some later → HaveNoField later) → HaveNoField ts
+  argument_more p xs ts h others = more_fieldless (argument_term numbers w p) xs ts h (argument_fieldless p) others
+
   arguments_fieldless : (ps : Pures) (ts : List Term) → argument_terms numbers w ps ≡ Some ts → HaveNoField ts
   unfolding argument_terms
   arguments_fieldless NoPure ts h = subst HaveNoField (some_same [] ts h) no_terms
-  arguments_fieldless (AndPure p ps) ts h = more_fieldless (argument_term numbers w p) (argument_terms numbers w ps) ts h (argument_fieldless p) (arguments_fieldless ps)
+  arguments_fieldless (AndPure (Constant (IsLabel label)) ps) ts h = arguments_fieldless ps ts h
+  arguments_fieldless (AndPure p ps) ts h = argument_more p (argument_terms numbers w ps) ts h (arguments_fieldless ps)
 
   result_fieldless : (entries : List EntryPoint) (t : Term) → result_term w entries ≡ Some t → HasNoField t
   unfolding result_term

@@ -5,7 +5,7 @@ use Rattle.item_emission.specs.f_tree.declared.names.Basic.{Basic}
 use Rattle.item_emission.specs.f_tree.declared.names.Basic.TheVariants.{Integer, Logical, Character, Untyped}
 use Rattle.item_emission.specs.f_tree.declared.names.Class.{Class}
 use Rattle.item_emission.specs.f_tree.declared.names.Class.TheVariants as class
-use Rattle.item_emission.specs.f_tree.Values.{Bytes}
+use Rattle.item_emission.specs.f_tree.Values.{Bytes, IsLabel}
 use Rattle.item_emission.specs.f_tree.Terms.{Wanted, AsSubroutine, AsFunction}
 use Rattle.item_emission.specs.f_tree.Facts.{Facts, UnitKind, MainProgram, SubroutineUnit, FunctionUnit, BlockDataUnit, EntryPoint}
 use Rattle.item_emission.specs.f_tree.World.{Procedure}
@@ -25,6 +25,7 @@ use Rattle.item_emission.specs.c_tree.Flat.{Assign, Invoke, Return, Ignored, Kep
 use Rattle.item_emission.specs.c_structure.Expressions.{Names, with_two, number_expr, array_expr, expr_for, one_more, exprs_for}
 use Rattle.item_emission.specs.c_image.Addresses.{number_term, element_term}
 use Rattle.item_emission.specs.c_image.Elements.{quantity_term}
+use Rattle.item_emission.specs.c_emit.Numbers as emit
 use Rattle.item_emission.specs.c_emit.Numbers.{Writing, is_numeric, is_variable, has_number, has_shape, is_scalar, is_array, if_number, value_term, place_term}
 use Rattle.item_emission.specs.c_emit.Calls.{address_of, held_term}
 use Rattle.item_emission.specs.c_emit.Flats.{returned_by}
@@ -308,10 +309,14 @@ module _ (vs : List Inventory) (s : Site) (v : Inventory) (facts : Facts) (numbe
   argument-agrees (ElementOf x ps) = address-agrees names (place_term w (ElementOf x ps)) ∙ ap (option_map address_expr) (place-known names w known label steps-known (ElementOf x ps))
   argument-agrees p = refl
 
+  argument-more : (p : Pure) (ts : Option (List Term)) (es : Option (List CExpr)) → exprs_of names ts ≡ es → exprs_of names (emit.one_more (argument_term numbers w p) ts) ≡ one_more (argument_expr known p) es
+  argument-more p ts es others = more-agrees names (argument_term numbers w p) ts ∙ (λ i. one_more (argument-agrees p i) (others i))
+
   arguments-agree : (ps : Pures) → exprs_of names (argument_terms numbers w ps) ≡ argument_exprs known ps
   unfolding argument_terms argument_exprs exprs_for
   arguments-agree NoPure = refl
-  arguments-agree (AndPure p ps) = more-agrees names (argument_term numbers w p) (argument_terms numbers w ps) ∙ (λ i. one_more (argument-agrees p i) (arguments-agree ps i))
+  arguments-agree (AndPure (Constant (IsLabel label)) ps) = arguments-agree ps
+  arguments-agree (AndPure p ps) = argument-more p (argument_terms numbers w ps) (argument_exprs known ps) (arguments-agree ps)
 
   -- ## Callees
 

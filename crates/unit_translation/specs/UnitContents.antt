@@ -50,7 +50,8 @@ unit_numbers us = found_from 0 (program_units us)
 
 -- ## Constants
 
--- an item is passed with the number of its type and with the number of its elements; functions and procedures are passed their operands
+-- an item is passed with the number of its type and with the number of its elements; functions and procedures are passed their operands, but
+-- for labels, which are passed as nothing
 unfoldable pub values_passed : Text → ℕ → Step → List ℤ
 values_passed u n (Acts Takes (AndPure p NoPure) m) = kind_value (option_and_then kind_number (item_kind u n p)) ++ pos 1 ∷ own_value p
 values_passed u n (Compute k f ps) = own_values ps

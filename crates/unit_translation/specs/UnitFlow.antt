@@ -11,7 +11,7 @@ use Rattle.main_translation.specs.Flow.{is_target, kept_type, kept_at, stage_at,
 
 -- ## Temporaries
 
--- the type of a value that is kept by the step before, or of what a function gives
+-- the type of a value that is kept by the step before, or of what a function gives; a subroutine gives the number of its alternate return
 unfoldable pub kept_behind : Facts → Bool → ℕ → Option Step → Option Basic
 kept_behind c false k (Some (CallFor j callee ps)) = if nat_eq k j then basic_wanted callee.want else None
 kept_behind c reached k st = kept_at c reached k st

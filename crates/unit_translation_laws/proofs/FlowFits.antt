@@ -6,7 +6,7 @@ use Rattle.unit_translation.specs.f_tree.Terms.{Callee}
 use Rattle.unit_translation.specs.f_tree.Facts.{EntryPoint, Facts}
 use Rattle.unit_translation.specs.f_tree.Setting.{IsIn, first_in, later_in}
 use Rattle.unit_translation.specs.l_core.Pures.{Pure, Temporary, Pures}
-use Rattle.unit_translation.specs.l_core.Steps.{Takes, Finishes, Step, Keep, Compute, Unless, Skip, Again, AgainIf, Jump, Select, JumpBy, CallFor, Back, BackBy, Halt, Acts, Text}
+use Rattle.unit_translation.specs.l_core.Steps.{Takes, Finishes, Step, Keep, Compute, Unless, Skip, Again, AgainIf, Jump, Select, JumpBy, CallFor, Branch, Way, Back, BackBy, Halt, Acts, Text}
 use Rattle.unit_translation.specs.main_translation.c_image.Knowing.{Naming}
 use Rattle.unit_translation.specs.c_emit.Numbers.{Library, Writing}
 use Rattle.unit_translation.specs.c_emit.LibraryFunctions.{library_type}
@@ -35,6 +35,8 @@ is_branch (Again m) = true
 is_branch (Jump label) = true
 is_branch (Select p count) = true
 is_branch (JumpBy p labels) = true
+is_branch (Branch k count) = true
+is_branch (Way label) = true
 is_branch st = false
 
 leads_too : (u : Text) (n : ℕ) (st : Step) (m : ℕ) → IsIn m (leads_on u n st) → IsIn m (leads u n st)
@@ -56,6 +58,8 @@ unbranched u n (Again k) m h o = absurd (cc)
 unbranched u n (Jump label) m h o = absurd (cc)
 unbranched u n (Select p count) m h o = absurd (cc)
 unbranched u n (JumpBy p labels) m h o = absurd (cc)
+unbranched u n (Branch k count) m h o = absurd (cc)
+unbranched u n (Way label) m h o = absurd (cc)
 unbranched u n Back m h o = elim o [ ]
 unbranched u n (Halt text) m h o = elim o [ ]
 unbranched u n st m h o = only_next n m o

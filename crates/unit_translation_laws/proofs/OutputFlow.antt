@@ -4,7 +4,7 @@ use Rattle.std.proofs.Common.{refl, sym, ap, ◌∙◌, subst, arith}
 use Rattle.unit_translation.specs.f_tree.Facts.{Direction, Layout, Controls}
 use Rattle.unit_translation.specs.f_tree.Setting.{first_in}
 use Rattle.unit_translation.specs.l_core.Pures.{Pures}
-use Rattle.unit_translation.specs.l_core.Steps.{Starts, Finishes, Step, Unless, Skip, Again, AgainIf, Jump, Select, JumpBy, Acts, Text}
+use Rattle.unit_translation.specs.l_core.Steps.{Starts, Finishes, Step, Unless, Skip, Again, AgainIf, Jump, Select, JumpBy, Branch, Way, Acts, Text}
 use Rattle.main_translation_laws.proofs.linking_laws.Places.{some_same, get_front, get_back, IsAt, in_first, in_second, at_one}
 use Rattle.unit_translation.specs.main_translation.Flow.{is_target, targets_of, stage_after, stage_at, is_on}
 use Rattle.main_translation_laws.proofs.FlowLaws.{reached}
@@ -73,6 +73,8 @@ first_alone u a (AgainIf p m) k stands within some = absurd within
 first_alone u a (Jump label) k stands within some = absurd within
 first_alone u a (Select p count) k stands within some = absurd within
 first_alone u a (JumpBy p labels) k stands within some = absurd within
+first_alone u a (Branch j count) k stands within some = absurd within
+first_alone u a (Way label) k stands within some = absurd within
 first_alone u a st k stands within some = is_alone refl (not_target u (suc a) (some 1 (suc a) (omega arith) (omega arith)))
 
 inner_alone : (u : Text) (xs : List Step) (a : ℕ) → StandAt u a xs → AreInner xs → is_some (stage_at u (a + length xs)) ≡ true → (i k : ℕ) (st : Step) → k ≡ a + i → slice_get xs i ≡ Some st → IsAlone u k st

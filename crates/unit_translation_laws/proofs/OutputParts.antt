@@ -7,10 +7,10 @@ use Rattle.unit_translation.specs.f_tree.Values.{Bytes}
 use Rattle.unit_translation.specs.f_tree.Facts.{Direction, Layout, Controls, AuxiliaryKind, Item, Repeated, Turn, Work, Done, Before as Before', Head, ToSet, ToSetLabel, ToGo, ToPick, ToGoAssigned, ToGoBySign, ToGuard, ToEnterArm, ToLoop, ToTestLoop, ToCall, ToReturn, ToStop, ToBegin, ToAuxiliary, ToEnd, Form, Passes, On, Mark, Arm, Line, ProgramUnit, Facts}
 use Rattle.unit_translation.specs.f_tree.Nests.{Range}
 use Rattle.unit_translation.specs.l_core.Pures.{Pure, Pures, NoPure, AndPure}
-use Rattle.unit_translation.specs.l_core.Steps.{Starts, Takes, Finishes, Step, Keep, Put, Unless, Skip, Again, AgainIf, Jump, Select, JumpBy, Acts, Text}
+use Rattle.unit_translation.specs.l_core.Steps.{Starts, Takes, Finishes, Step, Keep, Put, Unless, Skip, Again, AgainIf, Jump, Select, JumpBy, Branch, Way, Acts, Text}
 use Rattle.main_translation_laws.specs.lowering.Expressions.{Purpose, ForUse, ForCall, ForReading, ForLater, Lowered, and_then, no_operand, ahead, Shape, AsFetch, AsElement, AsAlone, AsPart, AsJoined, AsBefore, AsBetween, AsFunction, AsReference, is_library, for_fetch, kept_steps, function_steps, closing, shaped, guarded, lowered_between, in_order, lower, lower_all, plain, may_decide, takes_steps, for_place, for_function}
-use Rattle.main_translation_laws.specs.lowering.Statements.{behind_operands, with_operands, put_code, put_label_code, select_code, each_once, jump_by_code, sign_code, unless_code, guard_code, loop_operands, test_by, loop_test, loop_code, back_by, turn_code, passes_label, branch_code, call_code, back_code, item_purpose, item_code, work_code, begin_code, auxiliary_code, form_code, head_code}
-use Rattle.main_translation_laws.specs.lowering.Units.{loop_lowered, free_at, all_named, is_named, pass_code, is_counted, turn_size, ended_at, own_end, room_of, way_back, turn_of, turns_of, skip_code, line_code, both_codes, lines_code, text_with, lowered_unit}
+use Rattle.main_translation_laws.specs.lowering.Statements.{behind_operands, with_operands, put_code, put_label_code, select_code, each_once, jump_by_code, sign_code, unless_code, guard_code, loop_operands, test_by, loop_test, loop_code, back_by, turn_code, labels_written, hides_labels, call_steps, call_code, back_code, item_purpose, item_code, work_code, begin_code, auxiliary_code, form_code, head_code}
+use Rattle.main_translation_laws.specs.lowering.Units.{loop_lowered, free_at, all_named, is_named, pass_code, is_counted, turn_size, ended_at, own_end, room_of, way_back, turn_of, turns_of, skip_code, line_code, both_codes, lines_code, text_with, calls_well, if_called_well, lowered_unit}
 use Rattle.main_translation_laws.proofs.c_structure_laws.DrawnExpressions.{mapped_by}
 use Rattle.main_translation_laws.proofs.linking_laws.Places.{some_same}
 
@@ -25,6 +25,8 @@ IsInner k (AgainIf p m) = ⊥
 IsInner k (Jump label) = ⊥
 IsInner k (Select p count) = ⊥
 IsInner k (JumpBy p labels) = ⊥
+IsInner k (Branch j count) = ⊥
+IsInner k (Way label) = ⊥
 IsInner k (Acts (Starts way layout controls) ps m) = ⊥
 IsInner k (Acts Finishes ps m) = ⊥
 IsInner k st = Unit {0}
@@ -41,6 +43,8 @@ inner_more k n (AgainIf p m) less is = is
 inner_more k n (Jump label) less is = is
 inner_more k n (Select p count) less is = is
 inner_more k n (JumpBy p labels) less is = is
+inner_more k n (Branch j count) less is = is
+inner_more k n (Way label) less is = is
 inner_more k n (Acts (Starts way layout controls) ps m) less is = is
 inner_more k n (Acts Finishes ps m) less is = is
 inner_more k n st less is = tt
@@ -237,10 +241,23 @@ loop_inner k (More x (More first bounds)) =
     then_inner _ _ (inner NoPure ForLater k x) (λ n. then_inner _ _ (inner NoPure (ahead ForUse (any_refers bounds)) n first) (λ n'. all_inner NoPure ForLater n' bounds))
 loop_inner k ts = tt
 
-call_whole : (k : ℕ) (name : Bytes) (labels : Bool) (ps : Pures) (more : List Step) → call_code k name labels ps ≡ Some more → AreWhole more
-unfolding call_code branch_code
-call_whole k name true ps more h = open_code _ more (tt, (tt, tt)) h
-call_whole k name false ps more h = open_code _ more (tt, tt) h
+-- ways to labels
+ways_open : (labels : List ℕ) → AreOpen (map Way labels)
+ways_open [] = tt
+ways_open (label ∷ labels) = (tt, ways_open labels)
+
+calls_open : (k : ℕ) (name : Bytes) (labels : List ℕ) (ps : Pures) → AreOpen (call_steps k name labels ps)
+unfolding call_steps
+calls_open k name [] ps = (tt, tt)
+calls_open k name (label ∷ labels) ps = (tt, (tt, (tt, ways_open labels)))
+
+call_whole : (k : ℕ) (name : Bytes) (operands : Terms) (ps : Pures) (more : List Step) → call_code k name operands ps ≡ Some more → AreWhole more
+unfolding call_code
+call_whole k name operands ps more h = by (hides_labels operands) h
+  where
+    by : (hidden : Bool) → (if hidden then None else Some (call_steps k name (labels_written operands) ps)) ≡ Some more → AreWhole more
+    by true g = absurd (cc)
+    by false g = open_code (call_steps k name (labels_written operands) ps) more (calls_open k name (labels_written operands) ps) g
 
 back_whole : (ps : Pures) (more : List Step) → back_code ps ≡ Some more → AreWhole more
 unfolding back_code
@@ -305,7 +322,7 @@ mutual
   head_whole once k n ToEnterArm ts steps h = with_whole _ (unless_code n []) steps (all_inner NoPure ForUse k ts) (unless_whole n [] no_steps _) h
   head_whole once k n (ToLoop label) ts steps h = with_whole _ (loop_code once n) steps (loop_inner k ts) (loop_whole once n _) h
   head_whole once k n (ToTestLoop label) ts steps h = with_whole _ (unless_code n []) steps (all_inner NoPure ForUse k ts) (unless_whole n [] no_steps _) h
-  head_whole once k n (ToCall name) ts steps h = with_whole _ (call_code k name (passes_label ts)) steps (all_inner NoPure ForCall k ts) (call_whole k name (passes_label ts) _) h
+  head_whole once k n (ToCall name) ts steps h = with_whole _ (call_code k name ts) steps (all_inner NoPure ForCall k ts) (call_whole k name ts _) h
   head_whole once k n ToReturn ts steps h = with_whole _ back_code steps (all_inner NoPure ForUse k ts) (back_whole _) h
   head_whole once k n (ToStop text) NoMore steps h = open_code _ steps (tt, tt) h
   head_whole once k n (ToBegin way layout controls work) ts steps h =
@@ -374,6 +391,18 @@ unfolding text_with
 text_whole c u (Some steps) whole h = subst AreWhole (ap (λ (t : Text). t.steps) (some_same _ u h)) (whole steps refl)
 text_whole c u None whole h = absurd (cc)
 
+-- where each subroutine is called well the steps are those of the statements
+called_well : (found : Option (List Step)) (steps : List Step) → if_called_well found ≡ Some steps → found ≡ Some steps
+unfolding if_called_well
+called_well None steps h = absurd (cc)
+called_well (Some found) steps h = by (calls_well found) h
+  where
+    by : (well : Bool) → (if well then Some found else None) ≡ Some steps → Some found ≡ Some steps
+    by true g = g
+    by false g = absurd (cc)
+
 pub outputs_are_whole : (c : Facts) (u : Text) → lowered_unit c ≡ Some u → AreWhole u.steps
 unfolding lowered_unit
-outputs_are_whole c u h = text_whole c u (lines_code c.program 0 c.program.lines) (lines_whole c.program 0 c.program.lines) h
+outputs_are_whole c u h =
+    text_whole c u (if_called_well (lines_code c.program 0 c.program.lines))
+    (λ steps is. lines_whole c.program 0 c.program.lines steps (called_well (lines_code c.program 0 c.program.lines) steps is)) h

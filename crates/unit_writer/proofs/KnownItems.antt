@@ -1,7 +1,7 @@
 -- Whether a procedure may be passed makes a difference only where the name has a function.
 use Rattle.std.specs.Prelude.{◌≡◌, ℕ, suc, ◌+◌, ◌-◌, ℤ, pos, Bool, true, false, if◌then◌else◌, List, [], ◌∷◌, length, drop, Option, Some, None, option_map, option_and_then}
 use Rattle.std.proofs.Common.{refl, ap, ◌∙◌}
-use Rattle.f_tree.specs.Values.{Bytes, IsInt, IsLog}
+use Rattle.f_tree.specs.Values.{Bytes, IsInt, IsLog, IsLabel}
 use Rattle.f_tree.specs.Facts.{Output, Listed, Controls}
 use Rattle.lowered_tree.specs.l_core.Pures.{Pure, Constant, Temporary, Load, Name, AllOf, ElementOf, FirstOf, Substring, Concatenated, Prefixed, Operated, Applied, Chosen, Pures, NoPure, AndPure}
 use Rattle.lowered_tree.specs.l_core.Steps as step
@@ -121,6 +121,7 @@ module _ (known : Knowledge) (passes : Bytes → Bool) (same : (x : Bytes) → p
   arguments_same : (ps : Pures) → argument_exprs other ps ≡ argument_exprs known ps
   unfolding argument_exprs
   arguments_same NoPure = refl
+  arguments_same (AndPure (Constant (IsLabel label)) ps) = arguments_same ps
   arguments_same (AndPure p ps) = λ i. one_more (argument_same p i) (arguments_same ps i)
 
   output_same : (number : Option ℤ) (o : Option CExpr) → output_by other number o ≡ output_by known number o
@@ -157,6 +158,7 @@ module _ (known : Knowledge) (passes : Bytes → Bool) (same : (x : Bytes) → p
   step_same kind n (step.Unless p m) = ap (λ o. branch_step o (suc n) (suc n + m)) (value_same p)
   step_same kind n (step.AgainIf p m) = ap (λ o. branch_step o (n - m) (suc n)) (value_same p)
   step_same kind n (step.Select p count) = ap (λ o. select_step o (cases_from 1 (suc n) count) (suc n + count)) (value_same p)
+  step_same kind n (step.Branch k count) = ap (λ o. select_step o (cases_from 1 (suc n) count) (suc n + count)) (value_same (Temporary k))
   step_same kind n (step.PutLabel target l) = ap (λ o. assign_by o (constant_expr (pos l))) (place_same target)
   step_same kind n (step.JumpBy p labels) = ap (switch_step n labels) (place_same p)
   step_same kind n (step.CallFor k callee ps) = λ i. call_for_step (wants_number callee.want) (temporary_same k i) (known.routine callee.name) (arguments_same ps i)

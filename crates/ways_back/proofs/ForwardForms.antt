@@ -1,14 +1,14 @@
 -- The own steps of a statement go forward.
-use Rattle.std.specs.Prelude.{ℕ, Bool, true, false, List, [], ◌∷◌, length, Option, Some, None}
+use Rattle.std.specs.Prelude.{ℕ, Bool, true, false, List, [], ◌∷◌, length, map, Option, Some, None, if◌then◌else◌}
 use Rattle.std.proofs.Common.{refl}
 use Rattle.lowering.specs.l_core.f_tree.Values.{Bytes}
 use Rattle.lowering.specs.l_core.f_tree.Terms.{Term, Terms, NoMore, More, any_refers}
 use Rattle.lowering.specs.l_core.f_tree.Facts as head
 use Rattle.lowering.specs.l_core.f_tree.Facts.{Direction, Layout, Controls, AuxiliaryKind, Item, Repeated, Turn, Work, Done, Before, Head, Form, Passes, On}
 use Rattle.lowering.specs.l_core.Pures.{Pures, NoPure, AndPure}
-use Rattle.lowering.specs.l_core.Steps.{Step, Takes, Acts}
+use Rattle.lowering.specs.l_core.Steps.{Step, Takes, Way, Acts}
 use Rattle.lowering.specs.Expressions.{ForUse, ForCall, ForLater, Lowered, and_then, ahead, lower, lower_all}
-use Rattle.lowering.specs.Statements.{behind_operands, with_operands, put_code, put_label_code, select_code, each_once, jump_by_code, sign_code, unless_code, guard_code, loop_operands, loop_test, loop_code, passes_label, branch_code, call_code, back_code, item_purpose, item_code, work_code, begin_code, auxiliary_code, form_code, head_code}
+use Rattle.lowering.specs.Statements.{behind_operands, with_operands, put_code, put_label_code, select_code, each_once, jump_by_code, sign_code, unless_code, guard_code, loop_operands, loop_test, loop_code, labels_written, hides_labels, call_steps, call_code, back_code, item_purpose, item_code, work_code, begin_code, auxiliary_code, form_code, head_code}
 use Rattle.ways_back.proofs.Ways.{back_of, AreForward, AreForwardIf, forward_both, jumps_forward}
 use Rattle.ways_back.proofs.ForwardExpressions.{then_forward, lower_forward, all_forward}
 
@@ -83,14 +83,24 @@ operands_forward k (More x (More first bounds)) =
     then_forward (lower NoPure ForLater k x) (λ n. and_then (lower NoPure (ahead ForUse (any_refers bounds)) n first) (λ n'. lower_all NoPure ForLater n' bounds)) (lower_forward NoPure ForLater k x)
     (λ n. then_forward (lower NoPure (ahead ForUse (any_refers bounds)) n first) (λ n'. lower_all NoPure ForLater n' bounds) (lower_forward NoPure (ahead ForUse (any_refers bounds)) n first) (λ n'. all_forward NoPure ForLater n' bounds))
 
-branch_forward : (labels : Bool) (k : ℕ) → AreForward (branch_code labels k)
-unfolding branch_code AreForward back_of
-branch_forward true k = (refl, tt)
-branch_forward false k = tt
+ways_forward : (labels : List ℕ) → AreForward (map Way labels)
+unfolding AreForward back_of
+ways_forward [] = tt
+ways_forward (l ∷ labels) = (refl, ways_forward labels)
 
-call_forward : (k : ℕ) (name : Bytes) (labels : Bool) (ps : Pures) → AreForwardIf (call_code k name labels ps)
-unfolding call_code AreForwardIf AreForward back_of
-call_forward k name labels ps = (refl, branch_forward labels k)
+calls_forward : (k : ℕ) (name : Bytes) (labels : List ℕ) (ps : Pures) → AreForward (call_steps k name labels ps)
+unfolding call_steps AreForward back_of
+calls_forward k name [] ps = (refl, tt)
+calls_forward k name (l ∷ labels) ps = (refl, (refl, ways_forward (l ∷ labels)))
+
+forward_unless : (hidden : Bool) (steps : List Step) → AreForward steps → AreForwardIf (if hidden then None else Some steps)
+unfolding AreForwardIf
+forward_unless true steps forward = tt
+forward_unless false steps forward = forward
+
+call_forward : (k : ℕ) (name : Bytes) (operands : Terms) (ps : Pures) → AreForwardIf (call_code k name operands ps)
+unfolding call_code
+call_forward k name operands ps = forward_unless (hides_labels operands) (call_steps k name (labels_written operands) ps) (calls_forward k name (labels_written operands) ps)
 
 back_forward : (ps : Pures) → AreForwardIf (back_code ps)
 unfolding back_code AreForwardIf AreForward back_of
@@ -150,7 +160,7 @@ mutual
   head_forward once k n (head.ToTestLoop label) ts =
       with_forward (lower_all NoPure ForUse k ts) (unless_code n []) (all_forward NoPure ForUse k ts) (unless_forward n [] (lower_all NoPure ForUse k ts).value nothing_forward)
   head_forward once k n (head.ToCall name) ts =
-      with_forward (lower_all NoPure ForCall k ts) (call_code k name (passes_label ts)) (all_forward NoPure ForCall k ts) (call_forward k name (passes_label ts) (lower_all NoPure ForCall k ts).value)
+      with_forward (lower_all NoPure ForCall k ts) (call_code k name ts) (all_forward NoPure ForCall k ts) (call_forward k name ts (lower_all NoPure ForCall k ts).value)
   head_forward once k n head.ToReturn ts = with_forward (lower_all NoPure ForUse k ts) back_code (all_forward NoPure ForUse k ts) (back_forward (lower_all NoPure ForUse k ts).value)
   head_forward once k n (head.ToStop text) NoMore = (refl, tt)
   head_forward once k n (head.ToStop text) (More t ts) = tt

@@ -1,4 +1,5 @@
 pub mod Ways
+pub mod LoweredTexts
 pub mod ForwardExpressions
 pub mod ForwardForms
 pub mod CodeLengths

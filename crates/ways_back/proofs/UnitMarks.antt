@@ -7,8 +7,9 @@ use Rattle.lowering.specs.l_core.f_tree.Facts.{Head, Form, Passes, On, Mark, Pla
 use Rattle.lowering.specs.l_core.f_tree.Nests.{Range}
 use Rattle.lowering.specs.l_core.Steps as step
 use Rattle.lowering.specs.l_core.Steps.{Step, Card, OpensLoop, OpensLoopOnce, ClosesLoop, OpensWhile, ClosesWhile, OpensArm, NextArm, ClosesArm, Marked, Text}
-use Rattle.lowering.specs.Units.{is_counted, ended_at, turn_size, form_size, own_start, own_end, start_of, lines_code, marked, card_mark, arm_marks, loop_marks, turn_marks, line_marks, lines_marks, text_with, lowered_unit}
+use Rattle.lowering.specs.Units.{is_counted, ended_at, turn_size, form_size, own_start, own_end, start_of, lines_code, marked, card_mark, arm_marks, loop_marks, turn_marks, line_marks, lines_marks, text_with}
 use Rattle.ways_back.specs.WaysBack.{OpensBehind, LoopsOpenBehind}
+use Rattle.ways_back.proofs.LoweredTexts.{text_lowered}
 use Rattle.ways_back.proofs.UnitWays.{IsDo, full_do}
 
 AllOpenBehind : List Marked → Type 0
@@ -132,5 +133,4 @@ unit_behind c (Some steps) u lowered e =
     marks_in (Some t) = t.marks
 
 pub loops_open_behind : LoopsOpenBehind
-unfolding lowered_unit
-loops_open_behind c u lowered k one at = behind_at u.marks k one (unit_behind c (lines_code c.program 0 c.program.lines) u refl lowered) at
+loops_open_behind c u lowered k one at = behind_at u.marks k one (unit_behind c (lines_code c.program 0 c.program.lines) u refl (text_lowered c u lowered)) at

@@ -13,6 +13,7 @@ use Rattle.lowering.specs.Units.{loop_at_line, loop_lowered, free_at, all_named,
 use Rattle.ways_back.specs.WaysBack.{WaysBackStayWithin, WaysBackIfStayWithin}
 use Rattle.ways_back.proofs.Ways.{back_of, AreForward, AreForwardIf, AreWithin, forward_both, forward_within, within_both, within_at}
 use Rattle.ways_back.proofs.ForwardForms.{nothing_forward, form_forward}
+use Rattle.ways_back.proofs.LoweredTexts.{text_lowered}
 use Rattle.ways_back.proofs.CodeLengths.{length_both, form_length, HasFour, loop_four, size_next}
 
 -- ## The parts of the code of a statement
@@ -295,9 +296,8 @@ unit_within c (Some steps) u lowered e =
     steps_in (Some t) = t.steps
 
 back_at : (c : Facts) (u : Text) → lowered_unit c ≡ Some u → (n : ℕ) (st : Step) → slice_get u.steps n ≡ Some st → back_of st ≤ n
-unfolding lowered_unit
 back_at c u lowered n st at =
-    let le = within_at u.steps 0 n st (unit_within c (lines_code c.program 0 c.program.lines) u refl lowered) at in
+    let le = within_at u.steps 0 n st (unit_within c (lines_code c.program 0 c.program.lines) u refl (text_lowered c u lowered)) at in
     omega (arith, le)
 
 pub ways_back : WaysBackStayWithin

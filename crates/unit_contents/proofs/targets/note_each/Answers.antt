@@ -1,4 +1,4 @@
-use Rattle.std.proofs.Common.{◌≡◌, ◌+◌, ◌^◌, ◌<◌, ℕ, suc, false, ◌||◌, nat_eq, length, subst, arith}
+use Rattle.std.proofs.Common.{◌≡◌, ◌+◌, suc, nat_eq, subst, arith}
 use Rattle.main_translation.specs.Outlined.{stands_at}
 use Rattle.unit_contents.proofs.TargetLaws.{from_begin, from_more, from_end}
 use Rattle.unit_contents.proofs.targets.note_each.Goals as goal
