@@ -22,10 +22,9 @@ use Rattle.unit_answers.specs.declared.ends.CallEnd.TheVariants.{Fault, Ended}
 use Rattle.unit_answers.specs.Failing.{NoneFailed}
 use Rattle.unit_answers.specs.Answers.{world_with, numbered_answer}
 use Rattle.unit_answers.proofs.OrLemmas.{known, faulty, behind, same-rest}
-use Rattle.unit_answers.proofs.FailureLaws.{none-failed}
 use Rattle.item_deeds.specs.Forms.{SameForms}
 use Rattle.item_deeds.proofs.FormLaws.{same-objects}
-use Rattle.listed_output.proofs.RowLaws.{stays-quietly}
+use Rattle.listed_output.proofs.RowLaws.{stays-quietly, stays-same}
 use Rattle.formatted_output.specs.declared.calls.Passage.{Passage}
 use Rattle.formatted_output.specs.declared.calls.Passage.TheVariants.{GoesOn}
 use Rattle.formatted_output.specs.declared.items.ItemList.{ItemList}
@@ -103,7 +102,7 @@ items-device : (given : FormattedInput) (old new : List Row) (done : Result (Uni
 items-device given old new (Ok done) stays = stays-quietly given.unit old new stays
 items-device given old new (Err (stop.Number number)) none = number-device number given old new none
 items-device given old new (Err stop.Device) failed = (refl, failed)
-items-device given old new (Err (stop.Fault fault)) none = none
+items-device given old new (Err (stop.Fault fault)) stays = stays
 
 pub items-answered :
     (text : List ℕ) (objects objects' : List Object) (count first size : CValue) (list : ItemList) (given given' : FormattedInput) (old new : List Row) (done : Result (Unit {0}) Stop) (result : Result Passage CallEnd) →
@@ -131,7 +130,7 @@ items-faulty text objects count first size given rows fault inside is = record {
   inside = inside;
   tells = λ tells. tells;
   replies = λ tells transfer stands. items-fault objects (units_of rows) text given transfer count first size fault stands is;
-  devices = none-failed rows;
+  devices = stays-same given.unit rows;
   forms = same-objects objects;
 }
 

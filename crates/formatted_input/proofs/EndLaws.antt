@@ -1,10 +1,12 @@
 -- What the end of a formatted input replies.
-use Rattle.std.proofs.Common.{◌≡◌, ℕ, ℤ, pos, List, [], Some, None, refl, ap, sym, ◌∙◌, subst}
-use Rattle.std.specs.Prelude.{Result, Ok, Err}
+use Rattle.std.proofs.Common.{◌≡◌, ℕ, ℤ, pos, Bool, true, false, List, [], Some, None, refl, ap, sym, ◌∙◌, subst}
+use Rattle.std.specs.Prelude.{Result, Ok, Err, if◌then◌else◌}
+use Rattle.std.specs.Ordering.{int_eq}
 use Rattle.c_tree.specs.run_state.Units.{Units}
 use Rattle.c_tree.specs.Faults.{Or}
 use Rattle.c_tree.specs.Objects.{Object}
 use Rattle.c_tree.specs.World.{Transfer, Reply, Gives}
+use Rattle.c_tree.specs.Transfers.{asked}
 use Rattle.c_tree.specs.TransferInput.{closed_input}
 use Rattle.c_tree.specs.TransferCalls.{ends}
 use Rattle.c_tree.specs.Builtins.{Finish}
@@ -15,10 +17,10 @@ use Rattle.edit_rules.specs.edit_meaning.Transfers.{edited}
 use Rattle.f2c_outside.specs.Table.{Row}
 use Rattle.f2c_outside.specs.Meaning.{units_of}
 use Rattle.unit_answers.specs.declared.ends.CallEnd.{CallEnd}
-use Rattle.unit_answers.specs.Failing.{FailedOn, NoneFailed}
-use Rattle.unit_answers.specs.Answers.{world_with, numbered_answer, Replies, IfDevice}
+use Rattle.unit_answers.specs.declared.ends.CallEnd.TheVariants.{Ended}
+use Rattle.unit_answers.specs.Failing.{NoneFailed}
+use Rattle.unit_answers.specs.Answers.{world_with, numbered_answer, Replies}
 use Rattle.unit_answers.proofs.AnswerLaws.{numbered-replies}
-use Rattle.unit_answers.proofs.CallLaws.{numbered-device}
 use Rattle.listed_output.proofs.RowLaws.{stays-quietly}
 use Rattle.listed_input.specs.Fetching.{coming}
 use Rattle.taken_records.specs.declared.record.RecordInput.{RecordInput}
@@ -27,7 +29,7 @@ use Rattle.formatted_input.specs.declared.acts.Stop.{Stop}
 use Rattle.formatted_input.specs.declared.acts.Stop.TheVariants as stop
 use Rattle.formatted_input.specs.Acting.{input_at, Comes, ReadsFrom}
 use Rattle.formatted_input.specs.Reaching.{Closes}
-use Rattle.formatted_input.specs.Transferring.{formatted_kind, StandsFor, AnswersEnd, stop_answer, end_answer}
+use Rattle.formatted_input.specs.Transferring.{formatted_kind, StandsFor, EndDevice, AnswersEnd, stop_answer, end_answer}
 use Rattle.formatted_input.proofs.ItemLaws.{shown_by, is-shown, stop-replies, read-counted}
 
 -- the input behind what the format gives with no item left
@@ -70,13 +72,18 @@ ends-reply objects before after_it text given transfer new (Err (stop.Number num
 ends-reply objects before after_it text given transfer new (Err stop.Device) stands comes = tt
 ends-reply objects before after_it text given transfer new (Err (stop.Fault fault)) stands comes = absurd comes
 
-ends-device : (given : FormattedInput) (old new : List Row) (result : Result (Unit {0}) Stop) → ReadsFrom given.unit old new result →
-    IfDevice (end_answer given result) (λ unit. (unit ≡ given.unit) × FailedOn unit old new) (NoneFailed old new)
+number-device : (number : ℤ) (given : FormattedInput) (old new : List Row) → NoneFailed old new → EndDevice given old new (numbered_answer number given.on_error given.on_end)
+number-device number given old new none = by (int_eq (asked number given.on_error given.on_end) (pos 0))
+  where
+    by : (over : Bool) → EndDevice given old new (if over then Err (Ended number) else Ok number)
+    by true = none
+    by false = none
+
+ends-device : (given : FormattedInput) (old new : List Row) (result : Result (Unit {0}) Stop) → ReadsFrom given.unit old new result → EndDevice given old new (end_answer given result)
 ends-device given old new (Ok done) stays = stays-quietly given.unit old new stays
-ends-device given old new (Err (stop.Number number)) none =
-    numbered-device number given.on_error given.on_end (λ unit. (unit ≡ given.unit) × FailedOn unit old new) (NoneFailed old new) none
+ends-device given old new (Err (stop.Number number)) none = number-device number given old new none
 ends-device given old new (Err stop.Device) failed = (refl, failed)
-ends-device given old new (Err (stop.Fault fault)) none = none
+ends-device given old new (Err (stop.Fault fault)) stays = stays
 
 pub end-answered :
     (text : List ℕ) (given : FormattedInput) (own : ℤ) (last : RecordInput) (old new : List Row) (done : Result (Unit {0}) Stop) (result : Result ℤ CallEnd) → result ≡ end_answer given done → own ≡ given.unit →

@@ -283,7 +283,7 @@ item-faulty text given given' own objects objects' pointer size rows rows' new f
           item-known text given transfer objects going (units_of rows) size pointer (shown given'.record later (takes.0 ∷ [])) stands
           (state-reached text given transfer given'.walk (units_of rows) (units_of rows') new field size stands at ∙ takes.1.takes later)
           ∙ fault-means pointer size given.unit (shown_by text given transfer stands) objects going (units_of rows) later (left_by stands.format transfer) given'.record takes.0 fault takes.2;
-      devices = stays-quietly given.unit rows rows' reaches.devices;
+      devices = reaches.devices;
     }
 
 halted-item :

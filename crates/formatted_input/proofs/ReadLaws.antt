@@ -7,7 +7,7 @@ use Rattle.edit_rules.specs.edit_meaning.Halts as halts
 use Rattle.edit_rules.specs.edit_meaning.TakenRecords.{Input}
 use Rattle.f2c_outside.specs.Table.{Row}
 use Rattle.listed_output.specs.Writing.{StayedOn}
-use Rattle.listed_output.proofs.RowLaws.{stays-fails}
+use Rattle.listed_output.proofs.RowLaws.{stays-stays, stays-fails}
 use Rattle.listed_input.specs.Fetching.{coming, before_others}
 use Rattle.listed_input.proofs.SeekLaws.{on-last}
 use Rattle.listed_input.proofs.StepLaws.{stays-quiet}
@@ -70,4 +70,4 @@ pub devices-then : (S T : Type 0) (unit : â„¤) (x y z : List Row) (why : Stop) â
     ReadsFrom unit x z (let r : Result T Stop = Err why in r)
 devices-then S T unit x y z (stop.Number number) first second = stays-quiet unit x y z first second
 devices-then S T unit x y z stop.Device first second = stays-fails unit x y z first second
-devices-then S T unit x y z (stop.Fault fault) first second = stays-quiet unit x y z first second
+devices-then S T unit x y z (stop.Fault fault) first second = stays-stays unit x y z first second

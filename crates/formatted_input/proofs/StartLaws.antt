@@ -32,7 +32,8 @@ use Rattle.unit_answers.proofs.FailureLaws.{none-failed}
 use Rattle.listed_output.proofs.RowLaws.{stays-quietly}
 use Rattle.listed_input.specs.declared.records.NextRecord.TheVariants.{Record, Nothing, Failed}
 use Rattle.listed_input.specs.Fetching.{coming, before_others, Fetches}
-use Rattle.listed_input.proofs.CallLaws.{SameControl}
+use Rattle.listed_input.specs.Transferring.{NamesUnit}
+use Rattle.listed_input.proofs.CallLaws.{SameControl, names-unit}
 use Rattle.taken_records.specs.Records.{Begins}
 use Rattle.formatted_output.specs.Fronts.{ReadsFormat}
 use Rattle.formatted_input.specs.declared.calls.FormattedInput.{FormattedInput}
@@ -42,10 +43,10 @@ use Rattle.formatted_input.specs.Transferring.{formatted_kind, StandsFor, StartR
 
 -- ## A number that a start answers
 
-by-number : (meaning : Units → Or Reply) (objects : List Object) (old new : List Row) (text : List ℕ) (number on_error on_end : ℤ) → (Tells old → Tells new) → NoneFailed old new →
+by-number : (meaning : Units → Or Reply) (Own : ℤ → Type 0) (objects : List Object) (old new : List Row) (text : List ℕ) (number on_error on_end : ℤ) → (Tells old → Tells new) → NoneFailed old new →
     (Tells old → meaning (units_of old) ≡ Ok (numbered number on_error on_end (world_with objects None (units_of new)))) →
-    AnswersBegin meaning objects old new text (start_of (numbered_answer number on_error on_end))
-by-number meaning objects old new text number on_error on_end tells none means = record {
+    AnswersBegin meaning Own objects old new text (start_of (numbered_answer number on_error on_end))
+by-number meaning Own objects old new text number on_error on_end tells none means = record {
   inside = within (int_eq (asked number on_error on_end) (pos 0));
   tells = tells;
   replies = λ told.
@@ -64,7 +65,7 @@ by-number meaning objects old new text number on_error on_end tells none means =
     by true = refl
     by false = refl
 
-    device : (over : Bool) → StartDevice old new (start_of (if over then Err (Ended number) else Ok number))
+    device : (over : Bool) → StartDevice Own old new (start_of (if over then Err (Ended number) else Ok number))
     device true = none
     device false = none
 
@@ -138,7 +139,7 @@ reading-begins control own text line used zeros given old new same blanks is fet
 ends-at : (control : UnitControl) (text line : List ℕ) (number : ℤ) (old new : List Row) → Fetches control.unit line old new (Nothing number) →
     AnswersReading control old new text (start_of (numbered_answer number control.on_error control.on_end))
 ends-at control text line number old new fetches = λ objects format behind spelled.
-    by-number (λ units. first_under objects units control format) objects old new text number control.on_error control.on_end fetches.tells fetches.devices
+    by-number (λ units. first_under objects units control format) (λ unit. unit ≡ control.unit) objects old new text number control.on_error control.on_end fetches.tells fetches.devices
     (λ tells. begins-nothing objects (units_of old) (units_of new) control format number (fetches.means tells).0 (fetches.means tells).1)
 
 pub reading-ends : (control : UnitControl) (own on_error on_end number said : ℤ) (text line : List ℕ) (old new : List Row) (answer : Result ℤ CallEnd) (result : Result Start CallEnd) →
@@ -152,9 +153,10 @@ reading-ends control own on_error on_end number said text line old new answer re
     ∙ ap (λ (n : ℤ). numbered_answer number control.on_error n) same.end_is)))
     (ends-at control text line number old new (subst (λ (unit : ℤ). Fetches unit line old new (Nothing number)) same.unit_is fetches))
 
-pub reading-fails : (control : UnitControl) (own : ℤ) (text line : List ℕ) (old new : List Row) → Fetches own line old new Failed → AnswersReading control old new text (Err (Device own))
-reading-fails control own text line old new fetches = λ objects format behind spelled.
-    record { inside = tt; tells = fetches.tells; replies = λ tells. tt; devices = fetches.devices }
+pub reading-fails : (control : UnitControl) (own : ℤ) (text line : List ℕ) (old new : List Row) → own ≡ control.unit → Fetches own line old new Failed →
+    AnswersReading control old new text (Err (Device own))
+reading-fails control own text line old new same fetches = λ objects format behind spelled.
+    record { inside = tt; tells = fetches.tells; replies = λ tells. tt; devices = (same, fetches.devices) }
 
 -- ## The format
 
@@ -175,7 +177,7 @@ under-none : (given : Or (Option Format)) (objects : List Object) (control : Uni
 under-none given objects control on_error on_end rows text answer result same_error same_end is said none =
     subst (λ (one : Result Start CallEnd). AnswersUnder given objects control rows rows text one)
     (sym (is ∙ ap start_of (said ∙ ap (λ (n : ℤ). numbered_answer (pos 10) n on_end) same_error ∙ ap (λ (n : ℤ). numbered_answer (pos 10) control.on_error n) same_end)))
-    (by-number (λ units. under objects units control given) objects rows rows text (pos 10) control.on_error control.on_end (λ tells. tells) (none-failed rows)
+    (by-number (λ units. under objects units control given) (λ unit. unit ≡ control.unit) objects rows rows text (pos 10) control.on_error control.on_end (λ tells. tells) (none-failed rows)
     (λ tells. ap (under objects (units_of rows) control) none))
 
 pub under-read : (given : Or (Option Format)) (objects : List Object) (control : UnitControl) (old new : List Row) (text : List ℕ) (found : Bool) (result : Result Start CallEnd) → found ≡ true →
@@ -215,6 +217,14 @@ connected objects units pointer given control unit there is format same connects
     ∙ ap (λ (one : Bool). if one then under objects units control (format_at objects given)
     else Ok (numbered (pos 6) control.on_error control.on_end (world_with objects None units))) (sym connects)
 
+-- the unit of the control is that which the list names
+named-device : (objects : List Object) (pointer : CValue) (control : UnitControl) (old new : List Row) (result : Result Start CallEnd) → Ok (unit_shown control) ≡ unit_control objects pointer →
+    StartDevice (λ unit. unit ≡ control.unit) old new result → StartDevice (NamesUnit (unit_control objects pointer)) old new result
+named-device objects pointer control old new (Ok start) is told = told
+named-device objects pointer control old new (Err (Fault fault)) is told = told
+named-device objects pointer control old new (Err (Ended number)) is told = told
+named-device objects pointer control old new (Err (Device unit)) is told = (names-unit objects pointer control unit is told.0, told.1)
+
 pub start-under :
     (objects : List Object) (pointer given : CValue) (control : UnitControl) (unit : ℤ) (old new : List Row) (text : List ℕ) (result : Result Start CallEnd) →
     Ok (unit_shown control) ≡ unit_control objects pointer → Ok given ≡ format_field list_type.Transfer (codes "cifmt") objects pointer → unit ≡ control.unit →
@@ -225,7 +235,7 @@ start-under objects pointer given control unit old new text result is format sam
   replies = λ tells.
       subst (λ (meaning : Or Reply). StartReplies meaning objects (units_of new) text result) (sym (connected objects (units_of old) pointer given control unit true is format same there))
       (answers.replies tells);
-  devices = answers.devices;
+  devices = named-device objects pointer control old new result is answers.devices;
 }
 
 pub start-refused :
@@ -236,7 +246,7 @@ pub start-refused :
 start-refused objects pointer given control unit on_error on_end rows text answer result shown numbers is format same there =
     subst (λ (one : Result Start CallEnd). AnswersStart objects pointer rows rows text one)
     (sym (shown ∙ ap start_of (numbers ∙ ap (λ (n : ℤ). numbered_answer (pos 6) n on_end) same.error_is ∙ ap (λ (n : ℤ). numbered_answer (pos 6) control.on_error n) same.end_is)))
-    (by-number (λ units. library (Begin formatted_kind) (world_with objects None units) (pointer ∷ [])) objects rows rows text (pos 6) control.on_error control.on_end (λ tells. tells)
+    (by-number (λ units. library (Begin formatted_kind) (world_with objects None units) (pointer ∷ [])) (NamesUnit (unit_control objects pointer)) objects rows rows text (pos 6) control.on_error control.on_end (λ tells. tells)
     (none-failed rows) (λ tells. connected objects (units_of rows) pointer given control unit false is format same.unit_is there))
 
 pub list-faulty : (objects : List Object) (pointer : CValue) (fault : CFault) (rows : List Row) (text : List ℕ) → failing fault ≡ unit_control objects pointer →

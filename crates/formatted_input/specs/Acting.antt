@@ -15,12 +15,12 @@ use Rattle.taken_records.specs.Records.{shown}
 use Rattle.formatted_input.specs.declared.acts.Stop.{Stop}
 use Rattle.formatted_input.specs.declared.acts.Stop.TheVariants as stop
 
--- the device of the unit failed, or none did
+-- the device of the unit failed, or none did; at a fault only that of the unit was called
 abbrev pub ReadsFrom : {T : Type 0} → ℤ → List Row → List Row → Result T Stop → Type 0
 ReadsFrom unit old new (Ok done) = StayedOn unit old new
 ReadsFrom unit old new (Err (stop.Number number)) = NoneFailed old new
 ReadsFrom unit old new (Err stop.Device) = FailedOn unit old new
-ReadsFrom unit old new (Err (stop.Fault fault)) = NoneFailed old new
+ReadsFrom unit old new (Err (stop.Fault fault)) = StayedOn unit old new
 
 -- the input that a record stands for before those of its unit that come next
 abbrev pub input_at : ℤ → RecordInput → Units → Input

@@ -7,7 +7,7 @@ use Rattle.c_tree.specs.Faults.{Or, after, failing}
 use Rattle.c_tree.specs.Objects.{Object}
 use Rattle.c_tree.specs.World.{Input, Formatted, Transfer, Reply, Gives, Stops, Io}
 use Rattle.c_tree.specs.World as media
-use Rattle.c_tree.specs.Transfers.{new_transfer, when_format}
+use Rattle.c_tree.specs.Transfers.{unit_control, new_transfer, when_format}
 use Rattle.c_tree.specs.TransferStarts.{reading}
 use Rattle.c_tree.specs.Builtins.{ByFormat, OnUnit, TransferKind, transfer_kind, Begin, Finish, do_fio}
 use Rattle.c_tree.specs.Library.{library}
@@ -20,9 +20,11 @@ use Rattle.f2c_outside.specs.Meaning.{Tells, units_of}
 use Rattle.unit_answers.specs.declared.ends.CallEnd.{CallEnd}
 use Rattle.unit_answers.specs.declared.ends.CallEnd.TheVariants.{Fault, Ended, Device}
 use Rattle.unit_answers.specs.Failing.{FailedOn, NoneFailed}
-use Rattle.unit_answers.specs.Answers.{world_with, numbered_answer, Replies, IfDevice}
+use Rattle.unit_answers.specs.Answers.{world_with, numbered_answer, Replies}
 use Rattle.control_lists.specs.declared.controls.UnitControl.{UnitControl}
 use Rattle.control_lists.specs.Controls.{unit_shown}
+use Rattle.listed_output.specs.Writing.{StayedOn}
+use Rattle.listed_input.specs.Transferring.{NamesUnit}
 use Rattle.item_deeds.specs.Forms.{SameForms}
 use Rattle.taken_records.specs.Records.{shown}
 use Rattle.formatted_output.specs.declared.calls.Passage.{Passage}
@@ -65,11 +67,12 @@ StartReplies meaning objects units text (Err (Fault fault)) = meaning ≡ failin
 StartReplies meaning objects units text (Err (Ended number)) = meaning ≡ Ok (Stops (Io number) (world_with objects None units))
 StartReplies meaning objects units text (Err (Device unit)) = Unit {0}
 
-abbrev pub StartDevice : List Row → List Row → Result Start CallEnd → Type 0
-StartDevice old new (Ok start) = NoneFailed old new
-StartDevice old new (Err (Fault fault)) = new ≡ old
-StartDevice old new (Err (Ended number)) = NoneFailed old new
-StartDevice old new (Err (Device unit)) = FailedOn unit old new
+-- the device of the unit of the start failed, or none did
+abbrev pub StartDevice : (ℤ → Type 0) → List Row → List Row → Result Start CallEnd → Type 0
+StartDevice Own old new (Ok start) = NoneFailed old new
+StartDevice Own old new (Err (Fault fault)) = new ≡ old
+StartDevice Own old new (Err (Ended number)) = NoneFailed old new
+StartDevice Own old new (Err (Device unit)) = Own unit × FailedOn unit old new
 
 -- an input that begins stands in the text of its format
 abbrev pub BeginsIn : List ℕ → Result Start CallEnd → Type 0
@@ -77,17 +80,17 @@ BeginsIn text (Ok (start.Begins input)) = walks.StandsIn input.walk text
 BeginsIn text (Ok (start.Answers number)) = Unit {0}
 BeginsIn text (Err end) = Unit {0}
 
--- where the devices tell their records, a start replies what its meaning gives over the units that the rows mean; a device fails where
--- it is answered, and nowhere else; at a fault the rows stay as they were
-pub record AnswersBegin (meaning : Units → Or Reply) (objects : List Object) (old new : List Row) (text : List ℕ) (result : Result Start CallEnd) : Type 0 where
+-- where the devices tell their records, a start replies what its meaning gives over the units that the rows mean; the device of its own
+-- unit fails where it is answered, and nowhere else; at a fault the rows stay as they were
+pub record AnswersBegin (meaning : Units → Or Reply) (Own : ℤ → Type 0) (objects : List Object) (old new : List Row) (text : List ℕ) (result : Result Start CallEnd) : Type 0 where
   pub inside : BeginsIn text result
   pub tells : Tells old → Tells new
   pub replies : Tells old → StartReplies (meaning (units_of old)) objects (units_of new) text result
-  pub devices : StartDevice old new result
+  pub devices : StartDevice Own old new result
 
 abbrev pub AnswersStart : List Object → CValue → List Row → List Row → List ℕ → Result Start CallEnd → Type 0
 AnswersStart objects pointer old new text result =
-    AnswersBegin (λ units. library (Begin formatted_kind) (world_with objects None units) (pointer ∷ [])) objects old new text result
+    AnswersBegin (λ units. library (Begin formatted_kind) (world_with objects None units) (pointer ∷ [])) (NamesUnit (unit_control objects pointer)) objects old new text result
 
 -- the rest of a start whose unit is connected: the first record is read under a format
 abbrev pub first_under : List Object → Units → UnitControl → Format → Or Reply
@@ -97,7 +100,7 @@ first_under objects units control format =
 abbrev pub AnswersReading : UnitControl → List Row → List Row → List ℕ → Result Start CallEnd → Type 0
 AnswersReading control old new text result =
     (objects : List Object) → (format : Format) → (behind : List ℕ) → SpellsFormat format text behind →
-    AnswersBegin (λ units. first_under objects units control format) objects old new text result
+    AnswersBegin (λ units. first_under objects units control format) (λ unit. unit ≡ control.unit) objects old new text result
 
 -- and the format that is read before it
 abbrev pub under : List Object → Units → UnitControl → Or (Option Format) → Or Reply
@@ -106,11 +109,18 @@ under objects units control given =
 
 abbrev pub AnswersUnder : Or (Option Format) → List Object → UnitControl → List Row → List Row → List ℕ → Result Start CallEnd → Type 0
 AnswersUnder given objects control old new text result =
-    AnswersBegin (λ units. under objects units control given) objects old new text result
+    AnswersBegin (λ units. under objects units control given) (λ unit. unit ≡ control.unit) objects old new text result
 
 abbrev pub start_of : Result ℤ CallEnd → Result Start CallEnd
 start_of (Ok number) = Ok (start.Answers number)
 start_of (Err end) = Err end
+
+-- the device of the unit failed, or none did; at a fault only that of the unit was called
+abbrev pub EndDevice : FormattedInput → List Row → List Row → Result ℤ CallEnd → Type 0
+EndDevice input old new (Ok number) = NoneFailed old new
+EndDevice input old new (Err (Fault fault)) = StayedOn input.unit old new
+EndDevice input old new (Err (Ended number)) = NoneFailed old new
+EndDevice input old new (Err (Device unit)) = (unit ≡ input.unit) × FailedOn unit old new
 
 -- `e_rsfe`: for every transfer for which the input stood, the call replies what its meaning gives; the device of its unit fails where it
 -- is answered, and nowhere else
@@ -118,7 +128,7 @@ pub record AnswersEnd (text : List ℕ) (input : FormattedInput) (old new : List
   pub tells : Tells old → Tells new
   pub replies : Tells old → (objects : List Object) → (transfer : Transfer) → StandsFor text input transfer →
       Replies (library (Finish formatted_kind) (world_with objects (Some transfer) (units_of old)) []) (world_with objects None (units_of new)) result
-  pub devices : IfDevice result (λ unit. (unit ≡ input.unit) × FailedOn unit old new) (NoneFailed old new)
+  pub devices : EndDevice input old new result
 
 -- what a call answers where an input goes no further
 abbrev pub stop_answer : ℤ → ℤ → ℤ → Stop → Result ℤ CallEnd
@@ -140,12 +150,13 @@ ItemsReply meaning objects units text input (Err (Device unit)) = Unit {0}
 
 abbrev pub ItemsDevice : FormattedInput → List Row → List Row → Result Passage CallEnd → Type 0
 ItemsDevice input old new (Ok passage) = NoneFailed old new
-ItemsDevice input old new (Err (Fault fault)) = NoneFailed old new
+ItemsDevice input old new (Err (Fault fault)) = StayedOn input.unit old new
 ItemsDevice input old new (Err (Ended number)) = NoneFailed old new
 ItemsDevice input old new (Err (Device unit)) = (unit ≡ input.unit) × FailedOn unit old new
 
 -- for every transfer for which the input stood, the call replies what its meaning gives; the device of its unit fails where it is
--- answered, and nowhere else; the objects keep their forms; and the input goes on standing in the text of its format
+-- answered, and nowhere else; at a fault no other unit has changed; the objects keep their forms; and the input goes on standing in the
+-- text of its format
 pub record AnswersItems (text : List ℕ) (objects objects' : List Object) (arguments : List CValue) (input input' : FormattedInput) (old new : List Row) (result : Result Passage CallEnd) : Type 0 where
   pub inside : walks.StandsIn input'.walk text
   pub tells : Tells old → Tells new

@@ -107,7 +107,7 @@ puts-device output old new (Err (stop.Refused NotOffered)) stays = number-device
 puts-device output old new (Err (stop.Refused Taken)) stays = number-device (pos 8) output old new stays
 puts-device output old new (Err (stop.Refused PastEnd)) stays = number-device (pos 9) output old new stays
 puts-device output old new (Err (stop.Refused Failed)) failed = (refl, failed)
-puts-device output old new (Err (stop.Fault fault)) stays = stays-quietly output.unit old new stays
+puts-device output old new (Err (stop.Fault fault)) stays = stays
 
 pub items-answered :
     (text : List ℕ) (objects : List Object) (count first size : CValue) (list : ItemList) (output output' : FormattedOutput) (old new : List Row) (done : Result (Unit {0}) Stop) (result : Result Passage CallEnd) →
@@ -133,7 +133,7 @@ items-faulty text objects count first size output rows fault inside given = reco
   inside = inside;
   tells = λ tells. tells;
   replies = λ tells transfer stands. items-fault objects (units_of rows) text output transfer count first size fault stands given;
-  devices = stays-quietly output.unit rows rows (stays-same output.unit rows);
+  devices = stays-same output.unit rows;
 }
 
 -- the end of an output by the numbers of the output behind the call, which are those before it

@@ -1,6 +1,7 @@
 -- What the end of a formatted output replies.
-use Rattle.std.proofs.Common.{◌≡◌, ℕ, ℤ, pos, true, List, [], ◌∷◌, ◌++◌, length, drop, Option, Some, None, refl, ap, sym, ◌∙◌, subst, append_assoc}
-use Rattle.std.specs.Prelude.{Result, Ok, Err}
+use Rattle.std.proofs.Common.{◌≡◌, ℕ, ℤ, pos, Bool, true, false, List, [], ◌∷◌, ◌++◌, length, drop, Option, Some, None, refl, ap, sym, ◌∙◌, subst, append_assoc}
+use Rattle.std.specs.Prelude.{Result, Ok, Err, if◌then◌else◌}
+use Rattle.std.specs.Ordering.{int_eq}
 use Rattle.c_tree.specs.run_state.Units.{Units}
 use Rattle.run_state.specs.declared.refusals.UnitRefusal.{UnitRefusal}
 use Rattle.run_state.specs.declared.refusals.UnitRefusal.TheVariants.{NotConnected, NotOffered, Taken, PastEnd, Failed}
@@ -8,7 +9,7 @@ use Rattle.c_tree.specs.Faults.{Or, after}
 use Rattle.c_tree.specs.Objects.{Object}
 use Rattle.c_tree.specs.World.{Direction, Output as Writing, Layout, Formatted, Medium, Transfer, World, Reply, Gives, Stops, Io}
 use Rattle.c_tree.specs.World as media
-use Rattle.c_tree.specs.Transfers.{numbered}
+use Rattle.c_tree.specs.Transfers.{numbered, asked}
 use Rattle.c_tree.specs.TransferOutput.{put_on_unit, put_last, write_all}
 use Rattle.c_tree.specs.TransferCalls.{ends}
 use Rattle.c_tree.specs.Builtins.{Finish}
@@ -19,10 +20,9 @@ use Rattle.edit_rules.specs.edit_meaning.EditedRecords.{Output, unit_sheet, made
 use Rattle.f2c_outside.specs.Table.{Row}
 use Rattle.f2c_outside.specs.Meaning.{units_of}
 use Rattle.unit_answers.specs.declared.ends.CallEnd.{CallEnd}
-use Rattle.unit_answers.specs.Failing.{FailedOn, NoneFailed}
-use Rattle.unit_answers.specs.Answers.{world_with, numbered_answer, Replies, IfDevice}
+use Rattle.unit_answers.specs.declared.ends.CallEnd.TheVariants.{Ended}
+use Rattle.unit_answers.specs.Answers.{world_with, numbered_answer, Replies}
 use Rattle.unit_answers.proofs.AnswerLaws.{numbered-replies}
-use Rattle.unit_answers.proofs.CallLaws.{numbered-device}
 use Rattle.listed_output.specs.Writing.{StayedOn, FailsOn, WritesAs}
 use Rattle.listed_output.proofs.RowLaws.{stays-quietly}
 use Rattle.listed_output.proofs.WriteLaws.{write-both, then_write}
@@ -32,7 +32,7 @@ use Rattle.formatted_output.specs.declared.acts.Stop.{Stop}
 use Rattle.formatted_output.specs.declared.acts.Stop.TheVariants as stop
 use Rattle.formatted_output.specs.Acting.{writing}
 use Rattle.formatted_output.specs.Closing.{Finished, Finishes}
-use Rattle.formatted_output.specs.Transferring.{formatted_kind, StandsFor, AnswersEnd, stop_answer, end_answer}
+use Rattle.formatted_output.specs.Transferring.{formatted_kind, StandsFor, EndDevice, AnswersEnd, stop_answer, end_answer}
 
 -- ## A transfer for which an output stands
 
@@ -147,13 +147,14 @@ ends-reply objects before after_it text output transfer lines (Err (stop.Refused
     refused-end PastEnd (pos 9) objects before after_it text output transfer lines finished.0 (λ world one halted. refl) stands finished.1 wrote
 ends-reply objects before after_it text output transfer lines (Err (stop.Fault fault)) stands finished wrote = absurd finished
 
-number-device : (number : ℤ) (output : FormattedOutput) (old new : List Row) → StayedOn output.unit old new →
-    IfDevice (numbered_answer number output.on_error output.on_end) (λ unit. (unit ≡ output.unit) × FailedOn unit old new) (NoneFailed old new)
-number-device number output old new stays =
-    numbered-device number output.on_error output.on_end (λ unit. (unit ≡ output.unit) × FailedOn unit old new) (NoneFailed old new) (stays-quietly output.unit old new stays)
+number-device : (number : ℤ) (output : FormattedOutput) (old new : List Row) → StayedOn output.unit old new → EndDevice output old new (numbered_answer number output.on_error output.on_end)
+number-device number output old new stays = by (int_eq (asked number output.on_error output.on_end) (pos 0))
+  where
+    by : (over : Bool) → EndDevice output old new (if over then Err (Ended number) else Ok number)
+    by true = stays-quietly output.unit old new stays
+    by false = stays-quietly output.unit old new stays
 
-ends-device : (output : FormattedOutput) (old new : List Row) (result : Result (Unit {0}) Stop) → FailsOn output.unit old new (writing result) →
-    IfDevice (end_answer output result) (λ unit. (unit ≡ output.unit) × FailedOn unit old new) (NoneFailed old new)
+ends-device : (output : FormattedOutput) (old new : List Row) (result : Result (Unit {0}) Stop) → FailsOn output.unit old new (writing result) → EndDevice output old new (end_answer output result)
 ends-device output old new (Ok done) stays = stays-quietly output.unit old new stays
 ends-device output old new (Err (stop.Number number)) stays = number-device number output old new stays
 ends-device output old new (Err (stop.Refused Failed)) failed = (refl, failed)
@@ -161,7 +162,7 @@ ends-device output old new (Err (stop.Refused NotConnected)) stays = number-devi
 ends-device output old new (Err (stop.Refused NotOffered)) stays = number-device (pos 7) output old new stays
 ends-device output old new (Err (stop.Refused Taken)) stays = number-device (pos 8) output old new stays
 ends-device output old new (Err (stop.Refused PastEnd)) stays = number-device (pos 9) output old new stays
-ends-device output old new (Err (stop.Fault fault)) stays = stays-quietly output.unit old new stays
+ends-device output old new (Err (stop.Fault fault)) stays = stays
 
 pub end-answered :
     (text : List ℕ) (output : FormattedOutput) (own : ℤ) (old new : List Row) (done : Result (Unit {0}) Stop) (result : Result ℤ CallEnd) → result ≡ end_answer output done → own ≡ output.unit →

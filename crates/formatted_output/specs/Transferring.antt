@@ -19,7 +19,8 @@ use Rattle.f2c_outside.specs.Meaning.{Tells, units_of}
 use Rattle.unit_answers.specs.declared.ends.CallEnd.{CallEnd}
 use Rattle.unit_answers.specs.declared.ends.CallEnd.TheVariants.{Fault, Ended, Device}
 use Rattle.unit_answers.specs.Failing.{FailedOn, NoneFailed}
-use Rattle.unit_answers.specs.Answers.{world_with, numbered_answer, refused_answer, Replies, IfDevice}
+use Rattle.unit_answers.specs.Answers.{world_with, numbered_answer, refused_answer, Replies}
+use Rattle.listed_output.specs.Writing.{StayedOn}
 use Rattle.control_lists.specs.declared.controls.UnitControl.{UnitControl}
 use Rattle.formatted_records.specs.Sheets.{StandsOn, Begins, shown}
 use Rattle.formatted_output.specs.declared.calls.FormattedOutput.{FormattedOutput}
@@ -90,13 +91,20 @@ abbrev pub start_of : Result ℤ CallEnd → Result Start CallEnd
 start_of (Ok number) = Ok (start.Answers number)
 start_of (Err end) = Err end
 
+-- the device of the unit failed, or none did; at a fault only that of the unit was called
+abbrev pub EndDevice : FormattedOutput → List Row → List Row → Result ℤ CallEnd → Type 0
+EndDevice output old new (Ok number) = NoneFailed old new
+EndDevice output old new (Err (Fault fault)) = StayedOn output.unit old new
+EndDevice output old new (Err (Ended number)) = NoneFailed old new
+EndDevice output old new (Err (Device unit)) = (unit ≡ output.unit) × FailedOn unit old new
+
 -- `e_wsfe`: for every transfer for which the output stood, the call replies what its meaning gives; the device of its unit fails where it
 -- is answered, and nowhere else
 pub record AnswersEnd (text : List ℕ) (output : FormattedOutput) (old new : List Row) (result : Result ℤ CallEnd) : Type 0 where
   pub tells : Tells old → Tells new
   pub replies : Tells old → (objects : List Object) → (transfer : Transfer) → StandsFor text output transfer →
       Replies (library (Finish formatted_kind) (world_with objects (Some transfer) (units_of old)) []) (world_with objects None (units_of new)) result
-  pub devices : IfDevice result (λ unit. (unit ≡ output.unit) × FailedOn unit old new) (NoneFailed old new)
+  pub devices : EndDevice output old new result
 
 -- what a call answers where an output goes no further
 abbrev pub stop_answer : ℤ → ℤ → ℤ → Stop → Result ℤ CallEnd
@@ -118,12 +126,12 @@ ItemsReply meaning objects units text output (Err (Device unit)) = Unit {0}
 
 abbrev pub ItemsDevice : FormattedOutput → List Row → List Row → Result Passage CallEnd → Type 0
 ItemsDevice output old new (Ok passage) = NoneFailed old new
-ItemsDevice output old new (Err (Fault fault)) = NoneFailed old new
+ItemsDevice output old new (Err (Fault fault)) = StayedOn output.unit old new
 ItemsDevice output old new (Err (Ended number)) = NoneFailed old new
 ItemsDevice output old new (Err (Device unit)) = (unit ≡ output.unit) × FailedOn unit old new
 
 -- for every transfer for which the output stood, the call replies what its meaning gives; the device of its unit fails where it is
--- answered, and nowhere else; and the output goes on standing in the text of its format
+-- answered, and nowhere else; at a fault no other unit has changed; and the output goes on standing in the text of its format
 pub record AnswersItems (text : List ℕ) (objects : List Object) (arguments : List CValue) (output output' : FormattedOutput) (old new : List Row) (result : Result Passage CallEnd) : Type 0 where
   pub inside : walks.StandsIn output'.walk text
   pub tells : Tells old → Tells new

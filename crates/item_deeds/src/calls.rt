@@ -8,6 +8,7 @@ ghost use Rattle.run_bytes.specs.Answers.{answered};
 ghost use Rattle.linked_terms.specs.LinkedTerms.{terms_of};
 ghost use Rattle.linked_terms.specs.LinkedItems.{callee_of, use_of};
 ghost use Rattle.item_deeds.specs.Deeds.{wants_of, view_of, IsTold, happening, happening_or};
+ghost use Rattle.item_deeds.specs.Calls.{value_call, invoked_call, deed_call, deed_call_or};
 
 use crate::argument_values::put_values;
 use crate::deeds::Deed;
@@ -44,6 +45,7 @@ fn function_named(run: &RunBytes, callee: &LinkedCallee) -> Result<CValue, CFaul
 /// A call of a function of a program that has `own` of them; those of the library have the numbers behind them.
 fn called(own: usize, view: CallView, wants: CallWants, function: CValue, count: usize) -> Deed
     ensures meaning { (world : World) → (values : List CValue) → steps.called own (view_of view) world (wants_of wants) function (take count values) ≡ happening world values result }
+    ensures calls { (values : List CValue) → value_call own (wants_of wants) (take count values) function ≡ deed_call values result }
     ensures told { (room : ℕ) → count ≤ room → IsTold view.position room result }
 {
     match function {
@@ -76,6 +78,7 @@ pub(crate) fn invoked(
     ensures told { IfOk result (IsTold view.position (length buffer.new)) }
     ensures meaning { (world : World) → world.objects ≡ run.now →
         steps.invoked own (view_of view) world (use_of how.now) (callee_of callee.now) (terms_of arguments.now) ≡ happening_or world buffer.new result }
+    ensures calls { invoked_call own run.now (use_of how.now) (callee_of callee.now) (terms_of arguments.now) ≡ deed_call_or buffer.new result }
 {
     let wants = wanted(run, how)?;
     let function = function_named(run, callee)?;

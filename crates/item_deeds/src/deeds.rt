@@ -14,6 +14,7 @@ ghost use Rattle.linked_terms.specs.LinkedTerms.{term_of};
 ghost use Rattle.linked_terms.specs.LinkedItems.{case_of, flat_of};
 ghost use Rattle.term_values.specs.Finds.{place_of_numbers};
 ghost use Rattle.item_deeds.specs.Deeds.{IfDone, IfFound, view_of, world_of, IsTold, happening, happening_or, going, answering, branched, selected, returned, argument_count};
+ghost use Rattle.item_deeds.specs.Calls.{item_call, deed_call, deed_call_or, KeepsObjects};
 ghost use Rattle.item_deeds.specs.Forms.{SameForms};
 
 use crate::calls::invoked;
@@ -232,6 +233,8 @@ fn performed(
     ensures told { IfOk result (IsTold view.position (length buffer.new)) }
     ensures meaning { (function : linking.Function) → function.own ≡ own → function.result ≡ gives → (units : Units) → (transfer : Option Transfer) →
         steps.deed function (view_of view) (world_of run.old units transfer) (flat_of item.now) ≡ happening_or (world_of run.new units transfer) buffer.new result }
+    ensures calls { item_call own run.old (flat_of item.now) ≡ deed_call_or buffer.new result }
+    ensures objects { IfOk result (KeepsObjects run.old run.new) }
     ensures forms { SameForms run.old run.new }
 {
     match item {
@@ -258,7 +261,8 @@ fn performed(
 }
 
 /// What a flat item does in a function that gives its caller such a value, in a program that has `own` functions. The buffer has room for
-/// the arguments of the item. Whatever the units are and whichever transfer is in progress, they stay as they are.
+/// the arguments of the item. Whatever the units are and whichever transfer is in progress, they stay as they are. A function of the library
+/// that the deed calls is the one that the item calls, with the same arguments, and the objects are as they were before the item.
 pub fn perform(
     own: usize,
     gives: ResultType,
@@ -272,6 +276,8 @@ pub fn perform(
     ensures told { IsTold view.position (length buffer.new) result }
     ensures meaning { (function : linking.Function) → function.own ≡ own → function.result ≡ gives → (units : Units) → (transfer : Option Transfer) →
         steps.deed function (view_of view) (world_of run.old units transfer) (flat_of item.now) ≡ happening (world_of run.new units transfer) buffer.new result }
+    ensures calls { item_call own run.old (flat_of item.now) ≡ deed_call buffer.new result }
+    ensures objects { KeepsObjects run.old run.new result }
     ensures forms { SameForms run.old run.new }
 {
     match performed(own, gives, view, item, run, buffer) {

@@ -9,7 +9,7 @@ use Rattle.c_tree.specs.Faults.{Or, failing}
 use Rattle.c_tree.specs.Objects.{Object}
 use Rattle.c_tree.specs.World.{Direction, Input, Layout, Listed, Medium, Transfer, World, Reply, Gives, Stops, Io}
 use Rattle.c_tree.specs.World as media
-use Rattle.c_tree.specs.Transfers.{Upcoming, asked, numbered, unit_control, new_transfer, nothing_but, read_on}
+use Rattle.c_tree.specs.Transfers.{Control, Upcoming, asked, numbered, unit_control, new_transfer, nothing_but, read_on}
 use Rattle.c_tree.specs.TransferStarts.{starts, first_read}
 use Rattle.c_tree.specs.TransferCalls.{ends}
 use Rattle.c_tree.specs.Builtins.{Begin, Finish}
@@ -24,19 +24,19 @@ use Rattle.f2c_outside.specs.Meaning.{units_of}
 use Rattle.control_lists.specs.declared.controls.UnitControl.{UnitControl}
 use Rattle.control_lists.specs.Controls.{unit_shown}
 use Rattle.unit_answers.specs.declared.ends.CallEnd.{CallEnd}
-use Rattle.unit_answers.specs.declared.ends.CallEnd.TheVariants.{Fault, Ended}
+use Rattle.unit_answers.specs.declared.ends.CallEnd.TheVariants.{Fault, Ended, Device}
 use Rattle.unit_answers.specs.Failing.{NoneFailed}
 use Rattle.unit_answers.specs.Answers.{world_with, numbered_answer}
 use Rattle.unit_answers.proofs.OrLemmas.{known, faulty}
 use Rattle.unit_answers.proofs.FailureLaws.{none-failed}
 use Rattle.listed_output.proofs.RowLaws.{stays-quietly}
-use Rattle.listed_input.specs.declared.records.NextRecord.TheVariants.{Record, Nothing}
+use Rattle.listed_input.specs.declared.records.NextRecord.TheVariants.{Record, Nothing, Failed}
 use Rattle.listed_input.specs.declared.calls.ListedInput.{ListedInput}
 use Rattle.listed_input.specs.declared.calls.Start.{Start}
 use Rattle.listed_input.specs.declared.calls.Start.TheVariants.{Begins}
 use Rattle.listed_input.specs.Fetching.{coming, before_others, Fetches, constant_of}
 use Rattle.listed_input.specs.Reading.{place_of}
-use Rattle.listed_input.specs.Transferring.{listed_kind, StandsFor, StartReplies, StartDevice, AnswersStart, AnswersEnd, AnswersReading, begins, start_of}
+use Rattle.listed_input.specs.Transferring.{listed_kind, StandsFor, StartReplies, NamesUnit, StartDevice, AnswersStart, AnswersEnd, AnswersReading, begins, start_of}
 
 -- ## The place at the start
 
@@ -125,10 +125,10 @@ by-number number on_error on_end objects units = by (int_eq (asked number on_err
     by true = refl
     by false = refl
 
-by-number-device : (number on_error on_end : ℤ) (old new : List Row) → NoneFailed old new → StartDevice old new (start_of (numbered_answer number on_error on_end))
-by-number-device number on_error on_end old new none = by (int_eq (asked number on_error on_end) (pos 0))
+by-number-device : (Own : ℤ → Type 0) (number on_error on_end : ℤ) (old new : List Row) → NoneFailed old new → StartDevice Own old new (start_of (numbered_answer number on_error on_end))
+by-number-device Own number on_error on_end old new none = by (int_eq (asked number on_error on_end) (pos 0))
   where
-    by : (over : Bool) → StartDevice old new (start_of (if over then Err (Ended number) else Ok number))
+    by : (over : Bool) → StartDevice Own old new (start_of (if over then Err (Ended number) else Ok number))
     by true = none
     by false = none
 
@@ -160,7 +160,7 @@ number-answered objects control number line old new fetches = record {
       subst (λ (meaning : Or Reply). StartReplies meaning objects (units_of new) (start_of (numbered_answer number control.on_error control.on_end)))
       (sym (begins-nothing objects (units_of old) (units_of new) control number (fetches.means tells).0 (fetches.means tells).1))
       (by-number number control.on_error control.on_end objects (units_of new));
-  devices = by-number-device number control.on_error control.on_end old new fetches.devices;
+  devices = by-number-device (λ unit. unit ≡ control.unit) number control.on_error control.on_end old new fetches.devices;
 }
 
 answer-is : (control : UnitControl) (unit on_error on_end number : ℤ) (answer : Result ℤ CallEnd) (result : Result Start CallEnd) → SameControl control unit on_error on_end →
@@ -184,6 +184,22 @@ connected-start objects units pointer control connected is there =
     started objects units pointer control is
     ∙ ap (λ (one : Bool). if one then begins objects units (unit_shown control) else Ok (numbered (pos 6) control.on_error control.on_end (world_with objects None units))) (sym there)
 
+pub reading-fails : (objects : List Object) (control : UnitControl) (own : ℤ) (line : List ℕ) (old new : List Row) → own ≡ control.unit → Fetches own line old new Failed →
+    AnswersReading control objects old new (Err (Device own))
+reading-fails objects control own line old new same fetches = record { tells = fetches.tells; replies = λ tells. tt; devices = (same, fetches.devices) }
+
+-- the unit of the control is that which the list names
+pub names-unit : (objects : List Object) (pointer : CValue) (control : UnitControl) (unit : ℤ) → Ok (unit_shown control) ≡ unit_control objects pointer → unit ≡ control.unit →
+    NamesUnit (unit_control objects pointer) unit
+names-unit objects pointer control unit is same = subst (λ (found : Or Control). NamesUnit found unit) is (ap media.Unit (sym same))
+
+named-device : (objects : List Object) (pointer : CValue) (control : UnitControl) (old new : List Row) (result : Result Start CallEnd) → Ok (unit_shown control) ≡ unit_control objects pointer →
+    StartDevice (λ unit. unit ≡ control.unit) old new result → StartDevice (NamesUnit (unit_control objects pointer)) old new result
+named-device objects pointer control old new (Ok start) is told = told
+named-device objects pointer control old new (Err (Fault fault)) is told = told
+named-device objects pointer control old new (Err (Ended number)) is told = told
+named-device objects pointer control old new (Err (Device unit)) is told = (names-unit objects pointer control unit is told.0, told.1)
+
 pub start-begins : (objects : List Object) (pointer : CValue) (control : UnitControl) (own : ℤ) (old new : List Row) (result : Result Start CallEnd) →
     Ok (unit_shown control) ≡ unit_control objects pointer → own ≡ control.unit → true ≡ is_connected own (units_of old) →
     AnswersReading control objects old new result → AnswersStart objects pointer old new result
@@ -193,7 +209,7 @@ start-begins objects pointer control own old new result is same there reads = re
       subst (λ (meaning : Or Reply). StartReplies meaning objects (units_of new) result)
       (sym (connected-start objects (units_of old) pointer control true is (there ∙ ap (λ (unit : ℤ). is_connected unit (units_of old)) same)))
       (reads.replies tells);
-  devices = reads.devices;
+  devices = named-device objects pointer control old new result is reads.devices;
 }
 
 number-start : (objects : List Object) (pointer : CValue) (control : UnitControl) (rows : List Row) → Ok (unit_shown control) ≡ unit_control objects pointer →
@@ -204,7 +220,7 @@ number-start objects pointer control rows is there = record {
       subst (λ (meaning : Or Reply). StartReplies meaning objects (units_of rows) (start_of (numbered_answer (pos 6) control.on_error control.on_end)))
       (sym (connected-start objects (units_of rows) pointer control false is there))
       (by-number (pos 6) control.on_error control.on_end objects (units_of rows));
-  devices = by-number-device (pos 6) control.on_error control.on_end rows rows (none-failed rows);
+  devices = by-number-device (NamesUnit (unit_control objects pointer)) (pos 6) control.on_error control.on_end rows rows (none-failed rows);
 }
 
 pub start-refused : (objects : List Object) (pointer : CValue) (control : UnitControl) (own on_error on_end : ℤ) (answer : Result ℤ CallEnd) (result : Result Start CallEnd) (rows : List Row) →

@@ -23,7 +23,6 @@ use Rattle.f2c_outside.specs.Meaning.{Tells, units_of}
 use Rattle.unit_answers.specs.declared.ends.CallEnd.TheVariants as calls
 use Rattle.unit_answers.specs.Failing.{FailedOn, NoneFailed}
 use Rattle.unit_answers.specs.Answers.{world_with, numbered_answer}
-use Rattle.unit_answers.proofs.FailureLaws.{none-failed}
 use Rattle.unit_answers.proofs.OrLemmas.{known, faulty, behind, same-rest}
 use Rattle.item_deeds.specs.Forms.{SameForms}
 use Rattle.listed_output.specs.Items.{items_given}
@@ -272,7 +271,7 @@ giving-stops list first input middle input' objects between objects' old rows ne
       let so_far : GoesFrom list middle between (units_of rows) pointer left stale (items_meant list list.count first transfer objects stale (units_of old)) = giving.goes tells transfer stands stale in
       so_far.rest ∙ then-rest list pointer left less so_far.transfer between stale (units_of rows) more
       ∙ faulty (item_meant (item_in list pointer) so_far.transfer between stale (units_of rows)) fault _ (sym (gives.replies (giving.tells tells) so_far.transfer so_far.stands stale));
-  devices = stays-quiet input.unit old rows new giving.stays gives.devices;
+  devices = stays-stays input.unit old rows new giving.stays (subst (λ (n : ℤ). StayedOn n rows new) giving.numbers.unit_is gives.devices);
   uncounted = tt;
   numbers = same-both input middle input' giving.numbers gives.numbers;
 }
@@ -423,7 +422,7 @@ pub call-faulty : (kind count first size : CValue) (input : ListedInput) (object
 call-faulty kind count first size input objects rows fault same is = record {
   tells = λ tells. tells;
   replies = λ tells transfer stands. called-by objects (units_of rows) input transfer kind count first size stands ∙ faulty (items_given objects kind count size) fault _ is;
-  devices = none-failed rows;
+  devices = stays-same input.unit rows;
   uncounted = tt;
   forms = same;
 }

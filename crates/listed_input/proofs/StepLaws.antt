@@ -89,7 +89,7 @@ number-step from before reading objects objects' rows done number value (Err (en
       takes-faulty from before objects rows done transfer stale value (place_of reading) fault seeking tells is
       (ap (λ (all : List Object). value_taken all from.item.pointer from.item.size (begun_with_value seeking.text value)) (fresh-objects from before objects rows done seeking none)
       ∙ means objects ∙ stores);
-  devices = stays-quietly from.unit from.rows rows seeking.stays;
+  devices = seeking.stays;
   uncounted = tt;
 }
 number-step from before reading objects objects' rows done number value (Err (ends.Number other)) seeking none is means stores = absurd stores
@@ -171,7 +171,7 @@ piece-step from before reading objects objects' rows done start end (Err (ends.F
           (item-given (place_of before) (kind_in from) (Piece piece true (place_of reading)) is)
           (λ later. inside-item piece (place_of reading) later (kind_in from) goes) begun-twice
           (λ more. puts from.objects seeking.text more seeking.written);
-      devices = stays-quietly from.unit from.rows rows seeking.stays;
+      devices = seeking.stays;
       uncounted = tt;
     }
 piece-step from before reading objects objects' rows done start end (Err (ends.Number number)) gives seeking puts = absurd puts
@@ -202,7 +202,7 @@ last-step from before reading objects objects' rows done start end (Err (ends.Fa
       replies = λ tells transfer stale medium place slashed.
           takes-faulty from before objects rows done transfer stale (TextValue piece) (place_of reading) fault seeking tells
           (item-given (place_of before) (kind_in from) (Piece piece false (place_of reading)) is) (puts from.objects seeking.text seeking.written);
-      devices = stays-quietly from.unit from.rows rows seeking.stays;
+      devices = seeking.stays;
       uncounted = tt;
     }
 last-step from before reading objects objects' rows done start end (Err (ends.Number number)) gives seeking puts = absurd puts

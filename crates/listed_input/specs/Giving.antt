@@ -43,7 +43,7 @@ GiveReply meaning transfer input objects stale units (Err Uncounted) = Unit {0}
 
 abbrev pub GiveDevice : ℤ → List Row → List Row → Result (Unit {0}) ItemEnd → Type 0
 GiveDevice unit old new (Ok done) = StayedOn unit old new
-GiveDevice unit old new (Err (Fault fault)) = NoneFailed old new
+GiveDevice unit old new (Err (Fault fault)) = StayedOn unit old new
 GiveDevice unit old new (Err (Number number)) = NoneFailed old new
 GiveDevice unit old new (Err Device) = FailedOn unit old new
 GiveDevice unit old new (Err Uncounted) = NoneFailed old new

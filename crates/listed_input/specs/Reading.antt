@@ -102,7 +102,7 @@ ItemReply meaning transfer objects stale units place (Err Uncounted) = Unit {0}
 
 abbrev pub ItemDevice : ℤ → List Row → List Row → Result ItemRead ItemEnd → Type 0
 ItemDevice unit old new (Ok read) = StayedOn unit old new
-ItemDevice unit old new (Err (Fault fault)) = NoneFailed old new
+ItemDevice unit old new (Err (Fault fault)) = StayedOn unit old new
 ItemDevice unit old new (Err (Number number)) = NoneFailed old new
 ItemDevice unit old new (Err Device) = FailedOn unit old new
 ItemDevice unit old new (Err Uncounted) = NoneFailed old new

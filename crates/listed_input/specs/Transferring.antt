@@ -7,7 +7,7 @@ use Rattle.c_tree.specs.Faults.{Or, failing}
 use Rattle.c_tree.specs.Objects.{Object}
 use Rattle.c_tree.specs.World.{Input, Listed, Transfer, Reply, Gives, Stops, Io}
 use Rattle.c_tree.specs.World as media
-use Rattle.c_tree.specs.Transfers.{Control, new_transfer}
+use Rattle.c_tree.specs.Transfers.{Control, unit_control, new_transfer}
 use Rattle.c_tree.specs.TransferStarts.{reading}
 use Rattle.c_tree.specs.Builtins.{ByList, OnUnit, TransferKind, transfer_kind, Begin, Finish, do_lio}
 use Rattle.c_tree.specs.Library.{library}
@@ -19,6 +19,7 @@ use Rattle.unit_answers.specs.Failing.{FailedOn, NoneFailed}
 use Rattle.unit_answers.specs.Answers.{world_with}
 use Rattle.control_lists.specs.declared.controls.UnitControl.{UnitControl}
 use Rattle.control_lists.specs.Controls.{unit_shown}
+use Rattle.listed_output.specs.Writing.{StayedOn}
 use Rattle.listed_input.specs.Reading.{place_of, StandsFar}
 use Rattle.item_deeds.specs.Forms.{SameForms}
 use Rattle.listed_output.specs.declared.calls.Passage.{Passage}
@@ -57,19 +58,25 @@ StartReplies meaning objects units (Err (Fault fault)) = meaning ≡ failing fau
 StartReplies meaning objects units (Err (Ended number)) = meaning ≡ Ok (Stops (Io number) (world_with objects None units))
 StartReplies meaning objects units (Err (Device unit)) = Unit {0}
 
-abbrev pub StartDevice : List Row → List Row → Result Start CallEnd → Type 0
-StartDevice old new (Ok start) = NoneFailed old new
-StartDevice old new (Err (Fault fault)) = new ≡ old
-StartDevice old new (Err (Ended number)) = NoneFailed old new
-StartDevice old new (Err (Device unit)) = FailedOn unit old new
+-- a control list names this unit
+abbrev pub NamesUnit : Or Control → ℤ → Type 0
+NamesUnit (Ok control) unit = control.medium ≡ media.Unit unit
+NamesUnit (Err reason) unit = ⊥
 
--- where the devices tell their records, the call replies what its meaning gives over the units that the rows mean; a device fails where
--- it is answered, and nowhere else; at a fault the rows stay as they were
+-- the device of the unit of the start failed, or none did
+abbrev pub StartDevice : (ℤ → Type 0) → List Row → List Row → Result Start CallEnd → Type 0
+StartDevice Own old new (Ok start) = NoneFailed old new
+StartDevice Own old new (Err (Fault fault)) = new ≡ old
+StartDevice Own old new (Err (Ended number)) = NoneFailed old new
+StartDevice Own old new (Err (Device unit)) = Own unit × FailedOn unit old new
+
+-- where the devices tell their records, the call replies what its meaning gives over the units that the rows mean; the device of the unit
+-- that its list names fails where it is answered, and nowhere else; at a fault the rows stay as they were
 pub record AnswersStart (objects : List Object) (pointer : CValue) (old new : List Row) (result : Result Start CallEnd) : Type 0 where
   pub tells : Tells old → Tells new
   pub replies : Tells old →
       StartReplies (library (Begin listed_kind) (world_with objects None (units_of old)) (pointer ∷ [])) objects (units_of new) result
-  pub devices : StartDevice old new result
+  pub devices : StartDevice (NamesUnit (unit_control objects pointer)) old new result
 
 -- `e_rsle`: for every transfer for which the input stood
 abbrev pub AnswersEnd : ListedInput → ℤ → Type 0
@@ -94,14 +101,14 @@ ItemsReply meaning objects units input (Err Uncounted) = Unit {0}
 
 abbrev pub ItemsDevice : ListedInput → List Row → List Row → Result Passage InputEnd → Type 0
 ItemsDevice input old new (Ok passage) = NoneFailed old new
-ItemsDevice input old new (Err (Call (Fault fault))) = NoneFailed old new
+ItemsDevice input old new (Err (Call (Fault fault))) = StayedOn input.unit old new
 ItemsDevice input old new (Err (Call (Ended number))) = NoneFailed old new
 ItemsDevice input old new (Err (Call (Device unit))) = (unit ≡ input.unit) × FailedOn unit old new
 ItemsDevice input old new (Err Uncounted) = NoneFailed old new
 
 -- for every transfer for which the input stood, the call replies what its meaning gives; the device of its unit fails where it is
--- answered, and nowhere else; more is to be counted than 64 bits tell only where the unit stands behind 2^53 records or more then; the
--- objects keep their forms
+-- answered, and nowhere else; at a fault no other unit has changed; more is to be counted than 64 bits tell only where the unit stands
+-- behind 2^53 records or more then; the objects keep their forms
 pub record AnswersItems (objects objects' : List Object) (arguments : List CValue) (input input' : ListedInput) (old new : List Row) (result : Result Passage InputEnd) : Type 0 where
   pub tells : Tells old → Tells new
   pub replies : Tells old → (transfer : Transfer) → StandsFor input transfer →
@@ -117,7 +124,7 @@ begins objects units control = reading (new_transfer Input Listed control) (worl
 pub record AnswersReading (control : UnitControl) (objects : List Object) (old new : List Row) (result : Result Start CallEnd) : Type 0 where
   pub tells : Tells old → Tells new
   pub replies : Tells old → StartReplies (begins objects (units_of old) (unit_shown control)) objects (units_of new) result
-  pub devices : StartDevice old new result
+  pub devices : StartDevice (λ unit. unit ≡ control.unit) old new result
 
 abbrev pub start_of : Result ℤ CallEnd → Result Start CallEnd
 start_of (Ok number) = Ok (Answers number)

@@ -1,5 +1,5 @@
 -- How a run of a program to which files are linked ends, by what is said of it.
-use Rattle.std.proofs.Common.{◌≡◌, ℕ, ◌<◌, ◌≤◌, ◌^◌, List, [], ◌∷◌, Option, Some, None, refl, ap, sym, ◌∙◌, subst}
+use Rattle.std.proofs.Common.{◌≡◌, ℕ, ℤ, ◌<◌, ◌≤◌, ◌^◌, List, [], ◌∷◌, Option, Some, None, refl, ap, sym, ◌∙◌, subst}
 use Rattle.std.specs.Prelude.{Result, Ok, Err, IfOk}
 use Rattle.c_tree.specs.simulation.Machine.{State, Runs, Over, Broken}
 use Rattle.c_tree.specs.run_state.Endings.{Ending}
@@ -12,7 +12,7 @@ use Rattle.c_tree.specs.World.{World}
 use Rattle.c_tree.specs.Linking.{Program, program, first_broken_rule}
 use Rattle.c_tree.specs.Steps.{sorts}
 use Rattle.c_tree.specs.Meaning as meaning
-use Rattle.c_tree.specs.Meaning.{run_of}
+use Rattle.c_tree.specs.Meaning.{run_of, text_of}
 use Rattle.c_totality.specs.Totality.{AreWellFormed, each_kept, NoRunIsWithoutMeaning}
 use Rattle.f2c_outside.specs.Table.{Row}
 use Rattle.f2c_outside.specs.Meaning.{Tells, units_of}
@@ -21,11 +21,13 @@ use Rattle.linked_programs.specs.LinkedPrograms.{program_of}
 use Rattle.linked_programs.specs.declared.programs.LinkedProgram.{LinkedProgram}
 use Rattle.unit_answers.specs.Failing.{NoneFailed, FailedOn}
 use Rattle.item_deeds.specs.Deeds.{world_of}
+use Rattle.item_deeds.specs.Calls.{LibraryCall, next_call}
 use Rattle.run_library.specs.Replies.{StandsIn}
-use Rattle.run_library.specs.Devices.{NoFailure, no_call, one_more}
+use Rattle.run_library.specs.Devices as devices_of
+use Rattle.run_library.specs.Devices.{NoFailure, one_more}
 use Rattle.run_library.specs.declared.library.RunBreak.TheVariants as reason
 use Rattle.program_runner.specs.Outcomes.{Stands, IsRunOf, UnlessFailed, UnlessRunFailed, ToldOfRun, ToldOfWholeRun, UncountedInRun, UncountedInWholeRun}
-use Rattle.program_runner.specs.UnitsLeft.{UnitsLeft, as_before, by_a_call}
+use Rattle.program_runner.specs.UnitsLeft.{UnitsLeft, no_call, call_breaks, call_replied}
 use Rattle.program_runner.specs.Taken.{IsLast, IsBroken, StandsBehind, TakenBy}
 use Rattle.program_runner.specs.declared.runs.RunTaken.{RunTaken}
 use Rattle.program_runner.specs.declared.runs.RunOutcome.{RunOutcome}
@@ -38,7 +40,7 @@ use Rattle.unit_library.specs.Transfers.{Standing}
 use Rattle.unit_library.specs.Uncounted.{IsFarBehind}
 use Rattle.loaded_runs.specs.declared.ends.RunEnd.{RunEnd}
 use Rattle.loaded_runs.specs.declared.ends.RunEnd.TheVariants as how
-use Rattle.loaded_runs.specs.RunEnds.{outcome_end, end_of, steps_of, units_in, EndsBy, IsGoingOn, IsOverBy, LeavesUnits, IsBrokenBy, IsReached, IsNoFailure, FailsInRun, DevicesInRun, DevicesOf, NoDeviceFailed, in_the_run, behind_it, Finishes, failed_before, finished, failed_now, IsUncounted, IsRun}
+use Rattle.loaded_runs.specs.RunEnds.{outcome_end, end_of, steps_of, units_in, EndsBy, IsGoingOn, IsOverBy, LeavesUnits, IsBrokenBy, CallsOn, IsReached, IsNoFailure, FailsInRun, DevicesInRun, DevicesOf, NoDeviceFailed, in_the_run, behind_it, Finishes, failed_before, finished, failed_now, IsUncounted, IsRun}
 
 -- ONE STATE
 goes-on : (state : State Ending sorts) (units : Units) (objects : List Object) (number : ℕ) (view : _) (frames : _) (world : World) → state ≡ Runs number view frames world → world.units ≡ units → EndsBy state units objects how.Running
@@ -108,18 +110,27 @@ over-by files units steps taken last = record {
   stays = last.same;
 }
 
-going-on : (files : List CFile) (units : Units) (steps taken : ℕ) (rows : List Row) (held : Option TransferInProgress) → taken < steps → StandsBehind (run_of (program files) units) (Standing rows held) taken →
-    IsGoingOn files units steps taken (units_of rows)
+going-on : (files : List CFile) (units : Units) (steps taken : ℕ) (rows rows' : List Row) (held held' : Option TransferInProgress) (unit : ℤ) → taken < steps →
+    StandsBehind (program files) (run_of (program files) units) (Standing rows held) (Standing rows' held') taken unit → IsGoingOn files units steps taken (units_of rows)
 unfolding meaning.meaning meaning.outcome
-going-on files units steps taken rows held within stands = record {
+going-on files units steps taken rows rows' held held' unit within stands = record {
   within = within;
   outcome = ap meaning.outcome stands.goes.is;
   units_now = ap units_in stands.goes.is ∙ ap Some stands.stood.means;
 }
 
-left-by : (happens : _) (before : World) (rows : List Row) (held : Option TransferInProgress) → UnitsLeft happens before (Standing rows held) → UnitsLeft happens before (λ units transfer. units ≡ units_of rows)
-left-by happens before rows held (as_before transfer stood) = as_before transfer stood.means
-left-by happens before rows held (by_a_call builtin arguments objects view wants reply called is stood) = by_a_call builtin arguments objects view wants reply called is stood.means
+calls-on : (files : List CFile) (units : Units) (taken : ℕ) (rows rows' : List Row) (held held' : Option TransferInProgress) (unit : ℤ) →
+    StandsBehind (program files) (run_of (program files) units) (Standing rows held) (Standing rows' held') taken unit → CallsOn files (meaning.meaning files units taken) unit (units_of rows')
+unfolding meaning.meaning
+calls-on files units taken rows rows' held held' unit stands =
+    let fails = stands.fails in
+    subst (λ state. CallsOn files state unit (units_of rows')) (sym stands.goes.is)
+    (record { call = fails.call; makes = fails.makes; on = fails.on; after = fails.after; stood = fails.stood.means; others = fails.others })
+
+left-by : (called : Option LibraryCall) (before : World) (rows : List Row) (held : Option TransferInProgress) → UnitsLeft called before (Standing rows held) → UnitsLeft called before (λ units transfer. units ≡ units_of rows)
+left-by called before rows held (no_call none stood) = no_call none stood.means
+left-by called before rows held (call_breaks call is why breaks after stood keeps) = call_breaks call is why breaks after stood.means keeps
+left-by called before rows held (call_replied call is reply replies stood) = call_replied call is reply replies stood.means
 
 broken-by : (files : List CFile) (units : Units) (steps taken : ℕ) (rows : List Row) (held : Option TransferInProgress) → IsBroken (program files) (run_of (program files) units) (Standing rows held) steps taken →
     IsBrokenBy files units steps taken (units_of rows)
@@ -128,13 +139,13 @@ broken-by files units steps taken rows held broken =
     let last = broken.last in
     record {
       over = over-by files units steps taken last;
-      leaves = subst (λ state. LeavesUnits files state (units_of rows)) (sym last.goes.is) (λ none. left-by _ last.before rows held (broken.units none));
+      leaves = subst (λ state. LeavesUnits files state (units_of rows)) (sym last.goes.is) (left-by (next_call (text_of (program files).functions last.goes.number) last.goes.view last.before) last.before rows held broken.units);
     }
 
 -- WITH A LIBRARY
 -- calls between libraries are calls between what they hold
 none-in : {L R : Type 0} (shown : L → R) (none : R → R → Type 0) (first last : L) → NoFailure (λ b a. none (shown b) (shown a)) first last → NoFailure none (shown first) (shown last)
-none-in shown none first last no_call = no_call
+none-in shown none first last devices_of.no_call = devices_of.no_call
 none-in shown none first last (one_more before after earlier here) = one_more (shown before) (shown after) (none-in shown none first before earlier) here
 
 module _ {L : Type 0} (shown : L → List Row) (going : L → Option TransferInProgress) (steps : ℕ) (first last : L) where
@@ -170,7 +181,8 @@ module _ {L : Type 0} (shown : L → List Row) (going : L → Option TransferInP
     none = none-in shown NoneFailed first told.middle told.none;
     failed = told.failed;
     goes = λ tells.
-        going-on files (units_of (shown first)) steps taken (shown told.middle) (going told.middle) told.within (told.stood (units_of (shown first)) (begun none tells));
+        going-on files (units_of (shown first)) steps taken (shown told.middle) (shown last) (going told.middle) (going last) unit told.within (told.stood (units_of (shown first)) (begun none tells));
+    calls = λ tells. calls-on files (units_of (shown first)) taken (shown told.middle) (shown last) (going told.middle) (going last) unit (told.stood (units_of (shown first)) (begun none tells));
   }
   devices-so files taken ran.Uncounted none told calls = none-in shown NoneFailed first last calls
 

@@ -7,7 +7,7 @@ use Rattle.c_tree.specs.declared.outcome.CFault.{CFault}
 use Rattle.c_tree.specs.declared.file.CFile.{CFile}
 use Rattle.c_tree.specs.Objects.{Object}
 use Rattle.c_tree.specs.Linking.{program}
-use Rattle.c_tree.specs.Steps.{sorts, step}
+use Rattle.c_tree.specs.Steps.{sorts}
 use Rattle.c_tree.specs.Meaning as meaning
 use Rattle.c_tree.specs.Meaning.{text_of}
 use Rattle.f2c_outside.specs.Table.{Row}
@@ -16,9 +16,10 @@ use Rattle.f2c_outside.specs.Finishing.{OnDevice, EachRow, WasFinished, IsFirstF
 use Rattle.linked_programs.specs.LinkedPrograms.{program_of}
 use Rattle.linked_programs.specs.declared.programs.LinkedProgram.{LinkedProgram}
 use Rattle.unit_answers.specs.Failing.{NoneFailed, FailedOn}
+use Rattle.item_deeds.specs.Calls.{next_call}
 use Rattle.run_library.specs.Devices.{NoFailure}
 use Rattle.run_library.specs.declared.library.RunBreak.TheVariants as reason
-use Rattle.program_runner.specs.UnitsLeft.{UnitsLeft}
+use Rattle.program_runner.specs.UnitsLeft.{UnitsLeft, FailedOnUnit}
 use Rattle.program_runner.specs.declared.runs.RunTaken.{RunTaken}
 use Rattle.program_runner.specs.declared.runs.RunOutcome.{RunOutcome}
 use Rattle.program_runner.specs.declared.runs.RunOutcome.TheVariants as ran
@@ -81,13 +82,18 @@ pub record IsOverBy (files : List CFile) (units : Units) (steps taken : ℕ) : T
   pub goes : meaning.outcome (meaning.meaning files units before) ≡ meaning.Running
   pub stays : meaning.meaning files units taken ≡ meaning.meaning files units steps
 
--- the step of a run that goes on so leaves these units, where no transfer is in progress before it: those that it found, or, where it called a function of the library
--- that had replied, those of the reply
+-- the step of a run that goes on so leaves these units: where it makes no call of the library, those that it found; where its call replies, those of the reply; and where its
+-- call breaks, such as a call keeps that breaks: outside every transfer those that it found
 abbrev pub LeavesUnits : List CFile → State Ending sorts → Units → Type 0
-LeavesUnits files (Runs number view frames world) left =
-    world.transfer ≡ None → UnitsLeft (step (text_of (program files).functions number) view world) world (λ units transfer. units ≡ left)
+LeavesUnits files (Runs number view frames world) left = UnitsLeft (next_call (text_of (program files).functions number) view world) world (λ units transfer. units ≡ left)
 LeavesUnits files (Over ending frames world) left = ⊥
 LeavesUnits files (Broken why numbers) left = ⊥
+
+-- that step makes a call of the library on a unit, whose device fails, and leaves these units, all but that one as it found them
+abbrev pub CallsOn : List CFile → State Ending sorts → ℤ → Units → Type 0
+CallsOn files (Runs number view frames world) unit left = FailedOnUnit (next_call (text_of (program files).functions number) view world) world (λ units transfer. units ≡ left) unit
+CallsOn files (Over ending frames world) unit left = ⊥
+CallsOn files (Broken why numbers) unit left = ⊥
 
 -- it is broken by the last of so many steps, which leaves these units
 pub record IsBrokenBy (files : List CFile) (units : Units) (steps taken : ℕ) (left : Units) : Type 0 where
@@ -125,13 +131,14 @@ pub record NoDeviceFailed (b a : List Row) : Type 0 where
   pub none : NoFailure NoneFailed b middle
   pub finished : AreFinished middle a
 
--- the device of a unit was the first that failed, in a call that the step behind so many makes: the run of the definitions goes on there, with the units as the
--- call found them
+-- the device of a unit was the first that failed, in a call on that unit which the step behind so many makes: the run of the definitions goes on there, with the units
+-- as the call found them, and all others stand so behind it
 pub record FailsInRun (files : List CFile) (steps taken : ℕ) (unit : ℤ) (b a : List Row) : Type 0 where
   pub middle : List Row
   pub none : NoFailure NoneFailed b middle
   pub failed : FailedOn unit middle a
   pub goes : Tells b → IsGoingOn files (units_of b) steps taken (units_of middle)
+  pub calls : Tells b → CallsOn files (meaning.meaning files (units_of b) taken) unit (units_of a)
 
 -- or, none having failed in the run, which is over or has taken its steps, when the devices were finished behind it
 pub record FailsBehindRun (files : List CFile) (steps taken : ℕ) (objects : List Object) (unit : ℤ) (b a : List Row) : Type 0 where

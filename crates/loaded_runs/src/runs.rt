@@ -80,10 +80,11 @@ fn run_with(
 /// fails, or a call is to count more than 64 bits tell, which is only where a unit stands behind 2^53 records or more.
 ///
 /// The run of the definitions has taken as many steps: all that it may where it is not over, else the least number by which it is over. At a
-/// fault the units are left as the last step found them, where no transfer is in progress there, or, where a function of the library had
-/// replied in that step, as the function left them. Where a device fails in the run, the run of the definitions goes on behind the steps that
-/// were taken, with the units as the call of the library found them in which it fails; where one fails when the devices are finished, the run
-/// had ended as the definitions have it.
+/// fault the units are left by the last step: as it found them, where it calls no function of the library; as the function left them, where
+/// the one that it calls replies, so that the fault is in the store of what it gave; and such as a call keeps that breaks, where that call
+/// breaks, which is as the step found them where no transfer is in progress. Where a device fails in the run, the run of the definitions goes
+/// on behind the steps that were taken, with the units as the call of the library found them in which it fails; where one fails when the
+/// devices are finished, the run had ended as the definitions have it.
 pub fn run_loaded(
     _files: &[CFile],
     loaded: LoadedProgram,

@@ -10,6 +10,7 @@ use Rattle.c_tree.specs.World.{World}
 use Rattle.c_tree.specs.Builtins.{Signature, signatures}
 use Rattle.c_tree.specs.Library.{library}
 use Rattle.c_tree.specs.Steps.{Wants, View, takes_all, may_give, library_called, given_that, replied}
+use Rattle.item_deeds.specs.Calls.{LibraryCall, call_by}
 use Rattle.run_library.specs.Signatures.{IsCall}
 use Rattle.program_runner.specs.declared.signatures.LibrarySignature.{LibrarySignature}
 use Rattle.program_runner.specs.Signatures.{taken_of, Shape, shape_of, listed_shape, Allows}
@@ -30,9 +31,17 @@ tested : (view : View) (world : World) (wants : Wants) (values : List CValue) (s
     ≡ (if test then given_that (library signature.builtin world values) (replied view wants) else Breaks (Faults Disagree))
 tested view world wants values signature test is = ap (λ test. if test then given_that (library signature.builtin world values) (replied view wants) else Breaks (Faults Disagree)) is
 
+-- what is called by it
+abbrev pub call_to : Signature → List CValue → LibraryCall
+call_to signature values = record { builtin = signature.builtin; arguments = values }
+
+told : (wants : Wants) (values : List CValue) (signature : Signature) (test : Bool) → (takes_all signature.takes values && may_give signature.gives wants) ≡ test →
+    call_by wants values (Some signature) ≡ (if test then Some (call_to signature values) else None)
+told wants values signature test is = ap (λ test. if test then Some (call_to signature values) else None) is
+
 none-among : (number : ℕ) (values : List CValue) (wants : Wants) (known : Option Signature) → slice_get signatures number ≡ known → None ≡ option_map listed_shape known →
     Allows number values wants (Err Kind)
-none-among number values wants None is shapes = λ view world. ap (library_called view world wants values) is
+none-among number values wants None is shapes = (ap (call_by wants values) is, λ view world. ap (library_called view world wants values) is)
 none-among number values wants (Some signature) is shapes = absurd (cc)
 
 allowed-as : (number : ℕ) (values : List CValue) (wants : Wants) (shape : Shape) (known : Option Signature) → slice_get signatures number ≡ known → Some shape ≡ option_map listed_shape known →
@@ -46,10 +55,12 @@ allowed-as number values wants shape (Some signature) is shapes agrees =
 refused-as : (number : ℕ) (values : List CValue) (wants : Wants) (shape : Shape) (known : Option Signature) → slice_get signatures number ≡ known → Some shape ≡ option_map listed_shape known →
     (takes_all shape.kinds values && may_give shape.gives wants) ≡ false → Allows number values wants (Err Disagree)
 refused-as number values wants shape None is shapes agrees = absurd (cc)
-refused-as number values wants shape (Some signature) is shapes agrees = λ view world.
+refused-as number values wants shape (Some signature) is shapes agrees =
     let same : shape ≡ listed_shape signature = cc in
-    ap (library_called view world wants values) is
-    ∙ tested view world wants values signature false (ap (λ shape. takes_all shape.kinds values && may_give shape.gives wants) (sym same) ∙ agrees)
+    let refuses : (takes_all signature.takes values && may_give signature.gives wants) ≡ false = ap (λ shape. takes_all shape.kinds values && may_give shape.gives wants) (sym same) ∙ agrees in (
+      ap (call_by wants values) is ∙ told wants values signature false refuses,
+      λ view world. ap (library_called view world wants values) is ∙ tested view world wants values signature false refuses,
+    )
 
 pub none-known : (number : ℕ) (values : List CValue) (wants : Wants) → option_map shape_of None ≡ option_map listed_shape (slice_get signatures number) → Allows number values wants (Err Kind)
 none-known number values wants shapes = none-among number values wants (slice_get signatures number) refl shapes
@@ -72,3 +83,8 @@ pub call-made : (number : ℕ) (values : List CValue) (view : View) (world : Wor
 call-made number values view world wants call gives =
     ap (library_called view world wants values) call.known
     ∙ tested view world wants values call.signature true (ap (λ test. test && may_give call.signature.gives wants) call.agrees ∙ gives)
+
+pub call-told : (number : ℕ) (values : List CValue) (wants : Wants) (call : IsCall number values) → may_give call.signature.gives wants ≡ true →
+    call_by wants values (slice_get signatures number) ≡ Some (call_to call.signature values)
+call-told number values wants call gives =
+    ap (call_by wants values) call.known ∙ told wants values call.signature true (ap (λ test. test && may_give call.signature.gives wants) call.agrees ∙ gives)

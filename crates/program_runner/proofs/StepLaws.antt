@@ -9,6 +9,7 @@ use Rattle.c_tree.specs.run_state.Units.{Units}
 use Rattle.c_tree.specs.Objects.{Object}
 use Rattle.c_tree.specs.Linking as linking
 use Rattle.item_deeds.specs.Deeds.{IfFound, world_of}
+use Rattle.item_deeds.specs.Calls.{item_call, call_at, next_call}
 use Rattle.c_tree.specs.Steps.{View, deed, deed_at, step}
 use Rattle.linked_terms.specs.declared.items.LinkedItem.{LinkedItem}
 use Rattle.linked_terms.specs.LinkedItems.{flat_of}
@@ -26,6 +27,17 @@ pub step-none : (own : ℕ) (function : LinkedFunction) (view : View) (world : W
 unfolding step
 step-none own function view world is =
     ap (deed_at (function_of own function) view world) (slice_get-map flat_of function.code view.position ∙ ap (option_map flat_of) (sym is))
+
+-- the call of the library that the step makes is that of the item
+pub call-known : (own : ℕ) (function : LinkedFunction) (view : View) (world : World) (item : LinkedItem) → Some item ≡ slice_get function.code view.position →
+    next_call (function_of own function) view world ≡ item_call own world.objects (flat_of item)
+call-known own function view world item is =
+    ap (call_at own world.objects) (slice_get-map flat_of function.code view.position ∙ ap (option_map flat_of) (sym is))
+
+pub call-none : (own : ℕ) (function : LinkedFunction) (view : View) (world : World) → None ≡ slice_get function.code view.position →
+    next_call (function_of own function) view world ≡ None
+call-none own function view world is =
+    ap (call_at own world.objects) (slice_get-map flat_of function.code view.position ∙ ap (option_map flat_of) (sym is))
 
 -- a step by the short way
 pub step-short : (function : LinkedFunction) (item : LinkedItem) (position : ℕ) (old new : List Object) (found : Option ℕ) → Some item ≡ slice_get function.code position →

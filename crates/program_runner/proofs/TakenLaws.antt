@@ -6,11 +6,12 @@ use Rattle.c_tree.specs.run_state.Units.{Units}
 use Rattle.c_tree.specs.Linking as linking
 use Rattle.c_tree.specs.Objects.{Object}
 use Rattle.c_tree.specs.World.{World, Transfer}
-use Rattle.c_tree.specs.Steps.{sorts, language, step}
+use Rattle.c_tree.specs.Steps.{sorts, language}
 use Rattle.c_tree.specs.Meaning.{text_of, machine, main_number, run_of}
 use Rattle.linked_programs.specs.declared.programs.LinkedProgram.{LinkedProgram}
 use Rattle.linked_programs.specs.LinkedPrograms.{program_of}
 use Rattle.item_deeds.specs.Deeds.{view_of, world_of}
+use Rattle.item_deeds.specs.Calls.{next_call}
 use Rattle.run_library.specs.Replies.{StandsIn}
 use Rattle.run_library.specs.Devices.{NoFailure}
 use Rattle.program_runner.specs.declared.stack.CallStack.{CallStack}
@@ -18,7 +19,7 @@ use Rattle.program_runner.specs.declared.runs.RunOutcome.{RunOutcome}
 use Rattle.program_runner.specs.declared.runs.RunOutcome.TheVariants as outcome
 use Rattle.program_runner.specs.Outcomes.{Reaches, UnlessFailed, ToldOfNext}
 use Rattle.program_runner.specs.Stacks.{frames_of, waiting, state_of}
-use Rattle.program_runner.specs.UnitsLeft.{UnitsLeft}
+use Rattle.program_runner.specs.UnitsLeft.{LeftByNext}
 use Rattle.program_runner.specs.Taken.{GoesOn, IsLast, taken_with, TakenBy}
 use Rattle.program_runner.proofs.RunLaws.{next-same, run-from}
 
@@ -41,8 +42,8 @@ pub over-taken : {L E : Type 0} (ending : List Object → E → Ending) (program
     NoFailure none_failed old middle → ToldOfNext none_failed failed_on middle new how →
     ((units : Units) → (transfer : Option Transfer) → stands middle units transfer →
     UnlessFailed how (StandsIn (stands new) last (λ world. Reaches ending (next language (machine (program_of program)) (state_of stack (world_of objects units transfer))) after world how))) →
-    ((units : Units) → (transfer : Option Transfer) → stands middle units transfer → UnlessFailed how (transfer ≡ None →
-    UnitsLeft (step (text_of (program_of program).functions stack.top.number) (view_of stack.top.view) (world_of objects units transfer)) (world_of objects units transfer) (stands new))) →
+    ((units : Units) → (transfer : Option Transfer) → stands middle units transfer →
+    LeftByNext (next_call (text_of (program_of program).functions stack.top.number) (view_of stack.top.view) (world_of objects units transfer)) (world_of objects units transfer) (stands new) how) →
     ((how ≡ outcome.Running) → ⊥) → taken < steps →
     TakenBy (program_of program) (λ (before : World). (before.objects ≡ first) × stands old before.units before.transfer) (λ before count. run language (machine (program_of program)) count (state_of begun before))
     stands none_failed failed_on steps old new (taken_with taken how) how
@@ -94,6 +95,7 @@ over-taken ending program begun stack after first objects last stands none_faile
         world = world_of objects at.units at.transfer;
         goes = record { number = stack.top.number; view = view_of stack.top.view; frames = frames_of (waiting stack); is = at.holds };
         stood = at.stood;
+        fails = left at.units at.transfer at.stood;
       };
 }
 over-taken ending program begun stack after first objects last stands none_failed failed_on taken steps old middle new outcome.Uncounted reached quiet told goes left not less = (
@@ -111,7 +113,7 @@ taken-so {E = E} program begins states stands none_failed failed_on steps old ne
     (subst (λ (r : RunOutcome E). TakenBy program begins states stands none_failed failed_on steps old new (taken_with taken how) r) (sym is) by)
 
 -- THE SAME STATES, FROM OTHER BEGINNINGS
-goes-as : (states other : ℕ → State Ending sorts) (taken : ℕ) (world : World) → ((n : ℕ) → other n ≡ states n) → GoesOn states taken world → GoesOn other taken world
+abbrev goes-as : (states other : ℕ → State Ending sorts) (taken : ℕ) (world : World) → ((n : ℕ) → other n ≡ states n) → GoesOn states taken world → GoesOn other taken world
 goes-as states other taken world same goes = record { number = goes.number; view = goes.view; frames = goes.frames; is = same taken ∙ goes.is }
 
 abbrev last-as : (states other : ℕ → State Ending sorts) (steps taken : ℕ) → ((n : ℕ) → other n ≡ states n) → IsLast states steps taken → IsLast other steps taken
@@ -144,7 +146,7 @@ taken-as program begins states begins' states' stands none_failed failed_on step
   failed = by.failed;
   stood = λ start begun.
       let behind = by.stood (at start) (from start begun) in
-      record { world = behind.world; goes = goes-as (states (at start)) (states' start) taken behind.world (same start begun) behind.goes; stood = behind.stood };
+      record { world = behind.world; goes = goes-as (states (at start)) (states' start) taken behind.world (same start begun) behind.goes; stood = behind.stood; fails = behind.fails };
 }
 taken-as program begins states begins' states' stands none_failed failed_on steps old new taken outcome.Uncounted at from same by = (
   by.0,

@@ -1,17 +1,18 @@
 -- How many steps a run has taken, and how it stood before the last of them (C89, 3.6.6.4; ANSI X3.9-1978, 12.3).
-use Rattle.std.specs.Prelude.{◌≡◌, ℕ, suc, ◌+◌, ◌<◌, ◌≤◌, ℤ, Option, None}
+use Rattle.std.specs.Prelude.{◌≡◌, ℕ, suc, ◌+◌, ◌<◌, ◌≤◌, ℤ, Option}
 use Rattle.c_tree.specs.simulation.Machine.{State, Runs}
 use Rattle.c_tree.specs.run_state.Endings.{Ending}
 use Rattle.c_tree.specs.run_state.Units.{Units}
 use Rattle.c_tree.specs.World.{World, Transfer}
 use Rattle.c_tree.specs.Linking as linking
 use Rattle.c_tree.specs.Meaning.{text_of}
-use Rattle.c_tree.specs.Steps.{sorts, View, step}
+use Rattle.c_tree.specs.Steps.{sorts, View}
+use Rattle.item_deeds.specs.Calls.{next_call}
 use Rattle.run_library.specs.Devices.{NoFailure}
 use Rattle.program_runner.specs.declared.runs.RunOutcome.{RunOutcome}
 use Rattle.program_runner.specs.declared.runs.RunOutcome.TheVariants as outcome
 use Rattle.program_runner.specs.Stacks.{Frames}
-use Rattle.program_runner.specs.UnitsLeft.{UnitsLeft}
+use Rattle.program_runner.specs.UnitsLeft.{UnitsLeft, FailedOnUnit}
 
 -- after so many steps of a run, whose states these are by the number of steps, it goes on, in this world
 pub record GoesOn (states : ℕ → State Ending sorts) (taken : ℕ) (world : World) : Type 0 where
@@ -36,29 +37,31 @@ taken_with taken (outcome.Failed unit) = taken
 taken_with taken outcome.Uncounted = taken
 taken_with taken how = taken + 1
 
--- a run of a program breaks by its last step; where no transfer was in progress before it, it is known of the units that it left
+-- a run of a program breaks by its last step; the units that it left are known by the call of the library that this step made, if it made one
 pub record IsBroken (program : linking.Program) (states : ℕ → State Ending sorts) (stands : Units → Option Transfer → Type 0) (steps taken : ℕ) : Type 0 where
   pub last : IsLast states steps taken
-  pub units : last.before.transfer ≡ None → UnitsLeft (step (text_of program.functions last.goes.number) last.goes.view last.before) last.before stands
+  pub units : UnitsLeft (next_call (text_of program.functions last.goes.number) last.goes.view last.before) last.before stands
 
 -- for each way to begin
 abbrev pub ForEach : {S : Type 0} → (S → Type 0) → (S → Type 0) → Type 0
 ForEach {S} begins Holds = (start : S) → begins start → Holds start
 
--- a run goes on after so many steps, and a library stands for the units and the transfer of its world
-pub record StandsBehind (states : ℕ → State Ending sorts) (stands : Units → Option Transfer → Type 0) (taken : ℕ) : Type 0 where
+-- a run of a program goes on after so many steps, and a library stands for the units and the transfer of its world; the next step makes a call
+-- on a unit, which fails, and leaves all other units as they stand there
+pub record StandsBehind (program : linking.Program) (states : ℕ → State Ending sorts) (stands after : Units → Option Transfer → Type 0) (taken : ℕ) (unit : ℤ) : Type 0 where
   pub world : World
   pub goes : GoesOn states taken world
   pub stood : stands world.units world.transfer
+  pub fails : FailedOnUnit (next_call (text_of program.functions goes.number) goes.view world) world after unit
 
 -- the device of a unit failed in the step behind those that were taken, and none before: the library between
-pub record FailsBehind {S L : Type 0} (begins : S → Type 0) (states : S → ℕ → State Ending sorts) (stands : L → Units → Option Transfer → Type 0) (none_failed : L → L → Type 0) (failed_on : ℤ → L → L → Type 0)
+pub record FailsBehind {S L : Type 0} (program : linking.Program) (begins : S → Type 0) (states : S → ℕ → State Ending sorts) (stands : L → Units → Option Transfer → Type 0) (none_failed : L → L → Type 0) (failed_on : ℤ → L → L → Type 0)
     (steps : ℕ) (old new : L) (taken : ℕ) (unit : ℤ) : Type 0 where
   pub within : taken < steps
   pub middle : L
   pub none : NoFailure none_failed old middle
   pub failed : failed_on unit middle new
-  pub stood : ForEach begins (λ start. StandsBehind (states start) (stands middle) taken)
+  pub stood : ForEach begins (λ start. StandsBehind program (states start) (stands middle) (stands new) taken unit)
 
 -- the steps that a run of a program has taken, by how it stands: all that it may; with the last, by which it is over; or those before the one in
 -- which a device failed, or more was to be counted than 64 bits tell
@@ -67,5 +70,5 @@ TakenBy program begins states stands none_failed failed_on steps old new taken o
 TakenBy program begins states stands none_failed failed_on steps old new taken outcome.Returned = ForEach begins (λ start. IsLast (states start) steps taken)
 TakenBy program begins states stands none_failed failed_on steps old new taken (outcome.Stopped how) = ForEach begins (λ start. IsLast (states start) steps taken)
 TakenBy program begins states stands none_failed failed_on steps old new taken (outcome.Broken why number) = ForEach begins (λ start. IsBroken program (states start) (stands new) steps taken)
-TakenBy program begins states stands none_failed failed_on steps old new taken (outcome.Failed unit) = FailsBehind begins states stands none_failed failed_on steps old new taken unit
+TakenBy program begins states stands none_failed failed_on steps old new taken (outcome.Failed unit) = FailsBehind program begins states stands none_failed failed_on steps old new taken unit
 TakenBy program begins states stands none_failed failed_on steps old new taken outcome.Uncounted = (taken < steps) × ForEach begins (λ start. (world : World) × GoesOn (states start) taken world)

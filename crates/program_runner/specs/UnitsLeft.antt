@@ -1,16 +1,19 @@
--- The units that a step leaves in which no transfer was in progress (ANSI X3.9-1978, 12.3; CSTR 149, appendix on the run time library).
-use Rattle.std.specs.Prelude.{◌≡◌, List, Option, None, Result, Ok, Err}
+-- The units that a step leaves (C89, 3.3.2.2; ANSI X3.9-1978, 12.3; CSTR 149, appendix on the run time library).
+use Rattle.std.specs.Prelude.{◌≡◌, ℤ, Option, Some, None, Result, Ok, Err}
 use Rattle.c_tree.specs.run_state.Units.{Units}
-use Rattle.c_tree.specs.declared.outcome.CValue.{CValue}
-use Rattle.c_tree.specs.Objects.{Object}
+use Rattle.c_tree.specs.Faults.{Break}
 use Rattle.c_tree.specs.World as world
 use Rattle.c_tree.specs.World.{World, Transfer, Reply}
-use Rattle.c_tree.specs.Builtins.{Builtin}
 use Rattle.c_tree.specs.Library.{library}
-use Rattle.c_tree.specs.Steps.{Happening, View, Wants, replied}
-use Rattle.item_deeds.specs.Deeds.{world_of}
+use Rattle.item_deeds.specs.Calls.{LibraryCall}
+use Rattle.run_library.specs.Kept.{OthersStand}
+use Rattle.run_library.specs.UnitsCalled.{is_on}
+use Rattle.run_library.specs.Replies.{KeepsUnits}
 use Rattle.program_runner.specs.declared.events.StepEvent.{StepEvent}
 use Rattle.program_runner.specs.declared.events.StepFailure.{StepFailure}
+use Rattle.program_runner.specs.declared.events.StepFailure.TheVariants as failure
+use Rattle.program_runner.specs.declared.runs.RunOutcome.{RunOutcome}
+use Rattle.program_runner.specs.declared.runs.RunOutcome.TheVariants as outcome
 
 -- the world that a function of the library left
 abbrev pub behind : Reply → World
@@ -18,15 +21,34 @@ behind (world.Gives number after) = after
 behind (world.Void after) = after
 behind (world.Stops ending after) = after
 
--- a step of these definitions, in a world: the units are as they were behind it, or those that the function of the library left which it
--- called, and which had replied by then
-pub data UnitsLeft (happens : Happening) (before : World) (stands : Units → Option Transfer → Type 0) : Type 0 where
-  as_before : (transfer : Option Transfer) → stands before.units transfer → UnitsLeft happens before stands
-  by_a_call : (builtin : Builtin) → (arguments : List CValue) → (objects : List Object) → (view : View) → (wants : Wants) → (reply : Reply)
-      → library builtin (world_of objects before.units before.transfer) arguments ≡ Ok reply → happens ≡ replied view wants reply
-      → stands (behind reply).units (behind reply).transfer → UnitsLeft happens before stands
+-- a step that makes this call of the library, or none, leaves units and a transfer in progress that stand so; each step is of one of three kinds
+pub data UnitsLeft (called : Option LibraryCall) (before : World) (stands : Units → Option Transfer → Type 0) : Type 0 where
+  -- it makes none: they are as the step found them
+  no_call : called ≡ None → stands before.units before.transfer → UnitsLeft called before stands
+  -- its call breaks: they are such as a call keeps that breaks, the units outside every transfer as the step found them
+  call_breaks : (call : LibraryCall) → called ≡ Some call → (why : Break) → library call.builtin before call.arguments ≡ Err why
+      → (after : World) → stands after.units after.transfer → KeepsUnits before after → UnitsLeft called before stands
+  -- its call replies: they are those of the reply; where the step has a fault then, it is by the store of what the call gave
+  call_replied : (call : LibraryCall) → called ≡ Some call → (reply : Reply) → library call.builtin before call.arguments ≡ Ok reply
+      → stands (behind reply).units (behind reply).transfer → UnitsLeft called before stands
 
--- that holds of a step outside every transfer in which no device failed, and whose call was not to count more than 64 bits tell
-abbrev pub LeftByStep : {E : Type 0} → Happening → World → (Units → Option Transfer → Type 0) → Result (StepEvent E) StepFailure → Type 0
-LeftByStep happens before stands (Ok done) = before.transfer ≡ None → UnitsLeft happens before stands
-LeftByStep happens before stands (Err why) = Unit {0}
+-- the device of a unit failed in a step: the call of the library that it makes is on that unit, and all other units are as the step found them
+pub record FailedOnUnit (called : Option LibraryCall) (before : World) (stands : Units → Option Transfer → Type 0) (unit : ℤ) : Type 0 where
+  pub call : LibraryCall
+  pub makes : called ≡ Some call
+  pub on : is_on call.builtin before call.arguments unit
+  pub after : World
+  pub stood : stands after.units after.transfer
+  pub others : OthersStand unit before.units after.units
+
+-- what holds of a step whose call was not to count more than 64 bits tell
+abbrev pub LeftByStep : {E : Type 0} → Option LibraryCall → World → (Units → Option Transfer → Type 0) → Result (StepEvent E) StepFailure → Type 0
+LeftByStep called before stands (Ok done) = UnitsLeft called before stands
+LeftByStep called before stands (Err (failure.Device unit)) = FailedOnUnit called before stands unit
+LeftByStep called before stands (Err failure.Uncounted) = Unit {0}
+
+-- the same of a step by which a run breaks, or in which a device failed
+abbrev pub LeftByNext : {E : Type 0} → Option LibraryCall → World → (Units → Option Transfer → Type 0) → RunOutcome E → Type 0
+LeftByNext called before stands (outcome.Broken why number) = UnitsLeft called before stands
+LeftByNext called before stands (outcome.Failed unit) = FailedOnUnit called before stands unit
+LeftByNext called before stands how = Unit {0}

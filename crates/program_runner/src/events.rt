@@ -12,6 +12,7 @@ ghost use Rattle.c_tree.specs.Steps as steps;
 ghost use Rattle.linked_terms.specs.LinkedItems.{flat_of};
 ghost use Rattle.linked_programs.specs.LinkedPrograms.{function_of};
 ghost use Rattle.item_deeds.specs.Deeds.{view_of, wants_of, world_of, argument_count};
+ghost use Rattle.item_deeds.specs.Calls.{call_by, item_call, next_call};
 ghost use Rattle.item_deeds.specs.Forms.{SameForms};
 ghost use Rattle.run_library.specs.Replies.{reply_of};
 ghost use Rattle.run_library.specs.Room as rooms;
@@ -137,7 +138,7 @@ fn call_made<L: Library>(
     ensures meaning { (units : Units) → (transfer : Option Transfer) → (given : List CValue) → L.stands library.old units transfer →
         StepsBy L.ending (steps.library_called (view_of view) (world_of run.old units transfer) (wants_of wants) values.now (slice_get signatures number)) (L.stands library.new) run.new given result }
     ensures kept { (units : Units) → (transfer : Option Transfer) → L.stands library.old units transfer →
-        LeftByStep (steps.library_called (view_of view) (world_of run.old units transfer) (wants_of wants) values.now (slice_get signatures number)) (world_of run.old units transfer) (L.stands library.new) result }
+        LeftByStep (call_by (wants_of wants) values.now (slice_get signatures number)) (world_of run.old units transfer) (L.stands library.new) result }
     ensures devices { ToldOfStep L.none_failed L.failed_on library.old library.new result }
     ensures counted { UncountedInStep (L.uncounted library.new) result }
     ensures texts { L.room library.new ≡ L.room library.old }
@@ -167,7 +168,7 @@ fn library_called<L: Library>(
     ensures meaning { (units : Units) → (transfer : Option Transfer) → (given : List CValue) → L.stands library.old units transfer →
         StepsBy L.ending (steps.library_called (view_of view) (world_of run.old units transfer) (wants_of wants) values.now (slice_get signatures number)) (L.stands library.new) run.new given result }
     ensures kept { (units : Units) → (transfer : Option Transfer) → L.stands library.old units transfer →
-        LeftByStep (steps.library_called (view_of view) (world_of run.old units transfer) (wants_of wants) values.now (slice_get signatures number)) (world_of run.old units transfer) (L.stands library.new) result }
+        LeftByStep (call_by (wants_of wants) values.now (slice_get signatures number)) (world_of run.old units transfer) (L.stands library.new) result }
     ensures devices { ToldOfStep L.none_failed L.failed_on library.old library.new result }
     ensures counted { UncountedInStep (L.uncounted library.new) result }
     ensures texts { L.room library.new ≡ L.room library.old }
@@ -207,9 +208,8 @@ fn item_step<L: Library>(
     ensures meaning { (function : linking.Function) → function.own ≡ own → function.result ≡ gives →
         (units : Units) → (transfer : Option Transfer) → L.stands library.old units transfer →
         StepsBy L.ending (steps.deed function (view_of view) (world_of run.old units transfer) (flat_of item.now)) (L.stands library.new) run.new buffer.new result }
-    ensures kept { (function : linking.Function) → function.own ≡ own → function.result ≡ gives →
-        (units : Units) → (transfer : Option Transfer) → L.stands library.old units transfer →
-        LeftByStep (steps.deed function (view_of view) (world_of run.old units transfer) (flat_of item.now)) (world_of run.old units transfer) (L.stands library.new) result }
+    ensures kept { (units : Units) → (transfer : Option Transfer) → L.stands library.old units transfer →
+        LeftByStep (item_call own run.old (flat_of item.now)) (world_of run.old units transfer) (L.stands library.new) result }
     ensures devices { ToldOfStep L.none_failed L.failed_on library.old library.new result }
     ensures counted { UncountedInStep (L.uncounted library.new) result }
     ensures texts { L.room library.new ≡ L.room library.old }
@@ -262,7 +262,7 @@ pub(crate) fn step<L: Library>(
     ensures meaning { (units : Units) → (transfer : Option Transfer) → L.stands library.old units transfer →
         StepsBy L.ending (steps.step (function_of own function.now) (view_of view) (world_of run.old units transfer)) (L.stands library.new) run.new buffer.new result }
     ensures kept { (units : Units) → (transfer : Option Transfer) → L.stands library.old units transfer →
-        LeftByStep (steps.step (function_of own function.now) (view_of view) (world_of run.old units transfer)) (world_of run.old units transfer) (L.stands library.new) result }
+        LeftByStep (next_call (function_of own function.now) (view_of view) (world_of run.old units transfer)) (world_of run.old units transfer) (L.stands library.new) result }
     ensures devices { ToldOfStep L.none_failed L.failed_on library.old library.new result }
     ensures counted { UncountedInStep (L.uncounted library.new) result }
     ensures texts { L.room library.new ≡ L.room library.old }

@@ -1,6 +1,6 @@
 //! The next step of a run (C89, 3.3.2.2 and 3.6.6.4).
 
-ghost use Rattle.std.specs.Prelude.{◌≡◌, ℕ, ◌<◌, ◌+◌, ◌^◌, List, ◌∷◌, None, Option, length};
+ghost use Rattle.std.specs.Prelude.{◌≡◌, ℕ, ◌<◌, ◌+◌, ◌^◌, List, ◌∷◌, Option, length};
 ghost use Rattle.c_tree.specs.simulation.Machine as machine;
 ghost use Rattle.c_tree.specs.run_state.Endings.{Ending};
 ghost use Rattle.c_tree.specs.run_state.Units.{Units};
@@ -12,12 +12,13 @@ ghost use Rattle.c_tree.specs.World.{World, Transfer};
 ghost use Rattle.linked_programs.specs.LinkedPrograms.{program_of, function_of};
 ghost use Rattle.call_frames.specs.Frames.{HasFrame};
 ghost use Rattle.item_deeds.specs.Deeds.{IfDone, IfFound, view_of, world_of};
+ghost use Rattle.item_deeds.specs.Calls.{next_call};
 ghost use Rattle.item_deeds.specs.Forms.{SameForms};
 ghost use Rattle.run_library.specs.Replies.{StandsIn};
 ghost use Rattle.run_library.specs.Room.{HasRoom};
 ghost use Rattle.program_runner.specs.Stacks.{frames_of, waiting, state_of, IsStack};
 ghost use Rattle.program_runner.specs.Events.{event_of, IsCalled};
-ghost use Rattle.program_runner.specs.UnitsLeft.{UnitsLeft};
+ghost use Rattle.program_runner.specs.UnitsLeft.{LeftByNext};
 ghost use Rattle.program_runner.specs.Outcomes.{FramesStand, HasArgumentRoom, Reaches, KeepsStack, UnlessFailed, ToldOfNext, UncountedInRun};
 
 use crate::events::{StepEvent, StepFailure, first_values, step};
@@ -236,8 +237,8 @@ fn next<L: Library>(
     ensures meaning { (units : Units) → (transfer : Option Transfer) → L.stands library.old units transfer →
         UnlessFailed result (StandsIn (L.stands library.new) run.new (λ after.
         Reaches L.ending (machine.next language (meaning.machine (program_of program.now)) (state_of stack.old (world_of run.old units transfer))) stack.new after result)) }
-    ensures kept { (units : Units) → (transfer : Option Transfer) → L.stands library.old units transfer → UnlessFailed result (transfer ≡ None →
-        UnitsLeft (steps.step (meaning.text_of (program_of program.now).functions stack.old.top.number) (view_of stack.old.top.view) (world_of run.old units transfer)) (world_of run.old units transfer) (L.stands library.new)) }
+    ensures kept { (units : Units) → (transfer : Option Transfer) → L.stands library.old units transfer →
+        LeftByNext (next_call (meaning.text_of (program_of program.now).functions stack.old.top.number) (view_of stack.old.top.view) (world_of run.old units transfer)) (world_of run.old units transfer) (L.stands library.new) result }
     ensures devices { ToldOfNext L.none_failed L.failed_on library.old library.new result }
     ensures counted { UncountedInRun (L.uncounted library.new) result }
     ensures texts { L.room library.new ≡ L.room library.old }
@@ -277,8 +278,8 @@ pub(crate) fn advance<L: Library>(
     ensures meaning { (units : Units) → (transfer : Option Transfer) → L.stands library.old units transfer →
         UnlessFailed result (StandsIn (L.stands library.new) run.new (λ after.
         Reaches L.ending (machine.next language (meaning.machine (program_of program.now)) (state_of stack.old (world_of run.old units transfer))) stack.new after result)) }
-    ensures kept { (units : Units) → (transfer : Option Transfer) → L.stands library.old units transfer → UnlessFailed result (transfer ≡ None →
-        UnitsLeft (steps.step (meaning.text_of (program_of program.now).functions stack.old.top.number) (view_of stack.old.top.view) (world_of run.old units transfer)) (world_of run.old units transfer) (L.stands library.new)) }
+    ensures kept { (units : Units) → (transfer : Option Transfer) → L.stands library.old units transfer →
+        LeftByNext (next_call (meaning.text_of (program_of program.now).functions stack.old.top.number) (view_of stack.old.top.view) (world_of run.old units transfer)) (world_of run.old units transfer) (L.stands library.new) result }
     ensures devices { ToldOfNext L.none_failed L.failed_on library.old library.new result }
     ensures counted { UncountedInRun (L.uncounted library.new) result }
     ensures texts { L.room library.new ≡ L.room library.old }

@@ -43,8 +43,8 @@ pub record StandsAt (files : List CFile) (steps : ℕ) (rows rows' : List Row) (
   pub outcome : meaning.outcome (meaning.meaning files (units_of rows) steps) ≡ how
   pub units : units_in (meaning.meaning files (units_of rows) steps) ≡ Some (units_of rows')
 
--- it is broken by a fault of this name, in the function of a number: it goes on before one of its steps, and by that step it is broken, which leaves these units where
--- no transfer is in progress before it
+-- it is broken by a fault of this name, in the function of a number: it goes on before one of its steps, and by that step it is broken, which leaves these units, by the
+-- call of the library that it makes, if it makes one
 pub record IsFaulty (files : List CFile) (steps : ℕ) (rows rows' : List Row) (kind : List ℕ) (number : ℕ) : Type 0 where
   pub fault : CFault
   pub named : kind ≡ fault_name fault

@@ -136,10 +136,11 @@ fn run_request<H: Shelf>(
 /// where each spells a tree and no rule of linking is broken, their program is run from its main program on, for as many steps as the words say at most,
 /// and the devices of the connected units are finished. How it ended is said on Fault.
 ///
-/// Where the devices tell their records, the run is that of the definitions, step by step, and the units are left as it leaves them. At a fault they are left as the
-/// step found them that has it, or, where a function of the library had replied in that step, as the function left them; of a step within an input or output statement,
-/// whose items may have moved records, nothing is said. Where a device fails in the run, the run of the definitions goes on at that step, with the units as the call
-/// found them that failed; where one fails when the devices are finished, the run had ended as the definitions have it. From the first step on no memory is taken.
+/// Where the devices tell their records, the run is that of the definitions, step by step, and the units are left as it leaves them. At a fault they are left by the
+/// step that has it, also within an input or output statement: as the step found them, where it calls no function of the library; as the function left them, where the
+/// one that it calls replies, so that the fault is in the store of what it gave; and such as a call keeps that breaks, where that call breaks, which is as the step found
+/// them outside such a statement. Where a device fails in the run, the run of the definitions goes on at that step, with the units as the call found them that failed;
+/// where one fails when the devices are finished, the run had ended as the definitions have it. From the first step on no memory is taken.
 ///
 /// The status is 0 where the run ended at the end of the main program or by STOP; 2 where the words ask for no run; 3 where a file is not there or the shelf failed; 5 where
 /// memory was wanting, and no run began; 6 where a file is not in the C subset or a rule of linking is broken; 7 at a fault; 8 where the run did not end within its

@@ -8,7 +8,7 @@ ghost use Rattle.c_tree.specs.World.{Transfer};
 ghost use Rattle.item_deeds.specs.Deeds.{world_of};
 ghost use Rattle.item_deeds.specs.Forms.{SameForms};
 ghost use Rattle.run_library.specs.Signatures.{IsCall};
-ghost use Rattle.run_library.specs.Replies.{Answers, UncountedIf};
+ghost use Rattle.run_library.specs.Replies.{Answers, StandsStill, UncountedIf};
 ghost use Rattle.run_library.specs.Room.{HasRoom};
 ghost use Rattle.run_library.specs.Devices.{ToldOfCall};
 
@@ -72,7 +72,9 @@ pub trait Library {
     ghost room: { Self → ℕ };
 
     /// Calls the function of a number with the values of its arguments, which agree with what it takes in number and kind. Objects keep
-    /// their forms. A call outside every transfer by which the run cannot go on leaves the units as they were.
+    /// their forms. A call by which the run cannot go on leaves the units as they were; only that of the transfer in progress may stand at
+    /// other records, behind items or the end of input or of formatted output. A device that failed is that of the unit of the call: of the
+    /// unit that its control list names, or of that of the transfer in progress; all other units are as they were.
     ///
     /// # Errors
     /// Why the run cannot go on, the unit whose device failed, or that more is to be counted than 64 bits tell.
@@ -86,6 +88,7 @@ pub trait Library {
         requires room { HasRoom (room self.old) run.old }
         ensures meaning { (units : Units) → (transfer : Option Transfer) → stands self.old units transfer →
             Answers ending number values.now (world_of run.old units transfer) (stands self.new) run.new result }
+        ensures still { (units : Units) → (transfer : Option Transfer) → stands self.old units transfer → StandsStill number transfer (stands self.new units) result }
         ensures counted { UncountedIf result (uncounted self.new) }
         ensures room { room self.new ≡ room self.old }
         ensures devices { ToldOfCall none_failed failed_on self.old self.new result }

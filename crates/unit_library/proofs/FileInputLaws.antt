@@ -24,7 +24,7 @@ use Rattle.unit_library.specs.Functions.{kind_of}
 use Rattle.unit_library.specs.Transfers.{behind_items}
 use Rattle.unit_library.specs.Replies.{CallResult, cut_by, passed_by}
 use Rattle.unit_library.specs.Calls.{Calls}
-use Rattle.unit_library.proofs.GivenCalls.{inside, outside, ended-inside, ended-outside}
+use Rattle.unit_library.proofs.GivenCalls.{inside, outside, ended-inside, ended-outside, breaks-still}
 use Rattle.unit_library.proofs.SameCalls.{calls-as}
 
 -- STARTS
@@ -70,7 +70,8 @@ items-called arguments input input' old new rows (Ok (Over number)) on =
     ended-inside (Ok number) (λ tells. tells) (λ tells transfer stands. on.replies (units_of rows) transfer stands) (none-failed rows) on.forms
 items-called arguments input input' old new rows (Err (Fault why)) on =
     inside (passed_by (Err (Fault why))) (λ tells. tells)
-    (λ tells transfer stands. record { transfer = Some transfer; in_progress = stands; holds = on.replies (units_of rows) transfer stands }) (none-failed rows) on.forms
+    (λ tells transfer stands. record { transfer = Some transfer; in_progress = stands; holds = on.replies (units_of rows) transfer stands })
+    (breaks-still do_lio (going.InternalInput input) rows) on.forms
 items-called arguments input input' old new rows (Err (Ended number)) on =
     ended-inside (Err (Ended number)) (λ tells. tells) (λ tells transfer stands. on.replies (units_of rows) transfer stands) (none-failed rows) on.forms
 items-called arguments input input' old new rows (Err (Device unit)) on = absurd on.no_device

@@ -26,7 +26,7 @@ use Rattle.unit_library.specs.Functions.{kind_of}
 use Rattle.unit_library.specs.Formatted.{behind_items, passed_by}
 use Rattle.unit_library.specs.Replies.{CallResult, ended_by, cut_by}
 use Rattle.unit_library.specs.Calls.{Calls}
-use Rattle.unit_library.proofs.GivenCalls.{inside, outside, ended-inside, ended-outside, no-device}
+use Rattle.unit_library.proofs.GivenCalls.{inside, outside, ended-inside, ended-outside, no-device, breaks-still}
 use Rattle.unit_library.proofs.SameCalls.{calls-as}
 
 -- STARTS
@@ -85,7 +85,8 @@ items-called arguments held held' old new rows (Ok (Over number)) same on =
     ended-inside (Ok number) (λ tells. tells) (λ tells transfer stands. on.replies (units_of rows) transfer stands) (none-failed rows) on.forms
 items-called arguments held held' old new rows (Err (Fault why)) same on =
     inside (passed_by (Err (Fault why))) (λ tells. tells)
-    (λ tells transfer stands. record { transfer = Some transfer; in_progress = stands; holds = on.replies (units_of rows) transfer stands }) (none-failed rows) on.forms
+    (λ tells transfer stands. record { transfer = Some transfer; in_progress = stands; holds = on.replies (units_of rows) transfer stands })
+    (breaks-still do_fio (going.InternalFormattedInput held) rows) on.forms
 items-called arguments held held' old new rows (Err (Ended number)) same on =
     ended-inside (Err (Ended number)) (λ tells. tells) (λ tells transfer stands. on.replies (units_of rows) transfer stands) (none-failed rows) on.forms
 items-called arguments held held' old new rows (Err (Device unit)) same on = absurd on.no_device
@@ -104,4 +105,4 @@ pub finish-reading-file : (held : InternalInputInProgress) (objects : List Objec
     Calls (Finish (kind_of moved.InternalFormattedInput)) [] objects objects state None rows rows result
 finish-reading-file held objects answer state result holds is on rows =
     calls-as [] [] state (Some (going.InternalFormattedInput held)) None None result (ended_by answer) refl holds refl is
-    (ended-inside answer (λ tells. tells) (λ tells transfer stands. on.replies (units_of rows) transfer stands) (no-device answer rows on.no_device) (same-objects objects))
+    (ended-inside answer (λ tells. tells) (λ tells transfer stands. on.replies (units_of rows) transfer stands) (no-device (Finish (kind_of moved.InternalFormattedInput)) [] objects (going.InternalFormattedInput held) answer rows on.no_device) (same-objects objects))

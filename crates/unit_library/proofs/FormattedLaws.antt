@@ -8,11 +8,11 @@ use Rattle.c_tree.specs.declared.outcome.CFault.TheVariants as fault
 use Rattle.c_tree.specs.Faults.{Faults, Or, after, failing}
 use Rattle.c_tree.specs.Objects.{Object}
 use Rattle.c_tree.specs.World.{Layout, Formatted, Transfer, Reply}
-use Rattle.c_tree.specs.Builtins.{Begin, Finish, do_fio, do_lio}
+use Rattle.c_tree.specs.Builtins.{ByFormat, Begin, Finish, do_fio, do_lio}
 use Rattle.c_tree.specs.Library.{library}
 use Rattle.c_tree.specs.LibraryArguments.{number_through, count_from, length_from}
 use Rattle.c_tree.specs.TransferOutput.{item_kind, item_length}
-use Rattle.c_tree.specs.TransferCalls.{listed_items, listed_by}
+use Rattle.c_tree.specs.TransferCalls.{is_style, listed_items, listed_by}
 use Rattle.edit_rules.specs.edit_meaning.Formats.{Format}
 use Rattle.edit_rules.specs.Walks.{StandsIn}
 use Rattle.item_deeds.specs.Deeds.{world_of}
@@ -29,7 +29,7 @@ use Rattle.formatted_output.specs.declared.calls.Start.{Start}
 use Rattle.formatted_output.specs.declared.calls.Start.TheVariants.{Begins, Answers}
 use Rattle.formatted_output.specs.declared.calls.Passage.{Passage}
 use Rattle.formatted_output.specs.declared.calls.Passage.TheVariants.{GoesOn, Over}
-use Rattle.formatted_output.specs.Transferring.{StandsFor, AnswersStart, AnswersItems, AnswersEnd}
+use Rattle.formatted_output.specs.Transferring.{StandsFor, AnswersStart, AnswersItems, EndDevice, AnswersEnd}
 use Rattle.internal_formatted.specs.Transferring as file
 use Rattle.run_library.specs.declared.library.LibraryReply.TheVariants as reply
 use Rattle.unit_library.specs.declared.formatted_in_progress.FormattedInProgress.{FormattedInProgress}
@@ -41,7 +41,8 @@ use Rattle.unit_library.specs.Transfers.{InProgress}
 use Rattle.unit_library.specs.Formatted.{UnderFormat, behind_items, passed_by, listed_fault}
 use Rattle.unit_library.specs.Replies.{CallResult, broken_by, ended_by, cut_by}
 use Rattle.unit_library.specs.Calls.{Calls}
-use Rattle.unit_library.proofs.GivenCalls.{inside, outside, ended-inside, ended-outside, its-device}
+use Rattle.unit_library.proofs.GivenCalls.{inside, outside, EndsInside, ended-inside, ended-outside, breaks-still, breaks-moved}
+use Rattle.unit_library.proofs.KindLaws.{its-kind}
 use Rattle.unit_library.proofs.SameCalls.{arguments-same, calls-as}
 use Rattle.unit_library.proofs.ItemLaws.{same-fault}
 
@@ -88,11 +89,11 @@ items-called objects arguments held held' old new (Ok GoesOn) same on =
     on.devices (same-objects objects)
 items-called objects arguments held held' old new (Ok (Over number)) same on = ended-inside (Ok number) on.tells on.replies on.devices (same-objects objects)
 items-called objects arguments held held' old new (Err (Fault why)) same on =
-    inside (passed_by (Err (Fault why))) on.tells (λ tells transfer stands. record { transfer = Some transfer; in_progress = stands; holds = on.replies tells transfer stands }) on.devices
-    (same-objects objects)
+    inside (passed_by (Err (Fault why))) on.tells (λ tells transfer stands. record { transfer = Some transfer; in_progress = stands; holds = on.replies tells transfer stands })
+    (breaks-moved do_fio (going.FormattedOutput held) held.output.unit old new refl (λ transfer stands. ap (is_style ByFormat) stands.layout) on.devices) (same-objects objects)
 items-called objects arguments held held' old new (Err (Ended number)) same on = ended-inside (Err (Ended number)) on.tells on.replies on.devices (same-objects objects)
 items-called objects arguments held held' old new (Err (Device unit)) same on =
-    ended-inside (Err (Device unit)) on.tells (λ tells transfer stands. tt) on.devices.1 (same-objects objects)
+    ended-inside (Err (Device unit)) on.tells (λ tells transfer stands. tt) (record { own = on.devices.0; failed = on.devices.1; called_on = λ transfer. refl }) (same-objects objects)
 
 pub items-put : (arguments arguments' : List CValue) (objects : List Object) (held held' : FormattedInProgress) (old new : List Row) (passage : Result Passage CallEnd)
     (state state' : Option TransferInProgress) (result : CallResult) → arguments ≡ arguments' → state ≡ Some (going.FormattedOutput held) → state' ≡ behind_items passage (going.FormattedOutput held) (going.FormattedOutput held') →
@@ -157,7 +158,7 @@ listed-called-inside objects kind count first size why (Some held) rows under fa
     (λ tells transfer stands.
     let format = its-format held transfer under stands in
     record { transfer = Some transfer; in_progress = stands; holds = listed-called objects kind count first size why (units_of rows) transfer format.0 format.1 faulty })
-    (none-failed rows) (same-objects objects)
+    (breaks-still do_lio held rows) (same-objects objects)
 
 pub listed-inside : (arguments' : List CValue) (objects : List Object) (kind count first size : CValue) (why : CFault) (state : Option TransferInProgress) (result : CallResult) →
     kind ∷ count ∷ first ∷ size ∷ [] ≡ arguments' → UnderFormat state → result ≡ broken_by why → listed_fault objects kind count size ≡ failing why → (rows : List Row) →
@@ -175,9 +176,17 @@ pub listed-faulty : (objects : List Object) (kind count size : CValue) (why : CF
 listed-faulty objects kind count size why is = ap (λ (found : Or Given). after found (λ given. failing {A = Unit {0}} fault.Library)) (sym is)
 
 -- ENDS
+ends-formatted : (held : FormattedInProgress) (objects : List Object) (old new : List Row) (answer : Result ℤ CallEnd) → EndDevice held.output old new answer →
+    EndsInside (Finish (kind_of moved.FormattedOutput)) [] objects (going.FormattedOutput held) old new answer
+ends-formatted held objects old new (Ok number) told = told
+ends-formatted held objects old new (Err (Fault why)) told =
+    breaks-moved (Finish (kind_of moved.FormattedOutput)) (going.FormattedOutput held) held.output.unit old new refl (its-kind (going.FormattedOutput held)) told
+ends-formatted held objects old new (Err (Ended number)) told = told
+ends-formatted held objects old new (Err (Device unit)) told = record { own = told.0; failed = told.1; called_on = λ transfer. refl }
+
 pub finish-formatted : (held : FormattedInProgress) (old new : List Row) (answer : Result ℤ CallEnd) (state : Option TransferInProgress) (result : CallResult) →
     state ≡ Some (going.FormattedOutput held) → result ≡ ended_by answer → AnswersEnd held.format held.output old new answer → (objects : List Object) →
     Calls (Finish (kind_of moved.FormattedOutput)) [] objects objects state None old new result
 finish-formatted held old new answer state result holds is on objects =
     calls-as [] [] state (Some (going.FormattedOutput held)) None None result (ended_by answer) refl holds refl is
-    (ended-inside answer on.tells (λ tells transfer stands. on.replies tells objects transfer stands) (its-device answer held.output.unit old new on.devices) (same-objects objects))
+    (ended-inside answer on.tells (λ tells transfer stands. on.replies tells objects transfer stands) (ends-formatted held objects old new answer on.devices) (same-objects objects))

@@ -3,7 +3,8 @@ use Rattle.std.proofs.Common.{◌≡◌, ℤ, List, [], ◌∷◌, Option, Some,
 use Rattle.std.specs.Prelude.{Result, Ok, Err}
 use Rattle.c_tree.specs.declared.outcome.CValue.{CValue}
 use Rattle.c_tree.specs.Objects.{Object}
-use Rattle.c_tree.specs.Builtins.{Begin, Finish, do_lio}
+use Rattle.c_tree.specs.Builtins.{ByList, Begin, Finish, do_lio}
+use Rattle.c_tree.specs.TransferCalls.{is_style}
 use Rattle.item_deeds.proofs.FormLaws.{same-objects}
 use Rattle.f2c_outside.specs.Table.{Row}
 use Rattle.f2c_outside.specs.Meaning.{units_of}
@@ -26,7 +27,8 @@ use Rattle.unit_library.specs.Functions.{kind_of}
 use Rattle.unit_library.specs.Inputs.{behind_start, started_by, behind_items, passed_by}
 use Rattle.unit_library.specs.Replies.{CallResult}
 use Rattle.unit_library.specs.Calls.{Calls}
-use Rattle.unit_library.proofs.GivenCalls.{inside, outside, ended-inside, ended-outside}
+use Rattle.unit_library.proofs.NamedUnits.{start-names}
+use Rattle.unit_library.proofs.GivenCalls.{inside, outside, ended-inside, ended-outside, breaks-moved}
 use Rattle.unit_library.proofs.SameCalls.{calls-as}
 
 -- STARTS
@@ -38,7 +40,8 @@ start-called objects pointer old new (Ok (Begins input)) on =
 start-called objects pointer old new (Ok (Answers number)) on = ended-outside (Ok number) on.tells on.replies on.devices (same-objects objects)
 start-called objects pointer old new (Err (Fault why)) on = ended-outside (Err (Fault why)) on.tells on.replies on.devices (same-objects objects)
 start-called objects pointer old new (Err (Ended number)) on = ended-outside (Err (Ended number)) on.tells on.replies on.devices (same-objects objects)
-start-called objects pointer old new (Err (Device unit)) on = ended-outside (Err (Device unit)) on.tells (λ tells. tt) on.devices (same-objects objects)
+start-called objects pointer old new (Err (Device unit)) on =
+    ended-outside (Err (Device unit)) on.tells (λ tells. tt) (start-names objects pointer unit on.devices.0, on.devices.1) (same-objects objects)
 
 pub start-input : (arguments' : List CValue) (objects : List Object) (pointer : CValue) (old new : List Row) (start : Result Start CallEnd) (held held' : Option TransferInProgress)
     (result : CallResult) → pointer ∷ [] ≡ arguments' → held ≡ None → held' ≡ behind_start start → result ≡ started_by start → AnswersStart objects pointer old new start →
@@ -55,11 +58,11 @@ items-called arguments input input' objects objects' old new (Ok GoesOn) on =
     (λ tells transfer stands. let goes = on.replies tells transfer stands in record { transfer = Some goes.transfer; in_progress = goes.stands; holds = goes.replies }) on.devices on.forms
 items-called arguments input input' objects objects' old new (Ok (Over number)) on = ended-inside (Ok number) on.tells on.replies on.devices on.forms
 items-called arguments input input' objects objects' old new (Err (Call (Fault why))) on =
-    inside (passed_by (Err (Call (Fault why)))) on.tells (λ tells transfer stands. record { transfer = Some transfer; in_progress = stands; holds = on.replies tells transfer stands }) on.devices
-    on.forms
+    inside (passed_by (Err (Call (Fault why)))) on.tells (λ tells transfer stands. record { transfer = Some transfer; in_progress = stands; holds = on.replies tells transfer stands })
+    (breaks-moved do_lio (going.ListedInput input) input.unit old new refl (λ transfer stands. ap (is_style ByList) stands.layout) on.devices) on.forms
 items-called arguments input input' objects objects' old new (Err (Call (Ended number))) on = ended-inside (Err (Ended number)) on.tells on.replies on.devices on.forms
 items-called arguments input input' objects objects' old new (Err (Call (Device unit))) on =
-    ended-inside (Err (Device unit)) on.tells (λ tells transfer stands. tt) on.devices.1 on.forms
+    ended-inside (Err (Device unit)) on.tells (λ tells transfer stands. tt) (record { own = on.devices.0; failed = on.devices.1; called_on = λ transfer. refl }) on.forms
 items-called arguments input input' objects objects' old new (Err Uncounted) on = inside (passed_by (Err Uncounted)) on.tells (λ tells transfer stands. tt) (on.devices, (input.unit, on.uncounted)) on.forms
 
 pub items-read : (arguments arguments' : List CValue) (input input' : ListedInput) (objects objects' : List Object) (old new : List Row) (passage : Result Passage InputEnd)

@@ -23,7 +23,7 @@ use Rattle.unit_library.specs.Functions.{kind_of}
 use Rattle.unit_library.specs.Transfers.{behind_items}
 use Rattle.unit_library.specs.Replies.{CallResult, broken_by, ended_by, passed_by}
 use Rattle.unit_library.specs.Calls.{Calls}
-use Rattle.unit_library.proofs.GivenCalls.{inside, outside, fault-outside, ended-inside, no-device}
+use Rattle.unit_library.proofs.GivenCalls.{inside, outside, fault-outside, ended-inside, no-device, breaks-still}
 use Rattle.unit_library.proofs.SameCalls.{calls-as}
 
 -- STARTS
@@ -55,7 +55,8 @@ items-called arguments output output' old new rows (Ok (Over number)) on =
     ended-inside (Ok number) (λ tells. tells) (λ tells transfer stands. on.replies (units_of rows) transfer stands) (none-failed rows) on.forms
 items-called arguments output output' old new rows (Err (Fault why)) on =
     inside (passed_by (Err (Fault why))) (λ tells. tells)
-    (λ tells transfer stands. record { transfer = Some transfer; in_progress = stands; holds = on.replies (units_of rows) transfer stands }) (none-failed rows) on.forms
+    (λ tells transfer stands. record { transfer = Some transfer; in_progress = stands; holds = on.replies (units_of rows) transfer stands })
+    (breaks-still do_lio (going.InternalOutput output) rows) on.forms
 items-called arguments output output' old new rows (Err (Ended number)) on =
     ended-inside (Err (Ended number)) (λ tells. tells) (λ tells transfer stands. on.replies (units_of rows) transfer stands) (none-failed rows) on.forms
 items-called arguments output output' old new rows (Err (Device unit)) on = absurd on.no_device
@@ -73,4 +74,4 @@ pub finish-internal : (output : InternalOutput) (old new : List Object) (answer 
     Calls (Finish (kind_of moved.InternalListedOutput)) [] old new held None rows rows result
 finish-internal output old new answer held result holds is on rows =
     calls-as [] [] held (Some (going.InternalOutput output)) None None result (ended_by answer) refl holds refl is
-    (ended-inside answer (λ tells. tells) (λ tells transfer stands. on.replies (units_of rows) transfer stands) (no-device answer rows on.no_device) on.forms)
+    (ended-inside answer (λ tells. tells) (λ tells transfer stands. on.replies (units_of rows) transfer stands) (no-device (Finish (kind_of moved.InternalListedOutput)) [] old (going.InternalOutput output) answer rows on.no_device) on.forms)

@@ -34,7 +34,7 @@ use Rattle.unit_library.specs.Transfers.{InProgress, behind_items}
 use Rattle.unit_library.specs.Items.{formatted_fault}
 use Rattle.unit_library.specs.Replies.{CallResult, broken_by, passed_by}
 use Rattle.unit_library.specs.Calls.{Calls}
-use Rattle.unit_library.proofs.GivenCalls.{inside, fault-outside, ended-inside}
+use Rattle.unit_library.proofs.GivenCalls.{inside, fault-outside, ended-inside, Breaks, all_stood, breaks-still}
 use Rattle.unit_library.proofs.SameCalls.{arguments-same, calls-as}
 
 -- LIST-DIRECTED ITEMS
@@ -50,8 +50,9 @@ items-outside arguments' objects kind count first size rows result same is =
     (fault-outside do_lio (kind ∷ count ∷ first ∷ size ∷ []) objects rows fault.Library (listed-outside objects kind count first size))
 
 -- no device fails where the rows stay
-pub same-rows : (old new : List Row) → new ≡ old → NoneFailed old new
-same-rows old new same = subst (λ (rows : List Row). NoneFailed old rows) (sym same) (none-failed old)
+same-rows : (output : ListedOutput) (old new : List Row) → new ≡ old → Breaks do_lio (going.ListedOutput output) old new
+same-rows output old new same =
+    record { none = subst (λ (rows : List Row). NoneFailed old rows) (sym same) (none-failed old); rows = λ tells transfer stands. all_stood same }
 
 items-called : (objects : List Object) (arguments : List CValue) (output output' : ListedOutput) (old new : List Row) (passage : Result Passage CallEnd) →
     AnswersItems objects arguments output output' old new passage →
@@ -63,9 +64,10 @@ items-called objects arguments output output' old new (Ok GoesOn) on =
 items-called objects arguments output output' old new (Ok (Over number)) on = ended-inside (Ok number) on.tells on.replies on.devices (same-objects objects)
 items-called objects arguments output output' old new (Err (Fault why)) on =
     inside (passed_by (Err (Fault why))) on.tells (λ tells transfer stands. record { transfer = Some transfer; in_progress = stands; holds = on.replies tells transfer stands })
-    (same-rows old new on.devices) (same-objects objects)
+    (same-rows output old new on.devices) (same-objects objects)
 items-called objects arguments output output' old new (Err (Ended number)) on = ended-inside (Err (Ended number)) on.tells on.replies on.devices (same-objects objects)
-items-called objects arguments output output' old new (Err (Device unit)) on = ended-inside (Err (Device unit)) on.tells (λ tells transfer stands. tt) on.devices.1 (same-objects objects)
+items-called objects arguments output output' old new (Err (Device unit)) on =
+    ended-inside (Err (Device unit)) on.tells (λ tells transfer stands. tt) (record { own = on.devices.0; failed = on.devices.1; called_on = λ transfer. refl }) (same-objects objects)
 
 pub items-put : (arguments arguments' : List CValue) (objects : List Object) (output output' : ListedOutput) (old new : List Row) (passage : Result Passage CallEnd)
     (held held' : Option TransferInProgress) (result : CallResult) → arguments ≡ arguments' → held ≡ Some (going.ListedOutput output) → held' ≡ behind_items passage (going.ListedOutput output) (going.ListedOutput output') →
@@ -140,7 +142,7 @@ format-inside arguments' objects count first size why held result same is other 
       transfer = Some transfer;
       in_progress = stands;
       holds = formatted-listed objects count first size why (units_of rows) transfer (listed-layout held transfer other stands) faulty;
-    }) (none-failed rows) (same-objects objects))
+    }) (breaks-still do_fio held rows) (same-objects objects))
 
 pub fault-first : (objects : List Object) (count size : CValue) (why : CFault) → failing why ≡ number_through objects count → formatted_fault objects count size ≡ failing why
 fault-first objects count size why is = ap (λ (number : Or ℤ). after number (λ n. after (count_from n) (λ many. after (length_from size) (λ length. failing {A = Unit {0}} fault.Library)))) (sym is)

@@ -14,7 +14,6 @@ use Rattle.item_deeds.specs.Deeds.{world_of}
 use Rattle.item_deeds.proofs.FormLaws.{same-objects}
 use Rattle.f2c_outside.specs.Table.{Row}
 use Rattle.f2c_outside.specs.Meaning.{units_of}
-use Rattle.unit_answers.proofs.FailureLaws.{none-failed}
 use Rattle.internal_output.specs.Files.{file_of}
 use Rattle.internal_formatted.specs.Transferring.{StandsFor, WithRecords, WithoutRecords}
 use Rattle.unit_library.specs.declared.functions.TransferType.{TransferType}
@@ -25,7 +24,7 @@ use Rattle.unit_library.specs.Functions.{kind_of}
 use Rattle.unit_library.specs.Replies.{CallResult, broken_by}
 use Rattle.unit_library.specs.Transfers.{InProgress, type_of}
 use Rattle.unit_library.specs.Calls.{Calls}
-use Rattle.unit_library.proofs.GivenCalls.{inside}
+use Rattle.unit_library.proofs.GivenCalls.{inside, breaks-still}
 use Rattle.unit_library.proofs.SameCalls.{calls-as}
 
 -- A TRANSFER HAS ONE KIND
@@ -105,7 +104,8 @@ kind-by kind transfer direction layout medium same_direction same_layout same_me
     ∙ ap (λ (l : Layout). is_direction kind.direction direction && is_style kind.style l && is_on kind.site transfer.medium) same_layout
     ∙ ap (λ (m : Medium). is_direction kind.direction direction && is_style kind.style layout && is_on kind.site m) same_medium ∙ is
 
-its-kind : (held : TransferInProgress) (transfer : Transfer) → InProgress (Some held) (Some transfer) → is_kind (kind_of (type_of held)) transfer ≡ true
+-- its end is one of its calls
+pub its-kind : (held : TransferInProgress) (transfer : Transfer) → InProgress (Some held) (Some transfer) → is_kind (kind_of (type_of held)) transfer ≡ true
 its-kind (going.ListedOutput output) transfer stands =
     kind-by (kind_of moved.ListedOutput) transfer Output Listed (media.Unit output.unit) stands.direction stands.layout stands.medium refl
 its-kind (going.ListedInput input) transfer stands =
@@ -147,7 +147,7 @@ finish-other which held objects rows other =
     inside (broken_by fault.Library) (λ tells. tells)
     (λ tells transfer stands.
     record { transfer = Some transfer; in_progress = stands; holds = ends-other (kind_of which) objects (units_of rows) transfer (not-kind which held transfer other stands) })
-    (none-failed rows) (same-objects objects)
+    (breaks-still (Finish (kind_of which)) held rows) (same-objects objects)
 
 -- ONE OF TWO KINDS THAT ARE THE SAME
 pub begin-as : (which known : TransferType) {arguments : List CValue} {objects objects' : List Object} {held held' : Option TransferInProgress} {rows rows' : List Row} {result : CallResult} → which ≡ known →

@@ -1,4 +1,7 @@
 pub mod ArgumentLaws
+pub mod KeptUnits
+pub mod NamedUnits
+pub mod ListedEnds
 pub mod GivenCalls
 pub mod KindLaws
 pub mod SameCalls

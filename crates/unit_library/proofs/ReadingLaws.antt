@@ -3,7 +3,8 @@ use Rattle.std.proofs.Common.{◌≡◌, ℕ, ℤ, List, [], ◌∷◌, Option, 
 use Rattle.std.specs.Prelude.{pos, Result, Ok, Err}
 use Rattle.c_tree.specs.declared.outcome.CValue.{CValue}
 use Rattle.c_tree.specs.Objects.{Object}
-use Rattle.c_tree.specs.Builtins.{Begin, Finish, do_fio}
+use Rattle.c_tree.specs.Builtins.{ByFormat, Begin, Finish, do_fio}
+use Rattle.c_tree.specs.TransferCalls.{is_style}
 use Rattle.edit_rules.specs.Walks.{StandsIn}
 use Rattle.item_deeds.proofs.FormLaws.{same-objects}
 use Rattle.f2c_outside.specs.Table.{Row}
@@ -14,7 +15,7 @@ use Rattle.formatted_output.specs.declared.calls.Passage.TheVariants.{GoesOn, Ov
 use Rattle.formatted_input.specs.declared.calls.FormattedInput.{FormattedInput}
 use Rattle.formatted_input.specs.declared.calls.Start.{Start}
 use Rattle.formatted_input.specs.declared.calls.Start.TheVariants.{Begins, Answers}
-use Rattle.formatted_input.specs.Transferring.{StandsFor, AnswersStart, AnswersItems, AnswersEnd}
+use Rattle.formatted_input.specs.Transferring.{StandsFor, AnswersStart, AnswersItems, EndDevice, AnswersEnd}
 use Rattle.run_library.specs.declared.library.LibraryReply.TheVariants as reply
 use Rattle.unit_library.specs.declared.formatted_in_progress.InputInProgress.{InputInProgress}
 use Rattle.unit_library.specs.declared.functions.TransferType.TheVariants as moved
@@ -24,7 +25,9 @@ use Rattle.unit_library.specs.Functions.{kind_of}
 use Rattle.unit_library.specs.Formatted.{behind_items, passed_by}
 use Rattle.unit_library.specs.Replies.{CallResult, ended_by, cut_by}
 use Rattle.unit_library.specs.Calls.{Calls}
-use Rattle.unit_library.proofs.GivenCalls.{inside, outside, ended-inside, ended-outside, its-device}
+use Rattle.unit_library.proofs.NamedUnits.{start-names}
+use Rattle.unit_library.proofs.GivenCalls.{inside, outside, EndsInside, ended-inside, ended-outside, breaks-moved}
+use Rattle.unit_library.proofs.KindLaws.{its-kind}
 use Rattle.unit_library.proofs.SameCalls.{calls-as}
 
 -- STARTS
@@ -57,7 +60,8 @@ cuts : (objects : List Object) (pointer : CValue) (old new : List Row) (text : L
     Calls (Begin (kind_of moved.FormattedInput)) (pointer ∷ []) objects objects None None old new (cut_by end)
 cuts objects pointer old new text (Fault why) on = ended-outside (Err (Fault why)) on.tells on.replies on.devices (same-objects objects)
 cuts objects pointer old new text (Ended number) on = ended-outside (Err (Ended number)) on.tells on.replies on.devices (same-objects objects)
-cuts objects pointer old new text (Device unit) on = ended-outside (Err (Device unit)) on.tells (λ tells. tt) on.devices (same-objects objects)
+cuts objects pointer old new text (Device unit) on =
+    ended-outside (Err (Device unit)) on.tells (λ tells. tt) (start-names objects pointer unit on.devices.0, on.devices.1) (same-objects objects)
 
 pub start-cut : (arguments' : List CValue) (objects : List Object) (pointer : CValue) (old new : List Row) (text : List ℕ) (end : CallEnd) (state : Option TransferInProgress)
     (result : CallResult) → pointer ∷ [] ≡ arguments' → state ≡ None → result ≡ cut_by end → AnswersStart objects pointer old new text (Err end) →
@@ -77,9 +81,11 @@ items-called arguments held held' objects objects' old new (Ok GoesOn) same on =
     on.devices on.forms
 items-called arguments held held' objects objects' old new (Ok (Over number)) same on = ended-inside (Ok number) on.tells on.replies on.devices on.forms
 items-called arguments held held' objects objects' old new (Err (Fault why)) same on =
-    inside (passed_by (Err (Fault why))) on.tells (λ tells transfer stands. record { transfer = Some transfer; in_progress = stands; holds = on.replies tells transfer stands }) on.devices on.forms
+    inside (passed_by (Err (Fault why))) on.tells (λ tells transfer stands. record { transfer = Some transfer; in_progress = stands; holds = on.replies tells transfer stands })
+    (breaks-moved do_fio (going.FormattedInput held) held.input.unit old new refl (λ transfer stands. ap (is_style ByFormat) stands.layout) on.devices) on.forms
 items-called arguments held held' objects objects' old new (Err (Ended number)) same on = ended-inside (Err (Ended number)) on.tells on.replies on.devices on.forms
-items-called arguments held held' objects objects' old new (Err (Device unit)) same on = ended-inside (Err (Device unit)) on.tells (λ tells transfer stands. tt) on.devices.1 on.forms
+items-called arguments held held' objects objects' old new (Err (Device unit)) same on =
+    ended-inside (Err (Device unit)) on.tells (λ tells transfer stands. tt) (record { own = on.devices.0; failed = on.devices.1; called_on = λ transfer. refl }) on.forms
 
 pub items-read : (arguments arguments' : List CValue) (held held' : InputInProgress) (objects objects' : List Object) (old new : List Row) (passage : Result Passage CallEnd)
     (state state' : Option TransferInProgress) (result : CallResult) → arguments ≡ arguments' → state ≡ Some (going.FormattedInput held) →
@@ -90,9 +96,17 @@ items-read arguments arguments' held held' objects objects' old new passage stat
     holds behind is (items-called arguments held held' objects objects' old new passage same on)
 
 -- ENDS
+ends-reading : (held : InputInProgress) (objects : List Object) (old new : List Row) (answer : Result ℤ CallEnd) → EndDevice held.input old new answer →
+    EndsInside (Finish (kind_of moved.FormattedInput)) [] objects (going.FormattedInput held) old new answer
+ends-reading held objects old new (Ok number) told = told
+ends-reading held objects old new (Err (Fault why)) told =
+    breaks-moved (Finish (kind_of moved.FormattedInput)) (going.FormattedInput held) held.input.unit old new refl (its-kind (going.FormattedInput held)) told
+ends-reading held objects old new (Err (Ended number)) told = told
+ends-reading held objects old new (Err (Device unit)) told = record { own = told.0; failed = told.1; called_on = λ transfer. refl }
+
 pub finish-reading : (held : InputInProgress) (old new : List Row) (answer : Result ℤ CallEnd) (state : Option TransferInProgress) (result : CallResult) →
     state ≡ Some (going.FormattedInput held) → result ≡ ended_by answer → AnswersEnd held.format held.input old new answer → (objects : List Object) →
     Calls (Finish (kind_of moved.FormattedInput)) [] objects objects state None old new result
 finish-reading held old new answer state result holds is on objects =
     calls-as [] [] state (Some (going.FormattedInput held)) None None result (ended_by answer) refl holds refl is
-    (ended-inside answer on.tells (λ tells transfer stands. on.replies tells objects transfer stands) (its-device answer held.input.unit old new on.devices) (same-objects objects))
+    (ended-inside answer on.tells (λ tells transfer stands. on.replies tells objects transfer stands) (ends-reading held objects old new answer on.devices) (same-objects objects))

@@ -1,18 +1,20 @@
 -- A call by the number of its function (CSTR 149, appendix on the run time library).
-use Rattle.std.proofs.Common.{◌≡◌, ℕ, List, Option, Some, None, refl, ap, sym, ◌∙◌}
+use Rattle.std.proofs.Common.{◌≡◌, ℕ, ℤ, List, Option, Some, None, refl, ap, sym, ◌∙◌}
 use Rattle.std.specs.Prelude.{slice_get, option_map, Ok, Err}
 use Rattle.c_tree.specs.run_state.Units.{Units}
 use Rattle.c_tree.specs.declared.outcome.CValue.{CValue}
 use Rattle.c_tree.specs.declared.outcome.CFault.{CFault}
 use Rattle.c_tree.specs.Objects.{Object}
 use Rattle.c_tree.specs.World.{World, Transfer}
-use Rattle.c_tree.specs.Builtins.{Builtin, signatures}
+use Rattle.c_tree.specs.Builtins.{Builtin, Signature, signatures}
 use Rattle.c_tree.specs.Library.{library}
 use Rattle.item_deeds.specs.Deeds.{world_of}
 use Rattle.f2c_outside.specs.Table.{Row}
 use Rattle.run_library.specs.declared.library.CallBreak.TheVariants as broken
 use Rattle.run_library.specs.Signatures.{IsCall}
 use Rattle.run_library.specs.Replies as replies
+use Rattle.run_library.specs.UnitsCalled.{unit_of_call, is_on, is_of_one}
+use Rattle.run_library.proofs.KeptLaws.{same-kept}
 use Rattle.unit_library.specs.declared.functions.LibraryFunction.{LibraryFunction}
 use Rattle.unit_library.specs.declared.transfers.TransferInProgress.{TransferInProgress}
 use Rattle.unit_library.specs.Endings.{ending_of}
@@ -20,13 +22,23 @@ use Rattle.unit_library.specs.Functions.{form_of, listed_form, builtin_of, argum
 use Rattle.unit_library.specs.Arguments.{front}
 use Rattle.unit_library.specs.Transfers.{Standing}
 use Rattle.unit_library.specs.Replies.{CallResult, broken_by}
-use Rattle.unit_library.specs.Calls.{AnswersCall}
+use Rattle.unit_library.specs.Calls.{AnswersCall, StandsStill}
 use Rattle.unit_library.proofs.ArgumentLaws.{same-call, none-known}
 
 same-library : (builtin builtin' : Builtin) (arguments arguments' : List CValue) (world : World) → (builtin ≡ builtin') × (arguments ≡ arguments') →
     library builtin' world arguments' ≡ library builtin world arguments
 same-library builtin builtin' arguments arguments' world same =
     sym (ap (λ (b : Builtin). library b world arguments) same.0 ∙ ap (λ (all : List CValue). library builtin' world all) same.1)
+
+-- and it is on the same unit
+same-unit : (number : ℕ) (values : List CValue) (function : LibraryFunction) → IsCall number values → Some (form_of function) ≡ option_map listed_form (slice_get signatures number) →
+    (before : World) (unit : ℤ) (signature : Signature) → slice_get signatures number ≡ Some signature → is_on (builtin_of function) before (front (argument_count function) 0 values) unit →
+    is_on signature.builtin before values unit
+same-unit number values function call is before unit signature known on =
+    let same = same-call number values function call is signature known in
+    sym (ap (λ (b : Builtin). unit_of_call b before.objects before.transfer (front (argument_count function) 0 values)) same.0
+    ∙ ap (λ (all : List CValue). unit_of_call signature.builtin before.objects before.transfer all) same.1)
+    ∙ on
 
 -- a call of the function of a number answers what its signature says
 pub answered : (number : ℕ) (values : List CValue) (function : LibraryFunction) → IsCall number values → Some (form_of function) ≡ option_map listed_form (slice_get signatures number) →
@@ -49,7 +61,12 @@ answered number values function call is before stands objects (Err (broken.Break
     answers.holds.1,
   );
 }
-answered number values function call is before stands objects (Err (broken.Device unit)) answers = tt
+answered number values function call is before stands objects (Err (broken.Device unit)) answers = record {
+  units = answers.units;
+  transfer = answers.transfer;
+  stood = answers.stood;
+  holds = (λ signature known. same-unit number values function call is before unit signature known answers.holds.0, answers.holds.1);
+}
 answered number values function call is before stands objects (Err broken.Uncounted) answers = tt
 
 -- there is no function of the number
@@ -60,5 +77,14 @@ none-answered number values why is rows held objects units transfer standing = r
   units = units;
   transfer = transfer;
   stood = standing;
-  holds = (λ signature known. absurd (none-known number is signature known), λ none. refl);
+  holds = (λ signature known. absurd (none-known number is signature known), same-kept transfer units units refl);
 }
+
+-- and what breaks leaves the units of which its signature says so
+pub still-answered : (number : ℕ) (values : List CValue) (function : LibraryFunction) → IsCall number values → Some (form_of function) ≡ option_map listed_form (slice_get signatures number) →
+    (transfer : Option Transfer) (Stands : Option Transfer → Type 0) (result : CallResult) → StandsStill (builtin_of function) transfer Stands result → replies.StandsStill number transfer Stands result
+still-answered number values function call is transfer Stands (Ok given) still = tt
+still-answered number values function call is transfer Stands (Err (broken.Break why)) still = λ none.
+    still (ap (λ (b : Builtin). is_of_one b transfer) (same-call number values function call is call.signature call.known).0 ∙ none call.signature call.known)
+still-answered number values function call is transfer Stands (Err (broken.Device unit)) still = tt
+still-answered number values function call is transfer Stands (Err broken.Uncounted) still = tt

@@ -14,6 +14,7 @@ use Rattle.c_tree.specs.TransferCalls.{ends}
 use Rattle.item_deeds.specs.Deeds.{world_of}
 use Rattle.item_deeds.proofs.FormLaws.{same-objects}
 use Rattle.f2c_outside.specs.Table.{Row}
+use Rattle.f2c_outside.specs.Meaning.{units_of}
 use Rattle.unit_answers.specs.declared.ends.CallEnd.{CallEnd}
 use Rattle.unit_answers.specs.declared.ends.CallEnd.TheVariants.{Fault, Ended, Device}
 use Rattle.unit_answers.proofs.FailureLaws.{none-failed}
@@ -29,7 +30,8 @@ use Rattle.unit_library.specs.Functions.{kind_of}
 use Rattle.unit_library.specs.Transfers.{behind_start}
 use Rattle.unit_library.specs.Replies.{CallResult, broken_by, ended_by, started_by}
 use Rattle.unit_library.specs.Calls.{Calls}
-use Rattle.unit_library.proofs.GivenCalls.{outside, fault-inside, fault-outside, ended-inside, ended-outside, its-device}
+use Rattle.unit_library.proofs.ListedEnds.{ends-well}
+use Rattle.unit_library.proofs.GivenCalls.{outside, fault-inside, fault-outside, EndsInside, ended-inside, ended-outside}
 use Rattle.unit_library.proofs.SameCalls.{arguments-same, calls-as}
 
 -- STARTS
@@ -80,9 +82,17 @@ finish-outside which rows result is objects =
     arguments-same (Finish (kind_of which)) [] [] objects objects None None rows rows (broken_by fault.Library) result refl is
     (fault-outside (Finish (kind_of which)) [] objects rows fault.Library (ends-outside (kind_of which) objects))
 
+ends-listed : (output : ListedOutput) (objects : List Object) (old new : List Row) (answer : Result ℤ CallEnd) → AnswersEnd output old new answer →
+    EndsInside (Finish (kind_of moved.ListedOutput)) [] objects (going.ListedOutput output) old new answer
+ends-listed output objects old new (Ok number) on = on.devices
+ends-listed output objects old new (Err (Fault why)) on =
+    record { none = on.devices; rows = λ tells transfer stands. absurd (ends-well output objects (units_of old) transfer why stands (on.replies tells objects transfer stands)) }
+ends-listed output objects old new (Err (Ended number)) on = on.devices
+ends-listed output objects old new (Err (Device unit)) on = record { own = on.devices.0; failed = on.devices.1; called_on = λ transfer. refl }
+
 pub finish-listed : (output : ListedOutput) (old new : List Row) (answer : Result ℤ CallEnd) (held : Option TransferInProgress) (result : CallResult) →
     held ≡ Some (going.ListedOutput output) → result ≡ ended_by answer → AnswersEnd output old new answer → (objects : List Object) →
     Calls (Finish (kind_of moved.ListedOutput)) [] objects objects held None old new result
 finish-listed output old new answer held result holds is on objects =
     calls-as [] [] held (Some (going.ListedOutput output)) None None result (ended_by answer) refl holds refl is
-    (ended-inside answer on.tells (λ tells transfer stands. on.replies tells objects transfer stands) (its-device answer output.unit old new on.devices) (same-objects objects))
+    (ended-inside answer on.tells (λ tells transfer stands. on.replies tells objects transfer stands) (ends-listed output objects old new answer on) (same-objects objects))

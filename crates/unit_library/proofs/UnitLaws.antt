@@ -13,6 +13,8 @@ use Rattle.item_deeds.specs.Deeds.{world_of}
 use Rattle.item_deeds.proofs.FormLaws.{same-objects}
 use Rattle.f2c_outside.specs.Table.{Row}
 use Rattle.unit_answers.specs.declared.ends.CallEnd.{CallEnd}
+use Rattle.unit_answers.specs.Answers.{IfDevice}
+use Rattle.run_library.specs.UnitsCalled.{unit_of_call}
 use Rattle.unit_statements.specs.Statements.{AnswersStatement}
 use Rattle.unit_library.specs.declared.functions.UnitStatement.{UnitStatement}
 use Rattle.unit_library.specs.declared.functions.UnitStatement.TheVariants as stating
@@ -41,7 +43,8 @@ statement-inside function arguments' objects pointer held rows result same is =
 
 pub statement-outside : (function : UnitStatement) (arguments' : List CValue) (objects : List Object) (pointer : CValue) (old new : List Row) (answer : Result ℤ CallEnd) (result : CallResult) →
     pointer ∷ [] ≡ arguments' → result ≡ ended_by answer → AnswersStatement (statement_builtin function) objects pointer old new answer →
+    IfDevice answer (λ unit. unit_of_call (statement_builtin function) objects None (pointer ∷ []) ≡ Some unit) (Unit {0}) →
     Calls (statement_builtin function) arguments' objects objects None None old new result
-statement-outside function arguments' objects pointer old new answer result same is on =
+statement-outside function arguments' objects pointer old new answer result same is on named =
     arguments-same (statement_builtin function) (pointer ∷ []) arguments' objects objects None None old new (ended_by answer) result same is
-    (ended-outside answer on.tells on.replies (ends-so old new answer on.devices on.kept) (same-objects objects))
+    (ended-outside answer on.tells on.replies (ends-so (statement_builtin function) (pointer ∷ []) objects old new answer on.devices on.kept named) (same-objects objects))

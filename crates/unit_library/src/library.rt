@@ -7,7 +7,7 @@ ghost use Rattle.item_deeds.specs.Deeds.{world_of};
 ghost use Rattle.item_deeds.specs.Forms.{SameForms};
 ghost use Rattle.f2c_outside.specs.Rows.{rows_of};
 ghost use Rattle.run_library.specs.Signatures.{IsCall};
-ghost use Rattle.run_library.specs.Replies.{Answers, UncountedIf};
+ghost use Rattle.run_library.specs.Replies.{Answers, StandsStill, UncountedIf};
 ghost use Rattle.run_library.specs.Room.{HasRoom};
 ghost use Rattle.unit_library.specs.Calls.{DevicesTold};
 ghost use Rattle.unit_answers.specs.Failing.{FailedOn, NoneFailed};
@@ -90,6 +90,8 @@ impl Library for UnitLibrary {
         requires room { HasRoom (room_in self.old) run.old }
         ensures meaning { (units : Units) → (transfer : Option Transfer) → Standing (rows_in (λ b. (⟦<dyn Device as Device>⟧ b.vtable).device_state b.value) self.old) (transfer_in self.old) units transfer →
             Answers ending_of number values.now (world_of run.old units transfer) (Standing (rows_in (λ b. (⟦<dyn Device as Device>⟧ b.vtable).device_state b.value) self.new) (transfer_in self.new)) run.new result }
+        ensures still { (units : Units) → (transfer : Option Transfer) → Standing (rows_in (λ b. (⟦<dyn Device as Device>⟧ b.vtable).device_state b.value) self.old) (transfer_in self.old) units transfer →
+            StandsStill number transfer (Standing (rows_in (λ b. (⟦<dyn Device as Device>⟧ b.vtable).device_state b.value) self.new) (transfer_in self.new) units) result }
         ensures counted { UncountedIf result (IsFarBehind (rows_in (λ b. (⟦<dyn Device as Device>⟧ b.vtable).device_state b.value) self.new)) }
         ensures room { room_in self.new ≡ room_in self.old }
         ensures devices { DevicesTold (rows_in (λ b. (⟦<dyn Device as Device>⟧ b.vtable).device_state b.value) self.old) (rows_in (λ b. (⟦<dyn Device as Device>⟧ b.vtable).device_state b.value) self.new) result }

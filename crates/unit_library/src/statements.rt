@@ -1,6 +1,9 @@
 //! OPEN, CLOSE, BACKSPACE, REWIND and ENDFILE (ANSI X3.9-1978, 12.10).
 
+ghost use Rattle.std.specs.Prelude.{◌≡◌, ◌∷◌, [], Some, None};
 ghost use Rattle.f2c_outside.specs.Rows.{rows_of};
+ghost use Rattle.run_library.specs.UnitsCalled.{unit_of_call};
+ghost use Rattle.unit_answers.specs.Answers.{IfDevice};
 ghost use Rattle.unit_statements.specs.Statements.{AnswersStatement};
 ghost use Rattle.unit_library.specs.Functions.{statement_builtin};
 ghost use Rattle.unit_library.specs.Arguments.{front};
@@ -27,7 +30,8 @@ fn stated(
     pointer: CValue,
 ) -> Result<i32, CallEnd>
     requires { Unit {0} }
-    ensures { AnswersStatement (statement_builtin function) run.now pointer (rows_of (λ b. (⟦<dyn Device as Device>⟧ b.vtable).device_state b.value) units.old) (rows_of (λ b. (⟦<dyn Device as Device>⟧ b.vtable).device_state b.value) units.new) result }
+    ensures answers { AnswersStatement (statement_builtin function) run.now pointer (rows_of (λ b. (⟦<dyn Device as Device>⟧ b.vtable).device_state b.value) units.old) (rows_of (λ b. (⟦<dyn Device as Device>⟧ b.vtable).device_state b.value) units.new) result }
+    ensures unit { IfDevice result (λ unit. unit_of_call (statement_builtin function) run.now None (pointer ∷ []) ≡ Some unit) (Unit {0}) }
 {
     match function {
         UnitStatement::Open => f_open(run, units, pointer),

@@ -26,4 +26,6 @@ returns-in-Nothing g c =
     (to_z-of_z number) c.not_begun.ensures c.numbered.ensures c.in-Nothing.ensures
 
 pub returns-in-Failed : goal.returns-in-Failed
-returns-in-Failed g c = reading-fails c.args.control (to_z w32 (of_z w32 c.args.control.unit)) c.args.format.now c.fetch.new.line _ _ c.in-Failed.ensures
+returns-in-Failed g c =
+    let unit : SFits w32 c.args.control.unit = search rules in
+    reading-fails c.args.control (to_z w32 (of_z w32 c.args.control.unit)) c.args.format.now c.fetch.new.line _ _ (to_z-of_z unit) c.in-Failed.ensures

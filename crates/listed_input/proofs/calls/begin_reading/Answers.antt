@@ -1,7 +1,7 @@
 use Rattle.std.proofs.Common.{rules, arith, take, w32, to_z, of_z, refl}
 use Rattle.std.proofs.Math.Facts.{to_z-of_z}
 use mir.Val.{SFits}
-use Rattle.listed_input.proofs.CallLaws.{start-place, first-placed, reading-begins, reading-ends}
+use Rattle.listed_input.proofs.CallLaws.{start-place, first-placed, reading-begins, reading-ends, reading-fails}
 use Rattle.listed_input.proofs.calls.begin_reading.Goals as goal
 
 pub invariant_of-result : goal.invariant_of-result
@@ -37,3 +37,8 @@ returns-in-Nothing g c objects =
     c.in-Nothing.number (to_z w32 (of_z w32 c.in-Nothing.number)) (to_z-of_z number) c.numbered.result c.not_begun.result c.fetch.new.line _ _
     (record { unit_is = to_z-of_z unit; error_is = to_z-of_z on_error; end_is = to_z-of_z on_end })
     c.numbered.ensures c.not_begun.ensures c.in-Nothing.ensures
+
+pub returns-in-Failed : goal.returns-in-Failed
+returns-in-Failed g c objects =
+    let unit : SFits w32 c.args.control.unit = search rules in
+    reading-fails objects c.args.control (to_z w32 (of_z w32 c.args.control.unit)) c.fetch.new.line _ _ (to_z-of_z unit) c.in-Failed.ensures

@@ -1,6 +1,3 @@
-use Rattle.std.specs.Prelude.{slice_get}
-use Rattle.c_tree.specs.Builtins.{signatures}
-use Rattle.c_tree.specs.Steps.{library_called}
 use Rattle.item_deeds.specs.Deeds.{view_of, wants_of, world_of}
 use Rattle.program_runner.proofs.CallLaws.{call-broken, told-broken}
 use Rattle.program_runner.proofs.DeviceLaws.{one-call}
@@ -13,14 +10,13 @@ returns-in-Ok-clause-devices g c = one-call c.in-Ok.ensures.devices
 
 pub returns-in-Ok-clause-kept : goal.returns-in-Ok-clause-kept
 returns-in-Ok-clause-kept g c = λ units transfer stood.
-    left-replied g.L.Library.ending c.args.number c.args.values.now (view_of c.args.view) c.args.run.now units transfer (wants_of c.args.wants) (g.L.Library.stands c.call.new.self) c.call.new.run c.in-Ok.reply
+    left-replied g.L.Library.ending c.args.number c.args.values.now (world_of c.args.run.now units transfer) (wants_of c.args.wants) (g.L.Library.stands c.call.new.self) c.call.new.run c.in-Ok.reply
     c.requires.allowed.0 c.requires.allowed.1 (c.in-Ok.ensures.meaning units transfer stood)
 
 pub returns-in-Err-clause-kept : goal.returns-in-Err-clause-kept
 returns-in-Err-clause-kept g c = λ units transfer stood.
-    left-broken g.L.Library.ending c.args.number c.args.values.now
-    (library_called (view_of c.args.view) (world_of c.args.run.now units transfer) (wants_of c.args.wants) c.args.values.now (slice_get signatures c.args.number)) (world_of c.args.run.now units transfer)
-    (g.L.Library.stands c.call.new.self) c.call.new.run c.in-Err.reason c.broken.result c.broken.ensures.is (c.in-Err.ensures.meaning units transfer stood)
+    left-broken g.L.Library.ending c.args.number c.args.values.now (world_of c.args.run.now units transfer) (wants_of c.args.wants) (g.L.Library.stands c.call.new.self) c.call.new.run c.in-Err.reason c.broken.result
+    c.broken.ensures.is c.requires.allowed.0 c.requires.allowed.1 (c.in-Err.ensures.meaning units transfer stood)
 
 pub returns-in-Err-clause-meaning : goal.returns-in-Err-clause-meaning
 returns-in-Err-clause-meaning g c = λ units transfer given stood.

@@ -1,13 +1,9 @@
 use Rattle.run_library.specs.Devices.{no_call}
-use Rattle.program_runner.specs.UnitsLeft.{as_before}
 use Rattle.program_runner.proofs.LeftLaws.{kept-as}
 use Rattle.program_runner.proofs.machine.advance.Goals as goal
 
 pub returns-then-moved_on-clause-devices : goal.returns-then-moved_on-clause-devices
 returns-then-moved_on-clause-devices g c = no_call
-
-pub returns-then-moved_on-clause-kept : goal.returns-then-moved_on-clause-kept
-returns-then-moved_on-clause-kept g c = λ units transfer stood none. as_before transfer stood
 
 pub returns-else-moved_on-clause-kept : goal.returns-else-moved_on-clause-kept
 returns-else-moved_on-clause-kept g c = λ units transfer stood.

@@ -23,8 +23,11 @@ returns-in-Ok-clause-meaning g c = λ units transfer stood.
 
 pub returns-in-Ok-clause-kept : goal.returns-in-Ok-clause-kept
 returns-in-Ok-clause-kept g c = λ units transfer stood.
-    next-left c.args.program.now c.len.result c.args.stack.now.top.number c.in-Some.function.now (view_of c.args.stack.now.top.view) c.args.run.now units transfer (g.L.Library.stands c.step.new.library) c.happened.result
-    c.in-Some.ensures.value c.len.ensures (c.in-Ok.ensures.kept units transfer stood)
+    next-left g.L.Library.ending
+    (machine.act language (meaning.machine (program_of c.args.program.now)) (event_of g.L.Library.ending (world_of c.step.new.run no_units None) c.step.new.buffer c.in-Ok.event)
+    c.args.stack.now.top.number (frames_of (waiting c.args.stack.now)))
+    c.happened.new.stack (world_of c.happened.new.run no_units None) c.args.program.now c.len.result c.args.stack.now.top.number c.in-Some.function.now (view_of c.args.stack.now.top.view) (world_of c.args.run.now units transfer)
+    (g.L.Library.stands c.step.new.library) c.happened.result (c.happened.ensures.meaning g.L.Library.ending no_units None) c.in-Some.ensures.value c.len.ensures (c.in-Ok.ensures.kept units transfer stood)
 
 pub returns-in-Ok-clause-devices : goal.returns-in-Ok-clause-devices
 returns-in-Ok-clause-devices g c =

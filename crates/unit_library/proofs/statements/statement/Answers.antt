@@ -7,7 +7,8 @@ use Rattle.unit_library.proofs.statements.statement.Goals as goal
 pub returns-in-None : goal.returns-in-None
 returns-in-None g c =
     held-as _ _ c.args.run.now c.args.run.now c.args.transfer None _ _ c.ended.result c.in-None.is
-    (statement-outside c.args.function _ c.args.run.now c.argument-pointer.result _ _ c.stated.result c.ended.result (one-given c.args.values.now c.argument-pointer.result c.argument-pointer.ensures) c.ended.ensures c.stated.ensures)
+    (statement-outside c.args.function _ c.args.run.now c.argument-pointer.result _ _ c.stated.result c.ended.result (one-given c.args.values.now c.argument-pointer.result c.argument-pointer.ensures) c.ended.ensures c.stated.ensures.answers
+    c.stated.ensures.unit)
 
 pub returns-in-Some : goal.returns-in-Some
 returns-in-Some g c =
