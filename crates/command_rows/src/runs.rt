@@ -103,6 +103,9 @@ impl Run {
 
     /// The text of a file, empty where there is none.
     pub fn text(&self, alloc: Global, name: &str) -> Result<&str, Stop> {
+        if name.is_empty() {
+            return Ok("");
+        }
         let name = Name::new(alloc, name.as_bytes())?;
         let bytes = self.shelf.file(&name).unwrap_or(b"");
         Ok(str::from_utf8(bytes).unwrap_or("no text"))
