@@ -13,4 +13,8 @@ mod real_devices;
 #[cfg(test)]
 mod real_shelf;
 #[cfg(test)]
+mod troubled_host;
+#[cfg(test)]
+mod troubled_shelf;
+#[cfg(test)]
 mod troubled_streams;

@@ -123,14 +123,70 @@ fn lines_are_counted_or_it_fails(rt: HostRuntime) -> Result<(), Fail> {
     Ok(())
 }
 
-/// Each line that ends before an offset is found, in the whole text and not where a read fails.
+/// Where the line that ends right before an offset begins, looked for from the front.
+fn start_before(bytes: &[u8], offset: usize) -> u64 {
+    let front = bytes.iter().take(offset.saturating_sub(1));
+    let mut start = 0u64;
+    let mut behind = 0u64;
+    for byte in front {
+        behind = behind.saturating_add(1);
+        if *byte == b'\n' {
+            start = behind;
+        }
+    }
+    start
+}
+
+/// A search that answers the start of the file, or the byte before, answers other than where a line begins. One that takes the
+/// bytes that came for all that it asked for, or an end or a failure for the start of the file, succeeds where the bytes
+/// before the line feed were not all read.
 #[test]
-fn the_line_before_is_found(rt: HostRuntime) -> Result<(), Fail> {
-    for (offset, start) in [(0u64, 0u64), (2, 0), (3, 2), (7, 3), (9, 7)] {
-        let found = line_before(&mut text_from(2, TEXT.len(), Trouble::Ends), offset);
-        assert!(rt; matches!(found, Ok(at) if at == start), "before {offset}");
-        let failed = line_before(&mut text_from(2, 0, Trouble::Fails), offset);
-        assert_eq!(rt; failed.is_err(), offset != 0, "fails before {offset}");
+fn the_line_before_is_found_or_it_fails(rt: HostRuntime) -> Result<(), Fail> {
+    for most in 1..6usize {
+        for place in 0..=TEXT.len() {
+            for offset in 0..=TEXT.len() {
+                for trouble in [Trouble::Fails, Trouble::Ends] {
+                    let found = line_before(&mut text_from(most, place, trouble), offset as u64);
+                    let is_read = offset <= place.saturating_add(1);
+                    let start = start_before(TEXT, offset);
+                    assert_eq!(rt; found.is_ok(), is_read, "before {offset}, {place}");
+                    assert!(rt;
+                        !is_read || matches!(found, Ok(at) if at == start),
+                        "before {offset}, {place}"
+                    );
+                }
+            }
+        }
+    }
+    Ok(())
+}
+
+/// Where a file of three pieces has its one line feed, about the ends of the pieces in which it is read backwards.
+const ENDS: [usize; 9] = [0, 1, 807, 808, 809, 4903, 4904, 4905, 8999];
+
+/// A search that leaves out a byte between two pieces misses a line feed there; one that forgets where its piece begins, or
+/// stops behind the first, answers another place.
+#[test]
+fn the_line_before_is_found_in_each_piece(rt: HostRuntime) -> Result<(), Fail> {
+    for end in ENDS {
+        let mut bytes = [b'x'; 9_001];
+        if let Some(byte) = bytes.get_mut(end) {
+            *byte = b'\n';
+        }
+        for offset in [9_001u64, 4_905, 809] {
+            let mut file = Source {
+                bytes: &bytes,
+                at: 0,
+                most: 1_000,
+                place: 9_001,
+                trouble: Trouble::Ends,
+            };
+            let start = start_before(&bytes, offset as usize);
+            assert!(rt;
+                matches!(line_before(&mut file, offset), Ok(at) if at == start),
+                "behind {end}, before {offset}"
+            );
+        }
     }
     Ok(())
 }
