@@ -16,7 +16,7 @@ use Rattle.fortran_totality.specs.f_tree.Transfers.{next_of, followed_by, begins
 use Rattle.fortran_totality.specs.f_tree.UnitStatements.{auxiliary}
 use Rattle.fortran_totality.specs.f_tree.Valuing.{Red, Valued, Bad, Asks, reduce_all}
 use Rattle.fortran_totality.specs.f_tree.Association.{Passing, passing, ready_for, procedure_named, called_as, call, alternate_of, result_given, result_from, answer}
-use Rattle.fortran_totality.specs.f_tree.Step.{onward, go, coursed, onward_with, text_set, picked, nth_label, is_allowed, enters_block, name_of, gone_by, by_sign, guarded, at_arm, next_arm, arm_entered, at_least_once, turns, looped, loop_stored, loop_begun, loop_tested, Grown, grown, turned_with, turned, work_after, repeated, repeat_begun, item_turned, deed, valued, doing, step}
+use Rattle.fortran_totality.specs.f_tree.Step.{onward, go, coursed, onward_with, text_set, picked, nth_label, contains, labels_to_go, enters_block, name_of, gone_by, by_sign, guarded, at_arm, next_arm, arm_entered, at_least_once, turns, looped, loop_stored, loop_begun, loop_tested, Grown, grown, turned_with, turned, work_after, repeated, repeat_begun, item_turned, deed, valued, doing, step}
 use Rattle.fortran_totality.specs.f_tree.WellTyped.{Sort, AreOf, none_of, IsAnswer, Meant, AreTyped, Sound, EachListIsMeant}
 use Rattle.agreeing_runs.specs.AgreeingForms.{Suits, TermsAgree, JobAgrees, WorkAgrees, HeadAgrees, FormAgrees}
 use Rattle.agreeing_runs.proofs.OperandLemmas.{Kept, terms_kept}
@@ -154,7 +154,7 @@ module _ (S : List ProgramUnit) (c : Facts) (n : ℕ) where
     gone_by_agrees : (v : View) (w : World) (labels : List ℕ) (r : Checked Whole) → EventAgrees S c n (gone_by c v w labels r)
     unfolding gone_by EventAgrees
     gone_by_agrees v w labels (Gives (Label owner l)) =
-        event_if ((bytes_eq owner (name_of c.program) && is_allowed labels l) && not (enters_block c.program v.at (place_of_label c.program l))) (go c v w l)
+        event_if ((bytes_eq owner (name_of c.program) && contains (labels_to_go c.program labels) l) && not (enters_block c.program v.at (place_of_label c.program l))) (go c v w l)
         (Breaks BadAssignedLabel) (go_agrees v w l) tt
     gone_by_agrees v w labels (Gives _) = tt
     gone_by_agrees v w labels (Fails act) = tt

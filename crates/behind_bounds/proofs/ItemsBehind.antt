@@ -44,10 +44,9 @@ module _ (first : ℕ) where
 
   switch_same : (n : ℕ) (labels : List ℕ) (x y : Option Term) → x ≡ y → switch_to own (first + n) labels x ≡ switch_to on n labels y
   unfolding switch_to
-  switch_same n [] x y same = refl
-  switch_same n (label ∷ labels) x y same =
-      let behind : suc (first + n) + length (label ∷ labels) ≡ first + (suc n + length (label ∷ labels)) = omega arith in
-      λ i. option_map (λ term. Select term (labels_same (suc (first + n)) (suc n) (label ∷ labels) (omega arith) i) (behind i)) (same i)
+  switch_same n labels x y same =
+      let behind : suc (first + n) + length labels ≡ first + (suc n + length labels) = omega arith in
+      λ i. option_map (λ term. Select term (labels_same (suc (first + n)) (suc n) labels (omega arith) i) (behind i)) (same i)
 
   module _ (w : Writing) where
     abbrev v : Writing

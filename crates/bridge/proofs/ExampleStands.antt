@@ -18,7 +18,7 @@ use Rattle.lowering_laws.specs.l_core.Costs.{cost, rest}
 use Rattle.lowering_laws.specs.lowering.Units.{lowered_unit}
 use Rattle.lowering_laws.specs.Layer.{IsLaidOut, lower_couple, others_opened}
 use Rattle.lowering_laws.specs.Layout.{LoopsFit, with_loops, layout_opened}
-use Rattle.lowering_laws.specs.Examples.{letter, example_opened}
+use Rattle.lowered_rows.specs.Examples.{letter, example_opened}
 use Rattle.lowering_laws.proofs.LayoutLemmas.{laid_out}
 use Rattle.lowering_laws.proofs.LocalLemmas.{simulates}
 use Rattle.emitted_texts.specs.c_tree.Objects as objects_of

@@ -10,7 +10,7 @@ use Rattle.lowering_laws.specs.f_tree.Places.{place_of_label}
 use Rattle.lowering_laws.specs.l_core.Pures.{Constant, Load, Operated, NoPure, AndPure}
 use Rattle.lowering_laws.specs.l_core.Steps.{Starts, Takes, Finishes, Text, Step, Put, Unless, Again, Back, Acts}
 use Rattle.lowering_laws.specs.lowering.Units.{start_of, lines_marks}
-use Rattle.lowering_laws.specs.Examples.{letter, variable, an_integer, line, name, printing}
+use Rattle.lowered_rows.specs.Examples.{letter, variable, an_integer, line, name, printing}
 use Rattle.emitted_texts.specs.c_tree.declared.types.NumberType.TheVariants as number_type
 use Rattle.emitted_texts.specs.c_tree.declared.types.ResultType.TheVariants as result
 use Rattle.emitted_texts.specs.c_tree.declared.expression.BinaryOp.TheVariants as op

@@ -33,11 +33,9 @@ unfoldable pub cases_for : (ℕ → ℕ) → ℕ → List ℕ → List CaseAt
 cases_for place n [] = []
 cases_for place n (label ∷ labels) = record { number = pos label; position = place n } ∷ cases_for place (suc n) labels
 
--- a `switch` over the label that a place holds; none where no labels are written (11.3)
+-- a `switch` over the label that a place holds, with a case for each label to which it may go, which may be none (11.3)
 unfoldable pub switch_to : (ℕ → ℕ) → ℕ → List ℕ → Option Term → Option Flat
-switch_to place n [] value = None
-switch_to place n (label ∷ labels) value =
-    option_map (λ term. Select term (cases_for place (suc n) (label ∷ labels)) (place (suc n + length (label ∷ labels)))) value
+switch_to place n labels value = option_map (λ term. Select term (cases_for place (suc n) labels) (place (suc n + length labels))) value
 
 -- END and RETURN: a procedure that is no function gives 0 (15.6.2)
 unfoldable pub returned_by : UnitKind → Option Flat

@@ -1,5 +1,5 @@
 -- The flat C items for lowered steps go on where the steps do.
-use Rattle.std.specs.Prelude.{◌≡◌, ℕ, suc, ◌+◌, ◌-◌, ℤ, pos, Bool, true, false, List, [], ◌∷◌, length, Option, Some, None, Ok, option_map, if◌then◌else◌}
+use Rattle.std.specs.Prelude.{◌≡◌, ℕ, suc, ◌+◌, ◌-◌, ℤ, pos, Bool, true, false, List, length, Option, Some, None, Ok, option_map, if◌then◌else◌}
 use Rattle.std.proofs.Common.{refl, sym, ap, ◌∙◌, subst}
 use Rattle.c_emit.specs.simulation.Machine.{Goes}
 use Rattle.c_emit.specs.f_tree.Values.{Datum, IsInt, IsLog, IsText, IsSpot, Checked, Gives, Fails, given_that}
@@ -236,16 +236,16 @@ module _ (u : Text) (v v' : View) (x x' : fortran.World) (μ : World) (w : Writi
       subst (λ i. GoesAlike μ v v' x' place function view world i) m.is
       (chooses μ v v' x x' place function view world stands m.one (suc v.at) count t.number (switches_are_meant world.objects m.one t.number means) t.goes)
 
-  -- to the label that a place holds, of those that are written
-  held : (p : Pure) (k : ℕ) (ks : List ℕ) (item : Flat) → option_map (λ value. flat.Select value (cases_for place (suc v.at) (k ∷ ks)) (place (suc v.at + length (k ∷ ks)))) (place_term w p) ≡ Some item
-      → jumping u (k ∷ ks) v x (given_that (meant u.facts v.frame v.kept x.store p) (label_held x.store)) ≡ Goes v' x' → GoesAlike μ v v' x' place function view world item
-  held p k ks item emitted goes =
-      let m = mapped_by (λ value. flat.Select value (cases_for place (suc v.at) (k ∷ ks)) (place (suc v.at + length (k ∷ ks)))) (place_term w p) item emitted in
-      let t = held_by u k ks v x v' x' (given_that (meant u.facts v.frame v.kept x.store p) (label_held x.store)) goes in
+  -- to the label that a place holds, of those that are allowed
+  held : (p : Pure) (ls : List ℕ) (item : Flat) → option_map (λ value. flat.Select value (cases_for place (suc v.at) ls) (place (suc v.at + length ls))) (place_term w p) ≡ Some item
+      → jumping u ls v x (given_that (meant u.facts v.frame v.kept x.store p) (label_held x.store)) ≡ Goes v' x' → GoesAlike μ v v' x' place function view world item
+  held p ls item emitted goes =
+      let m = mapped_by (λ value. flat.Select value (cases_for place (suc v.at) ls) (place (suc v.at + length ls))) (place_term w p) item emitted in
+      let t = held_by u ls v x v' x' (given_that (meant u.facts v.frame v.kept x.store p) (label_held x.store)) goes in
       let spot = got (meant u.facts v.frame v.kept x.store p) (label_held x.store) (Label t.owner t.label) t.gives in
       let number = labels_are_held μ x.store world.objects w v.frame v.kept p m.one spot.value t.owner t.label stands known m.one_is (meant_same p spot.value spot.is) spot.gives in
-      let there = to_by (suc v.at + passed_before (k ∷ ks) t.label) v x v' x' t.goes in
-      subst (λ i. GoesAlike μ v v' x' place function view world i) m.is (goes_by_label μ v v' x x' place function view world stands m.one (suc v.at) t.label (k ∷ ks) number t.among there)
+      let there = to_by (suc v.at + passed_before ls t.label) v x v' x' t.goes in
+      subst (λ i. GoesAlike μ v v' x' place function view world i) m.is (goes_by_label μ v v' x x' place function view world stands m.one (suc v.at) t.label ls number t.among there)
 
   skips : (n : ℕ) (item : Flat) → Some (flat.Jump (place n)) ≡ Some item → to n v x ≡ Goes v' x' → GoesAlike μ v v' x' place function view world item
   skips n item emitted goes =
@@ -267,7 +267,6 @@ module _ (u : Text) (v v' : View) (x x' : fortran.World) (μ : World) (w : Writi
   each (Keep _ _) item none emitted goes = elim none [ ]
   each (PutText _ _) item none emitted goes = elim none [ ]
   each (Compute _ _ _) item none emitted goes = elim none [ ]
-  each (JumpBy _ []) item none emitted goes = elim none [ ]
   each (CallFor _ _ _) item none emitted goes = elim none [ ]
   each (CallSub _ _ _) item none emitted goes = elim none [ ]
   each Back item none emitted goes = elim none [ ]
@@ -282,7 +281,7 @@ module _ (u : Text) (v v' : View) (x x' : fortran.World) (μ : World) (w : Writi
   each (Again n) item (by_return _) emitted goes = skips (v.at - n) item emitted goes
   each (Jump l) item (by_jump _) emitted goes = labels (u.position l) item emitted goes
   each (Select p count) item (by_select _ _) emitted goes = selects p count item emitted goes
-  each (JumpBy p (k ∷ ks)) item (by_held _ _ _) emitted goes = held p k ks item emitted goes
+  each (JumpBy p ls) item (by_held _ _) emitted goes = held p ls item emitted goes
   each (Branch k count) item (by_branch _ _) emitted goes = selects (Temporary k) count item emitted goes
   each (Way l) item (by_way _) emitted goes = labels (u.position l) item emitted goes
   each Pass item by_pass emitted goes = does_nothing item emitted goes

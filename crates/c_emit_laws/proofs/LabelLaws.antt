@@ -8,10 +8,10 @@ use Rattle.c_emit.specs.f_tree.Values.{Bytes, Spot, Datum, IsInt, IsSpot, BadAss
 use Rattle.c_emit.specs.f_tree.Store.{Store, Whole, Label, Number, Truth, define_label, label_at}
 use Rattle.c_emit.specs.f_tree.Facts.{Frame}
 use Rattle.c_emit.specs.f_tree.World as fortran
-use Rattle.c_emit.specs.f_tree.Step.{contains, is_allowed, name_of}
+use Rattle.c_emit.specs.f_tree.Step.{contains, name_of}
 use Rattle.c_emit.specs.l_core.Pures.{Pure, Temporaries, meant}
 use Rattle.c_emit.specs.l_core.Steps.{Text}
-use Rattle.c_emit.specs.l_core.Machine.{View, to, past, put_label_at, label_held, passed_before, to_held, jumping}
+use Rattle.c_emit.specs.l_core.Machine.{View, to, past, put_label_at, label_held, passed_before, jumping}
 use Rattle.c_emit.specs.c_tree.declared.outcome.CValue.TheVariants as c_value
 use Rattle.c_emit.specs.c_tree.Access.{ToNumber}
 use Rattle.c_emit.specs.c_tree.Faults.{after}
@@ -92,7 +92,12 @@ labels_are_held μ s objects w frame temporaries p term r owner label stands kno
     let there = label_fetched μ s objects at.place at.object (Label owner label) stands shape.0 at.at (label_there s at.place r (Label owner label) at.is held) in
     ap (λ found. after found as_number) (value_of-number objects term (pos label) (at.named.holds ∙ there))
 
--- a jump to a held label, of those that are written, goes on to the step of the label
+-- a jump to a held label goes on to the step of the label, where it is one of those that are allowed
+pub jumping_is : (u : Text) (labels : List ℕ) (v : View) (x : fortran.World) (owner : Bytes) (label : ℕ)
+    → jumping u labels v x (Gives (Label owner label)) ≡ (if bytes_eq owner (name_of u.facts.program) && contains labels label then to (suc v.at + passed_before labels label) v x else Breaks BadAssignedLabel)
+unfolding jumping past
+jumping_is u labels v x owner label = refl
+
 pub record IsHeld (labels : List ℕ) (v : View) (x : fortran.World) (v' : View) (x' : fortran.World) (r : Checked Whole) : Type 0 where
   pub owner : Bytes
   pub label : ℕ
@@ -106,9 +111,10 @@ among_by labels v x v' x' owner label true true is h = record { owner = owner; l
 among_by labels v x v' x' owner label true false is h = absurd (cc)
 among_by labels v x v' x' owner label false among is h = absurd (cc)
 
-pub held_by : (u : Text) (k : ℕ) (ks : List ℕ) (v : View) (x : fortran.World) (v' : View) (x' : fortran.World) (r : Checked Whole) → jumping u (k ∷ ks) v x r ≡ Goes v' x' → IsHeld (k ∷ ks) v x v' x' r
-unfolding jumping to_held past is_allowed
-held_by u k ks v x v' x' (Gives (Label owner label)) h = among_by (k ∷ ks) v x v' x' owner label (bytes_eq owner (name_of u.facts.program)) (contains (k ∷ ks) label) refl h
-held_by u k ks v x v' x' (Gives (Number z)) h = absurd (cc)
-held_by u k ks v x v' x' (Gives (Truth b)) h = absurd (cc)
-held_by u k ks v x v' x' (Fails act) h = absurd (cc)
+pub held_by : (u : Text) (labels : List ℕ) (v : View) (x : fortran.World) (v' : View) (x' : fortran.World) (r : Checked Whole) → jumping u labels v x r ≡ Goes v' x' → IsHeld labels v x v' x' r
+unfolding jumping
+held_by u labels v x v' x' (Gives (Label owner label)) h =
+    among_by labels v x v' x' owner label (bytes_eq owner (name_of u.facts.program)) (contains labels label) refl (sym (jumping_is u labels v x owner label) ∙ h)
+held_by u labels v x v' x' (Gives (Number z)) h = absurd (cc)
+held_by u labels v x v' x' (Gives (Truth b)) h = absurd (cc)
+held_by u labels v x v' x' (Fails act) h = absurd (cc)

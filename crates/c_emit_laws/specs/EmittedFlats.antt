@@ -1,5 +1,5 @@
 -- What the flat C items for lowered steps do, one for each step. ANSI X3.9-1978, sections 10 and 11; C89, 3.6.
-use Rattle.std.specs.Prelude.{◌≡◌, ℕ, suc, ◌+◌, ◌≤◌, ℤ, true, List, ◌∷◌, length, Option, Some, slice_get, slice_set}
+use Rattle.std.specs.Prelude.{◌≡◌, ℕ, suc, ◌+◌, ◌≤◌, ℤ, true, List, length, Option, Some, slice_get, slice_set}
 use Rattle.c_emit.specs.simulation.Machine.{Goes}
 use Rattle.c_emit.specs.f_tree.Values.{IsInt}
 use Rattle.c_emit.specs.f_tree.Terms.{Function}
@@ -32,7 +32,7 @@ pub data Steers : Step → Type 0 where
   by_return : (n : ℕ) → Steers (Again n)
   by_jump : (label : ℕ) → Steers (Jump label)
   by_select : (p : Pure) (count : ℕ) → Steers (Select p count)
-  by_held : (place : Pure) (label : ℕ) (labels : List ℕ) → Steers (JumpBy place (label ∷ labels))
+  by_held : (place : Pure) (labels : List ℕ) → Steers (JumpBy place labels)
   by_branch : (k count : ℕ) → Steers (Branch k count)
   by_way : (label : ℕ) → Steers (Way label)
   by_pass : Steers Pass

@@ -214,10 +214,8 @@ module _ (scope : Scope) (names : Names) where
         plainly n (step.Branch k count) item refl
         (select_plain (cases_to place 1 (suc n) count) (place (suc n + count)) (value_term w (Temporary k)) item h (value_plain scope names w known (Temporary k)))
     whole place label n (step.Way l) item knows h = plainly n (step.Way l) item refl (goto_plain place (label l) item h)
-    whole place label n (step.JumpBy p []) item knows h = absurd (cc)
-    whole place label n (step.JumpBy p (l ∷ ls)) item knows h =
-        plainly n (step.JumpBy p (l ∷ ls)) item refl
-        (select_plain (cases_for place (suc n) (l ∷ ls)) (place (suc n + length (l ∷ ls))) (place_term w p) item h (target_plain scope names w known p))
+    whole place label n (step.JumpBy p labels) item knows h =
+        plainly n (step.JumpBy p labels) item refl (select_plain (cases_for place (suc n) labels) (place (suc n + length labels)) (place_term w p) item h (target_plain scope names w known p))
     whole place label n step.Pass item knows h = plainly n step.Pass item refl (subst IsPlainItem (some_same Nothing item h) nothing_plain)
     whole place label n step.Back item knows h = plainly n step.Back item refl (return_plain w.facts.program.kind item h)
     whole place label n (step.Acts (step.Starts Output Listed controls) ps m) item knows h = plainly n (step.Acts (step.Starts Output Listed controls) ps m) item refl (started n controls ps item h knows.0 knows.1)

@@ -12,8 +12,6 @@ pub mod Answering
 pub mod Calling
 pub mod Opening
 pub mod Simulated
-pub mod ExampleLaws
-pub mod KeptExampleLaws
 pub mod ReadNumbers
 pub mod StepsOverNumbers
 pub mod MainUnits

@@ -1,5 +1,5 @@
 -- The function of a unit simulates its lowered text.
-use Rattle.std.specs.Prelude.{◌≡◌, ℕ, Bool, true, false, List, [], ◌∷◌, Option, Some, None, slice_get}
+use Rattle.std.specs.Prelude.{◌≡◌, ℕ, Bool, true, false, List, Option, Some, None, slice_get}
 use Rattle.std.proofs.Common.{refl, sym, subst}
 use Rattle.procedure_emission.specs.simulation.LocalSimulation.{Meets, Local}
 use Rattle.procedure_emission.specs.f_tree.World as fortran
@@ -55,8 +55,7 @@ module _ (s : Surroundings) (number : ℕ) (u : Text) (costs : List ℕ) (e : Em
   each μ v x w y now (Again n) at item = steered s number u costs e is μ v x w y now (Again n) at item (by_return n) item.emitted (step u v x) refl
   each μ v x w y now (Jump label) at item = steered s number u costs e is μ v x w y now (Jump label) at item (by_jump label) item.emitted (step u v x) refl
   each μ v x w y now (Select p count) at item = steered s number u costs e is μ v x w y now (Select p count) at item (by_select p count) item.emitted (step u v x) refl
-  each μ v x w y now (JumpBy p (label ∷ labels)) at item =
-      steered s number u costs e is μ v x w y now (JumpBy p (label ∷ labels)) at item (by_held p label labels) item.emitted (step u v x) refl
+  each μ v x w y now (JumpBy p labels) at item = steered s number u costs e is μ v x w y now (JumpBy p labels) at item (by_held p labels) item.emitted (step u v x) refl
   each μ v x w y now (Branch k count) at item = steered s number u costs e is μ v x w y now (Branch k count) at item (by_branch k count) item.emitted (step u v x) refl
   each μ v x w y now (Way label) at item = steered s number u costs e is μ v x w y now (Way label) at item (by_way label) item.emitted (step u v x) refl
   each μ v x w y now Pass at item = steered s number u costs e is μ v x w y now Pass at item by_pass item.emitted (step u v x) refl
@@ -69,7 +68,6 @@ module _ (s : Surroundings) (number : ℕ) (u : Text) (costs : List ℕ) (e : Em
   each μ v x w y now (PutText place ps) at item = none_emitted item.item item.emitted
   each μ v x w y now (Compute k f ps) at item =
       computes s number u costs e is μ v x w y now (Compute k f ps) at item k f ps refl (computed_number e.writing (e.writing.is_number k) _ _ _ item.item item.emitted) item.emitted
-  each μ v x w y now (JumpBy p []) at item = none_emitted item.item item.emitted
   each μ v x w y now (Halt text) at item = halted s number u costs e is μ v x w y now (Halt text) at item text refl (sym (some_same _ item.item item.emitted))
   each μ v x w y now (Acts act ps n) at item = acted s number u costs e is μ v x w y now (Acts act ps n) at item act ps n refl item.emitted
 

@@ -1,14 +1,14 @@
 -- A step that changes no temporary does the same over the numbers that temporaries keep.
-use Rattle.std.specs.Prelude.{◌≡◌, ℕ, suc, ◌+◌, ◌-◌, ℤ, pos, Bool, true, false, ◌&&◌, List, ◌∷◌, length, bytes_eq, Option, Some, None, if◌then◌else◌}
+use Rattle.std.specs.Prelude.{◌≡◌, ℕ, suc, ◌+◌, ◌-◌, ℤ, pos, Bool, true, false, ◌&&◌, List, length, bytes_eq, Option, Some, None, if◌then◌else◌}
 use Rattle.std.proofs.Common.{refl, sym, ap, ◌∙◌}
 use Rattle.procedure_emission.specs.simulation.Machine.{Goes, Breaks}
 use Rattle.procedure_emission.specs.f_tree.Values.{Bytes, Datum, IsInt, IsLog, IsText, IsSpot, IsProc, IsLabel, Nothing, BadAssignedLabel, Act, Checked, Gives, Fails, given_that}
 use Rattle.procedure_emission.specs.f_tree.Store.{Store, Label}
 use Rattle.procedure_emission.specs.f_tree.World as fortran
-use Rattle.procedure_emission.specs.f_tree.Step.{is_allowed, name_of}
+use Rattle.procedure_emission.specs.f_tree.Step.{contains, name_of}
 use Rattle.procedure_emission.specs.l_core.Pures.{Pure, Temporary, Temporaries, meant}
 use Rattle.procedure_emission.specs.l_core.Steps.{Step, Text}
-use Rattle.procedure_emission.specs.l_core.Machine.{View, Doing, to, onward, past, storing, put_at, put_label_at, testing, to_place, jump, selecting, label_held, passed_before, to_held, jumping, done}
+use Rattle.procedure_emission.specs.l_core.Machine.{View, Doing, to, onward, past, storing, put_at, put_label_at, testing, to_place, jump, selecting, label_held, passed_before, jumping, done}
 use Rattle.procedure_emission.specs.c_tree.Terms.{Term}
 use Rattle.procedure_emission.specs.c_tree.Flat as flat
 use Rattle.procedure_emission.specs.c_tree.Flat.{Flat}
@@ -16,7 +16,7 @@ use Rattle.procedure_emission.specs.c_emit.Numbers.{Writing, constant_value, val
 use Rattle.procedure_emission.specs.c_emit.Flats.{assigned, cases_to, cases_for, switch_to, flat_of}
 use Rattle.procedure_emission.specs.c_emit_laws.EmittedFlats.{Steers, by_put, by_label, by_test, by_test_back, by_skip, by_return, by_jump, by_select, by_held, by_branch, by_way, by_pass}
 use Rattle.procedure_emission.proofs.c_emit_laws.Choices.{got, mapped_by}
-use Rattle.procedure_emission.proofs.c_emit_laws.LabelLaws.{held_by}
+use Rattle.procedure_emission.proofs.c_emit_laws.LabelLaws.{jumping_is, held_by}
 use Rattle.procedure_emission.proofs.c_emit_laws.FlatLaws.{assigned_by, selected_by}
 use Rattle.procedure_emission.specs.Reading.{IsPlain, numbers_kept}
 use Rattle.emitted_procedures.proofs.ReadNumbers.{IsRead, the_same, no_value, put_nothing, truth_read, integer_read, place_read, value_read}
@@ -57,10 +57,11 @@ unfolding with_temporaries to
 chosen_same m true n v x act = refl
 chosen_same m false n v x act = refl
 
-jumping_same : (m : Temporaries) (u : Text) (k : ℕ) (ks : List ℕ) (v : View) (x : fortran.World) (owner : Bytes) (l : ℕ)
-    → jumping u (k ∷ ks) (record v { kept = m }) x (Gives (Label owner l)) ≡ with_temporaries m (jumping u (k ∷ ks) v x (Gives (Label owner l)))
-unfolding jumping to_held past
-jumping_same m u k ks v x owner l = chosen_same m (bytes_eq owner (name_of u.facts.program) && is_allowed (k ∷ ks) l) (suc v.at + passed_before (k ∷ ks) l) v x BadAssignedLabel
+jumping_same : (m : Temporaries) (u : Text) (labels : List ℕ) (v : View) (x : fortran.World) (owner : Bytes) (l : ℕ)
+    → jumping u labels (record v { kept = m }) x (Gives (Label owner l)) ≡ with_temporaries m (jumping u labels v x (Gives (Label owner l)))
+jumping_same m u labels v x owner l =
+    jumping_is u labels (record v { kept = m }) x owner l ∙ chosen_same m (bytes_eq owner (name_of u.facts.program) && contains labels l) (suc v.at + passed_before labels l) v x BadAssignedLabel
+    ∙ ap (with_temporaries m) (sym (jumping_is u labels v x owner l))
 
 -- what a step that goes on has
 stored_by : (v v' : View) (x x' : fortran.World) (r : Checked Store) → storing v x r ≡ Goes v' x' → (later : Store) × (r ≡ Gives later)
@@ -124,17 +125,17 @@ module _ (u : Text) (w : Writing) (facts : w.facts ≡ u.facts) (v v' : View) (x
       ∙ storing_same (numbers_kept v.kept) v x (Gives stored.0)
       ∙ ap (with_temporaries (numbers_kept v.kept)) (sym (ap (storing v x) stored.1) ∙ h)
 
-  held_over : (p : Pure) (k : ℕ) (ks : List ℕ) (term : Term) → place_term w p ≡ Some term → jumping u (k ∷ ks) v x (given_that (meant u.facts v.frame v.kept x.store p) (label_held x.store)) ≡ Goes v' x'
-      → jumping u (k ∷ ks) (record v { kept = numbers_kept v.kept }) x (given_that (meant u.facts v.frame (numbers_kept v.kept) x.store p) (label_held x.store)) ≡ Goes (record v' { kept = numbers_kept v.kept }) x'
+  held_over : (p : Pure) (labels : List ℕ) (term : Term) → place_term w p ≡ Some term → jumping u labels v x (given_that (meant u.facts v.frame v.kept x.store p) (label_held x.store)) ≡ Goes v' x'
+      → jumping u labels (record v { kept = numbers_kept v.kept }) x (given_that (meant u.facts v.frame (numbers_kept v.kept) x.store p) (label_held x.store)) ≡ Goes (record v' { kept = numbers_kept v.kept }) x'
   unfolding given_that with_temporaries
-  held_over p k ks term emitted h =
-      let held = held_by u k ks v x v' x' (given_that (meant u.facts v.frame v.kept x.store p) (label_held x.store)) h in
+  held_over p labels term emitted h =
+      let held = held_by u labels v x v' x' (given_that (meant u.facts v.frame v.kept x.store p) (label_held x.store)) h in
       let spot = got (meant u.facts v.frame v.kept x.store p) (label_held x.store) (Label held.owner held.label) held.gives in
       let place' = in_text (numbers_kept v.kept) p spot.value (place_read w v.frame v.kept x.store plain p term spot.value emitted (in_writing v.kept p spot.value spot.is)) in
-      ap (λ r. jumping u (k ∷ ks) (record v { kept = numbers_kept v.kept }) x (given_that r (label_held x.store))) place'
-      ∙ ap (jumping u (k ∷ ks) (record v { kept = numbers_kept v.kept }) x) spot.gives
-      ∙ jumping_same (numbers_kept v.kept) u k ks v x held.owner held.label
-      ∙ ap (with_temporaries (numbers_kept v.kept)) (sym (ap (jumping u (k ∷ ks) v x) held.gives) ∙ h)
+      ap (λ r. jumping u labels (record v { kept = numbers_kept v.kept }) x (given_that r (label_held x.store))) place'
+      ∙ ap (jumping u labels (record v { kept = numbers_kept v.kept }) x) spot.gives
+      ∙ jumping_same (numbers_kept v.kept) u labels v x held.owner held.label
+      ∙ ap (with_temporaries (numbers_kept v.kept)) (sym (ap (jumping u labels v x) held.gives) ∙ h)
 
   test_over : (on off : ℕ) (p : Pure) (term : Term) → value_term w p ≡ Some term → testing on off v x (meant u.facts v.frame v.kept x.store p) ≡ Goes v' x'
       → testing on off (record v { kept = numbers_kept v.kept }) x (meant u.facts v.frame (numbers_kept v.kept) x.store p) ≡ Goes (record v' { kept = numbers_kept v.kept }) x'
@@ -170,8 +171,8 @@ module _ (u : Text) (w : Writing) (facts : w.facts ≡ u.facts) (v v' : View) (x
   same_done place label n _ item (by_jump l) emitted h = placing_same (numbers_kept v.kept) v x (u.position l) ∙ ap (with_temporaries (numbers_kept v.kept)) h
   same_done place label n _ item (by_select p count) emitted h =
       let is = mapped_by (λ value. flat.Select value (cases_to place 1 (suc n) count) (place (suc n + count))) (value_term w p) item emitted in select_over count p is.one is.one_is h
-  same_done place label n _ item (by_held p l ls) emitted h =
-      let is = mapped_by (λ value. flat.Select value (cases_for place (suc n) (l ∷ ls)) (place (suc n + length (l ∷ ls)))) (place_term w p) item emitted in held_over p l ls is.one is.one_is h
+  same_done place label n _ item (by_held p labels) emitted h =
+      let is = mapped_by (λ value. flat.Select value (cases_for place (suc n) labels) (place (suc n + length labels))) (place_term w p) item emitted in held_over p labels is.one is.one_is h
   same_done place label n _ item (by_branch k count) emitted h =
       let is = mapped_by (λ value. flat.Select value (cases_to place 1 (suc n) count) (place (suc n + count))) (value_term w (Temporary k)) item emitted in select_over count (Temporary k) is.one is.one_is h
   same_done place label n _ item (by_way l) emitted h = placing_same (numbers_kept v.kept) v x (u.position l) ∙ ap (with_temporaries (numbers_kept v.kept)) h

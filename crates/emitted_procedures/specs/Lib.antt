@@ -1,7 +1,5 @@
 pub mod SimulatedUnits
 pub mod MainUnits
-pub mod Example
-pub mod KeptExample
 pub use Rattle.procedure_emission.specs.c_emit
 pub use Rattle.procedure_emission.specs.c_emit_laws
 pub use Rattle.procedure_emission.specs.c_image

@@ -2,5 +2,4 @@
 //! by side, with calls and answers. The functions here do nothing; their contracts are the laws.
 #![tactic(auto)]
 
-pub mod examples;
 pub mod procedures;

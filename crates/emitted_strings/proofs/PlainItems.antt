@@ -247,8 +247,7 @@ select_few (Some value) cases otherwise h = let one = no_bytes value h in omega 
 
 switch_few : (n : ℕ) (labels : List ℕ) (x : Option CExpr) → Bare x → Few 0 (switch_step n labels x)
 unfolding switch_step
-switch_few n [] x h = tt
-switch_few n (label ∷ labels) x h = select_few x (label_cases (suc n) (label ∷ labels)) (suc n + length (label ∷ labels)) h
+switch_few n labels x h = select_few x (label_cases (suc n) labels) (suc n + length labels) h
 
 return_few : (x : Option CExpr) → Bare x → Few 0 (return_step x)
 unfolding return_step item_bytes returned_bytes

@@ -290,7 +290,7 @@ module _ (s : Surroundings) (number : ℕ) (u : Text) (costs : List ℕ) (e : Em
   each μ v x w y now' (Again n) at item = steered μ v x w y now' (Again n) at item (by_return n) (step u v x) refl
   each μ v x w y now' (Jump label) at item = steered μ v x w y now' (Jump label) at item (by_jump label) (step u v x) refl
   each μ v x w y now' (Select p count) at item = steered μ v x w y now' (Select p count) at item (by_select p count) (step u v x) refl
-  each μ v x w y now' (JumpBy p (label ∷ labels)) at item = steered μ v x w y now' (JumpBy p (label ∷ labels)) at item (by_held p label labels) (step u v x) refl
+  each μ v x w y now' (JumpBy p labels) at item = steered μ v x w y now' (JumpBy p labels) at item (by_held p labels) (step u v x) refl
   each μ v x w y now' (Branch k count) at item = steered μ v x w y now' (Branch k count) at item (by_branch k count) (step u v x) refl
   each μ v x w y now' (Way label) at item = steered μ v x w y now' (Way label) at item (by_way label) (step u v x) refl
   each μ v x w y now' Pass at item = steered μ v x w y now' Pass at item by_pass (step u v x) refl
@@ -299,7 +299,6 @@ module _ (s : Surroundings) (number : ℕ) (u : Text) (costs : List ℕ) (e : Em
   each μ v x w y now' Back at item = answers μ v x w y now' Back at item refl
   each μ v x w y now' (PutText place ps) at item = none_emitted item.item item.emitted
   each μ v x w y now' (Compute k f ps) at item = computes μ v x w y now' (Compute k f ps) at item k f ps refl (computed_number e.writing (e.writing.is_number k) _ _ _ item.item item.emitted)
-  each μ v x w y now' (JumpBy p []) at item = none_emitted item.item item.emitted
   each μ v x w y now' (CallFor k callee ps) at item = none_emitted item.item item.emitted
   each μ v x w y now' (CallSub k name ps) at item = none_emitted item.item item.emitted
   each μ v x w y now' (BackBy p) at item = none_emitted item.item item.emitted

@@ -8,10 +8,10 @@ use Rattle.output_laws.specs.f_tree.Values as fortran_values
 use Rattle.output_laws.specs.f_tree.Store.{Store, Whole, Label, Number, Truth}
 use Rattle.output_laws.specs.f_tree.World as fortran
 use Rattle.output_laws.specs.f_tree.Setting.{IsIn, first_in, later_in}
-use Rattle.output_laws.specs.f_tree.Step.{is_allowed, name_of}
+use Rattle.output_laws.specs.f_tree.Step.{contains, name_of}
 use Rattle.c_emit_laws.specs.l_core.Pures.{Temporary, with_kept}
 use Rattle.c_emit_laws.specs.l_core.Steps.{Step, Text}
-use Rattle.c_emit_laws.specs.l_core.Machine.{View, Doing, to, onward, past, keeping, storing, testing, to_place, jump, passed_by, selecting, label_held, passed_before, to_held, jumping, done}
+use Rattle.c_emit_laws.specs.l_core.Machine.{View, Doing, to, onward, past, keeping, storing, testing, to_place, jump, passed_by, selecting, label_held, passed_before, jumping, done}
 use Rattle.output_laws.specs.c_tree.Terms.{Term}
 use Rattle.output_laws.specs.c_tree.Flat as flat
 use Rattle.output_laws.specs.c_tree.Flat.{Flat, CaseAt}
@@ -20,7 +20,7 @@ use Rattle.c_emit_laws.specs.c_emit.Numbers.{Writing, constant_value, value_term
 use Rattle.c_emit_laws.specs.c_emit.Flats.{assigned, jump_to, cases_to, cases_for, switch_to, flat_of}
 use Rattle.c_emit_laws.specs.EmittedFlats.{Steers, by_put, by_label, by_test, by_test_back, by_skip, by_return, by_jump, by_select, by_held, by_branch, by_way, by_pass}
 use Rattle.c_emit_laws.proofs.Choices.{mapped_by, some_same}
-use Rattle.c_emit_laws.proofs.LabelLaws.{held_by}
+use Rattle.c_emit_laws.proofs.LabelLaws.{jumping_is, held_by}
 use Rattle.c_emit_laws.proofs.FlatLaws.{to_by, selected_by, assigned_by}
 use Rattle.emitted_texts.specs.SecondLayer.{OutputIsOn}
 use Rattle.emitted_texts.specs.Emitted.{labelled, places_from, leads, kind_behind, stage_behind}
@@ -76,12 +76,13 @@ unfolding GoesOrBreaks to
 chosen_goes true n v x act = tt
 chosen_goes false n v x act = tt
 
-jumping_goes : (u : Text) (k : ℕ) (ks : List ℕ) (v : View) (x : fortran.World) (r : Checked Whole) → GoesOrBreaks (jumping u (k ∷ ks) v x r)
-unfolding GoesOrBreaks jumping to_held past
-jumping_goes u k ks v x (Gives (Label owner l)) = chosen_goes (bytes_eq owner (name_of u.facts.program) && is_allowed (k ∷ ks) l) (suc v.at + passed_before (k ∷ ks) l) v x BadAssignedLabel
-jumping_goes u k ks v x (Gives (Number z)) = tt
-jumping_goes u k ks v x (Gives (Truth b)) = tt
-jumping_goes u k ks v x (Fails act) = tt
+jumping_goes : (u : Text) (labels : List ℕ) (v : View) (x : fortran.World) (r : Checked Whole) → GoesOrBreaks (jumping u labels v x r)
+unfolding GoesOrBreaks jumping
+jumping_goes u labels v x (Gives (Label owner l)) =
+    subst GoesOrBreaks (sym (jumping_is u labels v x owner l)) (chosen_goes (bytes_eq owner (name_of u.facts.program) && contains labels l) (suc v.at + passed_before labels l) v x BadAssignedLabel)
+jumping_goes u labels v x (Gives (Number z)) = tt
+jumping_goes u labels v x (Gives (Truth b)) = tt
+jumping_goes u labels v x (Fails act) = tt
 
 pub steering_goes : (u : Text) (v : View) (x : fortran.World) (st : Step) → Steers st → GoesOrBreaks (done u v x (Some st))
 unfolding GoesOrBreaks done past onward to jump
@@ -93,7 +94,7 @@ steering_goes u v x _ (by_skip n) = tt
 steering_goes u v x _ (by_return n) = tt
 steering_goes u v x _ (by_jump label) = placing_goes v x (u.position label)
 steering_goes u v x _ (by_select p count) = selecting_goes count v x _
-steering_goes u v x _ (by_held place label labels) = jumping_goes u label labels v x _
+steering_goes u v x _ (by_held place labels) = jumping_goes u labels v x _
 steering_goes u v x _ (by_branch k count) = selecting_goes count v x _
 steering_goes u v x _ (by_way label) = placing_goes v x (u.position label)
 steering_goes u v x _ by_pass = tt
@@ -141,8 +142,8 @@ steering_shared u v v' x x' _ (by_skip n) e = same_shared x x' (to_by (suc v.at 
 steering_shared u v v' x x' _ (by_return n) e = same_shared x x' (to_by (v.at - n) v x v' x' e).world
 steering_shared u v v' x x' _ (by_jump label) e = placing_shared v v' x x' (u.position label) e
 steering_shared u v v' x x' _ (by_select p count) e = let is = selected_by count v x v' x' _ e in same_shared x x' is.goes.world
-steering_shared u v v' x x' _ (by_held place label labels) e =
-    let is = held_by u label labels v x v' x' _ e in same_shared x x' (to_by (suc v.at + passed_before (label ∷ labels) is.label) v x v' x' is.goes).world
+steering_shared u v v' x x' _ (by_held place labels) e =
+    let is = held_by u labels v x v' x' _ e in same_shared x x' (to_by (suc v.at + passed_before labels is.label) v x v' x' is.goes).world
 steering_shared u v v' x x' _ (by_branch k count) e = let is = selected_by count v x v' x' _ e in same_shared x x' is.goes.world
 steering_shared u v v' x x' _ (by_way label) e = placing_shared v v' x x' (u.position label) e
 steering_shared u v v' x x' _ by_pass e = same_shared x x' (to_by (suc v.at) v x v' x' e).world
@@ -173,7 +174,7 @@ steering_plain w place label n _ item (by_skip m) e = subst IsPlain (some_same (
 steering_plain w place label n _ item (by_return m) e = subst IsPlain (some_same (flat.Jump (place (n - m))) item e) (jumps (place (n - m)))
 steering_plain w place label n _ item (by_jump l) e = jump_plain place (label l) item e
 steering_plain w place label n _ item (by_select p count) e = chosen_plain (cases_to place 1 (suc n) count) (place (suc n + count)) (value_term w p) item e
-steering_plain w place label n _ item (by_held p l ls) e = chosen_plain (cases_for place (suc n) (l ∷ ls)) (place (suc n + length (l ∷ ls))) (place_term w p) item e
+steering_plain w place label n _ item (by_held p ls) e = chosen_plain (cases_for place (suc n) ls) (place (suc n + length ls)) (place_term w p) item e
 steering_plain w place label n _ item (by_branch k count) e = chosen_plain (cases_to place 1 (suc n) count) (place (suc n + count)) (value_term w (Temporary k)) item e
 steering_plain w place label n _ item (by_way l) e = jump_plain place (label l) item e
 steering_plain w place label n _ item by_pass e = subst IsPlain (some_same flat.Nothing item e) nothing
@@ -252,11 +253,11 @@ steering_leads u v v' x x' _ (by_jump label) e = place_leads v v' x x' (u.positi
 steering_leads u v v' x x' _ (by_select p count) e =
     let is = selected_by count v x v' x' _ e in
     subst (λ (y : View). IsIn y.at (suc v.at ∷ places_from (suc (suc v.at)) count)) (sym is.goes.view) (or_first (suc v.at) (passed_by count is.number) count (passed_small count is.number))
-steering_leads u v v' x x' _ (by_held place label labels) e =
-    let is = held_by u label labels v x v' x' _ e in
-    let there = to_by (suc v.at + passed_before (label ∷ labels) is.label) v x v' x' is.goes in
-    subst (λ (y : View). IsIn y.at (suc v.at ∷ places_from (suc (suc v.at)) (length (label ∷ labels)))) (sym there.view)
-    (or_first (suc v.at) (passed_before (label ∷ labels) is.label) (length (label ∷ labels)) (held_small (label ∷ labels) is.label))
+steering_leads u v v' x x' _ (by_held place labels) e =
+    let is = held_by u labels v x v' x' _ e in
+    let there = to_by (suc v.at + passed_before labels is.label) v x v' x' is.goes in
+    subst (λ (y : View). IsIn y.at (suc v.at ∷ places_from (suc (suc v.at)) (length labels))) (sym there.view)
+    (or_first (suc v.at) (passed_before labels is.label) (length labels) (held_small labels is.label))
 steering_leads u v v' x x' _ (by_branch k count) e =
     let is = selected_by count v x v' x' _ e in
     subst (λ (y : View). IsIn y.at (suc v.at ∷ places_from (suc (suc v.at)) count)) (sym is.goes.view) (or_first (suc v.at) (passed_by count is.number) count (passed_small count is.number))
@@ -274,7 +275,7 @@ steering_kinds w n _ k (by_skip m) = refl
 steering_kinds w n _ k (by_return m) = refl
 steering_kinds w n _ k (by_jump label) = refl
 steering_kinds w n _ k (by_select p count) = refl
-steering_kinds w n _ k (by_held place label labels) = refl
+steering_kinds w n _ k (by_held place labels) = refl
 steering_kinds w n _ k (by_branch j count) = refl
 steering_kinds w n _ k (by_way label) = refl
 steering_kinds w n _ k by_pass = refl
@@ -289,7 +290,7 @@ steering_stages now _ (by_skip m) = refl
 steering_stages now _ (by_return m) = refl
 steering_stages now _ (by_jump label) = refl
 steering_stages now _ (by_select p count) = refl
-steering_stages now _ (by_held place label labels) = refl
+steering_stages now _ (by_held place labels) = refl
 steering_stages now _ (by_branch k count) = refl
 steering_stages now _ (by_way label) = refl
 steering_stages now _ by_pass = refl

@@ -1,4 +1,4 @@
--- The form of the programs that are translated today: one main program without a PROGRAM statement, over names of type INTEGER by their first
+-- The form of the simplest programs: one main program without a PROGRAM statement, over names of type INTEGER by their first
 -- letter, and PRINT with the format `*`. ANSI X3.9-1978, sections 2.2, 4.1.2, 12.8 and 14.
 use Rattle.std.specs.Prelude.{◌≡◌, ℕ, ◌≤◌, Bool, true, false, ◌&&◌, ◌||◌, nat_le, List, [], ◌∷◌, length, None}
 use Rattle.std.specs.Char.{is_ascii_digit, is_ascii_lowercase}

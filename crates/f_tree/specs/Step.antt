@@ -81,9 +81,21 @@ unfoldable pub contains : List ℕ → ℕ → Bool
 contains [] l = false
 contains (k ∷ ks) l = nat_eq k l || contains ks l
 
-unfoldable pub is_allowed : List ℕ → ℕ → Bool
-is_allowed [] l = true
-is_allowed (k ∷ ks) l = contains (k ∷ ks) l
+-- the labels that the ASSIGN statements of a unit name (10.3)
+unfoldable pub assigned_by : Form → List ℕ
+assigned_by (On (ToSetLabel label) operands) = label ∷ []
+assigned_by (On (ToGuard form) operands) = assigned_by form
+assigned_by form = []
+
+unfoldable pub assigned_in : List Line → List ℕ
+assigned_in [] = []
+assigned_in (line ∷ lines) = assigned_by line.form ++ assigned_in lines
+
+-- the labels to which a GO TO by a variable may go: those of its list, or without a list those that may be in a variable of the unit,
+-- which are those that its ASSIGN statements name (11.3)
+unfoldable pub labels_to_go : ProgramUnit → List ℕ → List ℕ
+labels_to_go u [] = assigned_in u.lines
+labels_to_go u (k ∷ ks) = k ∷ ks
 
 -- does the block between two statements, both left out, hold the one place and not the other
 unfoldable pub block_is_entered : ℕ → Option ℕ → ℕ → ℕ → Bool
@@ -123,7 +135,7 @@ name_of u = elim u.entries [ [] ↦ [] | e ∷ es ↦ e.name ]
 
 unfoldable pub gone_by : Facts → View → World → List ℕ → Checked Whole → Happening
 gone_by c v w labels (Gives (Label owner l)) =
-    if (bytes_eq owner (name_of c.program) && is_allowed labels l) && not (enters_block c.program v.at (place_of_label c.program l)) then go c v w l
+    if (bytes_eq owner (name_of c.program) && contains (labels_to_go c.program labels) l) && not (enters_block c.program v.at (place_of_label c.program l)) then go c v w l
     else Breaks BadAssignedLabel
 gone_by c v w labels (Gives _) = Breaks NoMeaning
 gone_by c v w labels (Fails act) = Breaks act
@@ -289,5 +301,5 @@ abbrev pub fortran : Lang Ending
 fortran = record { sorts = fortran_sorts; step = step; start = start; resume = resume; missing = MissingProcedure; busy = ActiveProcedure; plain = world.Plain }
 
 unfoldable pub step_opened : Unit {0}
-unfolding onward go coursed onward_with overlaps piece_from piece_for pieces_for text_stored text_set picked nth_label contains is_allowed block_is_entered behind_terminal block_end enters_from enters_block name_of gone_by by_sign guarded at_arm next_arm arm_entered turns_of turns at_least_once looped loop_stored loop_begun loop_tested grown_to grown_from grown turned_with turned work_after repeated repeat_begun item_turned stop_ending deed valued doing step
+unfolding onward go coursed onward_with overlaps piece_from piece_for pieces_for text_stored text_set picked nth_label contains assigned_by assigned_in labels_to_go block_is_entered behind_terminal block_end enters_from enters_block name_of gone_by by_sign guarded at_arm next_arm arm_entered turns_of turns at_least_once looped loop_stored loop_begun loop_tested grown_to grown_from grown turned_with turned work_after repeated repeat_begun item_turned stop_ending deed valued doing step
 step_opened = tt

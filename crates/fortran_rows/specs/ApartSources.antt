@@ -3,7 +3,7 @@ use Rattle.std.specs.Prelude.{List, [], ◌∷◌, ◌++◌, codes}
 use Rattle.fortran_checks.specs.f_tree.declared.units.FileSet.{FileSet}
 use Rattle.fortran_rows.specs.ActsSources.{argument_of_another_type, close_in_a_transfer, descriptor_of_another_type, dimension_past_32_bits, format_that_ends_early, function_of_another_type, item_of_another_type, label_in_a_block, label_of_another_unit, part_past_its_text, record_without_value, remainder_past_32_bits, text_too_short_for_its_dummy, zero_to_a_negative_power}
 use Rattle.fortran_rows.specs.BitsSources.{bits_by_position, bits_by_value, elements_longer_than_the_actual, functions_of_bits, length_of_a_sum_of_texts, longer_elements_past_the_actual, part_of_an_element}
-use Rattle.fortran_rows.specs.ControlSources.{assigned_branches, blocks_in_blocks, branches_by_number, jumps_out_of_loops, jumps_to_the_outer_loop, limits_valued_once, loops_that_share_their_end, returns_into_a_loop}
+use Rattle.fortran_rows.specs.ControlSources.{assigned_branches, blocks_in_blocks, branches_by_number, goto_without_labels, jumps_out_of_loops, jumps_to_the_outer_loop, limits_valued_once, loops_that_share_their_end, returns_into_a_loop}
 use Rattle.fortran_rows.specs.ErrorSources.{end_is_no_error, files_by_their_names, items_before_an_error, items_with_step_of_zero, numbers_of_errors, record_of_an_error, stopped_without_a_text, text_in_parentheses_moved, unit_before_format}
 use Rattle.fortran_rows.specs.ExpressionsSources.{constants_by_name, lists_by_value, operands_of_logicals, powers_and_quotients}
 use Rattle.fortran_rows.specs.FormatsSources.{columns_of_a_record, fields_of_each_kind, formats_that_are_texts, lists_in_lists, reversion_to_the_last_group, texts_as_files}
@@ -26,7 +26,7 @@ unfoldable pub bits_apart : List FileSet
 bits_apart = bits_by_value ∷ bits_by_position ∷ functions_of_bits ∷ length_of_a_sum_of_texts ∷ elements_longer_than_the_actual ∷ longer_elements_past_the_actual ∷ part_of_an_element (num 4) ∷ part_of_an_element (num 6) ∷ part_of_an_element (num 2) ∷ []
 
 unfoldable pub control_apart : List FileSet
-control_apart = loops_that_share_their_end ∷ jumps_out_of_loops ∷ limits_valued_once ∷ branches_by_number ∷ assigned_branches ∷ blocks_in_blocks ∷ jumps_to_the_outer_loop ∷ returns_into_a_loop ∷ []
+control_apart = loops_that_share_their_end ∷ jumps_out_of_loops ∷ limits_valued_once ∷ branches_by_number ∷ assigned_branches ∷ goto_without_labels ∷ blocks_in_blocks ∷ jumps_to_the_outer_loop ∷ returns_into_a_loop ∷ []
 
 unfoldable pub errors_apart : List FileSet
 errors_apart = items_with_step_of_zero ∷ text_in_parentheses_moved ∷ numbers_of_errors ∷ items_before_an_error ∷ record_of_an_error ∷ unit_before_format ∷ end_is_no_error ∷ stopped_without_a_text ∷ files_by_their_names ∷ []
@@ -68,7 +68,7 @@ unfoldable pub units_apart : List FileSet
 units_apart = records_read_again ∷ statuses_of_units ∷ blanks_as_zeros ∷ []
 
 unfoldable pub worked_apart : List FileSet
-worked_apart = sum_printed ∷ loop_look_alike ∷ loop_that_never_turns ∷ shared_terminal ∷ implied_loops ∷ (arms 1) ∷ (arms 2) ∷ (arms 3) ∷ decided_and ∷ (assigned_branch (10 ∷ [])) ∷ least_integer ∷ operands_from_the_left ∷ dummies_that_overlap ∷ entries_share_a_result ∷ alternate_returns ∷ loop_to_the_last_integer ∷ division_by_zero ∷ variable_without_value ∷ element_past_the_last ∷ step_of_zero ∷ variable_changed_in_its_loop ∷ (assigned_branch (20 ∷ [])) ∷ transfer_in_a_transfer ∷ recursion ∷ constant_defined ∷ argument_too_many ∷ function_without_result ∷ call_of_nothing ∷ dimension_of_no_element ∷ element_past_the_argument ∷ dummy_of_another_entry ∷ (array_of_a_dummy 5) ∷ texts_and_a_statement_function ∷ statement_function_in_another ∷ text_apart_from_itself ∷ text_moved_within_itself ∷ code_of_no_character ∷ values_from_data ∷ constants_and_bounds ∷ procedure_passed ∷ function_of_any_length ∷ (array_of_a_dummy 3) ∷ entries_of_two_types ∷ (unit_not_connected []) ∷ (unit_not_connected (status_in (codes "n") ∷ [])) ∷ written_over ∷ stopped ∷ []
+worked_apart = sum_printed ∷ loop_look_alike ∷ loop_that_never_turns ∷ shared_terminal ∷ implied_loops ∷ (arms 1) ∷ (arms 2) ∷ (arms 3) ∷ decided_and ∷ (assigned_branch (10 ∷ [])) ∷ (assigned_branch []) ∷ least_integer ∷ operands_from_the_left ∷ dummies_that_overlap ∷ entries_share_a_result ∷ alternate_returns ∷ loop_to_the_last_integer ∷ division_by_zero ∷ variable_without_value ∷ element_past_the_last ∷ step_of_zero ∷ variable_changed_in_its_loop ∷ (assigned_branch (20 ∷ [])) ∷ transfer_in_a_transfer ∷ recursion ∷ constant_defined ∷ argument_too_many ∷ function_without_result ∷ call_of_nothing ∷ dimension_of_no_element ∷ element_past_the_argument ∷ dummy_of_another_entry ∷ (array_of_a_dummy 5) ∷ texts_and_a_statement_function ∷ statement_function_in_another ∷ text_apart_from_itself ∷ text_moved_within_itself ∷ code_of_no_character ∷ values_from_data ∷ constants_and_bounds ∷ procedure_passed ∷ function_of_any_length ∷ (array_of_a_dummy 3) ∷ entries_of_two_types ∷ (unit_not_connected []) ∷ (unit_not_connected (status_in (codes "n") ∷ [])) ∷ written_over ∷ stopped ∷ []
 
 unfoldable pub sources_apart : List FileSet
 sources_apart = acts_apart ++ bits_apart ++ control_apart ++ errors_apart ++ expressions_apart ++ formats_apart ++ further_apart ++ inputs_apart ++ loops_apart ++ orders_apart ++ procedures_apart ++ ranges_apart ++ storage_apart ++ texts_apart ++ transfers_apart ++ units_apart ++ worked_apart

@@ -106,6 +106,28 @@ assigned_branches = one_file (
     on_card 11 body.End ∷ []) ∷
     [])
 
+-- examples/fortran/goto_without_labels.f
+unfoldable pub goto_without_labels : FileSet
+goto_without_labels = one_file (
+    main_program (
+    on_card 1 (body.Goto 40) ∷
+    labelled 10 2 (body.Assign (expr.Name N) (expr.Name I)) ∷
+    on_card 3 (body.Goto 30) ∷
+    labelled 20 4 (body.Assign (expr.Name N) (expr.Minus (expr.Name I))) ∷
+    labelled 30 5 (body.Transfer way.Write (record { word = word.Unit; value = value.Star } ∷ record { word = word.Format; value = value.Value (text (codes "(2I4)")) } ∷ []) ((item.Item (expr.Name I)) ∷ (item.Item (expr.Name N)) ∷ [])) ∷
+    on_card 6 (body.Assign (expr.Name I) (plus (expr.Name I) (num 1))) ∷
+    on_card 7 (body.IfOne (expr.Binary op.Greater (expr.Name I) (num 4)) (body.AssignLabel 60 K)) ∷
+    on_card 8 (body.GotoName K []) ∷
+    labelled 40 9 (body.Assign (expr.Name I) (num 1)) ∷
+    on_card 10 (body.AssignLabel 50 K) ∷
+    on_card 11 (body.GotoName K []) ∷
+    labelled 50 12 (body.IfOne (expr.Binary op.Less (expr.Name I) (num 3)) (body.AssignLabel 10 (codes "l"))) ∷
+    on_card 13 (body.IfOne (expr.Binary op.Equal (expr.Name I) (num 3)) (body.AssignLabel 20 (codes "l"))) ∷
+    on_card 14 (body.IfOne (expr.Binary op.Greater (expr.Name I) (num 0)) (body.GotoName (codes "l") [])) ∷
+    labelled 60 15 body.Continue ∷
+    on_card 16 body.End ∷ []) ∷
+    [])
+
 -- examples/fortran/blocks_in_blocks.f
 unfoldable pub blocks_in_blocks : FileSet
 blocks_in_blocks = one_file (
@@ -179,5 +201,5 @@ returns_into_a_loop = one_file (
     [])
 
 unfoldable pub control_sources_opened : Unit {0}
-unfolding loops_that_share_their_end jumps_out_of_loops limits_valued_once branches_by_number assigned_branches blocks_in_blocks jumps_to_the_outer_loop returns_into_a_loop
+unfolding loops_that_share_their_end jumps_out_of_loops limits_valued_once branches_by_number assigned_branches goto_without_labels blocks_in_blocks jumps_to_the_outer_loop returns_into_a_loop
 control_sources_opened = tt

@@ -9,10 +9,10 @@ ghost use Rattle.fortran_checks.specs.f_tree.Setting.{IsSetting};
 ghost use Rattle.fortran_checks.specs.f_tree.Values.{BadAssignedLabel, BadDimension, Disagreement, FormatEndsEarly, NoValue, OutOfBounds, Overflow, TransferInTransfer, WrongDescriptor, ZeroDivide};
 ghost use Rattle.fortran_checks.specs.f_tree.Runs.{ApartIsASetting, Ends, all_share_nothing, MeetsApart, no_options, setting_apart, units_with};
 ghost use Rattle.fortran_rows.specs.ApartSources.{sources_apart};
-ghost use Rattle.fortran_rows.specs.ActsSources.{argument_of_another_type, close_in_a_transfer, descriptor_of_another_type, dimension_past_32_bits, format_that_ends_early, function_of_another_type, item_of_another_type, label_in_a_block, label_of_another_unit, part_past_its_text, record_without_value, remainder_past_32_bits, text_too_short_for_its_dummy, zero_to_a_negative_power};
+ghost use Rattle.fortran_rows.specs.ActsSources.{argument_of_another_type, close_in_a_transfer, descriptor_of_another_type, dimension_past_32_bits, format_that_ends_early, function_of_another_type, item_of_another_type, label_in_a_block, part_past_its_text, record_without_value, remainder_past_32_bits, text_too_short_for_its_dummy, zero_to_a_negative_power};
 ghost use Rattle.fortran_rows.specs.BitsSources.{character_in_a_number, character_in_a_number_setting, numbers_that_overlap, numbers_that_overlap_setting};
 ghost use Rattle.fortran_rows.specs.StorageSources.{arrays_over_their_file, arrays_over_their_file_setting, block_named_external, block_named_external_setting, common_made_longer, common_made_longer_setting, common_that_differs_by_unit, common_that_differs_by_unit_setting, locals_that_stay, overlay_in_a_chain, overlay_in_a_chain_setting, overlay_of_a_matrix, overlay_of_a_matrix_setting, texts_that_overlap, texts_that_overlap_setting, values_before_the_run, values_of_a_block, values_of_a_block_setting};
-ghost use Rattle.fortran_rows.specs.ControlSources.{assigned_branches, blocks_in_blocks, branches_by_number, jumps_out_of_loops, jumps_to_the_outer_loop, limits_valued_once, loops_that_share_their_end, returns_into_a_loop};
+ghost use Rattle.fortran_rows.specs.ControlSources.{assigned_branches, blocks_in_blocks, branches_by_number, goto_without_labels, jumps_out_of_loops, jumps_to_the_outer_loop, loops_that_share_their_end, returns_into_a_loop};
 ghost use Rattle.fortran_rows.specs.ProceduresSources.{common_that_is_passed, common_that_is_passed_setting, dimensions_by_the_call, entries_with_one_result, entry_of_another_type, entries_with_their_dummies, functions_of_statements, parts_of_one_array, procedures_that_are_passed, returns_to_labels, two_names_of_one_place, values_that_are_passed};
 ghost use Rattle.fortran_rows.specs.SubstringsSources.{part_that_begins_an_array, parts_that_are_one_item};
 ghost use Rattle.fortran_rows.specs.TextsSources.{entries_of_texts, functions_of_any_length, functions_of_texts, parts_of_elements, texts_compared, texts_cut_and_filled};
@@ -22,7 +22,7 @@ ghost use Rattle.fortran_rows.specs.UnitsSources.{blanks_as_zeros, records_read_
 ghost use Rattle.fortran_rows.specs.ExpressionsSources.{constants_by_name, lists_by_value, operands_of_logicals, powers_and_quotients};
 ghost use Rattle.fortran_rows.specs.TransferSources.{bounds_from_zero, digits_of_a_square, file_opened_twice, many_continuations, nothing_to_read, nulls_and_a_slash, reversion_and_fields, stock_report, stock_report_setting, text_continued};
 ghost use Rattle.fortran_rows.specs.WorkedSources.{arrays_equivalenced, arrays_setting, common_seen_twice, common_setting, types_equivalenced, types_setting};
-ghost use Rattle.fortran_rows.specs.FurtherSources.{argument_in_parentheses, block_with_values, block_with_values_setting, branch_with_a_list, format_gone_on_with, integer_with_a_letter, loops_with_one_end, matrix_of_a_dummy, record_read_back, sum_of_a_square, text_cut, text_repeated};
+ghost use Rattle.fortran_rows.specs.FurtherSources.{block_with_values, block_with_values_setting, branch_with_a_list, format_gone_on_with, integer_with_a_letter, loops_with_one_end, matrix_of_a_dummy, record_read_back, sum_of_a_square, text_cut, text_repeated};
 
 /// Programs over COMMON, EQUIVALENCE and DATA end with the records that another processor writes for them.
 pub fn storage_programs()
@@ -42,9 +42,9 @@ pub fn storage_programs()
 pub fn control_programs()
     ensures loops_that_share_their_end_ends { Ends no_options loops_that_share_their_end (setting_apart (units_of no_options loops_that_share_their_end)) (units_with [] []) Plain (codes "    4    4  132" ∷ []) }
     ensures jumps_out_of_loops_ends { Ends no_options jumps_out_of_loops (setting_apart (units_of no_options jumps_out_of_loops)) (units_with [] []) Plain (codes "  3  4" ∷ codes "    5  703" ∷ []) }
-    ensures limits_valued_once_ends { Ends no_options limits_valued_once (setting_apart (units_of no_options limits_valued_once)) (units_with [] []) Plain (codes "   4  10   6" ∷ codes "  -2  24" ∷ codes "   2  24" ∷ []) }
     ensures branches_by_number_ends { Ends no_options branches_by_number (setting_apart (units_of no_options branches_by_number)) (units_with [] []) Plain (codes "  0  0 -1" ∷ codes "  1  1  0" ∷ codes "  2  2  1" ∷ codes "  3  3  1" ∷ codes "  4  0 -1" ∷ []) }
     ensures assigned_branches_ends { Ends no_options assigned_branches (setting_apart (units_of no_options assigned_branches)) (units_with [] []) Plain (codes "  20" ∷ []) }
+    ensures goto_without_labels_ends { Ends no_options goto_without_labels (setting_apart (units_of no_options goto_without_labels)) (units_with [] []) Plain (codes "   1   1" ∷ codes "   2   2" ∷ codes "   3  -3" ∷ codes "   4  -4" ∷ []) }
     ensures blocks_in_blocks_ends { Ends no_options blocks_in_blocks (setting_apart (units_of no_options blocks_in_blocks)) (units_with [] []) Plain (codes "  1  1" ∷ codes "  2  2" ∷ codes "  3  3" ∷ codes "  4  9" ∷ []) }
     ensures jumps_to_the_outer_loop_ends { Ends no_options jumps_to_the_outer_loop (setting_apart (units_of no_options jumps_to_the_outer_loop)) (units_with [] []) Plain (codes "   4   3  63" ∷ []) }
     ensures returns_into_a_loop_ends { Ends no_options returns_into_a_loop (setting_apart (units_of no_options returns_into_a_loop)) (units_with [] []) Plain (codes "     4 12011" ∷ codes "     4 12011" ∷ []) }
@@ -128,7 +128,6 @@ pub fn further_runs()
     ensures branch_with_a_list_ends { Ends no_options branch_with_a_list (setting_apart (units_of no_options branch_with_a_list)) (units_with [] []) Plain (codes "  2" ∷ []) }
     ensures loops_with_one_end_ends { Ends no_options loops_with_one_end (setting_apart (units_of no_options loops_with_one_end)) (units_with [] []) Plain (codes "  4 3 32" ∷ []) }
     ensures matrix_of_a_dummy_ends { Ends no_options matrix_of_a_dummy (setting_apart (units_of no_options matrix_of_a_dummy)) (units_with [] []) Plain (codes "  6 512 0" ∷ []) }
-    ensures argument_in_parentheses_ends { Ends no_options argument_in_parentheses (setting_apart (units_of no_options argument_in_parentheses)) (units_with [] []) Plain (codes "  1" ∷ codes "  5" ∷ []) }
     ensures block_with_values_ends { Ends no_options block_with_values block_with_values_setting (units_with [] []) Plain (codes "  4 9" ∷ []) }
     ensures text_cut_ends { Ends no_options text_cut (setting_apart (units_of no_options text_cut)) (units_with [] []) Plain (codes " ABC 3 3" ∷ []) }
     ensures text_repeated_ends { Ends no_options text_repeated (setting_apart (units_of no_options text_repeated)) (units_with [] []) Plain (codes " QQ!" ∷ []) }
@@ -148,7 +147,6 @@ pub fn further_acts()
     ensures zero_to_a_negative_power_meets { MeetsApart no_options zero_to_a_negative_power [] 0 ZeroDivide }
     ensures part_past_its_text_meets { MeetsApart no_options part_past_its_text [] 0 (OutOfBounds (codes "s") (pos 4)) }
     ensures label_in_a_block_meets { MeetsApart no_options label_in_a_block [] 1 BadAssignedLabel }
-    ensures label_of_another_unit_meets { MeetsApart no_options label_of_another_unit [] 3 BadAssignedLabel }
     ensures text_too_short_for_its_dummy_meets { MeetsApart no_options text_too_short_for_its_dummy [] 0 Disagreement }
     ensures argument_of_another_type_meets { MeetsApart no_options argument_of_another_type [] 0 Disagreement }
     ensures function_of_another_type_meets { MeetsApart no_options function_of_another_type [] 1 Disagreement }

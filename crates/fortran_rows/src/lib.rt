@@ -9,5 +9,4 @@ pub mod loop_rows;
 pub mod nest_rows;
 pub mod range_rows;
 pub mod rows;
-pub mod telling_rows;
 pub mod well_formed_rows;

@@ -14,7 +14,7 @@ ghost use Rattle.fortran_rows.specs.ErrorSources.{end_is_no_error, files_by_thei
 ghost use Rattle.fortran_rows.specs.OrderSources.{dimension_of_another_entry, format_fetched_last, items_of_no_turn, label_for_a_variable, pieces_fetched_last, procedure_for_a_variable, right_side_first};
 ghost use Rattle.fortran_rows.specs.StorageSources.{block_named_external};
 ghost use Rattle.fortran_rows.specs.SubstringsSources.{array_past_the_end, element_past_the_end, part_of_five, right_side_before_a_function, right_side_before_a_function_setting, right_side_before_a_statement_function, right_side_without_its_end};
-ghost use Rattle.fortran_rows.specs.WorkedSources.{alternate_returns, argument_too_many, arms, array_of_a_dummy, arrays_equivalenced, arrays_setting, assigned_branch, call_of_nothing, code_of_no_character, common_seen_twice, common_setting, constant_defined, constants_and_bounds, decided_and, dimension_of_no_element, division_by_zero, dummies_that_overlap, dummy_of_another_entry, element_past_the_argument, element_past_the_last, entries_of_two_types, entries_share_a_result, function_of_any_length, function_without_result, implied_loops, least_integer, loop_look_alike, loop_that_never_turns, loop_to_the_last_integer, num, operands_from_the_left, procedure_passed, recursion, shared_terminal, sign_of_the_least, statement_function_in_another, status_in, step_of_zero, stopped, sum_printed, text_apart_from_itself, text_moved_within_itself, texts_and_a_statement_function, transfer_in_a_transfer, types_equivalenced, types_setting, unit_not_connected, values_from_data, variable_changed_in_its_loop, variable_without_value, written_over};
+ghost use Rattle.fortran_rows.specs.WorkedSources.{alternate_returns, argument_too_many, arms, array_of_a_dummy, arrays_equivalenced, arrays_setting, assigned_branch, call_of_nothing, code_of_no_character, common_seen_twice, common_setting, constant_defined, constants_and_bounds, dimension_of_no_element, division_by_zero, dummy_of_another_entry, element_past_the_argument, element_past_the_last, entries_of_two_types, entries_share_a_result, function_of_any_length, function_without_result, implied_loops, least_integer, loop_look_alike, loop_that_never_turns, loop_to_the_last_integer, num, procedure_passed, recursion, shared_terminal, sign_of_the_least, statement_function_in_another, status_in, step_of_zero, stopped, sum_printed, text_apart_from_itself, text_moved_within_itself, texts_and_a_statement_function, transfer_in_a_transfer, types_equivalenced, types_setting, unit_not_connected, values_from_data, variable_changed_in_its_loop, variable_without_value, written_over};
 
 /// `I=2`, `PRINT *,I+3`, `END`: the assignment, the start, the item and the end of the PRINT, and END.
 pub fn sum_is_printed()
@@ -44,21 +44,19 @@ pub fn thousands_of_steps_run()
     ensures sums { RunsApart no_options sum_of_a_thousand [] 2005 Plain (codes "  500500" ∷ []) }
 {}
 
-/// The worked runs of IF blocks, a decided `.AND.` and an assigned GO TO.
+/// The worked runs of IF blocks and an assigned GO TO, with a list of labels and without.
 pub fn branches_run()
     ensures first_arm { RunsApart no_options (arms 1) [] 8 Plain (codes "  1" ∷ codes "  4" ∷ []) }
     ensures second_arm { RunsApart no_options (arms 2) [] 9 Plain (codes "  2" ∷ codes "  4" ∷ []) }
     ensures last_arm { RunsApart no_options (arms 3) [] 9 Plain (codes "  3" ∷ codes "  4" ∷ []) }
-    ensures decided { RunsApart no_options decided_and [] 5 Plain (codes "  2" ∷ []) }
     ensures assigned { RunsApart no_options (assigned_branch (10 ∷ [])) [] 5 Plain (codes "  1" ∷ []) }
+    ensures assigned_alone { RunsApart no_options (assigned_branch []) [] 5 Plain (codes "  1" ∷ []) }
     ensures least { RunsApart no_options least_integer [] 4 Plain (codes "  -2147483648" ∷ []) }
     ensures sign_of_least { RunsApart no_options (sign_of_the_least (expr.Minus (num 1))) [] 4 Plain (codes "  -2147483648" ∷ []) }
 {}
 
 /// The worked runs of calls.
 pub fn calls_run()
-    ensures from_the_left { RunsApart no_options operands_from_the_left [] 10 Plain (codes "  6 10" ∷ []) }
-    ensures overlaps { RunsApart no_options dummies_that_overlap [] 24 Plain (codes "  1 10 100 1000" ∷ []) }
     ensures entries { RunsApart no_options entries_share_a_result [] 10 Plain (codes "  4 8" ∷ []) }
     ensures alternates { RunsApart no_options alternate_returns [] 24 Plain (codes "  0" ∷ codes "  10" ∷ codes "  3" ∷ []) }
 {}

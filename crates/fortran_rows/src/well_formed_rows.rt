@@ -8,7 +8,7 @@ ghost use Rattle.fortran_checks.specs.f_tree.Runs.{no_options};
 ghost use Rattle.fortran_checks.specs.f_tree.WellFormed.{AreWellFormed};
 ghost use Rattle.fortran_rows.specs.ActsSources.{argument_of_another_type, close_in_a_transfer, descriptor_of_another_type, dimension_past_32_bits, format_that_ends_early, function_of_another_type, item_of_another_type, label_in_a_block, label_of_another_unit, part_past_its_text, record_without_value, remainder_past_32_bits, text_too_short_for_its_dummy, zero_to_a_negative_power};
 ghost use Rattle.fortran_rows.specs.BitsSources.{bits_by_position, bits_by_value, character_in_a_number, character_in_a_number_setting, elements_longer_than_the_actual, functions_of_bits, length_of_a_sum_of_texts, longer_elements_past_the_actual, numbers_that_overlap, numbers_that_overlap_setting, part_of_an_element};
-ghost use Rattle.fortran_rows.specs.ControlSources.{assigned_branches, blocks_in_blocks, branches_by_number, jumps_out_of_loops, jumps_to_the_outer_loop, limits_valued_once, loops_that_share_their_end, returns_into_a_loop};
+ghost use Rattle.fortran_rows.specs.ControlSources.{assigned_branches, blocks_in_blocks, branches_by_number, goto_without_labels, jumps_out_of_loops, jumps_to_the_outer_loop, limits_valued_once, loops_that_share_their_end, returns_into_a_loop};
 ghost use Rattle.fortran_rows.specs.ErrorSources.{end_is_no_error, files_by_their_names, items_before_an_error, items_with_step_of_zero, numbers_of_errors, record_of_an_error, stopped_without_a_text, text_in_parentheses_moved, unit_before_format};
 ghost use Rattle.fortran_rows.specs.ExpressionsSources.{constants_by_name, lists_by_value, operands_of_logicals, powers_and_quotients};
 ghost use Rattle.fortran_rows.specs.FormatsSources.{columns_of_a_record, fields_of_each_kind, formats_that_are_texts, lists_in_lists, reversion_to_the_last_group, texts_as_files};
@@ -33,7 +33,7 @@ ghost use Rattle.fortran_rows.specs.WorkedSources.{alternate_returns, argument_t
 pub fn worked_sets_are_well_formed()
     ensures sum { EachIsWellFormed (sum_printed ∷ []) }
     ensures loops { EachIsWellFormed (loop_look_alike ∷ loop_that_never_turns ∷ shared_terminal ∷ implied_loops ∷ []) }
-    ensures branches { EachIsWellFormed (arms 1 ∷ arms 2 ∷ arms 3 ∷ decided_and ∷ assigned_branch (10 ∷ []) ∷ least_integer ∷ sign_of_the_least (num 1) ∷ []) }
+    ensures branches { EachIsWellFormed (arms 1 ∷ arms 2 ∷ arms 3 ∷ decided_and ∷ assigned_branch (10 ∷ []) ∷ assigned_branch [] ∷ least_integer ∷ sign_of_the_least (num 1) ∷ []) }
     ensures calls { EachIsWellFormed (operands_from_the_left ∷ dummies_that_overlap ∷ entries_share_a_result ∷ alternate_returns ∷ []) }
     ensures acts_of_values { EachIsWellFormed (loop_to_the_last_integer ∷ division_by_zero ∷ variable_without_value ∷ element_past_the_last ∷ []) }
     ensures acts_of_control { EachIsWellFormed (step_of_zero ∷ variable_changed_in_its_loop ∷ assigned_branch (20 ∷ []) ∷ transfer_in_a_transfer ∷ []) }
@@ -59,7 +59,7 @@ pub fn example_sets_are_well_formed()
     ensures arrays_over_their_file { AreWellFormed arrays_over_their_file_setting (units_of no_options arrays_over_their_file) }
     ensures block_named_external { AreWellFormed block_named_external_setting (units_of no_options block_named_external) }
     ensures values_of_a_block { AreWellFormed values_of_a_block_setting (units_of no_options values_of_a_block) }
-    ensures control { EachIsWellFormed (loops_that_share_their_end ∷ jumps_out_of_loops ∷ limits_valued_once ∷ branches_by_number ∷ assigned_branches ∷ blocks_in_blocks ∷ jumps_to_the_outer_loop ∷ returns_into_a_loop ∷ []) }
+    ensures control { EachIsWellFormed (loops_that_share_their_end ∷ jumps_out_of_loops ∷ limits_valued_once ∷ branches_by_number ∷ assigned_branches ∷ goto_without_labels ∷ blocks_in_blocks ∷ jumps_to_the_outer_loop ∷ returns_into_a_loop ∷ []) }
     ensures procedures { EachIsWellFormed (two_names_of_one_place ∷ parts_of_one_array ∷ entries_with_one_result ∷ entry_of_another_type ∷ entries_with_their_dummies ∷ returns_to_labels ∷ functions_of_statements ∷ procedures_that_are_passed ∷ dimensions_by_the_call ∷ values_that_are_passed ∷ []) }
     ensures common_that_is_passed { AreWellFormed common_that_is_passed_setting (units_of no_options common_that_is_passed) }
     ensures texts { EachIsWellFormed (functions_of_any_length ∷ texts_cut_and_filled ∷ texts_compared ∷ functions_of_texts ∷ parts_of_elements ∷ entries_of_texts ∷ []) }

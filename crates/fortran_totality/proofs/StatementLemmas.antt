@@ -12,7 +12,7 @@ use Rattle.f_tree.specs.Facts.{ToSet, ToSetText, ToSetLabel, ToGo, ToPick, ToGoA
 use Rattle.f_tree.specs.World.{World, View, Round, RoundKind, Counted, While, Doing, Happening, proceeding}
 use Rattle.f_tree.specs.Places.{place_of_label, arm_from, arm_after, arrived, passed, gone_to}
 use Rattle.f_tree.specs.Records.{text_from}
-use Rattle.f_tree.specs.Step.{stop_ending, onward, go, onward_with, overlaps, piece_from, piece_for, pieces_for, text_stored, text_set, picked, nth_label, is_allowed, enters_block, name_of, gone_by, by_sign, guarded, at_arm, next_arm, arm_entered, at_least_once, turns, looped, loop_stored, loop_begun, loop_tested, Grown, grown_to, grown_from, grown, turned_with, turned, deed}
+use Rattle.f_tree.specs.Step.{stop_ending, onward, go, onward_with, overlaps, piece_from, piece_for, pieces_for, text_stored, text_set, picked, nth_label, contains, labels_to_go, enters_block, name_of, gone_by, by_sign, guarded, at_arm, next_arm, arm_entered, at_least_once, turns, looped, loop_stored, loop_begun, loop_tested, Grown, grown_to, grown_from, grown, turned_with, turned, deed}
 use Rattle.f_tree.specs.WellTyped as typed
 use Rattle.f_tree.specs.WellTyped.{Sort, ValueOf, PlaceOf, IsOf, AreOf, none_of, more_of, Answers, is_named, IsPiece, ArePieces, Sound}
 use Rattle.f_tree.specs.WellFormed as formed
@@ -216,10 +216,10 @@ pub labelled_happens : (c : Facts) (least : ℕ) (want : Wanted) (v : View) (w :
 unfolding gone_by is_named
 labelled_happens c least want v w labels whole ready (a_label owner label) =
     happens_where c least want v w
-    ((bytes_eq owner (name_of c.program) && is_allowed labels label) && not (enters_block c.program v.at (place_of_label c.program label)))
+    ((bytes_eq owner (name_of c.program) && contains (labels_to_go c.program labels) label) && not (enters_block c.program v.at (place_of_label c.program label)))
     (go c v w label) (Breaks BadAssignedLabel)
     (λ allowed. go_happens c least want v w label ready
-    (allowed_stands c.program v.at label (bytes_eq owner (name_of c.program) && is_allowed labels label) (place_of_label c.program label) refl allowed))
+    (allowed_stands c.program v.at label (bytes_eq owner (name_of c.program) && contains (labels_to_go c.program labels) label) (place_of_label c.program label) refl allowed))
     (holding.it_breaks BadAssignedLabel refl)
 
 pub gone_by_happens : (c : Facts) (least : ℕ) (want : Wanted) (v : View) (w : World) (labels : List ℕ) (r : Checked Whole) → IsReady c least want None v w → Answers IsLabelled r →

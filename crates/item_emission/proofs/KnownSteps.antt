@@ -166,10 +166,8 @@ labels-agree n (label ∷ labels) = ap (λ later. case_to label n ∷ later) (la
 
 switch-agrees : (names : Names) (n : ℕ) (labels : List ℕ) (o : Option Term) → option_and_then (item_for names) (switch_to (λ m. m) n labels o) ≡ switch_step n labels (expr_of names o)
 unfolding switch_to switch_step
-switch-agrees names n [] o = refl
-switch-agrees names n (label ∷ labels) o =
-    select-agrees names (cases_for (λ m. m) (suc n) (label ∷ labels)) (suc n + length (label ∷ labels)) o
-    ∙ ap (λ cases. select_step (expr_of names o) cases (suc n + length (label ∷ labels))) (labels-agree (suc n) (label ∷ labels))
+switch-agrees names n labels o =
+    select-agrees names (cases_for (λ m. m) (suc n) labels) (suc n + length labels) o ∙ ap (λ cases. select_step (expr_of names o) cases (suc n + length labels)) (labels-agree (suc n) labels)
 
 module _ (names : Names) (w : Writing) (known : Knowledge) (label : ℕ → Option ℕ) (agrees : StepsAreKnownBy names w known label) where
   pub value-known : (p : Pure) → expr_of names (value_term w p) ≡ value_expr known p

@@ -405,10 +405,9 @@ unfoldable pub label_cases : ℕ → List ℕ → List Case
 label_cases position [] = []
 label_cases position (label ∷ labels) = case_to label position ∷ label_cases (suc position) labels
 
--- GO TO by the label that a place holds: a `switch`; none where no labels are written
+-- GO TO by the label that a place holds: a `switch`, with a case for each label to which it may go, which may be none
 unfoldable pub switch_step : ℕ → List ℕ → Option CExpr → Option Item
-switch_step n [] value = None
-switch_step n (label ∷ labels) value = select_step value (label_cases (suc n) (label ∷ labels)) (suc n + length (label ∷ labels))
+switch_step n labels value = select_step value (label_cases (suc n) labels) (suc n + length labels)
 
 -- END and RETURN
 unfoldable pub return_step : Option CExpr → Option Item

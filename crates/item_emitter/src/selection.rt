@@ -101,7 +101,7 @@ fn label_cases(alloc: Global, position: usize, labels: &[u32]) -> Result<Vec<Cas
     Ok(row)
 }
 
-/// A label that a place holds picks the jump to it behind, where labels are written.
+/// A label that a place holds picks the jump to it behind.
 #[tactic(auto, unfolding(item_emission::specs::NamedEmission::switch_step))]
 pub(crate) fn switch(
     alloc: Global,
@@ -112,9 +112,6 @@ pub(crate) fn switch(
 ) -> Result<Option<Item>, AllocError>
     ensures { IfOk result (λ i. i ≡ spec.switch_step position labels.now (spec.place_expr (known_of known.now) (pure_of source.now))) }
 {
-    if labels.is_empty() {
-        return Ok(None);
-    }
     let otherwise = onward(position, labels.len())?;
     let cases = label_cases(alloc, position, labels)?;
     let held = place(alloc, known, source)?;

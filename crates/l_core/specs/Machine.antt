@@ -14,7 +14,7 @@ use Rattle.f_tree.specs.Association.{call, cut_to}
 use Rattle.f_tree.specs.Association as association
 use Rattle.f_tree.specs.Transfers.{begins, item_done, finished}
 use Rattle.f_tree.specs.UnitStatements.{auxiliary}
-use Rattle.f_tree.specs.Step.{text_set, is_allowed, name_of, stop_ending}
+use Rattle.f_tree.specs.Step.{text_set, contains, name_of, stop_ending}
 use Rattle.l_core.specs.Pures.{Temporary, Temporaries, none_kept, with_kept, meant, all_meant}
 use Rattle.l_core.specs.Steps.{Acting, Starts, Takes, Finishes, Auxiliary, Step, Keep, Put, PutText, PutLabel, Compute, Unless, Skip, Again, AgainIf, Jump, Select, JumpBy, Pass, CallFor, CallSub, Branch, Way, Back, BackBy, Halt, Acts, Text}
 
@@ -95,12 +95,8 @@ unfoldable pub passed_before : List ℕ → ℕ → ℕ
 passed_before [] l = 0
 passed_before (k ∷ ks) l = if nat_eq k l then 0 else suc (passed_before ks l)
 
-unfoldable pub to_held : Text → List ℕ → ℕ → View → World → Doing
-to_held u [] l v w = jump u l v w
-to_held u (k ∷ ks) l v w = past (passed_before (k ∷ ks) l) v w
-
 unfoldable pub jumping : Text → List ℕ → View → World → Checked Whole → Doing
-jumping u labels v w (Gives (Label owner l)) = if bytes_eq owner (name_of u.facts.program) && is_allowed labels l then to_held u labels l v w else Breaks BadAssignedLabel
+jumping u labels v w (Gives (Label owner l)) = if bytes_eq owner (name_of u.facts.program) && contains labels l then past (passed_before labels l) v w else Breaks BadAssignedLabel
 jumping u labels v w (Gives _) = Breaks NoMeaning
 jumping u labels v w (Fails act) = Breaks act
 
@@ -210,5 +206,5 @@ abbrev pub lowered : Lang Ending
 lowered = record { sorts = lowered_sorts; step = step; start = start; resume = resume; missing = MissingProcedure; busy = ActiveProcedure; plain = fortran.Plain }
 
 unfoldable pub lowered_opened : Unit {0}
-unfolding to onward past keeping storing put_at put_text_at put_label_at testing to_place jump passed_by selecting label_held passed_before to_held jumping resting waiting calling answering answer answering_by course_of coursing acting done step begun start gone_on resumed_at resume
+unfolding to onward past keeping storing put_at put_text_at put_label_at testing to_place jump passed_by selecting label_held passed_before jumping resting waiting calling answering answer answering_by course_of coursing acting done step begun start gone_on resumed_at resume
 lowered_opened = tt

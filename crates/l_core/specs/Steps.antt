@@ -37,7 +37,7 @@ pub data Step : Type 0 where
   Jump : ℕ → Step
   -- to the step behind that the number picks, of so many that each go to a label, or past them all (11.2)
   Select : Pure → ℕ → Step
-  -- to the step behind that goes to the label which the place holds, of those allowed, each with such a step; where none are written, to that label (11.3)
+  -- to the step behind that goes to the label which the place holds, of those to which it may go, each with such a step (11.3)
   JumpBy : Pure → List ℕ → Step
   Pass : Step
   -- a temporary gets the answer of a function that is called, or the number of the alternate return of a subroutine (15.2, 15.5, 15.8)
@@ -45,7 +45,7 @@ pub data Step : Type 0 where
   -- a subroutine is called to which no label is passed; a temporary gets nothing (15.6)
   CallSub : ℕ → Bytes → Pures → Step
   -- behind the call of a subroutine to which labels are passed: to the step behind that the number in the temporary picks, of so many that each go to
-  -- a label, or past them all (15.6.2.3)
+  -- a label, or past them all (15.6.2.3, 15.8.3)
   Branch : ℕ → ℕ → Step
   -- such a step: to the label of an alternate return
   Way : ℕ → Step

@@ -5,10 +5,11 @@ use Rattle.std.proofs.lemmas.List.{length-append}
 use Rattle.lowering.specs.l_core.f_tree.Terms.{Terms, NoMore, More}
 use Rattle.lowering.specs.l_core.f_tree.Facts as head
 use Rattle.lowering.specs.l_core.f_tree.Facts.{Head, Form, Passes, On, Mark, Plain, Opens, Arm, Closes, Line, ProgramUnit}
+use Rattle.lowering.specs.l_core.f_tree.Step.{assigned_in}
 use Rattle.lowering.specs.l_core.Pures.{Pure, Pures, NoPure, AndPure}
 use Rattle.lowering.specs.l_core.Steps.{Step, Put, Unless, AgainIf}
 use Rattle.lowering.specs.Statements.{behind_operands, with_operands, unless_code, loop_operands, test_by, loop_test, loop_code, form_code, head_code}
-use Rattle.lowering.specs.Units.{steps_of, is_counted, ended_at, turn_sizes, skip_size, form_size, line_size, size_before, start_of, mark_at, own_start, form_size_at, own_end}
+use Rattle.lowering.specs.Units.{listed, statement_code, steps_of, is_counted, ended_at, turn_sizes, skip_size, form_size, line_size, size_before, start_of, mark_at, own_start, form_size_at, own_end}
 
 -- ## Lists of steps
 
@@ -98,11 +99,16 @@ pub record HasDoCode (once : Bool) (k n : ℕ) (operands : Terms) (own : List St
   pub kind : IsDoCode once n (loop_operands k operands).value code
   pub is : (loop_operands k operands).steps ++ code ≡ own
 
-pub do_code : (once : Bool) (k n : ℕ) (label : Option ℕ) (operands : Terms) (own : List Step) → form_code once k n (On (head.ToLoop label) operands) ≡ Some own → HasDoCode once k n operands own
+do_code : (once : Bool) (k n : ℕ) (label : Option ℕ) (operands : Terms) (own : List Step) → form_code once k n (On (head.ToLoop label) operands) ≡ Some own → HasDoCode once k n operands own
 unfolding form_code head_code with_operands
 do_code once k n label operands own h =
     let b = behind_of (loop_operands k operands).steps (loop_code once n (loop_operands k operands).value) own h in
     record { code = b.later; kind = loop_code_of once n (loop_operands k operands).value b.later b.later_is; is = b.is }
+
+-- of a statement that is a DO
+pub do_coded : (p : ProgramUnit) (k n : ℕ) (form : Form) (do' : IsDo form) (own : List Step) → statement_code p k n form ≡ Some own → HasDoCode p.onetrip k n do'.operands own
+unfolding statement_code listed
+do_coded p k n form do' own h = do_code p.onetrip k n do'.label do'.operands own (ap (λ (z : Form). form_code p.onetrip k n (listed (assigned_in p.lines) z)) (sym do'.is) ∙ h)
 
 -- ## Sizes
 

@@ -7,13 +7,13 @@ use Rattle.lowering.specs.l_core.f_tree.Terms.{Operator, Function, Term, Val, Fe
 use Rattle.lowering.specs.l_core.f_tree.Facts as head
 use Rattle.lowering.specs.l_core.f_tree.Facts.{Direction, Layout, Controls, Item, Repeated, Turn, Work, Done, Before as Ahead, Form, Passes, On, Mark, Plain, Opens, Arm, Closes, Line, ProgramUnit}
 use Rattle.lowering.specs.l_core.f_tree.Nests.{Range}
-use Rattle.lowering.specs.l_core.f_tree.Step.{contains}
+use Rattle.lowering.specs.l_core.f_tree.Step.{assigned_by, assigned_in, contains}
 use Rattle.lowering.specs.l_core.f_tree.Setting.{IsIn, first_in, later_in}
 use Rattle.lowering.specs.l_core.Pures.{Pure, Pures, NoPure, AndPure}
 use Rattle.lowering.specs.l_core.Steps.{Step, Keep, Jump, Way, Again, AgainIf}
 use Rattle.lowering.specs.Expressions.{Purpose, ForUse, ForCall, ForReading, ForLater, Lowered, plain, and_then, no_operand, ahead, is_library, for_place, for_function, for_fetch, Shape, AsFetch, AsElement, AsAlone, AsPart, AsJoined, AsBefore, AsBetween, AsFunction, AsReference, pure_of, kept_steps, function_steps, closing, shaped, may_decide, takes_steps, guarded, lowered_between, in_order, lower, lower_all}
 use Rattle.lowering.specs.Statements.{behind_operands, with_operands, put_code, put_label_code, select_code, each_once, jump_by_code, sign_code, unless_code, guard_code, loop_operands, test_by, loop_test, loop_code, back_by, turn_code, labels_written, hides_labels, call_steps, call_code, back_code, item_purpose, item_code, work_code, begin_code, auxiliary_code, form_code, head_code}
-use Rattle.lowering.specs.Units.{free_at, label_in, named_by, named_by_head, all_named, is_named, pass_code, is_counted, turn_size, own_end, ended_at, room_of, way_back, turn_of, turns_of, skip_code, line_code, lines_code, loop_lowered}
+use Rattle.lowering.specs.Units.{free_at, label_in, named_by, named_by_head, all_named, is_named, pass_code, listed, statement_code, is_counted, turn_size, own_end, ended_at, room_of, way_back, turn_of, turns_of, skip_code, line_code, lines_code, loop_lowered}
 use Rattle.main_translation.specs.Outlined.{labels_in}
 use Rattle.loop_marks.proofs.Codes.{tests_back}
 use Rattle.loop_marks.proofs.Placed.{line_parts, both_by}
@@ -376,17 +376,41 @@ pass_quiet true Passes = refl
 pass_quiet true (On h operands) = refl
 pass_quiet false form = refl
 
+-- what a statement names, or where it goes by a variable without labels, the labels that ASSIGN statements of its unit name
+abbrev may_name : ProgramUnit → Form → List ℕ
+may_name p form = named_by form ++ assigned_in p.lines
+
+wider : (labels more : List ℕ) (xs : List Step) → ((label : ℕ) → IsIn label labels → IsIn label more) → Within labels xs → Within more xs
+wider labels more xs each within = record { at = λ label among. each label (within.at label among) }
+
+to_go : (labels assigned : List ℕ) (ts : Terms) (label : ℕ) → IsIn label (named_by (listed assigned (On (head.ToGoAssigned labels) ts))) → IsIn label (labels ++ assigned)
+unfolding named_by named_by_head listed
+to_go [] assigned ts label among = among
+to_go (l ∷ ls) assigned ts label among = in_front (l ∷ ls) assigned label among
+
+listed_names : (assigned : List ℕ) (form : Form) (label : ℕ) → IsIn label (named_by (listed assigned form)) → IsIn label (named_by form ++ assigned)
+unfolding named_by named_by_head listed
+listed_names assigned (On (head.ToGoAssigned labels) ts) label among = to_go labels assigned ts label among
+listed_names assigned (On (head.ToGuard form) ts) label among = listed_names assigned form label among
+listed_names assigned form label among = in_front (named_by form) assigned label among
+
+code_onward : (p : ProgramUnit) (k n : ℕ) (form : Form) (own : List Step) → statement_code p k n form ≡ Some own → Onward (may_name p form) own
+unfolding statement_code
+code_onward p k n form own is =
+    let code = form_within p.onetrip k n (listed (assigned_in p.lines) form) own is in
+    record { within = wider (named_by (listed (assigned_in p.lines) form)) (may_name p form) own (listed_names (assigned_in p.lines) form) code.within; still = code.still }
+
 -- what a statement has before the steps that turn loops
-own_onward : (p : ProgramUnit) (i : ℕ) (line : Line) (own : List Step) → form_code p.onetrip (free_at p i) (room_of p i line) line.form ≡ Some own
-    → Onward (named_by line.form) ((skip_code p i line.mark ++ own) ++ pass_code (is_named (all_named p.lines) line.label) line.form)
+own_onward : (p : ProgramUnit) (i : ℕ) (line : Line) (own : List Step) → statement_code p (free_at p i) (room_of p i line) line.form ≡ Some own
+    → Onward (may_name p line.form) ((skip_code p i line.mark ++ own) ++ pass_code (is_named (all_named p.lines) line.label) line.form)
 own_onward p i line own is =
     let pass = pass_code (is_named (all_named p.lines) line.label) line.form in
-    let labels = named_by line.form in
+    let labels = may_name p line.form in
     onward_both labels (skip_code p i line.mark ++ own) pass
-    (onward_both labels (skip_code p i line.mark) own (quiet labels (skip_code p i line.mark) (skip_quiet p i line.mark)) (form_within p.onetrip (free_at p i) (room_of p i line) line.form own is))
+    (onward_both labels (skip_code p i line.mark) own (quiet labels (skip_code p i line.mark) (skip_quiet p i line.mark)) (code_onward p (free_at p i) (room_of p i line) line.form own is))
     (quiet labels pass (pass_quiet (is_named (all_named p.lines) line.label) line.form))
 
-pub own_still : (p : ProgramUnit) (i : ℕ) (line : Line) (own : List Step) → form_code p.onetrip (free_at p i) (room_of p i line) line.form ≡ Some own
+pub own_still : (p : ProgramUnit) (i : ℕ) (line : Line) (own : List Step) → statement_code p (free_at p i) (room_of p i line) line.form ≡ Some own
     → list_any tests_back ((skip_code p i line.mark ++ own) ++ pass_code (is_named (all_named p.lines) line.label) line.form) ≡ false
 own_still p i line own is = (own_onward p i line own is).still
 
@@ -413,26 +437,43 @@ turns_quiet p from (r ∷ rs) = labels_both (turn_of p from r) (turns_of p (from
     by true = turn_quiet p.onetrip (way_back p r (from + 1)) (loop_lowered p (free_at p r.first) r).value
     by false = refl
 
-line_within : (p : ProgramUnit) (i : ℕ) (line : Line) (code : List Step) → line_code p i line ≡ Some code → Within (named_by line.form) code
+line_within : (p : ProgramUnit) (i : ℕ) (line : Line) (code : List Step) → line_code p i line ≡ Some code → Within (may_name p line.form) code
 line_within p i line code h =
     let parts = line_parts p i line code h in
     let turns = turns_of p (own_end p i) (ended_at p i) in
-    let labels = named_by line.form in
+    let labels = may_name p line.form in
     let before = (skip_code p i line.mark ++ parts.own) ++ pass_code (is_named (all_named p.lines) line.label) line.form in
     subst (Within labels) parts.all (within_both labels before turns (own_onward p i line parts.own parts.is).within (none_within labels turns (turns_quiet p (own_end p i) (ended_at p i))))
 
-wider : (labels more : List ℕ) (xs : List Step) → ((label : ℕ) → IsIn label labels → IsIn label more) → Within labels xs → Within more xs
-wider labels more xs each within = record { at = λ label among. each label (within.at label among) }
+-- the labels that ASSIGN statements name are named
+assigned_names : (form : Form) (label : ℕ) → IsIn label (assigned_by form) → IsIn label (named_by form)
+unfolding assigned_by named_by named_by_head
+assigned_names (On (head.ToSetLabel l) ts) label among = among
+assigned_names (On (head.ToGuard form) ts) label among = assigned_names form label among
+assigned_names form label among = no_label_in label (named_by form) among
 
-all_within : (p : ProgramUnit) (i : ℕ) (lines : List Line) (steps : List Step) → lines_code p i lines ≡ Some steps → Within (all_named lines) steps
+all_assigned : (lines : List Line) (label : ℕ) → IsIn label (assigned_in lines) → IsIn label (all_named lines)
+unfolding assigned_in all_named
+all_assigned [] label among = among
+all_assigned (line ∷ lines) label among =
+    from_both label (assigned_by line.form) (assigned_in lines) (named_by line.form ++ all_named lines) among
+    (λ one. in_front (named_by line.form) (all_named lines) label (assigned_names line.form label one)) (λ other. in_back (named_by line.form) (all_named lines) label (all_assigned lines label other))
+
+-- what one statement may name is named in its unit
+one_named : (p : ProgramUnit) (form : Form) → ((label : ℕ) → IsIn label (named_by form) → IsIn label (all_named p.lines)) → (label : ℕ) → IsIn label (may_name p form) → IsIn label (all_named p.lines)
+one_named p form each label among = from_both label (named_by form) (assigned_in p.lines) (all_named p.lines) among (each label) (all_assigned p.lines label)
+
+all_within : (p : ProgramUnit) (i : ℕ) (lines : List Line) (steps : List Step) → ((label : ℕ) → IsIn label (all_named lines) → IsIn label (all_named p.lines)) → lines_code p i lines ≡ Some steps
+    → Within (all_named p.lines) steps
 unfolding lines_code all_named labels_in
-all_within p i [] steps h = none_within [] steps (ap labels_in (let same : steps ≡ [] = cc in same))
-all_within p i (line ∷ lines) steps h =
+all_within p i [] steps each h = none_within (all_named p.lines) steps (ap labels_in (let same : steps ≡ [] = cc in same))
+all_within p i (line ∷ lines) steps each h =
     let both = both_by (line_code p i line) (lines_code p (suc i) lines) steps h in
-    subst (Within (named_by line.form ++ all_named lines)) both.all
-    (within_both (named_by line.form ++ all_named lines) both.first both.later
-    (wider (named_by line.form) (named_by line.form ++ all_named lines) both.first (λ label among. in_front (named_by line.form) (all_named lines) label among) (line_within p i line both.first both.first_is))
-    (wider (all_named lines) (named_by line.form ++ all_named lines) both.later (λ label among. in_back (named_by line.form) (all_named lines) label among) (all_within p (suc i) lines both.later both.later_is)))
+    subst (Within (all_named p.lines)) both.all
+    (within_both (all_named p.lines) both.first both.later
+    (wider (may_name p line.form) (all_named p.lines) both.first (one_named p line.form (λ label among. each label (in_front (named_by line.form) (all_named lines) label among)))
+    (line_within p i line both.first both.first_is))
+    (all_within p (suc i) lines both.later (λ label among. each label (in_back (named_by line.form) (all_named lines) label among)) both.later_is))
 
-pub lines_within : (p : ProgramUnit) (i : ℕ) (lines : List Line) (steps : List Step) → lines_code p i lines ≡ Some steps → (label : ℕ) → IsIn label (labels_in steps) → IsIn label (all_named lines)
-lines_within p i lines steps h = (all_within p i lines steps h).at
+pub lines_within : (p : ProgramUnit) (steps : List Step) → lines_code p 0 p.lines ≡ Some steps → (label : ℕ) → IsIn label (labels_in steps) → IsIn label (all_named p.lines)
+lines_within p steps h = (all_within p 0 p.lines steps (λ label among. among) h).at

@@ -8,9 +8,9 @@ use Rattle.lowering.specs.l_core.f_tree.Places.{arm_after}
 use Rattle.lowering.specs.l_core.f_tree.Setting.{IsIn, first_in, later_in}
 use Rattle.lowering.specs.l_core.Pures.{Pure}
 use Rattle.lowering.specs.l_core.Steps.{Step, Put, Unless, AgainIf}
-use Rattle.lowering.specs.Statements.{loop_operands, test_by, loop_test, back_by, form_code}
+use Rattle.lowering.specs.Statements.{loop_operands, test_by, loop_test, back_by}
 use Rattle.lowering.specs.Units.{all_named, is_named, pass_code, is_counted, turn_size, ended_at, turns_up_to, start_of, own_start, own_end, arm_room, loop_exit, range_of, loop_room, room_of, way_back, turn_of, turns_of, skip_code, free_at, lines_code}
-use Rattle.loop_marks.proofs.Codes.{StandsAt, stands_front, stands_back, IsDo, do_counts, do_code, ends_at_line, ends_up}
+use Rattle.loop_marks.proofs.Codes.{StandsAt, stands_front, stands_back, IsDo, do_counts, do_coded, ends_at_line, ends_up}
 use Rattle.loop_marks.proofs.Placed.{line_parts, skip_long, own_long, placed_at, turns_at, turn_long, turn_is}
 use Rattle.loop_marks.proofs.Ranges.{ends_in, has_range, ends_among_ended, turns_two}
 
@@ -135,7 +135,7 @@ module _ (p : ProgramUnit) (steps : List Step) (lowered : lines_code p 0 p.lines
   has_loop i line is plain do' =
       let placed = placed_at p steps lowered i line is in
       let parts = line_parts p i line placed.code placed.is in
-      let code = do_code p.onetrip (free_at p i) (room_of p i line) do'.label do'.operands parts.own (ap (λ (z : Form). form_code p.onetrip (free_at p i) (room_of p i line) z) (sym do'.is) ∙ parts.is) in
+      let code = do_coded p (free_at p i) (room_of p i line) line.form do' parts.own parts.is in
       let kind = code.kind in
       let test = test_by kind.variable kind.limit kind.by in
       let two = Put kind.variable kind.first ∷ loop_test p.onetrip test (room_of p i line) in

@@ -6,12 +6,13 @@ use Rattle.lowering.specs.l_core.f_tree.Terms.{Terms, NoMore}
 use Rattle.lowering.specs.l_core.f_tree.Facts as head
 use Rattle.lowering.specs.l_core.f_tree.Facts.{Form, Passes, On, Mark, Plain, Opens, Arm, Closes, Line, ProgramUnit}
 use Rattle.lowering.specs.l_core.f_tree.Nests.{Range}
+use Rattle.lowering.specs.l_core.f_tree.Step.{assigned_in}
 use Rattle.lowering.specs.l_core.Pures.{Pure, Pures, NoPure, AndPure}
 use Rattle.lowering.specs.l_core.Steps.{Step, Put, Again}
 use Rattle.lowering.specs.Expressions.{Lowered}
-use Rattle.lowering.specs.Statements.{loop_operands, test_by, back_by, turn_code, form_code}
-use Rattle.lowering.specs.Units.{loop_at_line, loop_lowered, free_at, all_named, is_named, pass_code, steps_of, is_counted, turn_size, ended_at, turn_sizes, skip_size, form_size, line_size, size_before, start_of, own_end, room_of, way_back, turn_of, turns_of, skip_code, line_code, both_codes, lines_code}
-use Rattle.loop_marks.proofs.Codes.{StandsAt, stands_whole, stands_front, stands_back, IsDo, do_found, HasDoCode, do_code, form_long, ends_at_line}
+use Rattle.lowering.specs.Statements.{loop_operands, test_by, back_by, turn_code}
+use Rattle.lowering.specs.Units.{loop_at_line, loop_lowered, free_at, all_named, is_named, pass_code, listed, statement_code, steps_of, is_counted, turn_size, ended_at, turn_sizes, skip_size, form_size, line_size, size_before, start_of, own_end, room_of, way_back, turn_of, turns_of, skip_code, line_code, both_codes, lines_code}
+use Rattle.loop_marks.proofs.Codes.{StandsAt, stands_whole, stands_front, stands_back, IsDo, do_found, HasDoCode, do_coded, form_long, ends_at_line}
 
 if_true : {A : Type 0} → (b : Bool) (x y : A) → b ≡ true → (if b then x else y) ≡ x
 if_true b x y is = ap (λ c. if c then x else y) is
@@ -23,10 +24,10 @@ if_false b x y is = ap (λ c. if c then x else y) is
 
 pub record LineParts (p : ProgramUnit) (i : ℕ) (line : Line) (code : List Step) : Type 0 where
   pub own : List Step
-  pub is : form_code p.onetrip (free_at p i) (room_of p i line) line.form ≡ Some own
+  pub is : statement_code p (free_at p i) (room_of p i line) line.form ≡ Some own
   pub all : ((skip_code p i line.mark ++ own) ++ pass_code (is_named (all_named p.lines) line.label) line.form) ++ turns_of p (own_end p i) (ended_at p i) ≡ code
 
-parts_by : (p : ProgramUnit) (i : ℕ) (line : Line) (code : List Step) (x : Option (List Step)) → form_code p.onetrip (free_at p i) (room_of p i line) line.form ≡ x
+parts_by : (p : ProgramUnit) (i : ℕ) (line : Line) (code : List Step) (x : Option (List Step)) → statement_code p (free_at p i) (room_of p i line) line.form ≡ x
     → option_map (λ own. ((skip_code p i line.mark ++ own) ++ pass_code (is_named (all_named p.lines) line.label) line.form) ++ turns_of p (own_end p i) (ended_at p i)) x ≡ Some code → LineParts p i line code
 parts_by p i line code None is e = absurd (cc)
 parts_by p i line code (Some own) is e =
@@ -35,7 +36,7 @@ parts_by p i line code (Some own) is e =
 
 pub line_parts : (p : ProgramUnit) (i : ℕ) (line : Line) (code : List Step) → line_code p i line ≡ Some code → LineParts p i line code
 unfolding line_code
-line_parts p i line code e = parts_by p i line code (form_code p.onetrip (free_at p i) (room_of p i line) line.form) refl e
+line_parts p i line code e = parts_by p i line code (statement_code p (free_at p i) (room_of p i line) line.form) refl e
 
 pub skip_long : (p : ProgramUnit) (i : ℕ) (mark : Mark) → length (skip_code p i mark) ≡ skip_size mark
 unfolding skip_code skip_size
@@ -44,11 +45,11 @@ skip_long p i Opens = refl
 skip_long p i Arm = refl
 skip_long p i Closes = refl
 
-pub own_long : (p : ProgramUnit) (i : ℕ) (line : Line) (own : List Step) → form_code p.onetrip (free_at p i) (room_of p i line) line.form ≡ Some own
+pub own_long : (p : ProgramUnit) (i : ℕ) (line : Line) (own : List Step) → statement_code p (free_at p i) (room_of p i line) line.form ≡ Some own
     → form_size p i line ≡ length own + length (pass_code (is_named (all_named p.lines) line.label) line.form)
-unfolding form_size steps_of
+unfolding form_size statement_code steps_of
 own_long p i line own is =
-    ap (λ z. z + length (pass_code (is_named (all_named p.lines) line.label) line.form)) (sym (form_long p.onetrip (free_at p i) (room_of p i line) line.form) ∙ ap (λ x. length (steps_of x)) is)
+    ap (λ z. z + length (pass_code (is_named (all_named p.lines) line.label) line.form)) (sym (form_long p.onetrip (free_at p i) (room_of p i line) (listed (assigned_in p.lines) line.form)) ∙ ap (λ x. length (steps_of x)) is)
 
 -- ## Both codes
 
@@ -117,7 +118,7 @@ module _ (p : ProgramUnit) (steps : List Step) (lowered : lines_code p 0 p.lines
   pub do_code_at : (i : ℕ) (line : Line) → slice_get p.lines i ≡ Some line → (do' : IsDo line.form) → (own : List Step) × HasDoCode p.onetrip (free_at p i) (room_of p i line) do'.operands own
   do_code_at i line is do' =
       let parts = parts_at i line is in
-      (parts.1.own, do_code p.onetrip (free_at p i) (room_of p i line) do'.label do'.operands parts.1.own (ap (form_code p.onetrip (free_at p i) (room_of p i line)) (sym do'.is) ∙ parts.1.is))
+      (parts.1.own, do_coded p (free_at p i) (room_of p i line) line.form do' parts.1.own parts.1.is)
 
   pub turn_is : (from : ℕ) (r : Range) → is_counted (slice_get p.lines r.first) ≡ true → IsTurn p from r
   unfolding loop_lowered

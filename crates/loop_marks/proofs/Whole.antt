@@ -43,4 +43,4 @@ each_text_marks_its_loops c u plain ends h =
 pub each_branch_is_named : EachBranchIsNamed
 each_branch_is_named c u h label among =
     let text = text_of c u h in
-    subst (λ (d : Facts). IsIn label (all_named d.program.lines)) (sym text.facts) (lines_within u.facts.program 0 u.facts.program.lines u.steps text.steps label among)
+    subst (λ (d : Facts). IsIn label (all_named d.program.lines)) (sym text.facts) (lines_within u.facts.program u.steps text.steps label among)

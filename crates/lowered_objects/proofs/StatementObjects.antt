@@ -9,7 +9,7 @@ use Rattle.lowered_sizes.specs.l_core.Pures.{Pure, Pures, NoPure, AndPure}
 use Rattle.lowered_sizes.specs.l_core.Steps.{Takes, Step, Put, Jump, Way, Back, Halt, Acts}
 use Rattle.lowered_sizes.specs.lowering.Expressions.{ForUse, ForCall, ForLater, Lowered, ahead, lower, lower_all}
 use Rattle.lowered_sizes.specs.lowering.Statements.{behind_operands, with_operands, put_code, put_label_code, select_code, each_once, jump_by_code, sign_code, unless_code, guard_code, loop_operands, test_by, loop_test, loop_code, labels_written, hides_labels, call_steps, call_code, back_code, item_purpose, item_code, work_code, begin_code, auxiliary_code, form_code, head_code}
-use Rattle.lowered_sizes.specs.lowering.Units.{steps_of}
+use Rattle.lowered_sizes.specs.lowering.Units.{listed, steps_of}
 use Rattle.lowered_sizes.specs.ReadNodes.{term_nodes, terms_nodes, job_nodes, work_nodes, form_nodes, head_nodes}
 use Rattle.unit_translation.specs.UnitContents.{temporaries_kept}
 use Rattle.lowered_objects.specs.FewObjects.{form_text, head_text, string_bytes, strings_bytes}
@@ -244,3 +244,11 @@ mutual
   head_needs once k n (ToAuxiliary which controls) ts = idly k (terms_nodes ts) 0 _ (auxiliary_code which controls) (all_few NoPure ForUse k ts) (auxiliary_idle which controls)
   head_needs once k n ToEnd NoMore = step_needs k 0 0 Back (record { kept = omega arith; values = omega arith; bytes = omega arith })
   head_needs once k n head ts = nothing_needed k _ _
+
+-- with labels for a GO TO by a variable that has none
+pub listed_needs : (once : Bool) (k n : ℕ) (labels : List ℕ) (form : Form) → Needs k (form_nodes form) (form_text form) (form_code once k n (listed labels form))
+unfolding form_code head_code form_nodes head_nodes form_text head_text terms_nodes listed
+listed_needs once k n labels (On (ToGoAssigned []) ts) = idly k (terms_nodes ts) 0 _ (jump_by_code labels) (all_few NoPure ForUse k ts) (jump_by_idle labels)
+listed_needs once k n labels (On (ToGuard form) ts) =
+    guard_needs k (terms_nodes ts) (form_nodes form) (form_text form) _ (form_code once k 0 (listed labels form)) (all_few NoPure ForUse k ts) (listed_needs once k 0 labels form)
+listed_needs once k n labels form = form_needs once k n form

@@ -7,10 +7,11 @@ use Rattle.lowered_sizes.specs.l_core.f_tree.Terms.{Terms, NoMore}
 use Rattle.lowered_sizes.specs.l_core.f_tree.Facts.{LoopMark, Mark, Plain, Opens, Arm, Closes, ToLoop, Head, Form, Passes, On, Line, ProgramUnit, Facts}
 use Rattle.lowered_sizes.specs.l_core.f_tree.Nests.{Range, loop_of, range_to, range_by, ranges_from, ranges_of, is_within, open_at}
 use Rattle.lowered_sizes.specs.l_core.f_tree.Places.{terminal_of, place_of_label}
+use Rattle.lowered_sizes.specs.l_core.f_tree.Step.{assigned_in}
 use Rattle.lowered_sizes.specs.l_core.Pures.{Pure, Constant, Pures, NoPure, AndPure}
 use Rattle.lowered_sizes.specs.l_core.Steps.{Takes, Step, Put, Compute, Again, Pass, CallFor, CallSub, Acts, Text}
 use Rattle.lowered_sizes.specs.lowering.Statements.{loop_operands, test_by, back_by, turn_code, form_code}
-use Rattle.lowered_sizes.specs.lowering.Units.{loop_at_line, free_of, free_at, loop_lowered, all_named, is_named, pass_code, steps_of, is_counted, turn_size, ended_at, own_end, room_of, way_back, turn_of, turns_of, skip_code, line_code, both_codes, lines_code, start_of, lines_marks, text_with}
+use Rattle.lowered_sizes.specs.lowering.Units.{loop_at_line, free_of, free_at, loop_lowered, all_named, is_named, pass_code, listed, statement_code, steps_of, is_counted, turn_size, ended_at, own_end, room_of, way_back, turn_of, turns_of, skip_code, line_code, both_codes, lines_code, start_of, lines_marks, text_with}
 use Rattle.lowered_sizes.specs.ReadNodes.{terms_nodes, head_nodes, form_nodes, lines_nodes}
 use Rattle.unit_translation.specs.main_translation.Contents.{own_value, own_values, kind_value}
 use Rattle.unit_translation.specs.behind_bounds.BehindBounds.{behind, steps_behind}
@@ -18,7 +19,7 @@ use Rattle.unit_translation.specs.UnitContents.{temporaries_kept, values_passed,
 use Rattle.lowered_objects.specs.FewObjects.{form_text, lines_text, string_bytes, strings_bytes, EachTextNeedsFewObjects}
 use Rattle.lowered_sizes.proofs.ways_back.LoweredTexts.{text_lowered}
 use Rattle.lowered_objects.proofs.ExpressionObjects.{count, passed, all_passed, Has, has_none, has_more, has_both}
-use Rattle.lowered_objects.proofs.StatementObjects.{loop_few, form_needs}
+use Rattle.lowered_objects.proofs.StatementObjects.{loop_few, listed_needs}
 
 -- ## Temporaries that open loops keep
 
@@ -161,11 +162,11 @@ around top most long before behind last (Some steps) one two three h =
     (has_both top (0 + most) 0 (0 + long) 0 (before ++ steps) behind (has_both top 0 most 0 long before steps (up before one) h) (up behind two)) (up last three))
 
 line_has : (u : ProgramUnit) (i : ℕ) (line : Line) → Has (free_at u i + form_nodes line.form) (3 * form_nodes line.form) (form_nodes line.form + form_text line.form) (steps_of (line_code u i line))
-unfolding line_code
+unfolding line_code statement_code
 line_has u i line =
     around (free_at u i + form_nodes line.form) (3 * form_nodes line.form) (form_nodes line.form + form_text line.form) (skip_code u i line.mark) (pass_code (is_named (all_named u.lines) line.label) line.form) (turns_of u (own_end u i) (ended_at u i))
-    (form_code u.onetrip (free_at u i) (room_of u i line) line.form) (skip_idle u i line.mark) (pass_idle (is_named (all_named u.lines) line.label) line.form) (turns_idle u (own_end u i) (ended_at u i))
-    (form_needs u.onetrip (free_at u i) (room_of u i line) line.form)
+    (form_code u.onetrip (free_at u i) (room_of u i line) (listed (assigned_in u.lines) line.form)) (skip_idle u i line.mark) (pass_idle (is_named (all_named u.lines) line.label) line.form) (turns_idle u (own_end u i) (ended_at u i))
+    (listed_needs u.onetrip (free_at u i) (room_of u i line) (assigned_in u.lines) line.form)
 
 both_has : (top v w b c : ℕ) (x y : Option (List Step)) → Has top v b (steps_of x) → Has top w c (steps_of y) → Has top (v + w) (b + c) (steps_of (both_codes x y))
 unfolding both_codes steps_of

@@ -11,7 +11,7 @@ use Rattle.lowering.specs.l_core.Pures.{Pure, Pures, NoPure, AndPure}
 use Rattle.lowering.specs.l_core.Steps.{Takes, Step, Jump, Way, Acts}
 use Rattle.lowering.specs.Expressions.{Purpose, ForUse, ForCall, ForLater, Lowered, ahead, lower, lower_all}
 use Rattle.lowering.specs.Statements.{behind_operands, with_operands, put_code, put_label_code, select_code, each_once, jump_by_code, sign_code, unless_code, guard_code, loop_operands, test_by, loop_test, loop_code, label_written, labels_written, hides_labels, call_steps, call_code, back_code, item_purpose, item_code, work_code, begin_code, auxiliary_code, form_code, head_code}
-use Rattle.lowering.specs.Units.{steps_of}
+use Rattle.lowering.specs.Units.{listed, steps_of}
 use Rattle.lowered_sizes.specs.ReadNodes.{term_nodes, terms_nodes, job_nodes, work_nodes, form_nodes, head_nodes}
 use Rattle.lowered_sizes.proofs.ExpressionSteps.{and_size, lower_size, all_size}
 
@@ -207,3 +207,18 @@ mutual
   head_size once k n (ToAuxiliary which controls) ts = within _ (terms_nodes ts) 1 0 (used k ForUse ts (auxiliary_code which controls) 1 (auxiliary_size which controls)) (omega arith)
   head_size once k n ToEnd NoMore = omega arith
   head_size once k n head ts = omega arith
+
+-- ## GO TO by a variable without its labels
+
+more : (x n m : ℕ) → x ≤ n → x ≤ n + m
+more x n m h = omega (arith, h)
+
+-- it takes a step for each label to which it may go, and all else as many as are written
+pub listed_size : (once : Bool) (k n : ℕ) (labels : List ℕ) (form : Form) → count (form_code once k n (listed labels form)) ≤ 5 * form_nodes form + length labels
+unfolding listed form_code head_code form_nodes head_nodes
+listed_size once k n labels (On (ToGoAssigned []) ts) = let own = used k ForUse ts (jump_by_code labels) (1 + length labels) (jump_by_size labels) in omega (arith, own)
+listed_size once k n labels (On (ToGuard form) ts) =
+    let under = listed_size once k 0 labels form in
+    let whole = guard_size (lower_all NoPure ForUse k ts) (form_code once k 0 (listed labels form)) (terms_nodes ts) (all_size NoPure ForUse k ts) in
+    omega (arith, under, whole)
+listed_size once k n labels form = more (count (form_code once k n form)) (5 * form_nodes form) (length labels) (form_size once k n form)

@@ -2,16 +2,17 @@
 use Rattle.std.specs.Prelude.{◌≡◌, ℕ, suc, ◌+◌, ◌*◌, ◌≤◌, not, Bool, true, false, List, [], ◌∷◌, ◌++◌, length, filter, Option, Some, None, slice_get, option_map, cond, if◌then◌else◌}
 use Rattle.std.proofs.Common.{sym, ap, subst, arith}
 use Rattle.std.proofs.lemmas.List.{length-append}
-use Rattle.lowering.specs.l_core.f_tree.Facts.{Mark, Plain, Opens, Arm, Closes, Form, Passes, On, Line, ProgramUnit, Facts}
+use Rattle.lowering.specs.l_core.f_tree.Facts.{ToSetLabel, ToGuard, ToLoop, ToTestLoop, Mark, Plain, Opens, Arm, Closes, Form, Passes, On, Line, ProgramUnit, Facts}
 use Rattle.lowering.specs.l_core.f_tree.Nests.{Range, loop_of, range_to, range_by, ranges_from, ranges_of, is_within, goes_past, open_at}
 use Rattle.lowering.specs.l_core.f_tree.Places.{terminal_of, place_of_label}
+use Rattle.lowering.specs.l_core.f_tree.Step.{assigned_by, assigned_in}
 use Rattle.lowering.specs.l_core.Pures.{Pures, NoPure, AndPure}
 use Rattle.lowering.specs.l_core.Steps.{Step, Again, Text}
-use Rattle.lowering.specs.Statements.{turn_code, form_code}
-use Rattle.lowering.specs.Units.{free_at, loop_lowered, all_named, is_named, pass_code, steps_of, is_counted, turn_size, ended_at, own_end, room_of, way_back, turn_of, turns_of, skip_code, line_code, both_codes, lines_code, start_of, lines_marks, text_with}
+use Rattle.lowering.specs.Statements.{turn_code}
+use Rattle.lowering.specs.Units.{free_at, loop_lowered, all_named, is_named, pass_code, statement_code, steps_of, is_counted, turn_size, ended_at, own_end, room_of, way_back, turn_of, turns_of, skip_code, line_code, both_codes, lines_code, start_of, lines_marks, text_with}
 use Rattle.lowered_sizes.specs.ReadNodes.{form_nodes, lines_nodes, EachTextIsBounded}
 use Rattle.ways_back.proofs.LoweredTexts.{text_lowered}
-use Rattle.lowered_sizes.proofs.StatementSteps.{form_size}
+use Rattle.lowered_sizes.proofs.StatementSteps.{listed_size}
 
 abbrev count : Option (List Step) → ℕ
 count x = length (steps_of x)
@@ -53,21 +54,31 @@ unfolding range_to
 range_size i None = omega arith
 range_size i (Some last) = omega arith
 
-range_by_size : (u : ProgramUnit) (i : ℕ) (found : Option (Option ℕ)) → length (range_by u i found) ≤ 1
-unfolding range_by
-range_by_size u i None = omega arith
-range_by_size u i (Some label) = range_size i (terminal_of u i label)
+assigned_size : (form : Form) → length (assigned_by form) ≤ 1
+unfolding assigned_by
+assigned_size (On (ToSetLabel label) ts) = omega arith
+assigned_size (On (ToGuard form) ts) = assigned_size form
+assigned_size form = omega arith
 
-ranges_size : (u : ProgramUnit) (i : ℕ) (lines : List Line) → length (ranges_from u i lines) ≤ length lines
-unfolding ranges_from
+-- a statement begins a loop, or names a label in ASSIGN, or neither
+either_size : (u : ProgramUnit) (i : ℕ) (form : Form) → length (range_by u i (loop_of form)) + length (assigned_by form) ≤ 1
+unfolding loop_of range_by assigned_by
+either_size u i (On (ToLoop label) ts) = let one = range_size i (terminal_of u i label) in omega (arith, one)
+either_size u i (On (ToTestLoop label) ts) = let one = range_size i (terminal_of u i label) in omega (arith, one)
+either_size u i (On (ToGuard form) ts) = let one = assigned_size form in omega (arith, one)
+either_size u i form = omega arith
+
+ranges_size : (u : ProgramUnit) (i : ℕ) (lines : List Line) → length (ranges_from u i lines) + length (assigned_in lines) ≤ length lines
+unfolding ranges_from assigned_in
 ranges_size u i [] = omega arith
 ranges_size u i (line ∷ lines) =
     let whole = length-append (ranges_from u (suc i) lines) (range_by u i (loop_of line.form)) in
-    let one = range_by_size u i (loop_of line.form) in
+    let labels = length-append (assigned_by line.form) (assigned_in lines) in
+    let one = either_size u i line.form in
     let more = ranges_size u (suc i) lines in
-    omega (arith, whole, one, more)
+    omega (arith, whole, labels, one, more)
 
-ended_size : (u : ProgramUnit) (i : ℕ) → length (ended_at u i) ≤ length u.lines
+ended_size : (u : ProgramUnit) (i : ℕ) → length (ended_at u i) + length (assigned_in u.lines) ≤ length u.lines
 unfolding ended_at open_at ranges_of
 ended_size u i =
     let one = fewer (λ r. not (goes_past i r)) (open_at u i) in
@@ -102,14 +113,14 @@ around before behind last (Some steps) =
     whole
 
 line_size : (u : ProgramUnit) (i : ℕ) (line : Line) → count (line_code u i line) ≤ 5 * suc (form_nodes line.form) + 2 * length u.lines
-unfolding line_code
+unfolding line_code statement_code
 line_size u i line =
-    let whole = around (skip_code u i line.mark) (pass_code (is_named (all_named u.lines) line.label) line.form) (turns_of u (own_end u i) (ended_at u i)) (form_code u.onetrip (free_at u i) (room_of u i line) line.form) in
+    let whole = around (skip_code u i line.mark) (pass_code (is_named (all_named u.lines) line.label) line.form) (turns_of u (own_end u i) (ended_at u i)) (statement_code u (free_at u i) (room_of u i line) line.form) in
     let skip = skip_size u i line.mark in
     let pass = pass_size (is_named (all_named u.lines) line.label) line.form in
     let turns = turns_of_size u (own_end u i) (ended_at u i) in
     let ended = ended_size u i in
-    let own = form_size u.onetrip (free_at u i) (room_of u i line) line.form in
+    let own = listed_size u.onetrip (free_at u i) (room_of u i line) (assigned_in u.lines) line.form in
     omega (arith, whole, skip, pass, turns, ended, own)
 
 both_size : (x y : Option (List Step)) → count (both_codes x y) ≤ count x + count y

@@ -60,7 +60,8 @@ lines_nodes [] = 0
 lines_nodes (line ∷ lines) = suc (form_nodes line.form) + lines_nodes lines
 
 -- LAW
--- a loop is ended by two steps at most, at each statement where it may end
+-- a loop is ended by two steps at most, at each statement where it may end; and a label that an ASSIGN statement names takes a step at most, at each
+-- statement that may go to it
 abbrev pub EachTextIsBounded : Type 0
 EachTextIsBounded =
     (c : Facts) (u : Text) → lowered_unit c ≡ Some u → length u.steps ≤ 5 * lines_nodes c.program.lines + 2 * (length c.program.lines * length c.program.lines)

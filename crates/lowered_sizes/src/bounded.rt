@@ -2,8 +2,8 @@
 
 ghost use Rattle.lowered_sizes.specs.ReadNodes.{EachTextIsBounded};
 
-/// The text of a lowered unit has at most five steps for each node of its statements as they are read, and two for each loop and each statement of the unit at
-/// which it may end (6, 10 to 12 and 15; MIL-STD-1753 for DO WHILE).
+/// The text of a lowered unit has at most five steps for each node of its statements as they are read, and two for each two of its statements, of which one may
+/// end a loop that the other begins, or go to a label that the other names in ASSIGN (6, 10 to 12 and 15; MIL-STD-1753 for DO WHILE).
 pub fn lowered_steps_are_bounded()
     ensures { EachTextIsBounded }
 {}

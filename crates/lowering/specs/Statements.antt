@@ -87,19 +87,20 @@ unfoldable pub turn_code : Bool → ℕ → Pures → List Step
 turn_code once n (AndPure x (AndPure first (AndPure limit (AndPure by NoPure)))) = Put x (Operated Add (Load x) by) ∷ back_by once (test_by x limit by) n ∷ []
 turn_code once n ps = []
 
--- may the value of an operand be a label: a label that is written, or what a subroutine answers
+-- is a subroutine called, which has no value (15.6)
 unfoldable pub wants_no_value : Wanted → Bool
 wants_no_value AsSubroutine = true
 wants_no_value (AsFunction basic width) = false
 
 unfoldable mutual
+  -- may the value of an operand be a label: a label that is written, or what a subroutine answers
   pub may_be_label : Term → Bool
   may_be_label (Val (IsLabel l)) = true
   may_be_label (Refer callee ts) = wants_no_value callee.want
   may_be_label (Bind ts t) = passes_label ts || may_be_label t
   may_be_label t = false
 
-  -- CALL (15.6): where a label is passed, control may go on there
+  -- may one of the values that are passed be a label (15.6.2.3)
   pub passes_label : Terms → Bool
   passes_label NoMore = false
   passes_label (More t ts) = may_be_label t || passes_label ts

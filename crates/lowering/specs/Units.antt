@@ -6,6 +6,7 @@ use Rattle.l_core.specs.f_tree.Terms.{NoMore}
 use Rattle.l_core.specs.f_tree.Facts.{ToCall, ToSetLabel, ToGo, ToPick, ToGoAssigned, ToGoBySign, ToGuard, ToLoop, ToTestLoop, ToBegin, ToAuxiliary, Head, Form, Passes, On, Mark, Plain, Opens, Arm, Closes, Line, ProgramUnit, Facts}
 use Rattle.l_core.specs.Steps as step
 use Rattle.l_core.specs.f_tree.Places.{place_of_label, arm_after}
+use Rattle.l_core.specs.f_tree.Step.{assigned_in}
 use Rattle.l_core.specs.f_tree.Nests.{Range, open_at, goes_past}
 use Rattle.l_core.specs.Pures.{Pures}
 use Rattle.l_core.specs.Steps.{Step, Skip, Again, Pass, CallFor, Branch, Card, OpensLoop, OpensLoopOnce, ClosesLoop, OpensWhile, ClosesWhile, OpensArm, NextArm, ClosesArm, Marked, Text}
@@ -69,6 +70,17 @@ unfoldable pub pass_code : Bool → Form → List Step
 pass_code true Passes = Pass ∷ []
 pass_code named form = []
 
+-- ## GO TO by a variable without its labels
+
+-- it is lowered as with those that the ASSIGN statements of the unit name (11.3)
+unfoldable pub listed : List ℕ → Form → Form
+listed labels (On (ToGoAssigned []) operands) = On (ToGoAssigned labels) operands
+listed labels (On (ToGuard form) operands) = On (ToGuard (listed labels form)) operands
+listed labels form = form
+
+unfoldable pub statement_code : ProgramUnit → ℕ → ℕ → Form → Option (List Step)
+statement_code u k n form = form_code u.onetrip k n (listed (assigned_in u.lines) form)
+
 -- ## Sizes
 
 unfoldable pub steps_of : Option (List Step) → List Step
@@ -97,7 +109,7 @@ skip_size Arm = 1
 skip_size mark = 0
 
 unfoldable pub form_size : ProgramUnit → ℕ → Line → ℕ
-form_size u i line = length (steps_of (form_code u.onetrip (free_at u i) 0 line.form)) + length (pass_code (is_named (all_named u.lines) line.label) line.form)
+form_size u i line = length (steps_of (statement_code u (free_at u i) 0 line.form)) + length (pass_code (is_named (all_named u.lines) line.label) line.form)
 
 unfoldable pub line_size : ProgramUnit → ℕ → Line → ℕ
 line_size u i line = skip_size line.mark + form_size u i line + turn_sizes u (ended_at u i)
@@ -191,7 +203,7 @@ skip_code u i mark = []
 unfoldable pub line_code : ProgramUnit → ℕ → Line → Option (List Step)
 line_code u i line =
     option_map (λ steps. skip_code u i line.mark ++ steps ++ pass_code (is_named (all_named u.lines) line.label) line.form ++ turns_of u (own_end u i) (ended_at u i))
-    (form_code u.onetrip (free_at u i) (room_of u i line) line.form)
+    (statement_code u (free_at u i) (room_of u i line) line.form)
 
 unfoldable pub both_codes : Option (List Step) → Option (List Step) → Option (List Step)
 both_codes None later = None
@@ -252,7 +264,7 @@ text_with c (Some steps) = Some (record {
   marks = lines_marks c.program 0 c.program.lines;
 })
 
--- is it kept by which alternate return a subroutine comes back
+-- is it kept by which alternate return a subroutine comes back (15.8.3)
 unfoldable pub keeps_return : Step → Bool
 keeps_return (CallFor k callee ps) = wants_no_value callee.want
 keeps_return st = false
@@ -261,7 +273,7 @@ unfoldable pub begins_with_branch : List Step → Bool
 begins_with_branch (Branch k count ∷ steps) = true
 begins_with_branch steps = false
 
--- a subroutine is called by CALL alone, and has no value (15.6): where its return is kept, the branch by it stands behind
+-- a subroutine is called by CALL alone, and has no value (15.6): where its return is kept, a branch stands behind
 unfoldable pub calls_well : List Step → Bool
 calls_well [] = true
 calls_well (st ∷ steps) = (not (keeps_return st) || begins_with_branch steps) && calls_well steps
@@ -275,5 +287,5 @@ unfoldable pub lowered_unit : Facts → Option Text
 lowered_unit c = text_with c (if_called_well (lines_code c.program 0 c.program.lines))
 
 unfoldable pub units_opened : Unit {0}
-unfolding loop_at_line loop_lowered free_of free_at label_in named_by named_by_head all_named is_named pass_code steps_of is_counted turn_size ended_at turn_sizes skip_size form_size line_size size_before start_of mark_at own_start form_size_at own_end block_end_from block_end_of arm_room turns_up_to loop_exit range_of loop_room room_of way_back turn_of turns_of skip_code line_code both_codes lines_code marked card_mark arm_marks loop_marks turn_marks line_marks lines_marks text_with keeps_return begins_with_branch calls_well if_called_well lowered_unit
+unfolding loop_at_line loop_lowered free_of free_at label_in named_by named_by_head all_named is_named pass_code listed statement_code steps_of is_counted turn_size ended_at turn_sizes skip_size form_size line_size size_before start_of mark_at own_start form_size_at own_end block_end_from block_end_of arm_room turns_up_to loop_exit range_of loop_room room_of way_back turn_of turns_of skip_code line_code both_codes lines_code marked card_mark arm_marks loop_marks turn_marks line_marks lines_marks text_with keeps_return begins_with_branch calls_well if_called_well lowered_unit
 units_opened = tt

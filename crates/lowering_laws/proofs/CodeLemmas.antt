@@ -7,14 +7,16 @@ use Rattle.fortran_laws.specs.f_tree.Facts as head
 use Rattle.fortran_laws.specs.f_tree.Facts.{Direction, Layout, Controls, AuxiliaryKind, Item, Repeated, Turn, Work, Done, Before, Head, Form, Passes, On}
 use Rattle.fortran_laws.specs.f_tree.Transfers.{next_of}
 use Rattle.fortran_laws.specs.f_tree.Places.{terminal_of, arm_after}
+use Rattle.fortran_laws.specs.f_tree.Step.{contains, assigned_in, labels_to_go}
 use Rattle.lowering.specs.l_core.Pures.{Pures, NoPure, AndPure, Pure}
 use Rattle.lowering.specs.l_core.Steps.{Starts, Takes, Finishes, Auxiliary, Step, Put, PutLabel, Unless, Jump, Select, JumpBy, Back, BackBy, Halt, Acts, Text}
 use Rattle.lowering.specs.Expressions.{Purpose, ForUse, ForCall, ForLater, Lowered, plain, no_operand, lower_all}
 use Rattle.lowering.specs.Statements.{behind_operands, with_operands, put_code, put_label_code, select_code, each_once, jump_by_code, sign_code, unless_code, guard_code, loop_operands, test_by, loop_test, loop_code, labels_written, hides_labels, call_steps, call_code, back_code, item_purpose, item_code, work_code, begin_code, auxiliary_code, form_code, head_code}
-use Rattle.lowering.specs.Units.{loop_exit, steps_of}
+use Rattle.lowering.specs.Units.{loop_exit, listed, steps_of}
 use Rattle.lowering_laws.specs.Midway.{InOrder, OfLoop}
 use Rattle.lowering_laws.specs.Layer.{ends_of, IsFlat, IsNextArm, IsLoop, by_sign_steps, IsClosing, for_set, for_set_label, for_go, for_pick, for_go_assigned, for_go_by_sign, for_guard, for_arm, for_test, for_call, for_return, for_return_by, for_stop, for_end, for_begin, for_item, for_finish, for_auxiliary, IsCode, no_code, some_code, IsModeOf, for_loop}
 use Rattle.lowering_laws.specs.Layout.{is_direct, is_direct_head, enters_arm}
+use Rattle.lowering_laws.proofs.HeldLabels.{contains_once}
 
 -- ## How long code is does not depend on how many steps a condition passes
 
@@ -107,11 +109,14 @@ module _ (u : Text) (k : ℕ) (o : Option ℕ) where
   pick_closes labels ts (AndPure p NoPure) more e = subst (λ z. IsClosing u k o (head.ToPick labels) ts (AndPure p NoPure) z) (let all : Select p (length labels) ∷ map Jump labels ≡ more = cc in all) for_pick
   pick_closes labels ts (AndPure p (AndPure q ps)) more e = absurd (cc)
 
-  go_assigned_closes : (labels : List ℕ) (ts : Terms) (ps : Pures) (more : List Step) → jump_by_code labels ps ≡ Some more → IsClosing u k o (head.ToGoAssigned labels) ts ps more
+  go_assigned_closes : (labels among : List ℕ) (ts : Terms) (ps : Pures) (more : List Step) → ((l : ℕ) → contains (labels_to_go u.facts.program labels) l ≡ true → contains among l ≡ true) → jump_by_code among ps ≡ Some more →
+      IsClosing u k o (head.ToGoAssigned labels) ts ps more
   unfolding jump_by_code
-  go_assigned_closes labels ts NoPure more e = absurd (cc)
-  go_assigned_closes labels ts (AndPure p NoPure) more e = subst (λ z. IsClosing u k o (head.ToGoAssigned labels) ts (AndPure p NoPure) z) (let all : JumpBy p (each_once labels) ∷ map Jump (each_once labels) ≡ more = cc in all) for_go_assigned
-  go_assigned_closes labels ts (AndPure p (AndPure q ps)) more e = absurd (cc)
+  go_assigned_closes labels among ts NoPure more covers e = absurd (cc)
+  go_assigned_closes labels among ts (AndPure p NoPure) more covers e =
+      subst (λ z. IsClosing u k o (head.ToGoAssigned labels) ts (AndPure p NoPure) z) (let all : JumpBy p (each_once among) ∷ map Jump (each_once among) ≡ more = cc in all)
+      (for_go_assigned (λ l h. contains_once among l ∙ covers l h))
+  go_assigned_closes labels among ts (AndPure p (AndPure q ps)) more covers e = absurd (cc)
 
   go_by_sign_closes : (below at above : ℕ) (ts : Terms) (ps : Pures) (more : List Step) → sign_code below at above ps ≡ Some more → IsClosing u k o (head.ToGoBySign below at above) ts ps more
   unfolding sign_code
@@ -186,14 +191,18 @@ guarded_by l None code e = absurd (cc)
 guarded_by l (Some under) code e = record { under = under; is = refl; all = e }
 
 module _ (u : Text) (k : ℕ) (once : Bool) where
-  mutual
-    unfolding is_direct is_direct_head form_code head_code with_operands lower_all no_operand plain
+  -- the labels that ASSIGN statements of the unit name
+  abbrev assigned : List ℕ
+  assigned = assigned_in u.facts.program.lines
 
-    pub direct_code : (o : Option ℕ) (n : ℕ) (form : Form) (code : List Step) → is_direct form ≡ true → form_code once k n form ≡ Some code → IsCode u k o form code
+  mutual
+    unfolding is_direct is_direct_head form_code head_code with_operands lower_all no_operand plain listed labels_to_go
+
+    pub direct_code : (o : Option ℕ) (n : ℕ) (form : Form) (code : List Step) → is_direct form ≡ true → form_code once k n (listed assigned form) ≡ Some code → IsCode u k o form code
     direct_code o n Passes code direct e = subst (λ z. IsCode u k o Passes z) (let all : [] ≡ code = cc in all) no_code
     direct_code o n (On h ts) code direct e = direct_head o n h ts code direct e
 
-    direct_head : (o : Option ℕ) (n : ℕ) (h : Head) (ts : Terms) (code : List Step) → is_direct_head h ≡ true → head_code once k n h ts ≡ Some code → IsCode u k o (On h ts) code
+    direct_head : (o : Option ℕ) (n : ℕ) (h : Head) (ts : Terms) (code : List Step) → is_direct_head h ≡ true → form_code once k n (listed assigned (On h ts)) ≡ Some code → IsCode u k o (On h ts) code
     direct_head o n head.ToSet ts code direct e =
         let b = behind_by (lower_all NoPure ForUse k ts) _ code e in made u k o head.ToSet ts ForUse b.more code tt (set_closes u k o ts (lower_all NoPure ForUse k ts).value b.more b.is) b.all
     direct_head o n (head.ToSetLabel label) ts code direct e =
@@ -202,13 +211,17 @@ module _ (u : Text) (k : ℕ) (once : Bool) where
     direct_head o n (head.ToGo label) (More t ts) code direct e = absurd (cc)
     direct_head o n (head.ToPick labels) ts code direct e =
         let b = behind_by (lower_all NoPure ForUse k ts) _ code e in made u k o (head.ToPick labels) ts ForUse b.more code tt (pick_closes u k o labels ts (lower_all NoPure ForUse k ts).value b.more b.is) b.all
-    direct_head o n (head.ToGoAssigned labels) ts code direct e =
-        let b = behind_by (lower_all NoPure ForUse k ts) _ code e in made u k o (head.ToGoAssigned labels) ts ForUse b.more code tt (go_assigned_closes u k o labels ts (lower_all NoPure ForUse k ts).value b.more b.is) b.all
+    direct_head o n (head.ToGoAssigned []) ts code direct e =
+        let b = behind_by (lower_all NoPure ForUse k ts) _ code e in
+        made u k o (head.ToGoAssigned []) ts ForUse b.more code tt (go_assigned_closes u k o [] assigned ts (lower_all NoPure ForUse k ts).value b.more (λ l h. h) b.is) b.all
+    direct_head o n (head.ToGoAssigned (first ∷ others)) ts code direct e =
+        let b = behind_by (lower_all NoPure ForUse k ts) _ code e in
+        made u k o (head.ToGoAssigned (first ∷ others)) ts ForUse b.more code tt (go_assigned_closes u k o (first ∷ others) (first ∷ others) ts (lower_all NoPure ForUse k ts).value b.more (λ l h. h) b.is) b.all
     direct_head o n (head.ToGoBySign below at above) ts code direct e =
         let b = behind_by (lower_all NoPure ForLater k ts) _ code e in
         made u k o (head.ToGoBySign below at above) ts ForLater b.more code tt (go_by_sign_closes u k o below at above ts (lower_all NoPure ForLater k ts).value b.more b.is) b.all
     direct_head o n (head.ToGuard form) ts code direct e =
-        let g = guarded_by (lower_all NoPure ForUse k ts) (form_code once k 0 form) code e in
+        let g = guarded_by (lower_all NoPure ForUse k ts) (form_code once k 0 (listed assigned form)) code e in
         let b = behind_by (lower_all NoPure ForUse k ts) _ code g.all in
         made u k o (head.ToGuard form) ts ForUse b.more code tt (guard_closes u k o form g.under ts (lower_all NoPure ForUse k ts).value b.more (direct_code None 0 form g.under direct g.is) b.is) b.all
     direct_head o n (head.ToCall name) ts code direct e =
@@ -240,9 +253,9 @@ module _ (u : Text) (k : ℕ) (once : Bool) where
   arm_closes i n ts (AndPure p NoPure) more room e = subst (λ z. IsClosing u k (Some i) head.ToEnterArm ts (AndPure p NoPure) z) (let all : Unless p n ∷ [] ≡ more = cc in all) (for_arm room.0 room.1)
   arm_closes i n ts (AndPure p (AndPure q ps)) more room e = absurd (cc)
 
-  arm_head : (i n : ℕ) (h : Head) (ts : Terms) (code : List Step) → enters_arm (On h ts) ≡ true → IsFlat u i × ((j : ℕ) → arm_after u.facts.program i ≡ Some j → IsNextArm u i n j) → head_code once k n h ts ≡ Some code →
+  arm_head : (i n : ℕ) (h : Head) (ts : Terms) (code : List Step) → enters_arm (On h ts) ≡ true → IsFlat u i × ((j : ℕ) → arm_after u.facts.program i ≡ Some j → IsNextArm u i n j) → form_code once k n (listed assigned (On h ts)) ≡ Some code →
       IsCode u k (Some i) (On h ts) code
-  unfolding enters_arm head_code with_operands
+  unfolding enters_arm form_code head_code with_operands listed
   arm_head i n head.ToEnterArm ts code enters room e =
       let b = behind_by (lower_all NoPure ForUse k ts) _ code e in
       made u k (Some i) head.ToEnterArm ts ForUse b.more code tt (arm_closes i n ts (lower_all NoPure ForUse k ts).value b.more room b.is) b.all
@@ -267,8 +280,8 @@ module _ (u : Text) (k : ℕ) (once : Bool) where
   arm_head i n (head.ToAuxiliary which controls) ts code enters room e = absurd (true≢false (sym enters))
   arm_head i n head.ToEnd ts code enters room e = absurd (true≢false (sym enters))
 
-  pub arm_code : (i n : ℕ) (form : Form) (code : List Step) → enters_arm form ≡ true → IsFlat u i × ((j : ℕ) → arm_after u.facts.program i ≡ Some j → IsNextArm u i n j) → form_code once k n form ≡ Some code → IsCode u k (Some i) form code
-  unfolding form_code enters_arm
+  pub arm_code : (i n : ℕ) (form : Form) (code : List Step) → enters_arm form ≡ true → IsFlat u i × ((j : ℕ) → arm_after u.facts.program i ≡ Some j → IsNextArm u i n j) → form_code once k n (listed assigned form) ≡ Some code → IsCode u k (Some i) form code
+  unfolding enters_arm
   arm_code i n Passes code enters room e = absurd (true≢false (sym enters))
   arm_code i n (On h ts) code enters room e = arm_head i n h ts code enters room e
 

@@ -2,10 +2,8 @@
 use Rattle.std.specs.Prelude.{◌≡◌, ℕ, suc, nat_eq, Bool, true, false, ◌||◌, List, [], ◌∷◌, Some, slice_get, if◌then◌else◌}
 use Rattle.std.proofs.Common.{refl, sym, ap, ◌∙◌, subst, true≢false}
 use Rattle.std.proofs.lemmas.Bool.{eqb-true}
-use Rattle.fortran_laws.specs.f_tree.World.{World}
-use Rattle.fortran_laws.specs.f_tree.Step.{contains, is_allowed}
-use Rattle.lowering.specs.l_core.Steps.{Text}
-use Rattle.lowering.specs.l_core.Machine.{View, past, passed_before, to_held}
+use Rattle.fortran_laws.specs.f_tree.Step.{contains}
+use Rattle.lowering.specs.l_core.Machine.{passed_before}
 use Rattle.lowering.specs.Statements.{each_once}
 
 -- a label that stands again is there without its first place
@@ -33,18 +31,3 @@ pub held_there : (labels : List ℕ) (l : ℕ) → contains labels l ≡ true �
 unfolding contains passed_before
 held_there [] l h = absurd (true≢false (sym h))
 held_there (k ∷ ks) l h = held_by k l ks (nat_eq k l) refl h (held_there ks l)
-
-pub held_passes : (u : Text) (labels : List ℕ) (l : ℕ) (v : View) (w : World) → contains labels l ≡ true → to_held u labels l v w ≡ past (passed_before labels l) v w
-unfolding to_held contains
-held_passes u [] l v w h = absurd (true≢false (sym h))
-held_passes u (k ∷ ks) l v w h = refl
-
-pub contained_allowed : (labels : List ℕ) (l : ℕ) → contains labels l ≡ true → is_allowed labels l ≡ true
-unfolding is_allowed
-contained_allowed [] l h = refl
-contained_allowed (k ∷ ks) l h = h
-
--- a list that is written allows the labels that it has
-pub allowed_contained : (k : ℕ) (ks : List ℕ) (l : ℕ) → is_allowed (k ∷ ks) l ≡ true → contains (k ∷ ks) l ≡ true
-unfolding is_allowed
-allowed_contained k ks l h = h

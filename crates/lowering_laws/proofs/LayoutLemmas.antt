@@ -8,11 +8,12 @@ use Rattle.fortran_laws.specs.f_tree.Facts.{Head, Form, Passes, On, Mark, Plain,
 use Rattle.fortran_laws.specs.f_tree.Places.{place_of_label, terminal_of, arm_from, arm_after}
 use Rattle.fortran_laws.specs.f_tree.Nests.{Range, loop_of, ranges_of, open_at, goes_past, AreNested}
 use Rattle.fortran_laws.specs.f_tree.Setting.{IsIn, first_in, later_in}
+use Rattle.fortran_laws.specs.f_tree.Step.{assigned_in}
 use Rattle.fortran_laws.proofs.NestLaws.{range_of_loop, open_is_within}
 use Rattle.lowering.specs.l_core.Pures.{Pures, NoPure, AndPure}
 use Rattle.lowering.specs.l_core.Steps.{Step, Keep, Put, PutText, PutLabel, Compute, Unless, Skip, Again, AgainIf, Jump, Select, JumpBy, Pass, CallFor, CallSub, Branch, Way, Back, BackBy, Halt, Acts, Text}
 use Rattle.lowering.specs.Statements.{wants_no_value, test_by, back_by, turn_code, form_code, head_code, loop_operands}
-use Rattle.lowering.specs.Units.{loop_lowered, free_at, is_counted, turn_size, turns_up_to, loop_exit, way_back, turn_of, all_named, is_named, pass_code, steps_of, ended_at, turn_sizes, skip_size, form_size, line_size, size_before, start_of, mark_at, own_start, form_size_at, own_end, block_end_from, block_end_of, arm_room, range_of, loop_room, room_of, turns_of, skip_code, line_code, both_codes, lines_code, lines_marks, text_with, keeps_return, begins_with_branch, calls_well, if_called_well, lowered_unit, loop_at_line, free_of}
+use Rattle.lowering.specs.Units.{listed, statement_code, loop_lowered, free_at, is_counted, turn_size, turns_up_to, loop_exit, way_back, turn_of, all_named, is_named, pass_code, steps_of, ended_at, turn_sizes, skip_size, form_size, line_size, size_before, start_of, mark_at, own_start, form_size_at, own_end, block_end_from, block_end_of, arm_room, range_of, loop_room, room_of, turns_of, skip_code, line_code, both_codes, lines_code, lines_marks, text_with, keeps_return, begins_with_branch, calls_well, if_called_well, lowered_unit, loop_at_line, free_of}
 use Rattle.lowering_laws.specs.Walks.{IsNoBranch, Spans, nothing, further}
 use Rattle.lowering_laws.specs.Layer.{Leads, there, by_pass, by_skip, own_by, own_of, AllBefore, TurnsStand, no_turn, turn_then, AllEnd, NoneEnds, IsBehind, IsChain, SameOpen, IsFlat, IsNextArm, IsLoop, closing_from, block_ends, IsCode, no_code, Stands, no_step, IsCall, IsFollowed, IsLaidOut}
 use Rattle.lowering_laws.specs.Layout.{is_direct, is_direct_head, enters_arm, begins_loop, LoopsFit, takes_no_step, is_direct_as, are_direct, is_end, ends_behind, has_end}
@@ -408,10 +409,10 @@ module _ (p : ProgramUnit) (turned : (i from : ℕ) → length (turns_of p from 
   -- the parts of a statement's code
   record LineParts (i : ℕ) (line : Line) (code : List Step) : Type 0 where
     own : List Step
-    is : form_code p.onetrip (free_at p i) (room_of p i line) line.form ≡ Some own
+    is : statement_code p (free_at p i) (room_of p i line) line.form ≡ Some own
     all : (skip_code p i line.mark ++ (own ++ passing_step line)) ++ turns_of p (own_end p i) (ended_at p i) ≡ code
 
-  parts_by : (i : ℕ) (line : Line) (code : List Step) (x : Option (List Step)) → form_code p.onetrip (free_at p i) (room_of p i line) line.form ≡ x →
+  parts_by : (i : ℕ) (line : Line) (code : List Step) (x : Option (List Step)) → statement_code p (free_at p i) (room_of p i line) line.form ≡ x →
       option_map (λ own. ((skip_code p i line.mark ++ own) ++ passing_step line) ++ turns_of p (own_end p i) (ended_at p i)) x ≡ Some code → LineParts i line code
   parts_by i line code None is e = absurd (cc)
   parts_by i line code (Some own) is e =
@@ -420,7 +421,7 @@ module _ (p : ProgramUnit) (turned : (i from : ℕ) → length (turns_of p from 
 
   line_parts : (i : ℕ) (line : Line) (code : List Step) → line_code p i line ≡ Some code → LineParts i line code
   unfolding line_code
-  line_parts i line code e = parts_by i line code (form_code p.onetrip (free_at p i) (room_of p i line) line.form) refl e
+  line_parts i line code e = parts_by i line code (statement_code p (free_at p i) (room_of p i line) line.form) refl e
 
   skip_length : (i : ℕ) (mark : Mark) → length (skip_code p i mark) ≡ skip_size mark
   unfolding skip_code skip_size
@@ -429,9 +430,10 @@ module _ (p : ProgramUnit) (turned : (i from : ℕ) → length (turns_of p from 
   skip_length i Arm = refl
   skip_length i Closes = refl
 
-  own_length : (i : ℕ) (line : Line) (own : List Step) → form_code p.onetrip (free_at p i) (room_of p i line) line.form ≡ Some own → length own + length (passing_step line) ≡ form_size p i line
-  unfolding form_size steps_of
-  own_length i line own is = ap (λ z. z + length (passing_step line)) (ap (λ x. length (steps_of x)) (sym is) ∙ form_length p.onetrip (free_at p i) (room_of p i line) line.form)
+  own_length : (i : ℕ) (line : Line) (own : List Step) → statement_code p (free_at p i) (room_of p i line) line.form ≡ Some own → length own + length (passing_step line) ≡ form_size p i line
+  unfolding form_size steps_of statement_code
+  own_length i line own is =
+      ap (λ z. z + length (passing_step line)) (ap (λ x. length (steps_of x)) (sym is) ∙ form_length p.onetrip (free_at p i) (room_of p i line) (listed (assigned_in p.lines) line.form))
 
   line_length : (i : ℕ) (line : Line) (code : List Step) → line_code p i line ≡ Some code → length code ≡ line_size p i line
   unfolding line_size
@@ -640,7 +642,7 @@ in_one i r (x ∷ ended) past (later_in among) last goes = later_in (in_one i r 
 -- each statement of a unit that is lowered is
 record IsCoded (p : ProgramUnit) (i : ℕ) (line : Line) : Type 0 where
   own : List Step
-  is : form_code p.onetrip (free_at p i) (room_of p i line) line.form ≡ Some own
+  is : statement_code p (free_at p i) (room_of p i line) line.form ≡ Some own
 
 mapped_some : (x : Option (List Step)) (f : List Step → List Step) (code : List Step) → option_map f x ≡ Some code → (own : List Step) × (x ≡ Some own)
 mapped_some None f code e = absurd (cc)
@@ -654,7 +656,7 @@ both_some (Some code) (Some later) steps e = ((code, refl), (later, refl))
 
 line_coded : (p : ProgramUnit) (i : ℕ) (line : Line) (code : List Step) → line_code p i line ≡ Some code → IsCoded p i line
 unfolding line_code
-line_coded p i line code e = let found = mapped_some (form_code p.onetrip (free_at p i) (room_of p i line) line.form) _ code e in record { own = found.0; is = found.1 }
+line_coded p i line code e = let found = mapped_some (statement_code p (free_at p i) (room_of p i line) line.form) _ code e in record { own = found.0; is = found.1 }
 
 coded_at : (p : ProgramUnit) (k i n : ℕ) (lines : List Line) (steps : List Step) (line : Line) → i ≡ n + k → lines_code p k lines ≡ Some steps → slice_get lines n ≡ Some line → IsCoded p i line
 unfolding lines_code
@@ -747,9 +749,10 @@ module _ (c : Facts) (steps : List Step) (lowered : lines_code c.program 0 c.pro
 
   -- a DO that is lowered has its four operands
   four_at : (i : ℕ) (line : Line) (label : Option ℕ) (ts : Terms) → slice_get c.program.lines i ≡ Some line → line.form ≡ On (head.ToLoop label) ts → HasFour (loop_operands (free_at c.program i) ts).value
+  unfolding statement_code listed
   four_at i line label ts is form =
       let coded = coded_at c.program 0 i i c.program.lines steps line (omega arith) lowered is in
-      loop_four c.program.onetrip (free_at c.program i) (room_of c.program i line) label ts coded.own (ap (form_code c.program.onetrip (free_at c.program i) (room_of c.program i line)) (sym form) ∙ coded.is)
+      loop_four c.program.onetrip (free_at c.program i) (room_of c.program i line) label ts coded.own (ap (statement_code c.program (free_at c.program i) (room_of c.program i line)) (sym form) ∙ coded.is)
 
   turn_by : (r : Range) (line : Line) (label : Option ℕ) → slice_get c.program.lines r.first ≡ Some line → LoopForm line.form label → (q : ℕ) → length (turn_of c.program q r) ≡ turn_size c.program r
   turn_by r line label is (by_test ts form) q = one_turn c.program q r (test_not_counted line (slice_get c.program.lines r.first) label ts is form)
@@ -804,13 +807,14 @@ module _ (c : Facts) (steps : List Step) (lowered : lines_code c.program 0 c.pro
 
   -- a statement's own code
   arm_form : (i n : ℕ) (line : Line) (own : List Step) → slice_get c.program.lines i ≡ Some line → (line.mark ≡ Plain → ⊥) → (line.mark ≡ Closes → ⊥) → n ≡ arm_room c.program i (arm_after c.program i) → OneOf (enters_arm line.form) (is_direct line.form) →
-      form_code c.program.onetrip (free_at c.program i) n line.form ≡ Some own → IsCode (text_of c steps) (free_at c.program i) (Some i) line.form own
+      statement_code c.program (free_at c.program i) n line.form ≡ Some own → IsCode (text_of c steps) (free_at c.program i) (Some i) line.form own
+  unfolding statement_code
   arm_form i n line own is marked open' room (the_one enters) e =
       arm_code (text_of c steps) (free_at c.program i) c.program.onetrip i n line.form own enters (flat i line is marked, next_arm_is i n line is marked open' room) e
   arm_form i n line own is marked open' room (the_other is_direct') e = direct_code (text_of c steps) (free_at c.program i) c.program.onetrip (Some i) n line.form own is_direct' e
 
-  end_form : (i n : ℕ) (form : Form) (own : List Step) → takes_no_step form ≡ true → form_code c.program.onetrip (free_at c.program i) n form ≡ Some own → IsCode (text_of c steps) (free_at c.program i) (Some i) form own
-  unfolding takes_no_step is_direct
+  end_form : (i n : ℕ) (form : Form) (own : List Step) → takes_no_step form ≡ true → statement_code c.program (free_at c.program i) n form ≡ Some own → IsCode (text_of c steps) (free_at c.program i) (Some i) form own
+  unfolding takes_no_step is_direct statement_code
   end_form i n Passes own none e = direct_code (text_of c steps) (free_at c.program i) c.program.onetrip (Some i) n Passes own refl e
   end_form i n (On h ts) own none e = absurd (true≢false (sym none))
 
@@ -834,7 +838,7 @@ module _ (c : Facts) (steps : List Step) (lowered : lines_code c.program 0 c.pro
   -- the steps of a statement, in their parts
   record LineStands (i : ℕ) (line : Line) : Type 0 where
     own : List Step
-    is : form_code c.program.onetrip (free_at c.program i) (room_of c.program i line) line.form ≡ Some own
+    is : statement_code c.program (free_at c.program i) (room_of c.program i line) line.form ≡ Some own
     from : ℕ
     skips : Spans (text_of c steps) (start_of c.program i) (skip_code c.program i line.mark) from
     rest : Spans (text_of c steps) from (own ++ pass_code (is_named (all_named c.program.lines) line.label) line.form) (own_end c.program i)
@@ -960,16 +964,18 @@ module _ (c : Facts) (steps : List Step) (lowered : lines_code c.program 0 c.pro
 
   begun_form : (i : ℕ) (line : Line) (own : List Step) (label : Option ℕ) → LoopForm line.form label →
       ((last : ℕ) → terminal_of c.program i label ≡ Some last → IsLoop (text_of c steps) i last × (own_end c.program i + room_of c.program i line ≡ loop_exit c.program (record { first = i; last = last }))) →
-      form_code c.program.onetrip (free_at c.program i) (room_of c.program i line) line.form ≡ Some own → IsCode (text_of c steps) (free_at c.program i) (Some i) line.form own
+      statement_code c.program (free_at c.program i) (room_of c.program i line) line.form ≡ Some own → IsCode (text_of c steps) (free_at c.program i) (Some i) line.form own
+  unfolding statement_code listed
   begun_form i line own label (by_test ts form) room e =
       subst (λ z. IsCode (text_of c steps) (free_at c.program i) (Some i) z own) (sym form)
-      (test_code (text_of c steps) (free_at c.program i) c.program.onetrip i (room_of c.program i line) label ts own room (ap (form_code c.program.onetrip (free_at c.program i) (room_of c.program i line)) (sym form) ∙ e))
+      (test_code (text_of c steps) (free_at c.program i) c.program.onetrip i (room_of c.program i line) label ts own room (ap (statement_code c.program (free_at c.program i) (room_of c.program i line)) (sym form) ∙ e))
   begun_form i line own label (by_count ts form) room e =
       subst (λ z. IsCode (text_of c steps) (free_at c.program i) (Some i) z own) (sym form)
-      (do_code (text_of c steps) (free_at c.program i) c.program.onetrip i (room_of c.program i line) label ts own refl room (ap (form_code c.program.onetrip (free_at c.program i) (room_of c.program i line)) (sym form) ∙ e))
+      (do_code (text_of c steps) (free_at c.program i) c.program.onetrip i (room_of c.program i line) label ts own refl room (ap (statement_code c.program (free_at c.program i) (room_of c.program i line)) (sym form) ∙ e))
 
   plain_form : (i : ℕ) (line : Line) (own : List Step) → line.mark ≡ Plain → slice_get c.program.lines i ≡ Some line → OneOf (begins_loop line.form) (is_direct line.form) →
-      form_code c.program.onetrip (free_at c.program i) (room_of c.program i line) line.form ≡ Some own → IsCode (text_of c steps) (free_at c.program i) (Some i) line.form own
+      statement_code c.program (free_at c.program i) (room_of c.program i line) line.form ≡ Some own → IsCode (text_of c steps) (free_at c.program i) (Some i) line.form own
+  unfolding statement_code
   plain_form i line own marked is (the_other is_direct') e = direct_code (text_of c steps) (free_at c.program i) c.program.onetrip (Some i) (room_of c.program i line) line.form own is_direct' e
   plain_form i line own marked is (the_one begins) e =
       let found = label_of_loop line.form begins in
@@ -978,7 +984,7 @@ module _ (c : Facts) (steps : List Step) (lowered : lines_code c.program 0 c.pro
       (λ last ends. (loop_is i line found.0 last is loops ends, ap (λ z. own_end c.program i + z) (plain_room i line marked) ∙ loop_reaches i line found.0 last is loops ends)) e
 
   own_code : (i : ℕ) (line : Line) (own : List Step) (mark : Mark) → line.mark ≡ mark → slice_get c.program.lines i ≡ Some line → is_direct_as mark line.form ≡ true →
-      form_code c.program.onetrip (free_at c.program i) (room_of c.program i line) line.form ≡ Some own → IsCode (text_of c steps) (free_at c.program i) (Some i) line.form own
+      statement_code c.program (free_at c.program i) (room_of c.program i line) line.form ≡ Some own → IsCode (text_of c steps) (free_at c.program i) (Some i) line.form own
   unfolding is_direct_as room_of
   own_code i line own Plain e is ok code = plain_form i line own e is (one_of (begins_loop line.form) (is_direct line.form) ok) code
   own_code i line own Opens e is ok code =
@@ -1086,10 +1092,10 @@ end_is : (form : Form) → is_end form ≡ true → form ≡ On head.ToEnd NoMor
 unfolding is_end
 end_is form e = grind arith
 
-end_code : (once : Bool) (k n : ℕ) (form : Form) (own : List Step) → form ≡ On head.ToEnd NoMore → form_code once k n form ≡ Some own → Back ∷ [] ≡ own
-unfolding form_code head_code
-end_code once k n form own is e =
-    let code : form_code once k n (On head.ToEnd NoMore) ≡ Some own = ap (form_code once k n) (sym is) ∙ e in
+end_code : (p : ProgramUnit) (k n : ℕ) (form : Form) (own : List Step) → form ≡ On head.ToEnd NoMore → statement_code p k n form ≡ Some own → Back ∷ [] ≡ own
+unfolding statement_code listed form_code head_code
+end_code p k n form own is e =
+    let code : statement_code p k n (On head.ToEnd NoMore) ≡ Some own = ap (statement_code p k n) (sym is) ∙ e in
     let same : Back ∷ [] ≡ own = cc in same
 
 end_passes : (b : Bool) (form : Form) → form ≡ On head.ToEnd NoMore → pass_code b form ≡ []
@@ -1139,7 +1145,7 @@ module _ (p : ProgramUnit) (turned : (i from : ℕ) → length (turns_of p from 
   line_ends i line code e end =
       let parts = line_parts p turned i line code e in
       let is = end_is line.form end in
-      let own = end_code p.onetrip (free_at p i) (room_of p i line) line.form parts.own is parts.is in
+      let own = end_code p (free_at p i) (room_of p i line) line.form parts.own is parts.is in
       let none = end_passes (is_named (all_named p.lines) line.label) line.form is in
       let front = skip_code p i line.mark ++ (parts.own ++ passing_step p turned line) in
       let back : skip_code p i line.mark ++ (Back ∷ []) ≡ front = ap (λ z. skip_code p i line.mark ++ z) (own ∙ sym (nothing_behind parts.own) ∙ ap (λ z. parts.own ++ z) (sym none)) in

@@ -2,7 +2,6 @@ mod WalkLemmas
 mod ShapeLemmas
 mod ClosingLemmas
 mod ExpressionLemmas
-mod ExampleLemmas
 mod OperandLemmas
 mod CostLemmas
 mod PlaceLemmas

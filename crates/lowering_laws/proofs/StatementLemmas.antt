@@ -15,20 +15,20 @@ use Rattle.fortran_laws.specs.f_tree.World.{World, Round, While, Happening, proc
 use Rattle.fortran_laws.specs.f_tree.Nests.{loop_of, open_at}
 use Rattle.fortran_laws.specs.f_tree.Association.{answer, alternate_of, result_from, result_given, cut_to}
 use Rattle.fortran_laws.specs.f_tree.Places.{place_of_label, terminal_of, arm_after, passed, gone_to}
-use Rattle.fortran_laws.specs.f_tree.Step.{onward, go, onward_with, guarded, arm_entered, loop_tested, nth_label, contains, is_allowed, enters_block, name_of, gone_by, by_sign, deed, stop_ending}
+use Rattle.fortran_laws.specs.f_tree.Step.{onward, go, onward_with, guarded, arm_entered, loop_tested, nth_label, contains, labels_to_go, enters_block, name_of, gone_by, by_sign, deed, stop_ending}
 use Rattle.fortran_laws.specs.f_tree.Step as source
 use Rattle.lowering.specs.l_core.Pures.{Pure, Constant, Operated, Pures, NoPure, AndPure, Temporaries, where_wanted, meant, all_meant}
 use Rattle.lowering.specs.l_core.Steps.{Acting, Starts, Takes, Finishes, Auxiliary, Step, Put, PutLabel, Unless, Jump, Select, JumpBy, CallFor, CallSub, Back, BackBy, Halt, Acts, Text}
-use Rattle.lowering.specs.l_core.Machine.{Doing, step, done, storing, put_at, put_label_at, testing, to, jump, passed_by, selecting, label_held, passed_before, to_held, jumping, calling, answering, answering_by, resting, course_of, coursing, acting}
+use Rattle.lowering.specs.l_core.Machine.{Doing, step, done, storing, put_at, put_label_at, testing, to, jump, passed_by, selecting, label_held, passed_before, jumping, calling, answering, answering_by, resting, course_of, coursing, acting}
 use Rattle.lowering.specs.l_core.Machine as target
 use Rattle.lowering_laws.specs.Walks.{IsNoBranch, Spans, at_step, IsOrdinary, Keeps, stays, goes}
 use Rattle.lowering_laws.specs.Layer.{IsNoLabel, labels_in, IsGiven, Found, KnowsCall, IsCalled, IsCall, IsFollowed, Leads, there, Arrives, plainly, ends_of, AllBefore, AreRounds, Reaches, BranchesWell, HeadBranches, BranchesNow, HasTransfer, IsFlat, IsNextArm, IsLoop, IsClosing, for_set, for_set_label, for_go, for_pick, for_go_assigned, for_go_by_sign, for_guard, for_arm, for_test, for_call, for_return, for_return_by, for_stop, for_end, for_begin, for_item, for_finish, for_auxiliary, by_sign_steps, IsCode, Stands, IsLaidOut, IsPart, is_whole, is_under, for_loop}
 use Rattle.lowering_laws.proofs.WalkLemmas.{ordinary_by, spans_one, spans_first, spans_length}
-use Rattle.lowering.specs.Statements.{each_once, labels_written, hides_labels, call_steps}
+use Rattle.lowering.specs.Statements.{labels_written, hides_labels, call_steps}
 use Rattle.lowering.specs.Units.{free_at, loop_exit}
 use Rattle.lowering_laws.proofs.LabelLemmas.{fetch_none}
 use Rattle.lowering_laws.proofs.PickedLabels.{nth_contained, step_stands, passes_to, passes_all}
-use Rattle.lowering_laws.proofs.HeldLabels.{contains_once, held_there, held_passes, contained_allowed, allowed_contained}
+use Rattle.lowering_laws.proofs.HeldLabels.{held_there}
 use Rattle.lowering_laws.proofs.CallLemmas.{gives_function, call_alike, called_back}
 use Rattle.lowering_laws.proofs.TransferLemmas.{begin_alike, item_alike, finish_alike, auxiliary_alike}
 use Rattle.lowering_laws.proofs.PlaceLemmas.{code_stands, Alike, part_quiet, now_branches, at_form, leads_to_end, comes_to, arrives, next_arm_at, passes_behind, passes_on, goes_to_label}
@@ -371,98 +371,56 @@ module _ (u : Text) (laid : IsLaidOut u) (f : Frame) (h : ℕ) (μ : Found) (w :
 
   -- ## An assigned GO TO
 
-  -- to the label that a place holds, where none are written: where FORTRAN says so, it is of this unit
-  chosen_alike : (own inside : Bool) (label : ℕ) → (inside ≡ false → Reaches u.facts.program i label) →
-      Alike u μ (IsFollowed u q) (if own && not inside then go u.facts (record { frame = f; at = i; now = now; loops = rounds }) w label else Breaks BadAssignedLabel) (if own then jump u label (at_step f h q m) w else Breaks BadAssignedLabel)
-  unfolding go
-  chosen_alike true true label reach = tt
-  chosen_alike true false label reach = to_label label (reach refl)
-  chosen_alike false inside label reach = tt
-
-  held_alike : (x : Checked Whole) → Alike u μ (IsFollowed u q) (gone_by u.facts (record { frame = f; at = i; now = now; loops = rounds }) w [] x) (jumping u [] (at_step f h q m) w x)
-  unfolding gone_by jumping to_held
-  held_alike (Gives (Label owner l)) =
-      chosen_alike (bytes_eq owner (name_of u.facts.program) && is_allowed [] l) (enters_block u.facts.program i (place_of_label u.facts.program l)) l (laid.assigned i l)
-  held_alike (Gives (Number z)) = tt
-  held_alike (Gives (Truth b)) = tt
-  held_alike (Fails act) = tt
-
-  assigned_alike : (d : Datum) → Alike u μ (IsFollowed u q) (deed u.facts (record { frame = f; at = i; now = now; loops = rounds }) w (ToGoAssigned []) (d ∷ [])) (jumping u [] (at_step f h q m) w (label_held w.store d))
-  unfolding deed label_held
-  assigned_alike (IsSpot p) = held_alike (label_at w.store p)
-  assigned_alike (value.IsInt z) = tt
-  assigned_alike (value.IsLog b) = tt
-  assigned_alike (value.IsText cs) = tt
-  assigned_alike (value.IsProc x) = tt
-  assigned_alike (value.IsLabel l) = tt
-  assigned_alike value.Nothing = tt
-
-  alone_led : (p : Pure) (d : Datum) → slice_get u.steps q ≡ Some (JumpBy p []) → meant u.facts f m w.store p ≡ Gives d →
-      Led u f h w μ q m (deed u.facts (record { frame = f; at = i; now = now; loops = rounds }) w (ToGoAssigned []) (d ∷ []))
-  unfolding step done given_that
-  alone_led p d e is = record {
-    upto = q;
-    kept = m;
-    way = stays;
-    ordinary = ordinary_by u q (JumpBy p []) e tt;
-    alike =
-        subst (λ x. Alike u μ (IsFollowed u q) (deed u.facts (record { frame = f; at = i; now = now; loops = rounds }) w (ToGoAssigned []) (d ∷ [])) x)
-        (sym (ap (done u (at_step f h q m) w) e ∙ ap (λ x. jumping u [] (at_step f h q m) w (given_that x (label_held w.store))) is)) (assigned_alike d);
-  }
-
   -- to the jump behind that goes to the label which is held
   held_to : (p : Pure) (labels : List ℕ) (s : Spot) (owner : Bytes) (l : ℕ) → slice_get u.steps q ≡ Some (JumpBy p labels) → meant u.facts f m w.store p ≡ Gives (IsSpot s) → label_at w.store s ≡ Gives (Label owner l) →
       bytes_eq owner (name_of u.facts.program) ≡ true → contains labels l ≡ true → step u (at_step f h q m) w ≡ Goes (at_step f h (suc q + passed_before labels l) m) w
   unfolding step done jumping label_held target.past to given_that
   held_to p labels s owner l e is held own among =
       ap (done u (at_step f h q m) w) e ∙ ap (λ x. jumping u labels (at_step f h q m) w (given_that x (label_held w.store))) is ∙ ap (jumping u labels (at_step f h q m) w) held
-      ∙ ap (λ b. if b && is_allowed labels l then to_held u labels l (at_step f h q m) w else Breaks BadAssignedLabel) own
-      ∙ ap (λ b. if b then to_held u labels l (at_step f h q m) w else Breaks BadAssignedLabel) (contained_allowed labels l among) ∙ held_passes u labels l (at_step f h q m) w among
+      ∙ ap (λ b. if b && contains labels l then target.past (passed_before labels l) (at_step f h q m) w else Breaks BadAssignedLabel) own
+      ∙ ap (λ b. if b then target.past (passed_before labels l) (at_step f h q m) w else Breaks BadAssignedLabel) among
 
-  among_led : (p : Pure) (labels : List ℕ) (s : Spot) (owner : Bytes) (l : ℕ) (own allowed inside : Bool) → bytes_eq owner (name_of u.facts.program) ≡ own → (allowed ≡ true → contains labels l ≡ true) →
-      enters_block u.facts.program i (place_of_label u.facts.program l) ≡ inside → Spans u q (JumpBy p (each_once labels) ∷ map Jump (each_once labels)) (ends_of u i) → meant u.facts f m w.store p ≡ Gives (IsSpot s) →
+  among_led : (p : Pure) (choices : List ℕ) (s : Spot) (owner : Bytes) (l : ℕ) (own allowed inside : Bool) → bytes_eq owner (name_of u.facts.program) ≡ own → (allowed ≡ true → contains choices l ≡ true) →
+      enters_block u.facts.program i (place_of_label u.facts.program l) ≡ inside → Spans u q (JumpBy p choices ∷ map Jump choices) (ends_of u i) → meant u.facts f m w.store p ≡ Gives (IsSpot s) →
       label_at w.store s ≡ Gives (Label owner l) → Led u f h w μ q m (if (own && allowed) && not inside then go u.facts (record { frame = f; at = i; now = now; loops = rounds }) w l else Breaks BadAssignedLabel)
-  among_led p labels s owner l true true false mine among outside spans is held =
+  among_led p choices s owner l true true false mine among outside spans is held =
       let one = spans_first u spans in
-      let once = contains_once labels l ∙ among refl in
-      let r = suc q + passed_before (each_once labels) l in
-      let there' = step_stands u Jump (each_once labels) (passed_before (each_once labels) l) l one.1 (held_there (each_once labels) l once) in
+      let r = suc q + passed_before choices l in
+      let there' = step_stands u Jump choices (passed_before choices l) l one.1 (held_there choices l (among refl)) in
       record {
         upto = r;
         kept = m;
-        way = goes (ordinary_by u q _ one.0 tt) (held_to p (each_once labels) s owner l one.0 is held mine once) (omega arith) stays;
+        way = goes (ordinary_by u q _ one.0 tt) (held_to p choices s owner l one.0 is held mine (among refl)) (omega arith) stays;
         ordinary = ordinary_by u r (Jump l) there' tt;
         alike = jump_alike r l (laid.assigned i l outside) there';
       }
-  among_led p labels s owner l true true true mine among outside spans is held = let one = spans_first u spans in record { upto = q; kept = m; way = stays; ordinary = ordinary_by u q _ one.0 tt; alike = tt }
-  among_led p labels s owner l true false inside mine among outside spans is held = let one = spans_first u spans in record { upto = q; kept = m; way = stays; ordinary = ordinary_by u q _ one.0 tt; alike = tt }
-  among_led p labels s owner l false allowed inside mine among outside spans is held = let one = spans_first u spans in record { upto = q; kept = m; way = stays; ordinary = ordinary_by u q _ one.0 tt; alike = tt }
+  among_led p choices s owner l true true true mine among outside spans is held = let one = spans_first u spans in record { upto = q; kept = m; way = stays; ordinary = ordinary_by u q _ one.0 tt; alike = tt }
+  among_led p choices s owner l true false inside mine among outside spans is held = let one = spans_first u spans in record { upto = q; kept = m; way = stays; ordinary = ordinary_by u q _ one.0 tt; alike = tt }
+  among_led p choices s owner l false allowed inside mine among outside spans is held = let one = spans_first u spans in record { upto = q; kept = m; way = stays; ordinary = ordinary_by u q _ one.0 tt; alike = tt }
 
-  whole_led : (p : Pure) (k : ℕ) (ks : List ℕ) (s : Spot) (x : Checked Whole) → label_at w.store s ≡ x → Spans u q (JumpBy p (each_once (k ∷ ks)) ∷ map Jump (each_once (k ∷ ks))) (ends_of u i) → meant u.facts f m w.store p ≡ Gives (IsSpot s) →
-      Led u f h w μ q m (gone_by u.facts (record { frame = f; at = i; now = now; loops = rounds }) w (k ∷ ks) x)
+  -- for each label to which it may go there is a jump
+  abbrev Covers : List ℕ → List ℕ → Type 0
+  Covers labels choices = (l : ℕ) → contains (labels_to_go u.facts.program labels) l ≡ true → contains choices l ≡ true
+
+  whole_led : (labels choices : List ℕ) → Covers labels choices → (p : Pure) (s : Spot) (x : Checked Whole) → label_at w.store s ≡ x → Spans u q (JumpBy p choices ∷ map Jump choices) (ends_of u i) → meant u.facts f m w.store p ≡ Gives (IsSpot s) →
+      Led u f h w μ q m (gone_by u.facts (record { frame = f; at = i; now = now; loops = rounds }) w labels x)
   unfolding gone_by
-  whole_led p k ks s (Gives (Label owner l)) held spans is =
-      among_led p (k ∷ ks) s owner l (bytes_eq owner (name_of u.facts.program)) (is_allowed (k ∷ ks) l) (enters_block u.facts.program i (place_of_label u.facts.program l)) refl (allowed_contained k ks l) refl spans is held
-  whole_led p k ks s (Gives (Number z)) held spans is = let one = spans_first u spans in record { upto = q; kept = m; way = stays; ordinary = ordinary_by u q _ one.0 tt; alike = tt }
-  whole_led p k ks s (Gives (Truth b)) held spans is = let one = spans_first u spans in record { upto = q; kept = m; way = stays; ordinary = ordinary_by u q _ one.0 tt; alike = tt }
-  whole_led p k ks s (Fails act) held spans is = let one = spans_first u spans in record { upto = q; kept = m; way = stays; ordinary = ordinary_by u q _ one.0 tt; alike = tt }
+  whole_led labels choices covers p s (Gives (Label owner l)) held spans is =
+      among_led p choices s owner l (bytes_eq owner (name_of u.facts.program)) (contains (labels_to_go u.facts.program labels) l) (enters_block u.facts.program i (place_of_label u.facts.program l)) refl (covers l) refl spans is held
+  whole_led labels choices covers p s (Gives (Number z)) held spans is = let one = spans_first u spans in record { upto = q; kept = m; way = stays; ordinary = ordinary_by u q _ one.0 tt; alike = tt }
+  whole_led labels choices covers p s (Gives (Truth b)) held spans is = let one = spans_first u spans in record { upto = q; kept = m; way = stays; ordinary = ordinary_by u q _ one.0 tt; alike = tt }
+  whole_led labels choices covers p s (Fails act) held spans is = let one = spans_first u spans in record { upto = q; kept = m; way = stays; ordinary = ordinary_by u q _ one.0 tt; alike = tt }
 
-  listed_led : (p : Pure) (k : ℕ) (ks : List ℕ) (d : Datum) → Spans u q (JumpBy p (each_once (k ∷ ks)) ∷ map Jump (each_once (k ∷ ks))) (ends_of u i) → meant u.facts f m w.store p ≡ Gives d →
-      Led u f h w μ q m (deed u.facts (record { frame = f; at = i; now = now; loops = rounds }) w (ToGoAssigned (k ∷ ks)) (d ∷ []))
-  unfolding deed
-  listed_led p k ks (IsSpot s) spans is = whole_led p k ks s (label_at w.store s) refl spans is
-  listed_led p k ks (value.IsInt z) spans is = let one = spans_first u spans in record { upto = q; kept = m; way = stays; ordinary = ordinary_by u q _ one.0 tt; alike = tt }
-  listed_led p k ks (value.IsLog b) spans is = let one = spans_first u spans in record { upto = q; kept = m; way = stays; ordinary = ordinary_by u q _ one.0 tt; alike = tt }
-  listed_led p k ks (value.IsText cs) spans is = let one = spans_first u spans in record { upto = q; kept = m; way = stays; ordinary = ordinary_by u q _ one.0 tt; alike = tt }
-  listed_led p k ks (value.IsProc x) spans is = let one = spans_first u spans in record { upto = q; kept = m; way = stays; ordinary = ordinary_by u q _ one.0 tt; alike = tt }
-  listed_led p k ks (value.IsLabel l) spans is = let one = spans_first u spans in record { upto = q; kept = m; way = stays; ordinary = ordinary_by u q _ one.0 tt; alike = tt }
-  listed_led p k ks value.Nothing spans is = let one = spans_first u spans in record { upto = q; kept = m; way = stays; ordinary = ordinary_by u q _ one.0 tt; alike = tt }
-
-  assigned_led : (labels : List ℕ) (p : Pure) (d : Datum) → Spans u q (JumpBy p (each_once labels) ∷ map Jump (each_once labels)) (ends_of u i) → meant u.facts f m w.store p ≡ Gives d →
+  assigned_led : (labels choices : List ℕ) → Covers labels choices → (p : Pure) (d : Datum) → Spans u q (JumpBy p choices ∷ map Jump choices) (ends_of u i) → meant u.facts f m w.store p ≡ Gives d →
       Led u f h w μ q m (deed u.facts (record { frame = f; at = i; now = now; loops = rounds }) w (ToGoAssigned labels) (d ∷ []))
-  unfolding each_once
-  assigned_led [] p d spans is = alone_led p d (spans_first u spans).0 is
-  assigned_led (k ∷ ks) p d spans is = listed_led p k ks d spans is
+  unfolding deed
+  assigned_led labels choices covers p (IsSpot s) spans is = whole_led labels choices covers p s (label_at w.store s) refl spans is
+  assigned_led labels choices covers p (value.IsInt z) spans is = let one = spans_first u spans in record { upto = q; kept = m; way = stays; ordinary = ordinary_by u q _ one.0 tt; alike = tt }
+  assigned_led labels choices covers p (value.IsLog b) spans is = let one = spans_first u spans in record { upto = q; kept = m; way = stays; ordinary = ordinary_by u q _ one.0 tt; alike = tt }
+  assigned_led labels choices covers p (value.IsText cs) spans is = let one = spans_first u spans in record { upto = q; kept = m; way = stays; ordinary = ordinary_by u q _ one.0 tt; alike = tt }
+  assigned_led labels choices covers p (value.IsProc x) spans is = let one = spans_first u spans in record { upto = q; kept = m; way = stays; ordinary = ordinary_by u q _ one.0 tt; alike = tt }
+  assigned_led labels choices covers p (value.IsLabel l) spans is = let one = spans_first u spans in record { upto = q; kept = m; way = stays; ordinary = ordinary_by u q _ one.0 tt; alike = tt }
+  assigned_led labels choices covers p value.Nothing spans is = let one = spans_first u spans in record { upto = q; kept = m; way = stays; ordinary = ordinary_by u q _ one.0 tt; alike = tt }
 
   -- ## All forms
 
@@ -512,9 +470,9 @@ module _ (u : Text) (laid : IsLaidOut u) (f : Frame) (h : ℕ) (μ : Found) (w :
       let v = one_value u.facts f m w.store p ds is in
       subst (λ z. Led u f h w μ q m (deed u.facts (record { frame = f; at = i; now = now; loops = rounds }) w (ToPick labels) z)) (sym v.are)
       (picked_led labels p v.first (part_quiet line.form x (ToPick labels) ts part refl) well spans v.first_is)
-  deed_alike k x whole _ ts left _ _ ds no_do enough part well (for_go_assigned {labels = labels} {place = place}) spans is none reach =
+  deed_alike k x whole _ ts left _ _ ds no_do enough part well (for_go_assigned {labels = labels} {choices = choices} {place = place} covers) spans is none reach =
       let v = one_value u.facts f m w.store place ds is in
-      subst (λ z. Led u f h w μ q m (deed u.facts (record { frame = f; at = i; now = now; loops = rounds }) w (ToGoAssigned labels) z)) (sym v.are) (assigned_led labels place v.first spans v.first_is)
+      subst (λ z. Led u f h w μ q m (deed u.facts (record { frame = f; at = i; now = now; loops = rounds }) w (ToGoAssigned labels) z)) (sym v.are) (assigned_led labels choices covers place v.first spans v.first_is)
   deed_alike k x whole _ ts left _ _ ds no_do enough part well (for_go_by_sign {below = below} {at = at} {above = above} {p = p}) spans is none reach =
       let v = one_value u.facts f m w.store p ds is in
       subst (λ z. Led u f h w μ q m (deed u.facts (record { frame = f; at = i; now = now; loops = rounds }) w (ToGoBySign below at above) z)) (sym v.are) (signed_led below at above (ends_of u i) p v.first well spans v.first_is)
@@ -596,7 +554,7 @@ module _ (u : Text) (laid : IsLaidOut u) (f : Frame) (h : ℕ) (μ : Found) (w :
   deed_met k x whole _ has ts left _ _ ds no_do enough part well for_set_label spans is none reach = deed_alike u laid f h μ w i q m now has called rounds stand line place low k x whole _ ts left _ _ ds no_do enough part well for_set_label spans is none reach
   deed_met k x whole _ has ts left _ _ ds no_do enough part well for_go spans is none reach = deed_alike u laid f h μ w i q m now has called rounds stand line place low k x whole _ ts left _ _ ds no_do enough part well for_go spans is none reach
   deed_met k x whole _ has ts left _ _ ds no_do enough part well for_pick spans is none reach = deed_alike u laid f h μ w i q m now has called rounds stand line place low k x whole _ ts left _ _ ds no_do enough part well for_pick spans is none reach
-  deed_met k x whole _ has ts left _ _ ds no_do enough part well for_go_assigned spans is none reach = deed_alike u laid f h μ w i q m now has called rounds stand line place low k x whole _ ts left _ _ ds no_do enough part well for_go_assigned spans is none reach
+  deed_met k x whole _ has ts left _ _ ds no_do enough part well (for_go_assigned covers) spans is none reach = deed_alike u laid f h μ w i q m now has called rounds stand line place low k x whole _ ts left _ _ ds no_do enough part well (for_go_assigned covers) spans is none reach
   deed_met k x whole _ has ts left _ _ ds no_do enough part well for_go_by_sign spans is none reach = deed_alike u laid f h μ w i q m now has called rounds stand line place low k x whole _ ts left _ _ ds no_do enough part well for_go_by_sign spans is none reach
   deed_met k x whole _ has ts left _ _ ds no_do enough part well (for_guard code) spans is none reach = deed_alike u laid f h μ w i q m now has called rounds stand line place low k x whole _ ts left _ _ ds no_do enough part well (for_guard code) spans is none reach
   deed_met k x whole _ has ts left _ _ ds no_do enough part well (for_arm flat next) spans is none reach = deed_alike u laid f h μ w i q m now has called rounds stand line place low k x whole _ ts left _ _ ds no_do enough part well (for_arm flat next) spans is none reach

@@ -13,12 +13,12 @@ use Rattle.fortran_laws.specs.f_tree.World as fortran
 use Rattle.fortran_laws.specs.f_tree.World.{World, Transfer, Round, RoundKind, While, Counted, Called, Passed}
 use Rattle.fortran_laws.specs.f_tree.Association.{entry_of, alternate_of}
 use Rattle.fortran_laws.specs.f_tree.Transfers.{next_of}
-use Rattle.fortran_laws.specs.f_tree.Step.{contains, enters_block, fortran as fortran_language, turns_of}
+use Rattle.fortran_laws.specs.f_tree.Step.{contains, labels_to_go, enters_block, fortran as fortran_language, turns_of}
 use Rattle.lowering.specs.l_core.Pures.{Pure, Constant, Operated, Pures, NoPure, AndPure, Temporaries}
 use Rattle.lowering.specs.l_core.Steps.{Starts, Takes, Finishes, Auxiliary, Step, Put, PutLabel, Unless, Skip, Again, Jump, Select, JumpBy, Pass, CallFor, CallSub, Branch, Way, Back, BackBy, Halt, Acts, Text}
 use Rattle.lowering.specs.l_core.Machine.{View, lowered, passed_by}
 use Rattle.lowering.specs.l_core.Costs.{cost, rest}
-use Rattle.lowering.specs.Statements.{each_once, wants_no_value, labels_written, hides_labels, call_steps, loop_operands, test_by, loop_test}
+use Rattle.lowering.specs.Statements.{wants_no_value, labels_written, hides_labels, call_steps, loop_operands, test_by, loop_test}
 use Rattle.lowering.specs.Units.{free_at, own_start, own_end, loop_exit, turn_size, turn_of, loop_lowered}
 use Rattle.lowering_laws.specs.Walks.{Spans, at_step, IsOrdinary}
 use Rattle.lowering_laws.specs.Midway.{Mode, InOrder, OfLoop, lowered_as, AreIn, LoopLast}
@@ -40,7 +40,7 @@ labels_for AsSubroutine ds = labels_in ds
 labels_for (AsFunction basic width) ds = []
 
 -- An answer of a unit, and that of its text: of a subroutine the label of the alternate return that it takes, if it takes one, and the number
--- that picks it among the labels that were passed (15.6.2.3); of a function the same value, which is no label (15.5.2).
+-- that picks it among the labels that were passed (15.6.2.3, 15.8.3); of a function the same value, which is no label (15.5.2).
 abbrev pub IsGiven : Wanted → List ℕ → Datum → Datum → Type 0
 IsGiven AsSubroutine labels r r' = (z : ℤ) × (r' ≡ IsInt z) × (r ≡ alternate_of labels z)
 IsGiven (AsFunction basic width) labels r r' = (r ≡ r') × IsNoLabel r
@@ -324,7 +324,9 @@ mutual
     for_set_label : {o : Option ℕ} {ts : Terms} {label : ℕ} {place : Pure} → IsClosing u k o (ToSetLabel label) ts (AndPure place NoPure) (PutLabel place label ∷ [])
     for_go : {o : Option ℕ} {ts : Terms} {label : ℕ} → IsClosing u k o (ToGo label) ts NoPure (Jump label ∷ [])
     for_pick : {o : Option ℕ} {ts : Terms} {labels : List ℕ} {p : Pure} → IsClosing u k o (ToPick labels) ts (AndPure p NoPure) (Select p (length labels) ∷ map Jump labels)
-    for_go_assigned : {o : Option ℕ} {ts : Terms} {labels : List ℕ} {place : Pure} → IsClosing u k o (ToGoAssigned labels) ts (AndPure place NoPure) (JumpBy place (each_once labels) ∷ map Jump (each_once labels))
+    -- among the jumps behind stands one for each label to which it may go
+    for_go_assigned : {o : Option ℕ} {ts : Terms} {labels choices : List ℕ} {place : Pure} → ((l : ℕ) → contains (labels_to_go u.facts.program labels) l ≡ true → contains choices l ≡ true) →
+        IsClosing u k o (ToGoAssigned labels) ts (AndPure place NoPure) (JumpBy place choices ∷ map Jump choices)
     for_go_by_sign : {o : Option ℕ} {ts : Terms} {below at above : ℕ} {p : Pure} → IsClosing u k o (ToGoBySign below at above) ts (AndPure p NoPure) (by_sign_steps below at above p)
     for_guard : {o : Option ℕ} {ts : Terms} {form : Form} {p : Pure} {under : List Step} → IsCode u k None form under → IsClosing u k o (ToGuard form) ts (AndPure p NoPure) (Unless p (length under) ∷ under)
     for_arm : {i n : ℕ} {ts : Terms} {p : Pure} → IsFlat u i → ((j : ℕ) → arm_after u.facts.program i ≡ Some j → IsNextArm u i n j) →
@@ -366,7 +368,7 @@ IsCall (CallFor k callee ps) = Unit {0}
 IsCall (CallSub k name ps) = Unit {0}
 IsCall st = ⊥
 
--- a step that is no branch behind a CALL stands behind a position
+-- behind a position stands a step that is neither a branch behind a CALL nor one of its ways
 pub record IsFollowed (u : Text) (p : ℕ) : Type 0 where
   pub at : ℕ
   pub step : Step
@@ -379,7 +381,7 @@ pub record IsFollowedBelow (u : Text) (p e : ℕ) : Type 0 where
   pub is : IsFollowed u p
   pub below : is.at < e
 
--- where it is kept by which alternate return a subroutine comes back, the branch by it stands behind
+-- where it is kept by which alternate return a subroutine comes back, a branch stands behind
 abbrev pub BranchesBehind : Text → Type 0
 BranchesBehind u = (p k : ℕ) (callee : Callee) (ps : Pures) → slice_get u.steps p ≡ Some (CallFor k callee ps) → callee.want ≡ AsSubroutine →
     (j : ℕ) × (count : ℕ) × (slice_get u.steps (suc p) ≡ Some (Branch j count))
@@ -404,7 +406,7 @@ pub record IsLaidOut (u : Text) : Type 0 where
   pub flat : (i : ℕ) (line : Line) → slice_get u.facts.program.lines i ≡ Some line → (line.mark ≡ Plain → ⊥) → IsFlat u i
   pub labels : (label i : ℕ) → place_of_label u.facts.program label ≡ Some i → u.position label ≡ Some (u.begins i)
   pub followed : (p : ℕ) (st : Step) → slice_get u.steps p ≡ Some st → IsCall st → IsFollowed u p
-  -- where the return of a subroutine is kept, the branch by it stands behind
+  -- where the return of a subroutine is kept, a branch stands behind
   pub returns : BranchesBehind u
   pub rises : (i : ℕ) → u.begins i ≤ ends_of u i
   pub own : (i : ℕ) → own_start u.facts.program i ≡ own_of u i

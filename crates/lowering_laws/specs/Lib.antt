@@ -1,7 +1,6 @@
 pub mod Walks
 pub mod Midway
 pub mod ExpressionStatements
-pub mod Examples
 pub mod Layer
 pub mod Layout
 pub use Rattle.fortran_laws.specs.f_tree

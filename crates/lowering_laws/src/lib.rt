@@ -2,6 +2,5 @@
 //! their contracts are the laws.
 #![tactic(auto)]
 
-pub mod examples;
 pub mod expressions;
 pub mod statements;

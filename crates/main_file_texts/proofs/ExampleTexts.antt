@@ -3,7 +3,7 @@ use Rattle.std.specs.Prelude.{◌≡◌, ℕ, ◌≤◌, true, Some}
 use Rattle.std.proofs.Common.{refl}
 use Rattle.main_translation_laws.specs.f_tree.Facts.{Member}
 use Rattle.main_translation_laws.specs.f_tree.Setting.{IsIn, first_in, later_in}
-use Rattle.main_translation_laws.specs.lowering_laws.Examples.{example_opened}
+use Rattle.main_translation_laws.specs.lowered_rows.Examples.{example_opened}
 use Rattle.main_translation_laws.specs.c_tree.Tokens.{begins_with, is_letter}
 use Rattle.main_translation_laws.specs.c_tree.CText.{WellFormed}
 use Rattle.main_translation_laws.specs.main_file.MainFile.{main_file}

@@ -148,8 +148,7 @@ module _ (w : Writing) where
   flat_fieldless place label n (step.Unless p m) item h = branch_fieldless (place (suc n)) (place (suc n + m)) (value_term w p) item h (value_fieldless w p)
   flat_fieldless place label n (step.AgainIf p m) item h = branch_fieldless (place (n - m)) (place (suc n)) (value_term w p) item h (value_fieldless w p)
   flat_fieldless place label n (step.Select p count) item h = select_fieldless (cases_to place 1 (suc n) count) (place (suc n + count)) (value_term w p) item h (value_fieldless w p)
-  flat_fieldless place label n (step.JumpBy p []) item h = absurd (cc)
-  flat_fieldless place label n (step.JumpBy p (l ∷ ls)) item h = select_fieldless (cases_for place (suc n) (l ∷ ls)) (place (suc n + length (l ∷ ls))) (place_term w p) item h (target_fieldless w p)
+  flat_fieldless place label n (step.JumpBy p labels) item h = select_fieldless (cases_for place (suc n) labels) (place (suc n + length labels)) (place_term w p) item h (target_fieldless w p)
   flat_fieldless place label n (step.Skip m) item h = subst ItemHasNoField (some_same (Jump (place (suc n + m))) item h) tt
   flat_fieldless place label n (step.Again m) item h = subst ItemHasNoField (some_same (Jump (place (n - m))) item h) tt
   flat_fieldless place label n (step.Jump l) item h = goto_fieldless place (label l) item h

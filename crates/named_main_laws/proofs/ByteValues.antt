@@ -516,8 +516,7 @@ alternate other x h = refl
 
 switched : (known : Knowledge) (n : ℕ) (labels : List ℕ) (p : Pure) → passes item_of_bytes (emission.switch_step n labels (emission.place_expr known p)) ≡ true
 unfolding emission.switch_step
-switched known n [] p = refl
-switched known n (label ∷ labels) p = selected (emission.place_expr known p) (emission.label_cases (suc n) (label ∷ labels)) (suc n + length (label ∷ labels)) (place known p)
+switched known n labels p = selected (emission.place_expr known p) (emission.label_cases (suc n) labels) (suc n + length labels) (place known p)
 
 one_step : (known : Knowledge) (kind : Kinds) (n : ℕ) (st : Step) → step_of_bytes st ≡ true → passes item_of_bytes (emission.item_step known kind n st) ≡ true
 unfolding emission.item_step

@@ -274,8 +274,7 @@ module _ (IsObject : Reach → ℕ → Type 0) where
     step_sets label n (step.Again m) = tt
     step_sets label n (step.Jump l) = jump_sets (label l)
     step_sets label n (step.Select p count) = select_sets (cases_to (λ m. m) 1 (suc n) count) (suc n + count) (value_term w p)
-    step_sets label n (step.JumpBy p []) = tt
-    step_sets label n (step.JumpBy p (l ∷ ls)) = select_sets (cases_for (λ m. m) (suc n) (l ∷ ls)) (suc n + length (l ∷ ls)) (place_term w p)
+    step_sets label n (step.JumpBy p labels) = select_sets (cases_for (λ m. m) (suc n) labels) (suc n + length labels) (place_term w p)
     step_sets label n (step.Branch k count) = select_sets (cases_to (λ m. m) 1 (suc n) count) (suc n + count) (value_term w (Temporary k))
     step_sets label n (step.Way l) = jump_sets (label l)
     step_sets label n step.Pass = tt

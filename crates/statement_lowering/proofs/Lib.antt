@@ -16,7 +16,6 @@ pub mod ControlOperands
 pub mod ControlSteps
 pub mod TransferItems
 pub mod TransferLaws
-pub mod TransferRules
 pub mod CallForms
 pub mod CallLabels
 pub mod CallLaws

@@ -1,9 +1,14 @@
 -- What a statement does, and whether it is lowered, by its form.
-use Rattle.std.specs.Prelude.{◌≡◌, ℕ, true, false, ◌&&◌, List, Option}
+use Rattle.std.specs.Prelude.{◌≡◌, ℕ, Bool, true, false, ◌&&◌, List, [], ◌∷◌, ◌++◌, Option, None, Some, if◌then◌else◌}
 use Rattle.std.proofs.Common.{refl}
 use Rattle.f_tree.specs.Values.{Bytes}
 use Rattle.f_tree.specs.Folds.{folds_opened}
-use Rattle.f_tree.specs.Lines.{form_of, layer_form}
+use Rattle.f_tree.specs.Terms.{terms, refers}
+use Rattle.f_tree.specs.Facts.{ToSetText, Passes, On}
+use Rattle.f_tree.specs.Reading.{Read, read}
+use Rattle.f_tree.specs.Uses.{heading_of}
+use Rattle.f_tree.specs.Lines.{Naming, is_statement_function, is_text, value_assignment, text_assignment, assignment, assign_form, return_form, transfer_form, auxiliary_form, form_of, layer_form}
+use Rattle.lowering.specs.Units.{listed}
 use Rattle.f_tree.specs.declared.expressions.Expr.{Expr}
 use Rattle.f_tree.specs.declared.statements.Body.{Body}
 use Rattle.f_tree.specs.declared.statements.Body as body
@@ -31,149 +36,167 @@ use Rattle.statement_lowering.specs.LoweredTransfers.{controls_lower, transfer_l
 use Rattle.statement_lowering.specs.LoweredStatements.{assignment_lowers, control_lowers, optional_lowers, layer_lowers, is_lowered_statement}
 
 -- WHAT IT DOES
-pub does-Header : (kind : UnitKind) (name : Option Bytes) (dummies : List DummyArgument) → form.forms_of (body.Header kind name dummies) ≡ form.passing
-unfolding folds_opened form_of layer_form form.statement_forms_opened
-does-Header kind name dummies = refl
+pub does-Header : (ls : List ℕ) (kind : UnitKind) (name : Option Bytes) (dummies : List DummyArgument) → form.forms_of ls (body.Header kind name dummies) ≡ form.passing
+unfolding folds_opened listed form_of layer_form form.statement_forms_opened
+does-Header ls kind name dummies = refl
 
-pub does-Declare : (type : TypeSpec) (items : List Declarator) → form.forms_of (body.Declare type items) ≡ form.passing
-unfolding folds_opened form_of layer_form form.statement_forms_opened
-does-Declare type items = refl
+pub does-Declare : (ls : List ℕ) (type : TypeSpec) (items : List Declarator) → form.forms_of ls (body.Declare type items) ≡ form.passing
+unfolding folds_opened listed form_of layer_form form.statement_forms_opened
+does-Declare ls type items = refl
 
-pub does-Dimension : (items : List ArrayDeclarator) → form.forms_of (body.Dimension items) ≡ form.passing
-unfolding folds_opened form_of layer_form form.statement_forms_opened
-does-Dimension items = refl
+pub does-Dimension : (ls : List ℕ) (items : List ArrayDeclarator) → form.forms_of ls (body.Dimension items) ≡ form.passing
+unfolding folds_opened listed form_of layer_form form.statement_forms_opened
+does-Dimension ls items = refl
 
-pub does-Common : (groups : List CommonGroup) → form.forms_of (body.Common groups) ≡ form.passing
-unfolding folds_opened form_of layer_form form.statement_forms_opened
-does-Common groups = refl
+pub does-Common : (ls : List ℕ) (groups : List CommonGroup) → form.forms_of ls (body.Common groups) ≡ form.passing
+unfolding folds_opened listed form_of layer_form form.statement_forms_opened
+does-Common ls groups = refl
 
-pub does-Equivalence : (groups : List EquivalenceGroup) → form.forms_of (body.Equivalence groups) ≡ form.passing
-unfolding folds_opened form_of layer_form form.statement_forms_opened
-does-Equivalence groups = refl
+pub does-Equivalence : (ls : List ℕ) (groups : List EquivalenceGroup) → form.forms_of ls (body.Equivalence groups) ≡ form.passing
+unfolding folds_opened listed form_of layer_form form.statement_forms_opened
+does-Equivalence ls groups = refl
 
-pub does-Implicit : (groups : List ImplicitGroup) → form.forms_of (body.Implicit groups) ≡ form.passing
-unfolding folds_opened form_of layer_form form.statement_forms_opened
-does-Implicit groups = refl
+pub does-Implicit : (ls : List ℕ) (groups : List ImplicitGroup) → form.forms_of ls (body.Implicit groups) ≡ form.passing
+unfolding folds_opened listed form_of layer_form form.statement_forms_opened
+does-Implicit ls groups = refl
 
-pub does-ImplicitNone : form.forms_of body.ImplicitNone ≡ form.passing
-unfolding folds_opened form_of layer_form form.statement_forms_opened
-does-ImplicitNone = refl
+pub does-ImplicitNone : (ls : List ℕ) → form.forms_of ls body.ImplicitNone ≡ form.passing
+unfolding folds_opened listed form_of layer_form form.statement_forms_opened
+does-ImplicitNone ls = refl
 
-pub does-Parameter : (items : List ConstantDefinition) → form.forms_of (body.Parameter items) ≡ form.passing
-unfolding folds_opened form_of layer_form form.statement_forms_opened
-does-Parameter items = refl
+pub does-Parameter : (ls : List ℕ) (items : List ConstantDefinition) → form.forms_of ls (body.Parameter items) ≡ form.passing
+unfolding folds_opened listed form_of layer_form form.statement_forms_opened
+does-Parameter ls items = refl
 
-pub does-External : (xs : List Bytes) → form.forms_of (body.External xs) ≡ form.passing
-unfolding folds_opened form_of layer_form form.statement_forms_opened
-does-External xs = refl
+pub does-External : (ls : List ℕ) (xs : List Bytes) → form.forms_of ls (body.External xs) ≡ form.passing
+unfolding folds_opened listed form_of layer_form form.statement_forms_opened
+does-External ls xs = refl
 
-pub does-Intrinsic : (xs : List Bytes) → form.forms_of (body.Intrinsic xs) ≡ form.passing
-unfolding folds_opened form_of layer_form form.statement_forms_opened
-does-Intrinsic xs = refl
+pub does-Intrinsic : (ls : List ℕ) (xs : List Bytes) → form.forms_of ls (body.Intrinsic xs) ≡ form.passing
+unfolding folds_opened listed form_of layer_form form.statement_forms_opened
+does-Intrinsic ls xs = refl
 
-pub does-Save : (items : List SavedItem) → form.forms_of (body.Save items) ≡ form.passing
-unfolding folds_opened form_of layer_form form.statement_forms_opened
-does-Save items = refl
+pub does-Save : (ls : List ℕ) (items : List SavedItem) → form.forms_of ls (body.Save items) ≡ form.passing
+unfolding folds_opened listed form_of layer_form form.statement_forms_opened
+does-Save ls items = refl
 
-pub does-Init : (groups : List DataGroup) → form.forms_of (body.Init groups) ≡ form.passing
-unfolding folds_opened form_of layer_form form.statement_forms_opened
-does-Init groups = refl
+pub does-Init : (ls : List ℕ) (groups : List DataGroup) → form.forms_of ls (body.Init groups) ≡ form.passing
+unfolding folds_opened listed form_of layer_form form.statement_forms_opened
+does-Init ls groups = refl
 
-pub does-Format : (text : Bytes) → form.forms_of (body.Format text) ≡ form.passing
-unfolding folds_opened form_of layer_form form.statement_forms_opened
-does-Format text = refl
+pub does-Format : (ls : List ℕ) (text : Bytes) → form.forms_of ls (body.Format text) ≡ form.passing
+unfolding folds_opened listed form_of layer_form form.statement_forms_opened
+does-Format ls text = refl
 
-pub does-Entry : (name : Bytes) (dummies : List DummyArgument) → form.forms_of (body.Entry name dummies) ≡ form.passing
-unfolding folds_opened form_of layer_form form.statement_forms_opened
-does-Entry name dummies = refl
+pub does-Entry : (ls : List ℕ) (name : Bytes) (dummies : List DummyArgument) → form.forms_of ls (body.Entry name dummies) ≡ form.passing
+unfolding folds_opened listed form_of layer_form form.statement_forms_opened
+does-Entry ls name dummies = refl
 
-pub does-Assign : (target e : Expr) → form.forms_of (body.Assign target e) ≡ form.assigning target e
-unfolding folds_opened form_of layer_form form.statement_forms_opened
-does-Assign target e = refl
+-- an assignment is no GO TO
+unlisted-set : (ls : List ℕ) (target e : Read) (b : Bool) → listed ls (if b then value_assignment target e else On ToSetText (terms (e.pieces ++ target.actual ∷ []))) ≡ (if b then value_assignment target e else On ToSetText (terms (e.pieces ++ target.actual ∷ [])))
+unfolding listed value_assignment
+unlisted-set ls target e true = refl
+unlisted-set ls target e false = refl
 
-pub does-AssignLabel : (label : ℕ) (x : Bytes) → form.forms_of (body.AssignLabel label x) ≡ form.assigning_label label x
-unfolding folds_opened form_of layer_form form.statement_forms_opened
-does-AssignLabel label x = refl
+unlisted-text : (ls : List ℕ) (target e : Read) (b : Bool) → listed ls (if b then text_assignment target e else value_assignment target e) ≡ (if b then text_assignment target e else value_assignment target e)
+unfolding listed text_assignment value_assignment
+unlisted-text ls target e true = unlisted-set ls target e (refers target.actual)
+unlisted-text ls target e false = refl
 
-pub does-Goto : (label : ℕ) → form.forms_of (body.Goto label) ≡ form.going label
-unfolding folds_opened form_of layer_form form.statement_forms_opened
-does-Goto label = refl
+unlisted-assign : (ls : List ℕ) (names : Naming) (target e : Expr) (b : Bool) → listed ls (if b then Passes else assignment names (read names target) (read names e)) ≡ (if b then Passes else assignment names (read names target) (read names e))
+unfolding listed assignment
+unlisted-assign ls names target e true = refl
+unlisted-assign ls names target e false = unlisted-text ls (read names target) (read names e) (is_text names (read names target).base)
 
-pub does-GotoList : (labels : List ℕ) (e : Expr) → form.forms_of (body.GotoList labels e) ≡ form.picking labels e
-unfolding folds_opened form_of layer_form form.statement_forms_opened
-does-GotoList labels e = refl
+pub does-Assign : (ls : List ℕ) (target e : Expr) → form.forms_of ls (body.Assign target e) ≡ form.assigning target e
+unfolding folds_opened form_of layer_form form.statement_forms_opened assign_form
+does-Assign ls target e = λ i. λ names. unlisted-assign ls names target e (is_statement_function names (heading_of target).applied) i
 
-pub does-GotoName : (x : Bytes) (labels : List ℕ) → form.forms_of (body.GotoName x labels) ≡ form.going_assigned x labels
-unfolding folds_opened form_of layer_form form.statement_forms_opened
-does-GotoName x labels = refl
+pub does-AssignLabel : (ls : List ℕ) (label : ℕ) (x : Bytes) → form.forms_of ls (body.AssignLabel label x) ≡ form.assigning_label label x
+unfolding folds_opened listed form_of layer_form form.statement_forms_opened
+does-AssignLabel ls label x = refl
 
-pub does-IfSign : (e : Expr) (below at above : ℕ) → form.forms_of (body.IfSign e below at above) ≡ form.going_by_sign e below at above
-unfolding folds_opened form_of layer_form form.statement_forms_opened
-does-IfSign e below at above = refl
+pub does-Goto : (ls : List ℕ) (label : ℕ) → form.forms_of ls (body.Goto label) ≡ form.going label
+unfolding folds_opened listed form_of layer_form form.statement_forms_opened
+does-Goto ls label = refl
 
-pub does-IfOne : (e : Expr) (b : Body) → form.forms_of (body.IfOne e b) ≡ form.guarding e (form.forms_of b)
-unfolding folds_opened form_of layer_form form.statement_forms_opened
-does-IfOne e b = refl
+pub does-GotoList : (ls : List ℕ) (labels : List ℕ) (e : Expr) → form.forms_of ls (body.GotoList labels e) ≡ form.picking labels e
+unfolding folds_opened listed form_of layer_form form.statement_forms_opened
+does-GotoList ls labels e = refl
 
-pub does-IfThen : (e : Expr) → form.forms_of (body.IfThen e) ≡ form.entering e
-unfolding folds_opened form_of layer_form form.statement_forms_opened
-does-IfThen e = refl
+pub does-GotoName : (ls : List ℕ) (x : Bytes) (labels : List ℕ) → form.forms_of ls (body.GotoName x labels) ≡ form.going_assigned x (form.written_or labels ls)
+unfolding folds_opened listed form_of layer_form form.statement_forms_opened
+does-GotoName ls x [] = refl
+does-GotoName ls x (label ∷ labels) = refl
 
-pub does-ElseIf : (e : Expr) → form.forms_of (body.ElseIf e) ≡ form.entering e
-unfolding folds_opened form_of layer_form form.statement_forms_opened
-does-ElseIf e = refl
+pub does-IfSign : (ls : List ℕ) (e : Expr) (below at above : ℕ) → form.forms_of ls (body.IfSign e below at above) ≡ form.going_by_sign e below at above
+unfolding folds_opened listed form_of layer_form form.statement_forms_opened
+does-IfSign ls e below at above = refl
 
-pub does-Else : form.forms_of body.Else ≡ form.passing
-unfolding folds_opened form_of layer_form form.statement_forms_opened
-does-Else = refl
+pub does-IfOne : (ls : List ℕ) (e : Expr) (b : Body) → form.forms_of ls (body.IfOne e b) ≡ form.guarding e (form.forms_of ls b)
+unfolding folds_opened listed form_of layer_form form.statement_forms_opened
+does-IfOne ls e b = refl
 
-pub does-EndIf : form.forms_of body.EndIf ≡ form.passing
-unfolding folds_opened form_of layer_form form.statement_forms_opened
-does-EndIf = refl
+pub does-IfThen : (ls : List ℕ) (e : Expr) → form.forms_of ls (body.IfThen e) ≡ form.entering e
+unfolding folds_opened listed form_of layer_form form.statement_forms_opened
+does-IfThen ls e = refl
 
-pub does-Do : (label : Option ℕ) (control : LoopControl) → form.forms_of (body.Do label control) ≡ form.looping label control
-unfolding folds_opened form_of layer_form form.statement_forms_opened
-does-Do label control = refl
+pub does-ElseIf : (ls : List ℕ) (e : Expr) → form.forms_of ls (body.ElseIf e) ≡ form.entering e
+unfolding folds_opened listed form_of layer_form form.statement_forms_opened
+does-ElseIf ls e = refl
 
-pub does-DoWhile : (label : Option ℕ) (e : Expr) → form.forms_of (body.DoWhile label e) ≡ form.testing label e
-unfolding folds_opened form_of layer_form form.statement_forms_opened
-does-DoWhile label e = refl
+pub does-Else : (ls : List ℕ) → form.forms_of ls body.Else ≡ form.passing
+unfolding folds_opened listed form_of layer_form form.statement_forms_opened
+does-Else ls = refl
 
-pub does-EndDo : form.forms_of body.EndDo ≡ form.passing
-unfolding folds_opened form_of layer_form form.statement_forms_opened
-does-EndDo = refl
+pub does-EndIf : (ls : List ℕ) → form.forms_of ls body.EndIf ≡ form.passing
+unfolding folds_opened listed form_of layer_form form.statement_forms_opened
+does-EndIf ls = refl
 
-pub does-Continue : form.forms_of body.Continue ≡ form.passing
-unfolding folds_opened form_of layer_form form.statement_forms_opened
-does-Continue = refl
+pub does-Do : (ls : List ℕ) (label : Option ℕ) (control : LoopControl) → form.forms_of ls (body.Do label control) ≡ form.looping label control
+unfolding folds_opened listed form_of layer_form form.statement_forms_opened
+does-Do ls label control = refl
 
-pub does-Return : (e : Option Expr) → form.forms_of (body.Return e) ≡ form.returning e
-unfolding folds_opened form_of layer_form form.statement_forms_opened
-does-Return e = refl
+pub does-DoWhile : (ls : List ℕ) (label : Option ℕ) (e : Expr) → form.forms_of ls (body.DoWhile label e) ≡ form.testing label e
+unfolding folds_opened listed form_of layer_form form.statement_forms_opened
+does-DoWhile ls label e = refl
 
-pub does-Stop : (text : Bytes) → form.forms_of (body.Stop text) ≡ form.stopping text
-unfolding folds_opened form_of layer_form form.statement_forms_opened
-does-Stop text = refl
+pub does-EndDo : (ls : List ℕ) → form.forms_of ls body.EndDo ≡ form.passing
+unfolding folds_opened listed form_of layer_form form.statement_forms_opened
+does-EndDo ls = refl
 
-pub does-Include : (name : Bytes) → form.forms_of (body.Include name) ≡ form.passing
-unfolding folds_opened form_of layer_form form.statement_forms_opened
-does-Include name = refl
+pub does-Continue : (ls : List ℕ) → form.forms_of ls body.Continue ≡ form.passing
+unfolding folds_opened listed form_of layer_form form.statement_forms_opened
+does-Continue ls = refl
 
-pub does-End : form.forms_of body.End ≡ form.ending
-unfolding folds_opened form_of layer_form form.statement_forms_opened
-does-End = refl
+pub does-Return : (ls : List ℕ) (e : Option Expr) → form.forms_of ls (body.Return e) ≡ form.returning e
+unfolding folds_opened listed form_of layer_form form.statement_forms_opened return_form
+does-Return ls None = refl
+does-Return ls (Some e) = refl
 
-pub does-Call : (x : Bytes) (es : List Expr) → form.forms_of (body.Call x es) ≡ calling x es
-unfolding folds_opened form_of layer_form form.statement_forms_opened transfer_forms_opened
-does-Call x es = refl
+pub does-Stop : (ls : List ℕ) (text : Bytes) → form.forms_of ls (body.Stop text) ≡ form.stopping text
+unfolding folds_opened listed form_of layer_form form.statement_forms_opened
+does-Stop ls text = refl
 
-pub does-Transfer : (way : Direction) (controls : List Control) (items : List ListItem) → form.forms_of (body.Transfer way controls items) ≡ transferring way controls items
-unfolding folds_opened form_of layer_form form.statement_forms_opened transfer_forms_opened
-does-Transfer way controls items = refl
+pub does-Include : (ls : List ℕ) (name : Bytes) → form.forms_of ls (body.Include name) ≡ form.passing
+unfolding folds_opened listed form_of layer_form form.statement_forms_opened
+does-Include ls name = refl
 
-pub does-Auxiliary : (which : AuxiliaryKind) (controls : List Control) → form.forms_of (body.Auxiliary which controls) ≡ acting_on which controls
-unfolding folds_opened form_of layer_form form.statement_forms_opened transfer_forms_opened
-does-Auxiliary which controls = refl
+pub does-End : (ls : List ℕ) → form.forms_of ls body.End ≡ form.ending
+unfolding folds_opened listed form_of layer_form form.statement_forms_opened
+does-End ls = refl
+
+pub does-Call : (ls : List ℕ) (x : Bytes) (es : List Expr) → form.forms_of ls (body.Call x es) ≡ calling x es
+unfolding folds_opened listed form_of layer_form form.statement_forms_opened transfer_forms_opened
+does-Call ls x es = refl
+
+pub does-Transfer : (ls : List ℕ) (way : Direction) (controls : List Control) (items : List ListItem) → form.forms_of ls (body.Transfer way controls items) ≡ transferring way controls items
+unfolding folds_opened listed form_of layer_form form.statement_forms_opened transfer_forms_opened transfer_form
+does-Transfer ls way controls items = refl
+
+pub does-Auxiliary : (ls : List ℕ) (which : AuxiliaryKind) (controls : List Control) → form.forms_of ls (body.Auxiliary which controls) ≡ acting_on which controls
+unfolding folds_opened listed form_of layer_form form.statement_forms_opened transfer_forms_opened auxiliary_form
+does-Auxiliary ls which controls = refl
 
 pub ruleset done_forms = (does-Header, does-Declare, does-Dimension, does-Common, does-Equivalence, does-Implicit, does-ImplicitNone, does-Parameter, does-External, does-Intrinsic, does-Save, does-Init, does-Format, does-Entry, does-Assign, does-AssignLabel, does-Goto, does-GotoList, does-GotoName, does-IfSign, does-IfOne, does-IfThen, does-ElseIf, does-Else, does-EndIf, does-Do, does-DoWhile, does-EndDo, does-Continue, does-Return, does-Stop, does-Include, does-End, does-Call, does-Transfer, does-Auxiliary)
 

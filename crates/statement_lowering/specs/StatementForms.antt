@@ -1,5 +1,5 @@
 -- What a statement does, given what the names of its unit are: a definition for each form. ANSI X3.9-1978, sections 10 to 12 and 15.8.
-use Rattle.std.specs.Prelude.{ℕ, List, Option}
+use Rattle.std.specs.Prelude.{ℕ, List, [], ◌∷◌, Option}
 use Rattle.f_tree.specs.declared.expressions.Expr.{Expr}
 use Rattle.f_tree.specs.declared.statements.Body.{Body}
 use Rattle.f_tree.specs.declared.statements.LoopControl.{LoopControl}
@@ -8,14 +8,20 @@ use Rattle.f_tree.specs.Terms.{At, NoMore, More}
 use Rattle.f_tree.specs.Facts.{ToSetLabel, ToGo, ToPick, ToGoAssigned, ToGoBySign, ToGuard, ToEnterArm, ToLoop, ToTestLoop, ToStop, ToEnd, Form, Passes, On}
 use Rattle.f_tree.specs.Reading.{read}
 use Rattle.f_tree.specs.Lines.{Naming, value_of, control_of, value_assignment, assign_form, return_form, form_of}
+use Rattle.lowering.specs.Units.{listed}
 
 -- what a statement does, given the names
 abbrev pub Forms : Type 0
 Forms = Naming → Form
 
--- a statement by its form
-unfoldable pub forms_of : Body → Forms
-forms_of b names = form_of names b
+-- a statement by its form, where the ASSIGN statements of its unit name these labels
+unfoldable pub forms_of : List ℕ → Body → Forms
+forms_of assigned b names = listed assigned (form_of names b)
+
+-- the labels that are written, or without any those that ASSIGN statements name (11.3)
+unfoldable pub written_or : List ℕ → List ℕ → List ℕ
+written_or [] assigned = assigned
+written_or (label ∷ labels) assigned = label ∷ labels
 
 -- what takes no step
 unfoldable pub passing : Forms
@@ -78,5 +84,5 @@ unfoldable pub ending : Forms
 ending names = On ToEnd NoMore
 
 unfoldable pub statement_forms_opened : Unit {0}
-unfolding forms_of passing going picking going_assigned going_by_sign guarding entering testing looping assigning setting assigning_label returning stopping ending
+unfolding forms_of written_or passing going picking going_assigned going_by_sign guarding entering testing looping assigning setting assigning_label returning stopping ending
 statement_forms_opened = tt

@@ -1,6 +1,6 @@
 //! Statements by their forms.
 
-ghost use Rattle.std.specs.Prelude.{true};
+ghost use Rattle.std.specs.Prelude.{◌≡◌, true};
 ghost use Rattle.statement_lowering.specs.StatementForms as form;
 ghost use Rattle.statement_lowering.specs.LoweredStatements.{is_lowered_statement};
 ghost use Rattle.statement_lowering.specs.StatementOutcomes.{IsOutcome};
@@ -28,7 +28,20 @@ fn pass(table: &NameFacts, around: Around, steps: &mut Vec<Step>) -> Result<(), 
     Ok(())
 }
 
-/// Appends the steps of a statement, given what its names are and what stands around it.
+/// The labels to which a GO TO by a variable may go: those of its list, or without one those that ASSIGN statements name. Section 11.3.
+#[tactic(auto, unfolding(crate::specs::StatementForms::written_or))]
+fn labels_to_go<'a>(written: &'a [u32], assigned: &'a [u32]) -> &'a [u32]
+    ensures { result.now ≡ form.written_or written.now assigned.now }
+{
+    if written.is_empty() {
+        assigned
+    } else {
+        written
+    }
+}
+
+/// Appends the steps of a statement, given what its names are, what stands around it, and which labels the ASSIGN statements of its unit
+/// name.
 ///
 /// # Errors
 ///
@@ -38,10 +51,11 @@ pub fn lower_statement(
     alloc: Global,
     table: &NameFacts,
     around: Around,
+    assigned: &[u32],
     body: &Body,
     steps: &mut Vec<Step>,
 ) -> Result<(), LowerError>
-    ensures { IsOutcome table.now around (is_lowered_statement table.now body.now) (form.forms_of body.now) steps.old.items steps.new.items result }
+    ensures { IsOutcome table.now around (is_lowered_statement table.now body.now) (form.forms_of assigned.now body.now) steps.old.items steps.new.items result }
 {
     match body {
         Body::Assign(target, e) => lower_assignment(alloc, table, around, target, e, steps),
@@ -56,7 +70,8 @@ pub fn lower_statement(
         }
         Body::GotoName(name, labels) => {
             let holder = name.as_slice();
-            let allowed = labels.as_slice();
+            let written = labels.as_slice();
+            let allowed = labels_to_go(written, assigned);
             lower_assigned_go(alloc, table, around, holder, allowed, steps)
         }
         Body::IfSign(e, below, at, above) => {
@@ -66,7 +81,7 @@ pub fn lower_statement(
             let mut under = Vec::new(alloc);
             let inner = statement.get();
             let around_inner = within(around);
-            let lowered = lower_statement(alloc, table, around_inner, inner, &mut under);
+            let lowered = lower_statement(alloc, table, around_inner, assigned, inner, &mut under);
             lower_guard(alloc, table, around, e, lowered, under, steps)
         }
         Body::IfThen(e) | Body::ElseIf(e) => lower_arm(alloc, table, around, e, steps),

@@ -7,6 +7,7 @@ use Rattle.f_tree.specs.declared.units.Unit.{Unit as WrittenUnit}
 use Rattle.f_tree.specs.Attributes.{from_all}
 use Rattle.f_tree.specs.Facts.{Line, ProgramUnit}
 use Rattle.f_tree.specs.Nests.{Range, loop_of, range_by, open_at}
+use Rattle.f_tree.specs.Step.{assigned_in}
 use Rattle.f_tree.specs.Lines.{Naming, loop_label_in, mark_of, form_of, line_of}
 use Rattle.lowering.specs.Units.{free_at, all_named, is_named, ended_at, is_counted, own_end, range_of}
 use Rattle.name_facts.specs.declared.table.NameFacts.{NameFacts}
@@ -66,8 +67,8 @@ all_lower table [] each = refl
 all_lower table (s ∷ ss) each =
     ap (λ b. b && statements_lower table ss) (each 0 s refl) ∙ all_lower table ss (λ k t at. each (suc k) t at)
 
-lowered_all : (table : NameFacts) (once : Bool) (labels : List ℕ) (ss : List Stmt) (loops : List LoopPlace) (sizes : List Size) → AreSizes table once labels ss loops sizes → statements_lower table ss ≡ true
-lowered_all table once labels ss loops sizes are =
+lowered_all : (table : NameFacts) (once : Bool) (assigned labels : List ℕ) (ss : List Stmt) (loops : List LoopPlace) (sizes : List Size) → AreSizes table once assigned labels ss loops sizes → statements_lower table ss ≡ true
+lowered_all table once assigned labels ss loops sizes are =
     all_lower table ss
     (λ k s at. beside (is_lowered_statement table s.body ≡ true) ss sizes k s are.count at (λ size there. (are.each k size there s at).is.lowers))
 
@@ -86,11 +87,11 @@ line_there : (P : Type 0) (names : Naming) (labels : List ℕ) (ss : List Stmt) 
 line_there P names labels ss p k line lines at some =
     mapped_there P (line_of names labels) ss k line (ap (λ (ls : List Line). slice_get ls k) (sym lines) ∙ at) (λ s there is. some s there (line_is names labels s line is))
 
-module _ (table : NameFacts) (once : Bool) (u : WrittenUnit) (loops : List LoopPlace) (named : LabelTable (Unit {0})) (sizes : List Size) (layout : Layout) (places : List StatementPlace)
+module _ (table : NameFacts) (once : Bool) (assigned : List ℕ) (u : WrittenUnit) (loops : List LoopPlace) (named : LabelTable (Unit {0})) (sizes : List Size) (layout : Layout) (places : List StatementPlace)
     (loops_are : ArePlacesOf table once u.statements loops) (set : IsLabelSet (from_all (labels_of table) u.statements) named)
-    (sizes_are : AreSizes table once (from_all (labels_of table) u.statements) u.statements loops sizes) (laid : IsLaidOut once u loops named sizes layout)
+    (sizes_are : AreSizes table once assigned (from_all (labels_of table) u.statements) u.statements loops sizes) (laid : IsLaidOut once u loops named sizes layout)
     (placed : ArePlacesIn u.statements layout places) where
-  module _ (p : ProgramUnit) (names : Naming) (read : IsReadAs p once names u.statements) (told : AreFactsOf names table) where
+  module _ (p : ProgramUnit) (names : Naming) (read : IsReadAs p once names u.statements) (told : AreFactsOf names table) (assigned_is : assigned_in p.lines ≡ assigned) where
     lengths : length p.lines ≡ length u.statements
     lengths = ap length read.lines ∙ mapped_length (line_of names (from_all loop_label_in u.statements)) u.statements
 
@@ -100,7 +101,7 @@ module _ (table : NameFacts) (once : Bool) (u : WrittenUnit) (loops : List LoopP
     labels_are : all_named p.lines ≡ from_all (labels_of table) u.statements
     labels_are =
         ap all_named read.lines
-        ∙ lines_names names table told (from_all loop_label_in u.statements) u.statements (lowered_all table once (from_all (labels_of table) u.statements) u.statements loops sizes sizes_are)
+        ∙ lines_names names table told (from_all loop_label_in u.statements) u.statements (lowered_all table once assigned (from_all (labels_of table) u.statements) u.statements loops sizes sizes_are)
 
     named_is : (line : Line) (s : Stmt) → line.label ≡ s.label → is_named (all_named p.lines) line.label ≡ is_named (from_all (labels_of table) u.statements) s.label
     named_is line s is = ap (λ ls. is_named ls line.label) labels_are ∙ ap (is_named (from_all (labels_of table) u.statements)) is
@@ -113,7 +114,7 @@ module _ (table : NameFacts) (once : Bool) (u : WrittenUnit) (loops : List LoopP
         line_there (SameSize p k line size) names (from_all loop_label_in u.statements) u.statements p k line read.lines at
         (λ s here is.
         let h = slice_get_within p.lines k line at in
-        same_size table names p k line once u.statements (free_in loops k) (ended_in loops k) (is_named (from_all (labels_of table) u.statements) s.label) s.body size told read.onetrip
+        same_size table names p k line once assigned u.statements (free_in loops k) (ended_in loops k) (is_named (from_all (labels_of table) u.statements) s.label) s.body size told read.onetrip assigned_is
         (loop_free p loops k looped h) is.form is.mark (named_is line s is.label)
         (ap (turn_sizes_in u.statements) (loop_ended p loops k looped h) ∙ sym (turns_same p u.statements counts (ended_at p k))) (sizes_are.each k size there s here))
 
@@ -182,17 +183,17 @@ module _ (table : NameFacts) (once : Bool) (u : WrittenUnit) (loops : List LoopP
           (λ s here is. place_is k line s place at is (placed.each k place there s here));
     }
 
-  all_places : AreAllPlaces table once u.statements places
-  all_places = record { lowers = lowered_all table once (from_all (labels_of table) u.statements) u.statements loops sizes sizes_are; meant = are_places }
+  all_places : AreAllPlaces table once assigned u.statements places
+  all_places = record { lowers = lowered_all table once assigned (from_all (labels_of table) u.statements) u.statements loops sizes sizes_are; meant = are_places }
 
 -- as the code hands on the lists
-pub all_placed : (table : NameFacts) (once : Bool) (u : WrittenUnit) (loops : List LoopPlace) (named : LabelTable (Unit {0})) (sizes : List Size) (layout : Layout) (places : List StatementPlace)
+pub all_placed : (table : NameFacts) (once : Bool) (assigned : List ℕ) (u : WrittenUnit) (loops : List LoopPlace) (named : LabelTable (Unit {0})) (sizes : List Size) (layout : Layout) (places : List StatementPlace)
     (ss : List Stmt) (ls : List LoopPlace) (zs : List Size) → ss ≡ u.statements → ls ≡ loops → zs ≡ sizes → ArePlacesOf table once u.statements loops → IsLabelSet (from_all (labels_of table) ss) named
-    → ((labels : List ℕ) → IsLabelSet labels named → AreSizes table once labels ss ls sizes) → IsLaidOut once u loops named zs layout → ArePlacesIn ss layout places
-    → AreAllPlaces table once u.statements places
-all_placed table once u loops named sizes layout places ss ls zs are_statements are_loops are_sizes looped set sized laid placed =
+    → ((labels : List ℕ) → IsLabelSet labels named → AreSizes table once assigned labels ss ls sizes) → IsLaidOut once u loops named zs layout → ArePlacesIn ss layout places
+    → AreAllPlaces table once assigned u.statements places
+all_placed table once assigned u loops named sizes layout places ss ls zs are_statements are_loops are_sizes looped set sized laid placed =
     let all = subst (λ xs. IsLabelSet (from_all (labels_of table) xs) named) are_statements set in
-    all_places table once u loops named sizes layout places looped all
-    (subst (λ xs. AreSizes table once (from_all (labels_of table) u.statements) u.statements xs sizes) are_loops
-    (subst (λ xs. AreSizes table once (from_all (labels_of table) u.statements) xs ls sizes) are_statements (sized (from_all (labels_of table) u.statements) all)))
+    all_places table once assigned u loops named sizes layout places looped all
+    (subst (λ xs. AreSizes table once assigned (from_all (labels_of table) u.statements) u.statements xs sizes) are_loops
+    (subst (λ xs. AreSizes table once assigned (from_all (labels_of table) u.statements) xs ls sizes) are_statements (sized (from_all (labels_of table) u.statements) all)))
     (subst (λ xs. IsLaidOut once u loops named xs layout) are_sizes laid) (subst (λ xs. ArePlacesIn xs layout places) are_statements placed)

@@ -63,11 +63,11 @@ count_steps (x ∷ xs) = ap suc (count_steps xs)
 count_added : (before after : List Step) (added : List act.Step) → before ≡ [] → steps_of after ≡ steps_of before ++ added → length after ≡ length added
 count_added before after added none is = sym (count_steps after) ∙ ap length (is ∙ ap (λ (xs : List Step). steps_of xs ++ added) none)
 
-pub counted : (table : NameFacts) (once : Bool) (free : ℕ) (b : Body) (before after : List Step) (a : Unit {0}) (n : ℕ) → before ≡ [] → n ≡ length after
-    → IsOutcome table (record { once = once; free = free; room = 0 }) (is_lowered_statement table b) (forms_of b) before after (Ok a) → IsCodeSize table once free b n
+pub counted : (table : NameFacts) (once : Bool) (assigned : List ℕ) (free : ℕ) (b : Body) (before after : List Step) (a : Unit {0}) (n : ℕ) → before ≡ [] → n ≡ length after
+    → IsOutcome table (record { once = once; free = free; room = 0 }) (is_lowered_statement table b) (forms_of assigned b) before after (Ok a) → IsCodeSize table once assigned free b n
 unfolding forms_of
-counted table once free b before after a n none is said =
-    let known = lowered table (record { once = once; free = free; room = 0 }) (is_lowered_statement table b) (forms_of b) before after a said in
+counted table once assigned free b before after a n none is said =
+    let known = lowered table (record { once = once; free = free; room = 0 }) (is_lowered_statement table b) (forms_of assigned b) before after a said in
     record {
       lowers = known.built;
       meant = λ names told.
@@ -88,19 +88,19 @@ some_refused table (t ∷ ss) (suc i) s d h is none =
     ap (λ b. is_lowered_statement table t.body && b) (some_refused table ss i s d (let e : suc i < suc (length ss) = h in omega (arith, e)) is none) ∙ and_none (is_lowered_statement table t.body)
 
 -- the sizes of statements so far, and one more
-pub size_here : (table : NameFacts) (once : Bool) (labels : List ℕ) (ss : List Stmt) (loops : List LoopPlace) (i : ℕ) (s t d : Stmt) (free : ℕ) (ended : List ℕ) (named : Bool) (b : Body) (label : Option ℕ)
-    (size : Size) → i < length ss → s ≡ get_or ss i d → IsSize table once ss free ended named b size → b ≡ s.body → free ≡ free_in loops i → ended ≡ ended_in loops i
-    → named ≡ is_named labels label → label ≡ s.label → slice_get ss i ≡ Some t → IsSize table once ss (free_in loops i) (ended_in loops i) (is_named labels t.label) t.body size
-size_here table once labels ss loops i s t d free ended named b label size h is known is_body is_free is_ended is_named' is_label at =
-    subst (λ (x : Stmt). IsSize table once ss (free_in loops i) (ended_in loops i) (is_named labels x.label) x.body size) (same_read ss i s t d h is at)
-    (subst (λ x. IsSize table once ss (free_in loops i) (ended_in loops i) (is_named labels s.label) x size) is_body
-    (subst (λ x. IsSize table once ss (free_in loops i) (ended_in loops i) x b size) (is_named' ∙ ap (is_named labels) is_label)
-    (subst (λ ks. IsSize table once ss (free_in loops i) ks named b size) is_ended (subst (λ n. IsSize table once ss n ended named b size) is_free known))))
+pub size_here : (table : NameFacts) (once : Bool) (assigned labels : List ℕ) (ss : List Stmt) (loops : List LoopPlace) (i : ℕ) (s t d : Stmt) (free : ℕ) (ended : List ℕ) (named : Bool) (b : Body) (label : Option ℕ)
+    (size : Size) → i < length ss → s ≡ get_or ss i d → IsSize table once assigned ss free ended named b size → b ≡ s.body → free ≡ free_in loops i → ended ≡ ended_in loops i
+    → named ≡ is_named labels label → label ≡ s.label → slice_get ss i ≡ Some t → IsSize table once assigned ss (free_in loops i) (ended_in loops i) (is_named labels t.label) t.body size
+size_here table once assigned labels ss loops i s t d free ended named b label size h is known is_body is_free is_ended is_named' is_label at =
+    subst (λ (x : Stmt). IsSize table once assigned ss (free_in loops i) (ended_in loops i) (is_named labels x.label) x.body size) (same_read ss i s t d h is at)
+    (subst (λ x. IsSize table once assigned ss (free_in loops i) (ended_in loops i) (is_named labels s.label) x size) is_body
+    (subst (λ x. IsSize table once assigned ss (free_in loops i) (ended_in loops i) x b size) (is_named' ∙ ap (is_named labels) is_label)
+    (subst (λ ks. IsSize table once assigned ss (free_in loops i) ks named b size) is_ended (subst (λ n. IsSize table once assigned ss n ended named b size) is_free known))))
 
-pub sized : (table : NameFacts) (once : Bool) (labels : List ℕ) (ss : List Stmt) (loops : List LoopPlace) (sizes : List Size) (i : ℕ) → length sizes ≡ i → i ≡ length ss
-    → ((k : ℕ) (size : Size) → slice_get sizes k ≡ Some size → (s : Stmt) → slice_get ss k ≡ Some s → IsSize table once ss (free_in loops k) (ended_in loops k) (is_named labels s.label) s.body size)
-    → AreSizes table once labels ss loops sizes
-sized table once labels ss loops sizes i count all known = record { count = count ∙ all; each = known }
+pub sized : (table : NameFacts) (once : Bool) (assigned labels : List ℕ) (ss : List Stmt) (loops : List LoopPlace) (sizes : List Size) (i : ℕ) → length sizes ≡ i → i ≡ length ss
+    → ((k : ℕ) (size : Size) → slice_get sizes k ≡ Some size → (s : Stmt) → slice_get ss k ≡ Some s → IsSize table once assigned ss (free_in loops k) (ended_in loops k) (is_named labels s.label) s.body size)
+    → AreSizes table once assigned labels ss loops sizes
+sized table once assigned labels ss loops sizes i count all known = record { count = count ∙ all; each = known }
 
 -- loops that are not lowered are among the statements
 by_bool : (P : Type 0) (b : Bool) → (b ≡ true → P) → (b ≡ false → P) → P

@@ -5,6 +5,7 @@ use Rattle.f_tree.specs.declared.statements.Stmt.{Stmt}
 use Rattle.f_tree.specs.Facts.{Arm, Line, ProgramUnit}
 use Rattle.f_tree.specs.Lines.{Naming}
 use Rattle.f_tree.specs.Nests.{Range}
+use Rattle.f_tree.specs.Step.{assigned_in}
 use Rattle.lowering.specs.Units.{free_at, all_named, is_named, start_of, own_start, own_end, room_of, block_end_of, ended_at, is_counted, turn_size, way_back}
 use Rattle.name_facts.specs.declared.table.NameFacts.{NameFacts}
 use Rattle.expression_lowering.specs.TableNames.{AreFactsOf}
@@ -48,10 +49,10 @@ pub record AreStatementPlaces (p : ProgramUnit) (places : List StatementPlace) :
   pub count : length places ≡ length p.lines
   pub each : (i : ℕ) (line : Line) (place : StatementPlace) → slice_get p.lines i ≡ Some line → slice_get places i ≡ Some place → IsStatementPlace p i line place
 
--- whatever the names are of which the table tells
-pub record AreAllPlaces (table : NameFacts) (once : Bool) (ss : List Stmt) (places : List StatementPlace) : Type 0 where
+-- whatever the names are of which the table tells, where the ASSIGN statements of the unit name these labels
+pub record AreAllPlaces (table : NameFacts) (once : Bool) (assigned : List ℕ) (ss : List Stmt) (places : List StatementPlace) : Type 0 where
   pub lowers : statements_lower table ss ≡ true
-  pub meant : (p : ProgramUnit) (names : Naming) → IsReadAs p once names ss → AreFactsOf names table → AreStatementPlaces p places
+  pub meant : (p : ProgramUnit) (names : Naming) → IsReadAs p once names ss → AreFactsOf names table → assigned_in p.lines ≡ assigned → AreStatementPlaces p places
 
 unfoldable pub statement_places_opened : Unit {0}
 unfolding statements_lower back_from AreTurns

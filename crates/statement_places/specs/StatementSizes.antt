@@ -8,7 +8,7 @@ use Rattle.f_tree.specs.Folds.{layer_of}
 use Rattle.f_tree.specs.Lines.{Naming, mark_of, form_of}
 use Rattle.lowering.specs.l_core.Steps.{Step}
 use Rattle.lowering.specs.Statements.{form_code}
-use Rattle.lowering.specs.Units.{is_named, skip_size}
+use Rattle.lowering.specs.Units.{is_named, skip_size, listed}
 use Rattle.name_facts.specs.declared.table.NameFacts.{NameFacts}
 use Rattle.expression_lowering.specs.TableNames.{AreFactsOf}
 use Rattle.statement_lowering.specs.LoweredStatements.{is_lowered_statement}
@@ -59,21 +59,21 @@ pub record AreSteps (code : Option (List Step)) (n : ℕ) : Type 0 where
   pub is : code ≡ Some added
   pub count : n ≡ length added
 
--- so many steps has the form of a statement, whatever the names are of which the table tells
-pub record IsCodeSize (table : NameFacts) (once : Bool) (free : ℕ) (b : Body) (n : ℕ) : Type 0 where
+-- so many steps has the form of a statement, whatever the names are of which the table tells, where the ASSIGN statements of its unit name these labels
+pub record IsCodeSize (table : NameFacts) (once : Bool) (assigned : List ℕ) (free : ℕ) (b : Body) (n : ℕ) : Type 0 where
   pub lowers : is_lowered_statement table b ≡ true
-  pub meant : (names : Naming) → AreFactsOf names table → AreSteps (form_code once free 0 (form_of names b)) n
+  pub meant : (names : Naming) → AreFactsOf names table → AreSteps (form_code once free 0 (listed assigned (form_of names b))) n
 
-pub record IsSize (table : NameFacts) (once : Bool) (ss : List Stmt) (free : ℕ) (ended : List ℕ) (named : Bool) (b : Body) (size : Size) : Type 0 where
+pub record IsSize (table : NameFacts) (once : Bool) (assigned : List ℕ) (ss : List Stmt) (free : ℕ) (ended : List ℕ) (named : Bool) (b : Body) (size : Size) : Type 0 where
   pub code : ℕ
-  pub is : IsCodeSize table once free b code
+  pub is : IsCodeSize table once assigned free b code
   pub form : size.form ≡ with_pass named code
   pub skip : size.skip ≡ skip_size (mark_of b)
   pub turns : size.turns ≡ turn_sizes_in ss ended
 
-pub record AreSizes (table : NameFacts) (once : Bool) (labels : List ℕ) (ss : List Stmt) (loops : List LoopPlace) (sizes : List Size) : Type 0 where
+pub record AreSizes (table : NameFacts) (once : Bool) (assigned labels : List ℕ) (ss : List Stmt) (loops : List LoopPlace) (sizes : List Size) : Type 0 where
   pub count : length sizes ≡ length ss
-  pub each : (i : ℕ) (size : Size) → slice_get sizes i ≡ Some size → (s : Stmt) → slice_get ss i ≡ Some s → IsSize table once ss (free_in loops i) (ended_in loops i) (is_named labels s.label) s.body size
+  pub each : (i : ℕ) (size : Size) → slice_get sizes i ≡ Some size → (s : Stmt) → slice_get ss i ≡ Some s → IsSize table once assigned ss (free_in loops i) (ended_in loops i) (is_named labels s.label) s.body size
 
 unfoldable pub statement_sizes_opened : Unit {0}
 unfolding is_do is_do_there is_do_at turn_size_in turn_sizes_in free_there free_in ended_there ended_in with_pass

@@ -130,7 +130,8 @@ fn laid_out(
     })
 }
 
-/// Where the steps of each statement of a unit stand, in their order; `once` where the ranges of DO loops are run at least once.
+/// Where the steps of each statement of a unit stand, in their order, given the labels that its ASSIGN statements name; `once` where the ranges of DO
+/// loops are run at least once.
 ///
 /// # Errors
 ///
@@ -139,9 +140,10 @@ pub fn statement_places(
     alloc: Global,
     once: bool,
     table: &NameFacts,
+    assigned: &[u32],
     unit: &Unit,
 ) -> Result<Vec<StatementPlace>, LowerError>
-    ensures places { IfOk result (λ places. AreAllPlaces table.now once unit.now.statements places.items) }
+    ensures places { IfOk result (λ places. AreAllPlaces table.now once assigned.now unit.now.statements places.items) }
     ensures refused { result ≡ Err NotLowered → statements_lower table.now unit.now.statements ≡ false }
 {
     let statements = unit.statements.as_slice();
@@ -150,7 +152,15 @@ pub fn statement_places(
         Ok(named) => named,
         Err(AllocError) => return Err(LowerError::NoMemory),
     };
-    let sizes = statement_sizes(alloc, once, table, &named, statements, loops.as_slice())?;
+    let sizes = statement_sizes(
+        alloc,
+        once,
+        table,
+        assigned,
+        &named,
+        statements,
+        loops.as_slice(),
+    )?;
     let layout = match laid_out(alloc, once, unit, loops, named, sizes.as_slice()) {
         Ok(layout) => layout,
         Err(AllocError) => return Err(LowerError::NoMemory),

@@ -32,15 +32,16 @@ pub(crate) struct Size {
     pub turns: usize,
 }
 
-/// How many steps the form of a statement takes.
+/// How many steps the form of a statement takes, given the labels that ASSIGN statements name.
 fn code_size(
     alloc: Global,
     once: bool,
     table: &NameFacts,
+    assigned: &[u32],
     free: usize,
     body: &Body,
 ) -> Result<usize, LowerError>
-    ensures size { IfOk result (IsCodeSize table.now once free body.now) }
+    ensures size { IfOk result (IsCodeSize table.now once assigned.now free body.now) }
     ensures refused { result ≡ Err NotLowered → is_lowered_statement table.now body.now ≡ false }
 {
     let mut steps = Vec::new(alloc);
@@ -49,7 +50,7 @@ fn code_size(
         free,
         room: 0,
     };
-    lower_statement(alloc, table, around, body, &mut steps)?;
+    lower_statement(alloc, table, around, assigned, body, &mut steps)?;
     Ok(steps.len())
 }
 
@@ -72,21 +73,23 @@ fn skip_size(mark: BlockMark) -> usize
     }
 }
 
-/// How many steps a statement takes, given the first temporary that is free, the loops that end with it, and whether a branch names its label.
+/// How many steps a statement takes, given the labels that ASSIGN statements name, the first temporary that is free, the loops that end with it, and
+/// whether a branch names its label.
 fn statement_size(
     alloc: Global,
     once: bool,
     table: &NameFacts,
+    assigned: &[u32],
     statements: &[Stmt],
     free: usize,
     ended: &[usize],
     named: bool,
     body: &Body,
 ) -> Result<Size, LowerError>
-    ensures size { IfOk result (IsSize table.now once statements.now free ended.now named body.now) }
+    ensures size { IfOk result (IsSize table.now once assigned.now statements.now free ended.now named body.now) }
     ensures refused { result ≡ Err NotLowered → is_lowered_statement table.now body.now ≡ false }
 {
-    let code = code_size(alloc, once, table, free, body)?;
+    let code = code_size(alloc, once, table, assigned, free, body)?;
     match turn_sizes(statements, ended) {
         Ok(turns) => Ok(Size {
             skip: skip_size(mark_of(body)),
@@ -97,16 +100,17 @@ fn statement_size(
     }
 }
 
-/// How many steps each of the statements of a unit takes.
+/// How many steps each of the statements of a unit takes, given the labels that its ASSIGN statements name.
 pub(crate) fn statement_sizes(
     alloc: Global,
     once: bool,
     table: &NameFacts,
+    assigned: &[u32],
     named: &LabelTable<()>,
     statements: &[Stmt],
     loops: &[LoopPlace],
 ) -> Result<Vec<Size>, LowerError>
-    ensures sizes { IfOk result (λ sizes. (labels : List ℕ) → IsLabelSet labels named.now → AreSizes table.now once labels statements.now loops.now sizes.items) }
+    ensures sizes { IfOk result (λ sizes. (labels : List ℕ) → IsLabelSet labels named.now → AreSizes table.now once assigned.now labels statements.now loops.now sizes.items) }
     ensures refused { result ≡ Err NotLowered → statements_lower table.now statements.now ≡ false }
 {
     let mut sizes = Vec::new(alloc);
@@ -116,6 +120,7 @@ pub(crate) fn statement_sizes(
             alloc,
             once,
             table,
+            assigned,
             statements,
             free_at(loops, place),
             ended_at(loops, place),

@@ -2,7 +2,7 @@
 -- where its unit begins. A file is translated that is one main program of integers and logicals, with storage of their own, and of the statements
 -- that lowering and emission know. ANSI X3.9-1978, sections 2.4, 4.1, 8 to 12 and 14.
 use Rattle.std.specs.List.{list_all}
-use Rattle.std.specs.Prelude.{ℕ, ◌+◌, ◌^◌, nat_lt, nat_le, Bool, true, false, ◌&&◌, List, [], ◌∷◌, ◌++◌, length, Option, Some, None, is_none, option_map, if◌then◌else◌}
+use Rattle.std.specs.Prelude.{◌+◌, ◌^◌, nat_lt, nat_le, Bool, true, false, ◌&&◌, List, [], ◌∷◌, ◌++◌, length, Option, Some, None, is_none, option_map, if◌then◌else◌}
 use Rattle.statement_lowering.specs.f_tree.declared.names.Basic.{Basic}
 use Rattle.statement_lowering.specs.f_tree.declared.names.Basic.TheVariants.{Character}
 use Rattle.statement_lowering.specs.f_tree.declared.names.Options.{Options}
@@ -105,20 +105,14 @@ is_output way.Read = false
 unfoldable pub is_listed : Direction → List Control → List ListItem → Bool
 is_listed way controls items = is_output way && (list_all (λ (c : Control). is_plain_word c.word c.value) controls && list_all (fold_item layer_single) items)
 
--- are labels written
-unfoldable pub are_written : List ℕ → Bool
-are_written [] = false
-are_written (label ∷ labels) = true
-
 -- one layer of a statement, given whether the statement of a logical IF is of such a form: no shared storage, no initial values, no type CHARACTER, no
--- reference of a procedure, no GO TO by a variable without its labels, and no input or output but by lists
+-- reference of a procedure, and no input or output but by lists
 unfoldable pub layer_form : body.Body-F Bool → Bool
 layer_form (body.Declare spec names) = is_number spec.basic
 layer_form (body.Common groups) = false
 layer_form (body.Equivalence groups) = false
 layer_form (body.Init groups) = false
 layer_form (body.Entry x dummies) = false
-layer_form (body.GotoName x labels) = are_written labels
 layer_form (body.IfOne e b) = b
 layer_form (body.Call x es) = false
 layer_form (body.Return e) = is_none e
@@ -163,5 +157,5 @@ files_not_translated options [] = []
 files_not_translated options (f ∷ fs) = not_translated options f ++ files_not_translated options fs
 
 unfoldable pub translated_forms_opened : Unit {0}
-unfolding stop_fits fits file_if file_by unit_file units_file is_number is_star is_plain_word layer_single is_output is_listed are_written layer_form is_translated_form form_row row_unless unit_not_translated others_not_translated units_not_translated files_not_translated
+unfolding stop_fits fits file_if file_by unit_file units_file is_number is_star is_plain_word layer_single is_output is_listed layer_form is_translated_form form_row row_unless unit_not_translated others_not_translated units_not_translated files_not_translated
 translated_forms_opened = tt

@@ -1,5 +1,5 @@
 -- Which forms of items and statements are translated.
-use Rattle.std.proofs.Common.{◌≡◌, ℕ, true, false, List, refl}
+use Rattle.std.proofs.Common.{◌≡◌, true, false, List, refl}
 use Rattle.f_tree.specs.Values.{Bytes}
 use Rattle.f_tree.specs.declared.expressions.Expr.{Expr}
 use Rattle.f_tree.specs.declared.statements.AuxiliaryKind.{AuxiliaryKind}
@@ -18,7 +18,7 @@ use Rattle.f_tree.specs.declared.statements.ListItem.TheVariants as listed
 use Rattle.f_tree.specs.declared.statements.LoopControl.{LoopControl}
 use Rattle.f_tree.specs.declared.statements.TypeSpec.{TypeSpec}
 use Rattle.f_tree.specs.Folds.{fold_item, folds_opened}
-use Rattle.translated_forms.specs.TranslatedForms.{is_number, layer_single, is_listed, are_written, layer_form}
+use Rattle.translated_forms.specs.TranslatedForms.{is_number, layer_single, is_listed, layer_form}
 use Rattle.translated_files.specs.TranslatedFiles.{layer_unit_form, is_translated_form}
 
 pub single-Item : (e : Expr) → fold_item layer_single (listed.Item e) ≡ true
@@ -51,10 +51,6 @@ pub form-Entry : (x : Bytes) (dummies : List DummyArgument) → is_translated_fo
 unfolding folds_opened is_translated_form layer_unit_form layer_form
 form-Entry x dummies = refl
 
-pub form-GotoName : (x : Bytes) (labels : List ℕ) → is_translated_form (body.GotoName x labels) ≡ are_written labels
-unfolding folds_opened is_translated_form layer_unit_form layer_form
-form-GotoName x labels = refl
-
 pub form-IfOne : (e : Expr) (b : Body) → is_translated_form (body.IfOne e b) ≡ is_translated_form b
 unfolding folds_opened is_translated_form layer_unit_form layer_form
 form-IfOne e b = refl
@@ -71,7 +67,7 @@ pub form-Include : (name : Bytes) → is_translated_form (body.Include name) ≡
 unfolding folds_opened is_translated_form layer_unit_form layer_form
 form-Include name = refl
 
-pub ruleset body_forms = (form-Declare, form-Common, form-Equivalence, form-Init, form-Entry, form-GotoName, form-IfOne, form-Transfer, form-Auxiliary, form-Include)
+pub ruleset body_forms = (form-Declare, form-Common, form-Equivalence, form-Init, form-Entry, form-IfOne, form-Transfer, form-Auxiliary, form-Include)
 
 -- each other form is translated
 pub form-other : (b : Body)
@@ -80,21 +76,19 @@ pub form-other : (b : Body)
     → ((groups : List EquivalenceGroup) → b ≡ body.Equivalence groups → ⊥)
     → ((groups : List DataGroup) → b ≡ body.Init groups → ⊥)
     → ((x : Bytes) (dummies : List DummyArgument) → b ≡ body.Entry x dummies → ⊥)
-    → ((x : Bytes) (labels : List ℕ) → b ≡ body.GotoName x labels → ⊥)
     → ((which : AuxiliaryKind) (controls : List Control) → b ≡ body.Auxiliary which controls → ⊥)
     → ((name : Bytes) → b ≡ body.Include name → ⊥)
     → ((e : Expr) (inner : Body) → b ≡ body.IfOne e inner → ⊥)
     → ((way : Direction) (controls : List Control) (items : List ListItem) → b ≡ body.Transfer way controls items → ⊥)
     → true ≡ is_translated_form b
 unfolding is_translated_form layer_unit_form layer_form folds_opened
-form-other (whole.Declare spec items) h0 h1 h2 h3 h4 h5 h6 h7 h8 h9 = absurd (h0 spec items refl)
-form-other (whole.Common groups) h0 h1 h2 h3 h4 h5 h6 h7 h8 h9 = absurd (h1 groups refl)
-form-other (whole.Equivalence groups) h0 h1 h2 h3 h4 h5 h6 h7 h8 h9 = absurd (h2 groups refl)
-form-other (whole.Init groups) h0 h1 h2 h3 h4 h5 h6 h7 h8 h9 = absurd (h3 groups refl)
-form-other (whole.Entry x dummies) h0 h1 h2 h3 h4 h5 h6 h7 h8 h9 = absurd (h4 x dummies refl)
-form-other (whole.GotoName x labels) h0 h1 h2 h3 h4 h5 h6 h7 h8 h9 = absurd (h5 x labels refl)
-form-other (whole.Auxiliary which controls) h0 h1 h2 h3 h4 h5 h6 h7 h8 h9 = absurd (h6 which controls refl)
-form-other (whole.Include name) h0 h1 h2 h3 h4 h5 h6 h7 h8 h9 = absurd (h7 name refl)
-form-other (IfOne' e s (more_of-Body b end_of-Body)) h0 h1 h2 h3 h4 h5 h6 h7 h8 h9 = absurd (h8 e b refl)
-form-other (whole.Transfer way controls items) h0 h1 h2 h3 h4 h5 h6 h7 h8 h9 = absurd (h9 way controls items refl)
-form-other _ h0 h1 h2 h3 h4 h5 h6 h7 h8 h9 = refl
+form-other (whole.Declare spec items) h0 h1 h2 h3 h4 h5 h6 h7 h8 = absurd (h0 spec items refl)
+form-other (whole.Common groups) h0 h1 h2 h3 h4 h5 h6 h7 h8 = absurd (h1 groups refl)
+form-other (whole.Equivalence groups) h0 h1 h2 h3 h4 h5 h6 h7 h8 = absurd (h2 groups refl)
+form-other (whole.Init groups) h0 h1 h2 h3 h4 h5 h6 h7 h8 = absurd (h3 groups refl)
+form-other (whole.Entry x dummies) h0 h1 h2 h3 h4 h5 h6 h7 h8 = absurd (h4 x dummies refl)
+form-other (whole.Auxiliary which controls) h0 h1 h2 h3 h4 h5 h6 h7 h8 = absurd (h5 which controls refl)
+form-other (whole.Include name) h0 h1 h2 h3 h4 h5 h6 h7 h8 = absurd (h6 name refl)
+form-other (IfOne' e s (more_of-Body b end_of-Body)) h0 h1 h2 h3 h4 h5 h6 h7 h8 = absurd (h7 e b refl)
+form-other (whole.Transfer way controls items) h0 h1 h2 h3 h4 h5 h6 h7 h8 = absurd (h8 way controls items refl)
+form-other _ h0 h1 h2 h3 h4 h5 h6 h7 h8 = refl

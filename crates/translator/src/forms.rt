@@ -1,5 +1,5 @@
-//! The forms of statements that are translated: no shared storage, no initial values, no type CHARACTER, no GO TO by a variable without its labels, and no
-//! input or output but by lists. Sections 8 to 12 and 15.
+//! The forms of statements that are translated: no shared storage, no initial values, no type CHARACTER, and no input or
+//! output but by lists. Sections 8 to 12 and 15.
 
 ghost use Rattle.std.specs.List.{list_all};
 ghost use Rattle.std.specs.Prelude.{◌≡◌};
@@ -93,14 +93,6 @@ fn is_listed(direction: Direction, controls: &[Control], items: &[ListItem]) -> 
     is_output(direction) && (are_plain_words(controls) && are_single(items))
 }
 
-/// Whether labels are written.
-#[tactic(auto, unfolding(translated_forms::specs::TranslatedForms::are_written))]
-fn are_written(labels: &[u32]) -> bool
-    ensures { result ≡ spec.are_written labels.now }
-{
-    !labels.is_empty()
-}
-
 /// Whether a statement is of a form that is translated, as is the statement of a logical IF.
 #[cycle(forms)]
 #[tactic(auto, using(crate::proofs::FormLemmas::body_forms))]
@@ -110,7 +102,6 @@ pub(crate) fn is_translated_form(body: &Body) -> bool
     match body {
         Body::Declare(written, _) => is_number(written.basic),
         Body::Common(_) | Body::Equivalence(_) | Body::Init(_) | Body::Entry(..) => false,
-        Body::GotoName(_, labels) => are_written(labels.as_slice()),
         Body::Auxiliary(..) | Body::Include(_) => false,
         Body::IfOne(_, body) => is_translated_form(body.get()),
         Body::Transfer(direction, controls, items) => {

@@ -5,12 +5,13 @@ use Rattle.f_tree.specs.Terms.{Term, Terms, NoMore, More}
 use Rattle.f_tree.specs.Facts as head
 use Rattle.f_tree.specs.Facts.{Direction, Layout, Controls, AuxiliaryKind, Item, Repeated, Turn, Work, Done, Before, Head, Form, Passes, On, Mark, Plain, Opens, Arm, Closes, Line, ProgramUnit}
 use Rattle.f_tree.specs.Nests.{Range}
+use Rattle.f_tree.specs.Step.{assigned_in}
 use Rattle.lowered_tree.specs.l_core.Pures.{Pures, NoPure, AndPure}
 use Rattle.lowered_tree.specs.l_core.Steps as act
 use Rattle.lowered_tree.specs.l_core.Steps.{Step, Takes, Jump, Way, Again, Acts}
 use Rattle.lowering.specs.Expressions.{ForUse, ForCall, ForLater, Lowered, lower_all}
 use Rattle.lowering.specs.Statements.{behind_operands, with_operands, put_code, put_label_code, select_code, each_once, jump_by_code, sign_code, unless_code, guard_code, loop_operands, loop_test, loop_code, back_by, turn_code, wants_no_value, labels_written, hides_labels, call_steps, call_code, back_code, item_purpose, item_code, work_code, begin_code, auxiliary_code, form_code, head_code}
-use Rattle.lowering.specs.Units.{loop_lowered, free_at, all_named, is_named, pass_code, is_counted, turn_size, ended_at, own_end, room_of, way_back, turn_of, turns_of, skip_code, line_code, both_codes, lines_code, keeps_return, begins_with_branch, calls_well}
+use Rattle.lowering.specs.Units.{loop_lowered, free_at, all_named, is_named, pass_code, is_counted, turn_size, ended_at, own_end, room_of, way_back, turn_of, turns_of, skip_code, listed, statement_code, line_code, both_codes, lines_code, keeps_return, begins_with_branch, calls_well}
 use Rattle.unit_lowering.proofs.FunctionTerms.{RefersToFunctions, ReferToFunctions, KeepNone, all_none, loop_none}
 
 -- WELL
@@ -286,11 +287,21 @@ line_by_well : (skip pass turns : List Step) (x : Option (List Step)) → AreWel
 line_by_well skip pass turns None one two three own = tt
 line_by_well skip pass turns (Some steps) one two three own = well_both ((skip ++ steps) ++ pass) turns (well_both (skip ++ steps) pass (well_both skip steps one own) two) three
 
+-- a form that is listed has the same operands
+listed_refers : (labels : List ℕ) (form : Form) → FormRefersToFunctions form → FormRefersToFunctions (listed labels form)
+unfolding listed FormRefersToFunctions HeadRefersToFunctions
+listed_refers labels Passes only = only
+listed_refers labels (On (head.ToGoAssigned []) ts) only = only
+listed_refers labels (On (head.ToGoAssigned (l ∷ ls)) ts) only = only
+listed_refers labels (On (head.ToGuard form) ts) only = (only.0, listed_refers labels form only.1)
+listed_refers labels (On h ts) only = only
+
 line_well : (p : ProgramUnit) (i : ℕ) (line : Line) → FormRefersToFunctions line.form → AreWellIf (line_code p i line)
-unfolding line_code
+unfolding line_code statement_code
 line_well p i line only =
-    line_by_well (skip_code p i line.mark) (pass_code (is_named (all_named p.lines) line.label) line.form) (turns_of p (own_end p i) (ended_at p i)) (form_code p.onetrip (free_at p i) (room_of p i line) line.form)
-    (skip_well p i line.mark) (pass_well (is_named (all_named p.lines) line.label) line.form) (turns_well p (own_end p i) (ended_at p i)) (form_well p.onetrip (free_at p i) (room_of p i line) line.form only)
+    let own = listed (assigned_in p.lines) line.form in
+    line_by_well (skip_code p i line.mark) (pass_code (is_named (all_named p.lines) line.label) line.form) (turns_of p (own_end p i) (ended_at p i)) (form_code p.onetrip (free_at p i) (room_of p i line) own)
+    (skip_well p i line.mark) (pass_well (is_named (all_named p.lines) line.label) line.form) (turns_well p (own_end p i) (ended_at p i)) (form_well p.onetrip (free_at p i) (room_of p i line) own (listed_refers (assigned_in p.lines) line.form only))
 
 both_well : (one more : Option (List Step)) → AreWellIf one → AreWellIf more → AreWellIf (both_codes one more)
 unfolding both_codes

@@ -1,5 +1,6 @@
 pub mod Appending
 pub mod RowLemmas
+pub mod AssignedForms
 pub mod FormLemmas
 pub mod BegunForms
 pub mod LabelStartLemmas

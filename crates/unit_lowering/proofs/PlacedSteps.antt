@@ -7,11 +7,12 @@ use Rattle.f_tree.specs.Terms.{NoMore}
 use Rattle.f_tree.specs.Facts.{Form, Passes, On, ToLoop, Mark, Plain, Opens, Arm, Closes, Line, ProgramUnit}
 use Rattle.f_tree.specs.Lines.{Naming, control_of, form_of, mark_of, loop_label_in, line_of}
 use Rattle.f_tree.specs.Nests.{Range}
+use Rattle.f_tree.specs.Step.{assigned_in}
 use Rattle.lowered_tree.specs.l_core.Pures.{Pures}
 use Rattle.lowered_tree.specs.l_core.Steps.{Step, Skip, Again}
 use Rattle.lowering.specs.Expressions.{Lowered}
 use Rattle.lowering.specs.Statements.{loop_operands, turn_code, form_code}
-use Rattle.lowering.specs.Units.{loop_at_line, loop_lowered, free_at, all_named, is_named, pass_code, is_counted, turn_size, ended_at, start_of, own_start, own_end, block_end_of, room_of, way_back, turn_of, turns_of, skip_code, line_code, both_codes, lines_code}
+use Rattle.lowering.specs.Units.{loop_at_line, loop_lowered, free_at, all_named, is_named, pass_code, is_counted, turn_size, ended_at, start_of, own_start, own_end, block_end_of, room_of, way_back, turn_of, turns_of, skip_code, listed, statement_code, line_code, both_codes, lines_code}
 use Rattle.statement_places.specs.open_loops.ReadLines.{IsReadAs}
 use Rattle.statement_places.specs.declared.places.Turn.{Turn}
 use Rattle.statement_places.specs.declared.places.StatementPlace.{StatementPlace}
@@ -106,7 +107,8 @@ line_form : (names : Naming) (labels : List ℕ) (s : Stmt) → (line_of names l
 unfolding line_of
 line_form names labels s = refl
 
-module _ (p : ProgramUnit) (once : Bool) (names : Naming) (ss : List Stmt) (places : List StatementPlace) (told : IsReadAs p once names ss) (are : AreStatementPlaces p places) where
+module _ (p : ProgramUnit) (once : Bool) (names : Naming) (ss : List Stmt) (places : List StatementPlace) (told : IsReadAs p once names ss) (are : AreStatementPlaces p places)
+    (assigned : List ℕ) (assigned_is : assigned_in p.lines ≡ assigned) where
   read_line : Stmt → Line
   read_line s = line_of names (from_all loop_label_in ss) s
 
@@ -172,28 +174,29 @@ module _ (p : ProgramUnit) (once : Bool) (names : Naming) (ss : List Stmt) (plac
       ap (λ xs. xs ++ turns_steps once names ss places turns) (turn_is from r turn each.0) ∙ ap (λ xs. turn_of p from r ++ xs) (turns_are (from + turn_size p r) rs turns each.1)
 
   -- the steps of a line
-  line_is : (i : ℕ) (s : Stmt) (place : StatementPlace) → IsStatementPlace p i (read_line s) place → line_steps once names ss places s place ≡ line_code p i (read_line s)
-  unfolding line_steps own_steps line_code line_of read_line
+  line_is : (i : ℕ) (s : Stmt) (place : StatementPlace) → IsStatementPlace p i (read_line s) place → line_steps once assigned names ss places s place ≡ line_code p i (read_line s)
+  unfolding line_steps own_steps line_code statement_code line_of read_line
   line_is i s place placed =
       let form = form_of names s.body in
-      joined_line (form_code once place.free place.room form) (skip_steps (mark_of s.body) place.skip) (pass_code place.is_named form) (turns_steps once names ss places place.turns.items)
-      ∙ line_along (form_code once place.free place.room form) (form_code p.onetrip (free_at p i) (room_of p i (read_line s)) form)
+      let own = listed assigned form in
+      joined_line (form_code once place.free place.room own) (skip_steps (mark_of s.body) place.skip) (pass_code place.is_named form) (turns_steps once names ss places place.turns.items)
+      ∙ line_along (form_code once place.free place.room own) (form_code p.onetrip (free_at p i) (room_of p i (read_line s)) (listed (assigned_in p.lines) form))
       (skip_steps (mark_of s.body) place.skip) (skip_code p i (mark_of s.body))
       (pass_code place.is_named form) (pass_code (is_named (all_named p.lines) s.label) form)
       (turns_steps once names ss places place.turns.items) (turns_of p (own_end p i) (ended_at p i))
-      (ap (λ b. form_code b place.free place.room form) (sym told.onetrip) ∙ ap (λ k. form_code p.onetrip k place.room form) placed.free
-      ∙ ap (λ n. form_code p.onetrip (free_at p i) n form) placed.room)
+      (ap (λ b. form_code b place.free place.room own) (sym told.onetrip) ∙ ap (λ k. form_code p.onetrip k place.room own) placed.free
+      ∙ ap (λ n. form_code p.onetrip (free_at p i) n own) placed.room ∙ ap (λ ls. form_code p.onetrip (free_at p i) (room_of p i (read_line s)) (listed ls form)) (sym assigned_is))
       (skip_is p i place.skip (mark_of s.body) placed.skip) (ap (λ b. pass_code b form) placed.named) (turns_are (own_end p i) (ended_at p i) place.turns.items placed.turns)
 
-  line_by-there : (s : Stmt) (place : StatementPlace) → line_by once names ss places (Some s) (Some place) ≡ line_steps once names ss places s place
+  line_by-there : (s : Stmt) (place : StatementPlace) → line_by once assigned names ss places (Some s) (Some place) ≡ line_steps once assigned names ss places s place
   unfolding line_by
   line_by-there s place = refl
 
-  line_at_is : (i : ℕ) (line : Line) → slice_get p.lines i ≡ Some line → line_at once names ss places i ≡ line_code p i line
+  line_at_is : (i : ℕ) (line : Line) → slice_get p.lines i ≡ Some line → line_at once assigned names ss places i ≡ line_code p i line
   unfolding line_at read_line
   line_at_is i line at =
       let found = line_placed p once names ss places told are i line at in
-      ap (λ o. line_by once names ss places o (slice_get places i)) found.there ∙ ap (line_by once names ss places (Some found.s)) found.stands
+      ap (λ o. line_by once assigned names ss places o (slice_get places i)) found.there ∙ ap (line_by once assigned names ss places (Some found.s)) found.stands
       ∙ line_by-there found.s found.place ∙ line_is i found.s found.place found.placed ∙ ap (line_code p i) (sym found.is)
 
   lines_end : (i : ℕ) → lines_code p i [] ≡ Some []
@@ -205,10 +208,10 @@ module _ (p : ProgramUnit) (once : Bool) (names : Naming) (ss : List Stmt) (plac
   lines_more i line lines = refl
 
   -- the steps of all lines
-  pub steps_are : lines_steps once names ss places (length ss) ≡ lines_code p 0 p.lines
+  pub steps_are : lines_steps once assigned names ss places (length ss) ≡ lines_code p 0 p.lines
   unfolding lines_steps
   steps_are =
-      joined_is both_codes (Some []) left_none right_none both_along (line_at once names ss places) (length ss)
-      ∙ ap (joined_from both_codes (Some []) (line_at once names ss places) 0) (as_many p once names ss places told are)
-      ∙ joined_all both_codes (Some []) (line_at once names ss places) (lines_code p) (line_code p) lines_end lines_more 0 p.lines
-      (λ k line at. let e : 0 + k ≡ k = omega arith in ap (line_at once names ss places) e ∙ line_at_is k line at ∙ ap (λ j. line_code p j line) (sym e))
+      joined_is both_codes (Some []) left_none right_none both_along (line_at once assigned names ss places) (length ss)
+      ∙ ap (joined_from both_codes (Some []) (line_at once assigned names ss places) 0) (as_many p once names ss places told are)
+      ∙ joined_all both_codes (Some []) (line_at once assigned names ss places) (lines_code p) (line_code p) lines_end lines_more 0 p.lines
+      (λ k line at. let e : 0 + k ≡ k = omega arith in ap (line_at once assigned names ss places) e ∙ line_at_is k line at ∙ ap (λ j. line_code p j line) (sym e))

@@ -2,9 +2,11 @@
 use Rattle.std.proofs.Common.{◌≡◌, ℕ, nat_eq, Bool, true, List, length, map, Option, Some, None, option_map, if◌then◌else◌, refl, sym, ap, ◌∙◌}
 use Rattle.std.specs.HashMap.{get_by}
 use Rattle.f_tree.specs.declared.statements.Stmt.{Stmt}
+use Rattle.f_tree.specs.Attributes.{from_all}
 use Rattle.f_tree.specs.Facts.{Facts}
 use Rattle.f_tree.specs.Lines.{Naming}
 use Rattle.f_tree.specs.Places.{place_of_label}
+use Rattle.f_tree.specs.Step.{assigned_in}
 use Rattle.lowered_tree.specs.l_core.Steps.{Step, Text}
 use Rattle.lowering.specs.Units.{start_of, text_with, calls_well, if_called_well, lowered_unit}
 use Rattle.lowering.specs.Units as unit
@@ -17,10 +19,12 @@ use Rattle.expression_lowering.specs.TableNames.{AreFactsOf}
 use Rattle.statement_places.specs.open_loops.ReadLines.{IsReadAs}
 use Rattle.statement_places.specs.declared.places.StatementPlace.{StatementPlace}
 use Rattle.statement_places.specs.StatementPlaces.{AreStatementPlaces, AreAllPlaces}
+use Rattle.unit_lowering.specs.AssignedLabels.{assigned_of}
 use Rattle.unit_lowering.specs.LineSteps.{lines_steps}
 use Rattle.unit_lowering.specs.LineMarks.{lines_marks}
 use Rattle.unit_lowering.specs.LabelStarts.{label_start}
 use Rattle.unit_lowering.specs.LoweredUnits.{IsTextOf, IsLoweredUnit, UnitsAreLoweredToTheirSteps}
+use Rattle.unit_lowering.proofs.AssignedForms.{assigned_read}
 use Rattle.unit_lowering.proofs.PlacedSteps.{steps_are}
 use Rattle.unit_lowering.proofs.PlacedMarks.{marks_are}
 use Rattle.unit_lowering.proofs.PlacedLabels.{label_is}
@@ -40,13 +44,13 @@ lowered_by : (c : Facts) (steps : List Step) → unit.lines_code c.program 0 c.p
 unfolding lowered_unit text_with if_called_well
 lowered_by c steps is well = ap (λ code. text_with c (if_called_well code)) is ∙ ap (λ b. text_with c (if b then Some steps else None)) well
 
-text_of : (c : Facts) (once : Bool) (names : Naming) (ss : List Stmt) (places : List StatementPlace) (t : LoweredText) → IsReadAs c.program once names ss → AreStatementPlaces c.program places →
-    lines_steps once names ss places (length ss) ≡ Some (steps_of t.steps.items) →
+text_of : (c : Facts) (once : Bool) (assigned : List ℕ) (names : Naming) (ss : List Stmt) (places : List StatementPlace) (t : LoweredText) → IsReadAs c.program once names ss → assigned_in c.program.lines ≡ assigned →
+    AreStatementPlaces c.program places → lines_steps once assigned names ss places (length ss) ≡ Some (steps_of t.steps.items) →
     (unit.lines_code c.program 0 c.program.lines ≡ Some (steps_of t.steps.items) → calls_well (steps_of t.steps.items) ≡ true) →
     ((l : ℕ) → get_by (nat_eq l) t.labels ≡ label_start l ss places (length ss)) → map marked_of t.marks.items ≡ lines_marks once ss places (length ss) → IsTextOf c t
-text_of c once names ss places t told are steps well labels marks = record {
+text_of c once assigned names ss places t told is_assigned are steps well labels marks = record {
   text = whole_text c (steps_of t.steps.items);
-  lowered = let code = sym (steps_are c.program once names ss places told are) ∙ steps in lowered_by c (steps_of t.steps.items) code (well code);
+  lowered = let code = sym (steps_are c.program once names ss places told are assigned is_assigned) ∙ steps in lowered_by c (steps_of t.steps.items) code (well code);
   is = record {
     steps = refl;
     marks = marks ∙ marks_are c.program once names ss places told are;
@@ -54,27 +58,29 @@ text_of c once names ss places t told are steps well labels marks = record {
   };
 }
 
-unit_lowered : (table : NameFacts) (once : Bool) (ss : List Stmt) (places : List StatementPlace) (t : LoweredText) → AreAllPlaces table once ss places →
-    ((names : Naming) → AreFactsOf names table → lines_steps once names ss places (length ss) ≡ Some (steps_of t.steps.items)) →
+unit_lowered : (table : NameFacts) (once : Bool) (assigned : List ℕ) (ss : List Stmt) (places : List StatementPlace) (t : LoweredText) → assigned ≡ from_all assigned_of ss →
+    AreAllPlaces table once assigned ss places →
+    ((names : Naming) → AreFactsOf names table → lines_steps once assigned names ss places (length ss) ≡ Some (steps_of t.steps.items)) →
     ((l : ℕ) → get_by (nat_eq l) t.labels ≡ label_start l ss places (length ss)) → map marked_of t.marks.items ≡ lines_marks once ss places (length ss) →
     IsLoweredUnit table once ss t
-unit_lowered table once ss places t all steps labels marks = record {
+unit_lowered table once assigned ss places t gathered all steps labels marks = record {
   lowers = all.lowers;
   meant = λ c names told facts.
-      text_of c once names ss places t told (all.meant c.program names told facts) (steps names facts)
+      let is_assigned = assigned_read c.program once names ss told ∙ sym gathered in
+      text_of c once assigned names ss places t told is_assigned (all.meant c.program names told facts is_assigned) (steps names facts)
       (calls_are_well c.program once names table ss (steps_of t.steps.items) told facts all.lowers) labels marks;
 }
 
 -- the statements and the places being read as slices
-pub unit_read_lowered : (table : NameFacts) (once : Bool) (ss seen : List Stmt) (places before behind : List StatementPlace) (steps : List tree.Step) (t : LoweredText) →
-    seen ≡ ss → before ≡ places → behind ≡ places → AreAllPlaces table once ss places →
-    ((names : Naming) → AreFactsOf names table → lines_steps once names seen before (length seen) ≡ Some (steps_of steps)) → t.steps.items ≡ steps →
+pub unit_read_lowered : (table : NameFacts) (once : Bool) (assigned labels : List ℕ) (ss seen : List Stmt) (places before behind : List StatementPlace) (steps : List tree.Step) (t : LoweredText) →
+    seen ≡ ss → before ≡ places → behind ≡ places → assigned ≡ labels → labels ≡ from_all assigned_of seen → AreAllPlaces table once assigned ss places →
+    ((names : Naming) → AreFactsOf names table → lines_steps once assigned names seen before (length seen) ≡ Some (steps_of steps)) → t.steps.items ≡ steps →
     ((l : ℕ) → get_by (nat_eq l) t.labels ≡ label_start l seen behind (length seen)) → map marked_of t.marks.items ≡ lines_marks once seen behind (length seen) →
     IsLoweredUnit table once ss t
-unit_read_lowered table once ss seen places before behind steps t same first later all lowered kept labels marks =
-    unit_lowered table once ss places t all
+unit_read_lowered table once assigned gathered ss seen places before behind steps t same first later kept_labels gathers all lowered kept labels marks =
+    unit_lowered table once assigned ss places t (kept_labels ∙ gathers ∙ ap (from_all assigned_of) same) all
     (λ names facts.
-    ap (λ xs. lines_steps once names xs places (length xs)) (sym same) ∙ ap (λ ps. lines_steps once names seen ps (length seen)) (sym first) ∙ lowered names facts
+    ap (λ xs. lines_steps once assigned names xs places (length xs)) (sym same) ∙ ap (λ ps. lines_steps once assigned names seen ps (length seen)) (sym first) ∙ lowered names facts
     ∙ ap (λ xs. Some (steps_of xs)) (sym kept))
     (λ l. labels l ∙ ap (λ ps. label_start l seen ps (length seen)) later ∙ ap (λ xs. label_start l xs places (length xs)) same)
     (marks ∙ ap (λ ps. lines_marks once seen ps (length seen)) later ∙ ap (λ xs. lines_marks once xs places (length xs)) same)

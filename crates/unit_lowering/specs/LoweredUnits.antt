@@ -23,8 +23,8 @@ pub record IsLoweredUnit (table : NameFacts) (once : Bool) (ss : List Stmt) (t :
   pub meant : (c : Facts) (names : Naming) → IsReadAs c.program once names ss → AreFactsOf names table → IsTextOf c t
 
 -- LAW
--- a unit whose statements are lowered is lowered to their steps: by CALL alone a subroutine is called, and behind a CALL to which labels are passed the branch
--- by its return stands
+-- a unit whose statements are lowered is lowered to their steps: by CALL alone a subroutine is called, and behind a CALL to which labels are passed a branch
+-- stands
 abbrev pub UnitsAreLoweredToTheirSteps : Type 0
 UnitsAreLoweredToTheirSteps =
     (table : NameFacts) (once : Bool) (ss : List Stmt) (c : Facts) (names : Naming) → IsReadAs c.program once names ss → AreFactsOf names table → statements_lower table ss ≡ true →

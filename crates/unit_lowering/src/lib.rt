@@ -2,6 +2,7 @@
 //! the marks of loops and arms. Sections 3.5, 11.6 to 11.10 and 15 of the standard, ANSI X3.9-1978.
 #![tactic(auto)]
 
+mod assigned;
 mod forms;
 mod labels;
 mod lines;

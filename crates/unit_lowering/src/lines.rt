@@ -21,16 +21,17 @@ use statement_lowering::{Around, lower_statement};
 use statement_places::StatementPlace;
 use std::alloc::Global;
 
-/// Appends the steps of a statement itself. One that takes no step has one where a branch goes to it.
+/// Appends the steps of a statement itself, given the labels that ASSIGN statements name. One that takes no step has one where a branch goes to it.
 fn lower_own(
     alloc: Global,
     once: bool,
     table: &NameFacts,
+    assigned: &[u32],
     statement: &Stmt,
     place: &StatementPlace,
     steps: &mut Vec<Step>,
 ) -> Result<(), LowerError>
-    ensures added { OnOk result ((names : Naming) → AreFactsOf names table.now → AreAdded (spec.own_steps once names statement.now place.now) steps.old.items steps.new.items) }
+    ensures added { OnOk result ((names : Naming) → AreFactsOf names table.now → AreAdded (spec.own_steps once assigned.now names statement.now place.now) steps.old.items steps.new.items) }
     ensures refused { result ≡ Err NotLowered → is_lowered_statement table.now statement.now.body ≡ false }
 {
     let before = steps.len();
@@ -39,7 +40,7 @@ fn lower_own(
         free: place.free,
         room: place.room,
     };
-    lower_statement(alloc, table, around, &statement.body, steps)?;
+    lower_statement(alloc, table, around, assigned, &statement.body, steps)?;
     if place.is_named && steps.len() == before {
         add_step(steps, Step::Pass)
     } else {
@@ -52,6 +53,7 @@ fn lower_line(
     alloc: Global,
     once: bool,
     table: &NameFacts,
+    assigned: &[u32],
     statements: &[Stmt],
     places: &[StatementPlace],
     statement: &Stmt,
@@ -59,11 +61,11 @@ fn lower_line(
     steps: &mut Vec<Step>,
 ) -> Result<(), LowerError>
     ensures added { OnOk result ((names : Naming) → AreFactsOf names table.now
-        → AreAdded (spec.line_steps once names statements.now places.now statement.now place.now) steps.old.items steps.new.items) }
+        → AreAdded (spec.line_steps once assigned.now names statements.now places.now statement.now place.now) steps.old.items steps.new.items) }
     ensures refused { result ≡ Err NotLowered → (is_lowered_statement table.now statement.now.body && statements_lower table.now statements.now) ≡ false }
 {
     add_skip(&statement.body, place.skip, steps)?;
-    lower_own(alloc, once, table, statement, place, steps)?;
+    lower_own(alloc, once, table, assigned, statement, place, steps)?;
     add_turns(
         alloc,
         once,
@@ -80,19 +82,20 @@ fn lower_line_at(
     alloc: Global,
     once: bool,
     table: &NameFacts,
+    assigned: &[u32],
     statements: &[Stmt],
     places: &[StatementPlace],
     at: usize,
     steps: &mut Vec<Step>,
 ) -> Result<(), LowerError>
     ensures added { OnOk result ((names : Naming) → AreFactsOf names table.now
-        → AreAdded (spec.line_at once names statements.now places.now at) steps.old.items steps.new.items) }
+        → AreAdded (spec.line_at once assigned.now names statements.now places.now at) steps.old.items steps.new.items) }
     ensures refused { result ≡ Err NotLowered → statements_lower table.now statements.now ≡ false }
 {
     match (statement_at(statements, at), place_at(places, at)) {
         (Some(statement), Some(place)) => {
             lower_line(
-                alloc, once, table, statements, places, statement, place, steps,
+                alloc, once, table, assigned, statements, places, statement, place, steps,
             )
         }
         (Some(_), None) => Ok(()),
@@ -100,21 +103,24 @@ fn lower_line_at(
     }
 }
 
-/// The steps of statements.
+/// The steps of statements, given the labels that ASSIGN statements name.
 pub(crate) fn lower_lines(
     alloc: Global,
     once: bool,
     table: &NameFacts,
+    assigned: &[u32],
     statements: &[Stmt],
     places: &[StatementPlace],
 ) -> Result<Vec<Step>, LowerError>
     ensures lowered { IfOk result (λ steps. (names : Naming) → AreFactsOf names table.now
-        → spec.lines_steps once names statements.now places.now (length statements.now) ≡ Some (steps_of steps.items)) }
+        → spec.lines_steps once assigned.now names statements.now places.now (length statements.now) ≡ Some (steps_of steps.items)) }
     ensures refused { result ≡ Err NotLowered → statements_lower table.now statements.now ≡ false }
 {
     let mut steps = Vec::new(alloc);
     for at in 0..statements.len() {
-        lower_line_at(alloc, once, table, statements, places, at, &mut steps)?;
+        lower_line_at(
+            alloc, once, table, assigned, statements, places, at, &mut steps,
+        )?;
     }
     Ok(steps)
 }

@@ -9,6 +9,7 @@ ghost use Rattle.unit_lowering.specs.LabelStarts.{label_start};
 ghost use Rattle.unit_lowering.specs.LineMarks.{lines_marks};
 ghost use Rattle.unit_lowering.specs.LoweredUnits.{IsLoweredUnit, UnitsAreLoweredToTheirSteps};
 
+use crate::assigned::assigned_labels;
 use crate::labels::label_starts;
 use crate::lines::lower_lines;
 use crate::marks::lines_marks;
@@ -57,8 +58,13 @@ pub fn lower_unit(
     ensures refused { result ≡ Err NotLowered → statements_lower table.now unit.now.statements ≡ false }
 {
     let statements = unit.statements.as_slice();
-    let places = statement_places(alloc, once, table, unit)?;
-    let steps = lower_lines(alloc, once, table, statements, places.as_slice())?;
+    let labels = match assigned_labels(alloc, statements) {
+        Ok(labels) => labels,
+        Err(AllocError) => return Err(LowerError::NoMemory),
+    };
+    let assigned = labels.as_slice();
+    let places = statement_places(alloc, once, table, assigned, unit)?;
+    let steps = lower_lines(alloc, once, table, assigned, statements, places.as_slice())?;
     match with_marks(alloc, once, statements, places.as_slice(), steps) {
         Ok(text) => Ok(text),
         Err(AllocError) => Err(LowerError::NoMemory),

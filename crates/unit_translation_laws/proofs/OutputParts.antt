@@ -6,11 +6,12 @@ use Rattle.unit_translation.specs.f_tree.Terms.{Operator, Term, Val, Fetch, At, 
 use Rattle.unit_translation.specs.f_tree.Values.{Bytes}
 use Rattle.unit_translation.specs.f_tree.Facts.{Direction, Layout, Controls, AuxiliaryKind, Item, Repeated, Turn, Work, Done, Before as Before', Head, ToSet, ToSetLabel, ToGo, ToPick, ToGoAssigned, ToGoBySign, ToGuard, ToEnterArm, ToLoop, ToTestLoop, ToCall, ToReturn, ToStop, ToBegin, ToAuxiliary, ToEnd, Form, Passes, On, Mark, Arm, Line, ProgramUnit, Facts}
 use Rattle.unit_translation.specs.f_tree.Nests.{Range}
+use Rattle.unit_translation.specs.f_tree.Step.{assigned_in}
 use Rattle.unit_translation.specs.l_core.Pures.{Pure, Pures, NoPure, AndPure}
 use Rattle.unit_translation.specs.l_core.Steps.{Starts, Takes, Finishes, Step, Keep, Put, Unless, Skip, Again, AgainIf, Jump, Select, JumpBy, Branch, Way, Acts, Text}
 use Rattle.main_translation_laws.specs.lowering.Expressions.{Purpose, ForUse, ForCall, ForReading, ForLater, Lowered, and_then, no_operand, ahead, Shape, AsFetch, AsElement, AsAlone, AsPart, AsJoined, AsBefore, AsBetween, AsFunction, AsReference, is_library, for_fetch, kept_steps, function_steps, closing, shaped, guarded, lowered_between, in_order, lower, lower_all, plain, may_decide, takes_steps, for_place, for_function}
 use Rattle.main_translation_laws.specs.lowering.Statements.{behind_operands, with_operands, put_code, put_label_code, select_code, each_once, jump_by_code, sign_code, unless_code, guard_code, loop_operands, test_by, loop_test, loop_code, back_by, turn_code, labels_written, hides_labels, call_steps, call_code, back_code, item_purpose, item_code, work_code, begin_code, auxiliary_code, form_code, head_code}
-use Rattle.main_translation_laws.specs.lowering.Units.{loop_lowered, free_at, all_named, is_named, pass_code, is_counted, turn_size, ended_at, own_end, room_of, way_back, turn_of, turns_of, skip_code, line_code, both_codes, lines_code, text_with, calls_well, if_called_well, lowered_unit}
+use Rattle.main_translation_laws.specs.lowering.Units.{loop_lowered, free_at, all_named, is_named, pass_code, listed, statement_code, is_counted, turn_size, ended_at, own_end, room_of, way_back, turn_of, turns_of, skip_code, line_code, both_codes, lines_code, text_with, calls_well, if_called_well, lowered_unit}
 use Rattle.main_translation_laws.proofs.c_structure_laws.DrawnExpressions.{mapped_by}
 use Rattle.main_translation_laws.proofs.linking_laws.Places.{some_same}
 
@@ -367,12 +368,13 @@ turns_whole u from [] = no_steps
 turns_whole u from (r ∷ rs) = whole_both _ _ (turn_whole u from r) (turns_whole u (from + turn_size u r) rs)
 
 line_whole : (u : ProgramUnit) (i : ℕ) (line : Line) (steps : List Step) → line_code u i line ≡ Some steps → AreWhole steps
-unfolding line_code
+unfolding line_code statement_code
 line_whole u i line steps h =
-    let m = mapped_by _ (form_code u.onetrip (free_at u i) (room_of u i line) line.form) steps h in
+    let form = listed (assigned_in u.lines) line.form in
+    let m = mapped_by _ (form_code u.onetrip (free_at u i) (room_of u i line) form) steps h in
     subst AreWhole m.is
     (whole_both _ _
-    (whole_both _ _ (whole_both _ m.one (skip_whole u i line.mark) (form_whole u.onetrip (free_at u i) (room_of u i line) line.form m.one m.one_is)) (pass_whole (is_named (all_named u.lines) line.label) line.form))
+    (whole_both _ _ (whole_both _ m.one (skip_whole u i line.mark) (form_whole u.onetrip (free_at u i) (room_of u i line) form m.one m.one_is)) (pass_whole (is_named (all_named u.lines) line.label) line.form))
     (turns_whole u (own_end u i) (ended_at u i)))
 
 both_whole : (one other : Option (List Step)) (steps : List Step) → ((xs : List Step) → one ≡ Some xs → AreWhole xs) → ((ys : List Step) → other ≡ Some ys → AreWhole ys) → both_codes one other ≡ Some steps → AreWhole steps

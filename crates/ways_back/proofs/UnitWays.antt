@@ -5,11 +5,12 @@ use Rattle.lowering.specs.l_core.f_tree.Terms.{Terms, NoMore}
 use Rattle.lowering.specs.l_core.f_tree.Facts as head
 use Rattle.lowering.specs.l_core.f_tree.Facts.{Head, Form, Passes, On, Mark, Plain, Opens, Arm, Closes, Line, ProgramUnit, Facts}
 use Rattle.lowering.specs.l_core.f_tree.Nests.{Range}
+use Rattle.lowering.specs.l_core.f_tree.Step.{assigned_in}
 use Rattle.lowering.specs.l_core.Pures.{Pure, Pures, NoPure, AndPure}
 use Rattle.lowering.specs.l_core.Steps.{Step, Again, AgainIf, Text}
 use Rattle.lowering.specs.Expressions.{Lowered}
-use Rattle.lowering.specs.Statements.{back_by, turn_code, loop_operands, form_code}
-use Rattle.lowering.specs.Units.{loop_at_line, loop_lowered, free_at, all_named, is_named, pass_code, steps_of, is_counted, turn_size, ended_at, turn_sizes, skip_size, form_size, line_size, size_before, start_of, mark_at, own_start, form_size_at, own_end, room_of, way_back, turn_of, turns_of, skip_code, line_code, both_codes, lines_code, text_with, lowered_unit}
+use Rattle.lowering.specs.Statements.{back_by, turn_code, loop_operands}
+use Rattle.lowering.specs.Units.{loop_at_line, loop_lowered, free_at, all_named, is_named, pass_code, listed, statement_code, steps_of, is_counted, turn_size, ended_at, turn_sizes, skip_size, form_size, line_size, size_before, start_of, mark_at, own_start, form_size_at, own_end, room_of, way_back, turn_of, turns_of, skip_code, line_code, both_codes, lines_code, text_with, lowered_unit}
 use Rattle.ways_back.specs.WaysBack.{WaysBackStayWithin, WaysBackIfStayWithin}
 use Rattle.ways_back.proofs.Ways.{back_of, AreForward, AreForwardIf, AreWithin, forward_both, forward_within, within_both, within_at}
 use Rattle.ways_back.proofs.ForwardForms.{nothing_forward, form_forward}
@@ -20,10 +21,10 @@ use Rattle.ways_back.proofs.CodeLengths.{length_both, form_length, HasFour, loop
 
 record LineParts (p : ProgramUnit) (i : ℕ) (line : Line) (code : List Step) : Type 0 where
   own : List Step
-  is : form_code p.onetrip (free_at p i) (room_of p i line) line.form ≡ Some own
+  is : statement_code p (free_at p i) (room_of p i line) line.form ≡ Some own
   all : ((skip_code p i line.mark ++ own) ++ pass_code (is_named (all_named p.lines) line.label) line.form) ++ turns_of p (own_end p i) (ended_at p i) ≡ code
 
-parts_by : (p : ProgramUnit) (i : ℕ) (line : Line) (code : List Step) (x : Option (List Step)) → form_code p.onetrip (free_at p i) (room_of p i line) line.form ≡ x →
+parts_by : (p : ProgramUnit) (i : ℕ) (line : Line) (code : List Step) (x : Option (List Step)) → statement_code p (free_at p i) (room_of p i line) line.form ≡ x →
     option_map (λ own. ((skip_code p i line.mark ++ own) ++ pass_code (is_named (all_named p.lines) line.label) line.form) ++ turns_of p (own_end p i) (ended_at p i)) x ≡ Some code → LineParts p i line code
 parts_by p i line code None is e = absurd (cc)
 parts_by p i line code (Some own) is e =
@@ -32,7 +33,7 @@ parts_by p i line code (Some own) is e =
 
 line_parts : (p : ProgramUnit) (i : ℕ) (line : Line) (code : List Step) → line_code p i line ≡ Some code → LineParts p i line code
 unfolding line_code
-line_parts p i line code e = parts_by p i line code (form_code p.onetrip (free_at p i) (room_of p i line) line.form) refl e
+line_parts p i line code e = parts_by p i line code (statement_code p (free_at p i) (room_of p i line) line.form) refl e
 
 record Both (one more : Option (List Step)) (steps : List Step) : Type 0 where
   first : List Step
@@ -131,9 +132,9 @@ pass_forward true Passes = (refl, tt)
 pass_forward true (On h ts) = tt
 pass_forward false form = tt
 
-own_forward : (once : Bool) (k n : ℕ) (form : Form) (own : List Step) → form_code once k n form ≡ Some own → AreForward own
-unfolding AreForwardIf
-own_forward once k n form own is = subst AreForwardIf is (form_forward once k n form)
+own_forward : (p : ProgramUnit) (k n : ℕ) (form : Form) (own : List Step) → statement_code p k n form ≡ Some own → AreForward own
+unfolding AreForwardIf statement_code
+own_forward p k n form own is = subst AreForwardIf is (form_forward p.onetrip k n (listed (assigned_in p.lines) form))
 
 skip_length : (p : ProgramUnit) (i : ℕ) (mark : Mark) → length (skip_code p i mark) ≡ skip_size mark
 unfolding skip_code skip_size
@@ -155,11 +156,11 @@ module _ (p : ProgramUnit) (steps : List Step) (lowered : lines_code p 0 p.lines
       ap (loop_at_line k) is
       ∙ ap (λ (z : Form). elim z as (λ w. Lowered Pures) [ Passes ↦ loop_operands k NoMore | On h operands ↦ elim h [ head.ToLoop l ↦ loop_operands k operands | _ ↦ loop_operands k NoMore ] ]) form
 
-  own_length : (i : ℕ) (line : Line) (own : List Step) → form_code p.onetrip (free_at p i) (room_of p i line) line.form ≡ Some own
+  own_length : (i : ℕ) (line : Line) (own : List Step) → statement_code p (free_at p i) (room_of p i line) line.form ≡ Some own
       → length own + length (pass_code (is_named (all_named p.lines) line.label) line.form) ≡ form_size p i line
-  unfolding form_size steps_of
+  unfolding form_size steps_of statement_code
   own_length i line own is =
-      ap (λ z. z + length (pass_code (is_named (all_named p.lines) line.label) line.form)) (ap (λ x. length (steps_of x)) (sym is) ∙ form_length p.onetrip (free_at p i) (room_of p i line) line.form)
+      ap (λ z. z + length (pass_code (is_named (all_named p.lines) line.label) line.form)) (ap (λ x. length (steps_of x)) (sym is) ∙ form_length p.onetrip (free_at p i) (room_of p i line) (listed (assigned_in p.lines) line.form))
 
   -- where the own steps of a statement end
   ends_is : (i : ℕ) (line : Line) → slice_get p.lines i ≡ Some line → own_end p i ≡ start_of p i + skip_size line.mark + form_size p i line
@@ -171,10 +172,11 @@ module _ (p : ProgramUnit) (steps : List Step) (lowered : lines_code p 0 p.lines
       sum
 
   pub full_do : (i : ℕ) → IsDo p i (slice_get p.lines i) → IsFullDo i
+  unfolding statement_code listed
   full_do i found =
       let coded = coded_at p 0 i i p.lines steps found.line (omega arith) lowered found.there in
       let parts = line_parts p i found.line coded.code coded.is in
-      let own = loop_four p.onetrip (free_at p i) (room_of p i found.line) found.label found.operands parts.own (ap (form_code p.onetrip (free_at p i) (room_of p i found.line)) (sym found.form) ∙ parts.is) in
+      let own = loop_four p.onetrip (free_at p i) (room_of p i found.line) found.label found.operands parts.own (ap (statement_code p (free_at p i) (room_of p i found.line)) (sym found.form) ∙ parts.is) in
       let some = own.some in
       let size = own_length i found.line parts.own parts.is in
       let end = ends_is i found.line found.there in
@@ -239,7 +241,7 @@ module _ (p : ProgramUnit) (steps : List Step) (lowered : lines_code p 0 p.lines
       let front : List Step = (skip_code p i line.mark ++ parts.own) ++ passing in
       let forward : AreForward front =
       forward_both (skip_code p i line.mark ++ parts.own) passing
-      (forward_both (skip_code p i line.mark) parts.own (skip_forward p i line.mark) (own_forward p.onetrip (free_at p i) (room_of p i line) line.form parts.own parts.is)) (pass_forward (is_named (all_named p.lines) line.label) line.form) in
+      (forward_both (skip_code p i line.mark) parts.own (skip_forward p i line.mark) (own_forward p (free_at p i) (room_of p i line) line.form parts.own parts.is)) (pass_forward (is_named (all_named p.lines) line.label) line.form) in
       let own = own_length i line parts.own parts.is in
       let skip = skip_length p i line.mark in
       let first = length_both (skip_code p i line.mark) parts.own in

@@ -12,10 +12,6 @@ pub returns-clause-jumps_out_of_loops_ends : goal.returns-clause-jumps_out_of_lo
 unfolding everything runs_opened control_sources_opened
 returns-clause-jumps_out_of_loops_ends c = record { steps = 250; comes_to = refl }
 
-pub returns-clause-limits_valued_once_ends : goal.returns-clause-limits_valued_once_ends
-unfolding everything runs_opened control_sources_opened
-returns-clause-limits_valued_once_ends c = record { steps = 250; comes_to = refl }
-
 pub returns-clause-branches_by_number_ends : goal.returns-clause-branches_by_number_ends
 unfolding everything runs_opened control_sources_opened
 returns-clause-branches_by_number_ends c = record { steps = 250; comes_to = refl }
@@ -23,6 +19,10 @@ returns-clause-branches_by_number_ends c = record { steps = 250; comes_to = refl
 pub returns-clause-assigned_branches_ends : goal.returns-clause-assigned_branches_ends
 unfolding everything runs_opened control_sources_opened
 returns-clause-assigned_branches_ends c = record { steps = 250; comes_to = refl }
+
+pub returns-clause-goto_without_labels_ends : goal.returns-clause-goto_without_labels_ends
+unfolding everything runs_opened control_sources_opened
+returns-clause-goto_without_labels_ends c = record { steps = 250; comes_to = refl }
 
 pub returns-clause-blocks_in_blocks_ends : goal.returns-clause-blocks_in_blocks_ends
 unfolding everything runs_opened control_sources_opened

@@ -36,10 +36,6 @@ pub returns-clause-label_in_a_block_meets : goal.returns-clause-label_in_a_block
 unfolding everything runs_opened acts_sources_opened
 returns-clause-label_in_a_block_meets c = record { goes_on = refl; meets = refl }
 
-pub returns-clause-label_of_another_unit_meets : goal.returns-clause-label_of_another_unit_meets
-unfolding everything runs_opened acts_sources_opened
-returns-clause-label_of_another_unit_meets c = record { goes_on = refl; meets = refl }
-
 pub returns-clause-text_too_short_for_its_dummy_meets : goal.returns-clause-text_too_short_for_its_dummy_meets
 unfolding everything runs_opened acts_sources_opened
 returns-clause-text_too_short_for_its_dummy_meets c = record { goes_on = refl; meets = refl }

@@ -16,10 +16,6 @@ pub returns-clause-matrix_of_a_dummy_ends : goal.returns-clause-matrix_of_a_dumm
 unfolding everything runs_opened further_sources_opened
 returns-clause-matrix_of_a_dummy_ends c = record { steps = 250; comes_to = refl }
 
-pub returns-clause-argument_in_parentheses_ends : goal.returns-clause-argument_in_parentheses_ends
-unfolding everything runs_opened further_sources_opened
-returns-clause-argument_in_parentheses_ends c = record { steps = 250; comes_to = refl }
-
 pub returns-clause-block_with_values_ends : goal.returns-clause-block_with_values_ends
 unfolding everything runs_opened further_sources_opened
 returns-clause-block_with_values_ends c = record { steps = 250; comes_to = refl }

@@ -16,13 +16,13 @@ pub returns-clause-last_arm : goal.returns-clause-last_arm
 unfolding everything runs_opened sources_opened
 returns-clause-last_arm c = record { goes_on = refl; ends = refl; wrote = refl }
 
-pub returns-clause-decided : goal.returns-clause-decided
-unfolding everything runs_opened sources_opened
-returns-clause-decided c = record { goes_on = refl; ends = refl; wrote = refl }
-
 pub returns-clause-assigned : goal.returns-clause-assigned
 unfolding everything runs_opened sources_opened
 returns-clause-assigned c = record { goes_on = refl; ends = refl; wrote = refl }
+
+pub returns-clause-assigned_alone : goal.returns-clause-assigned_alone
+unfolding everything runs_opened sources_opened
+returns-clause-assigned_alone c = record { goes_on = refl; ends = refl; wrote = refl }
 
 pub returns-clause-least : goal.returns-clause-least
 unfolding everything runs_opened sources_opened

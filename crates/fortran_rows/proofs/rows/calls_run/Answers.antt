@@ -4,14 +4,6 @@ use Rattle.fortran_checks.specs.f_tree.Runs.{runs_opened}
 use Rattle.fortran_rows.specs.WorkedSources.{sources_opened}
 use Rattle.fortran_rows.proofs.rows.calls_run.Goals as goal
 
-pub returns-clause-from_the_left : goal.returns-clause-from_the_left
-unfolding everything runs_opened sources_opened
-returns-clause-from_the_left c = record { goes_on = refl; ends = refl; wrote = refl }
-
-pub returns-clause-overlaps : goal.returns-clause-overlaps
-unfolding everything runs_opened sources_opened
-returns-clause-overlaps c = record { goes_on = refl; ends = refl; wrote = refl }
-
 pub returns-clause-entries : goal.returns-clause-entries
 unfolding everything runs_opened sources_opened
 returns-clause-entries c = record { goes_on = refl; ends = refl; wrote = refl }

@@ -13,6 +13,6 @@ returns-in_err-loops-clause-refused c = λ is.
 
 pub returns-in-Ok-all_places-clause-places : goal.returns-in-Ok-all_places-clause-places
 returns-in-Ok-all_places-clause-places c =
-    all_placed c.args.table.now c.args.once c.args.unit.now c.in_ok-loops.loops.items c.in-Ok.named c.in_ok-sizes.sizes.items c.in-Ok-laid_out.layout c.in-Ok-all_places.places.items _ _ _
+    all_placed c.args.table.now c.args.once c.args.assigned.now c.args.unit.now c.in_ok-loops.loops.items c.in-Ok.named c.in_ok-sizes.sizes.items c.in-Ok-laid_out.layout c.in-Ok-all_places.places.items _ _ _
     c.as_slice-statements.ensures c.as_slice.ensures.value c.as_slice-2.ensures.value c.in_ok-loops.ensures.places c.in-Ok.ensures c.in_ok-sizes.ensures.sizes c.in-Ok-laid_out.ensures
     c.in-Ok-all_places.ensures

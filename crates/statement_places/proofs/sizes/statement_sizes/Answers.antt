@@ -16,7 +16,7 @@ loop-place-init c = record {
   each = λ labels set.
       each_none
       (λ (k : ℕ) (size : Size). (s : Stmt) → slice_get c.args.statements.now k ≡ Some s
-      → IsSize c.args.table.now c.args.once c.args.statements.now (free_in c.args.loops.now k) (ended_in c.args.loops.now k) (is_named labels s.label) s.body size)
+      → IsSize c.args.table.now c.args.once c.args.assigned.now c.args.statements.now (free_in c.args.loops.now k) (ended_in c.args.loops.now k) (is_named labels s.label) s.body size)
       c.new-sizes.result.items c.new-sizes.ensures.items;
 }
 
@@ -33,10 +33,10 @@ loop-place-preserved c =
       each = λ labels set.
           each_more
           (λ (k : ℕ) (size : Size). (s : Stmt) → slice_get c.args.statements.now k ≡ Some s
-          → IsSize c.args.table.now c.args.once c.args.statements.now (free_in c.args.loops.now k) (ended_in c.args.loops.now k) (is_named labels s.label) s.body size)
+          → IsSize c.args.table.now c.args.once c.args.assigned.now c.args.statements.now (free_in c.args.loops.now k) (ended_in c.args.loops.now k) (is_named labels s.label) s.body size)
           c.loop-place.sizes.items _ i c.in_ok-size.size inv.count pushed (inv.each labels set)
           (λ t at.
-          size_here c.args.table.now c.args.once labels ss c.args.loops.now i statement t statement c.free_at.result c.ended_at.result.now c.is_named.result _ _ c.in_ok-size.size
+          size_here c.args.table.now c.args.once c.args.assigned.now labels ss c.args.loops.now i statement t statement c.free_at.result c.ended_at.result.now c.is_named.result _ _ c.in_ok-size.size
           c.loop-place-test.true c.index-statements-place.is c.in_ok-size.ensures.size (cc) c.free_at.ensures c.ended_at.ensures (c.is_named.ensures labels set) (cc) at);
     }
 
@@ -50,4 +50,4 @@ returns-in_err-size-clause-refused c = λ is.
 pub returns-clause-sizes : goal.returns-clause-sizes
 returns-clause-sizes c = λ labels set.
     let inv = c.loop-place.invariant in
-    sized c.args.table.now c.args.once labels c.args.statements.now c.args.loops.now c.loop-place.sizes.items c.loop-place.place inv.count (omega arith) (inv.each labels set)
+    sized c.args.table.now c.args.once c.args.assigned.now labels c.args.statements.now c.args.loops.now c.loop-place.sizes.items c.loop-place.place inv.count (omega arith) (inv.each labels set)

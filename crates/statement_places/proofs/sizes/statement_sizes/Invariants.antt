@@ -11,5 +11,5 @@ abbrev pub invariant-loop-place : goal.invariant-loop-place
 invariant-loop-place l = record {
   count : length l.sizes.items ≡ l.place;
   each : (labels : List ℕ) → IsLabelSet labels l.named → (i : ℕ) (size : Size) → slice_get l.sizes.items i ≡ Some size → (s : Stmt) → slice_get l.statements i ≡ Some s
-      → IsSize l.table l.once l.statements (free_in l.loops i) (ended_in l.loops i) (is_named labels s.label) s.body size;
+      → IsSize l.table l.once l.assigned l.statements (free_in l.loops i) (ended_in l.loops i) (is_named labels s.label) s.body size;
 }

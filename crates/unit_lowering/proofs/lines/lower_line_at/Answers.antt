@@ -7,7 +7,7 @@ pub returns-in-Some-Some-clause-added : goal.returns-in-Some-Some-clause-added
 returns-in-Some-Some-clause-added c =
     then_ok _ _ c.lower_line.result
     (λ put names told.
-    line_at-there c.args.once names c.args.statements.now c.args.places.now c.args.at c.in-Some-Some.statement.now c.in-Some-Some.place.now c.args.steps.now.items
+    line_at-there c.args.once c.args.assigned.now names c.args.statements.now c.args.places.now c.args.at c.in-Some-Some.statement.now c.in-Some-Some.place.now c.args.steps.now.items
     c.lower_line.new.steps.items c.in-Some-Some.ensures c.in-Some-Some.ensures' (put names told))
     c.lower_line.ensures.added
 
@@ -17,8 +17,8 @@ returns-in-Some-Some-clause-refused c = λ none.
 
 pub returns-in-Some-None-clause-added : goal.returns-in-Some-None-clause-added
 returns-in-Some-None-clause-added c = λ names told.
-    line_at-no_place c.args.once names c.args.statements.now c.args.places.now c.args.at c.args.steps.now.items c.in-Some-None.ensures'
+    line_at-no_place c.args.once c.args.assigned.now names c.args.statements.now c.args.places.now c.args.at c.args.steps.now.items c.in-Some-None.ensures'
 
 pub returns-in-None-default-clause-added : goal.returns-in-None-default-clause-added
 returns-in-None-default-clause-added c = λ names told.
-    line_at-no_statement c.args.once names c.args.statements.now c.args.places.now c.args.at c.args.steps.now.items c.in-None-default.ensures
+    line_at-no_statement c.args.once c.args.assigned.now names c.args.statements.now c.args.places.now c.args.at c.args.steps.now.items c.in-None-default.ensures

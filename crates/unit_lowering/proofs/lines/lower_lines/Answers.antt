@@ -6,14 +6,14 @@ use Rattle.unit_lowering.proofs.lines.lower_lines.Goals as goal
 
 pub loop-at-init : goal.loop-at-init
 loop-at-init c = λ names told.
-    lines_steps-none c.args.once names c.args.statements.now c.args.places.now ∙ ap (λ xs. Some (steps_of xs)) (sym c.new-steps.ensures.items)
+    lines_steps-none c.args.once c.args.assigned.now names c.args.statements.now c.args.places.now ∙ ap (λ xs. Some (steps_of xs)) (sym c.new-steps.ensures.items)
 
 pub loop-at-preserved : goal.loop-at-preserved
 loop-at-preserved c = λ names told.
-    lines_added c.args.once names c.args.statements.now c.args.places.now c.loop-at.at c.loop-at.steps.items c.lower_line_at.new.steps.items
+    lines_added c.args.once c.args.assigned.now names c.args.statements.now c.args.places.now c.loop-at.at c.loop-at.steps.items c.lower_line_at.new.steps.items
     (c.loop-at.invariant names told) (c.in_ok-lower_line_at.ensures.added names told)
 
 pub returns-clause-lowered : goal.returns-clause-lowered
 returns-clause-lowered c = λ names told.
-    ap (lines_steps c.args.once names c.args.statements.now c.args.places.now) (let e : length c.args.statements.now ≡ c.loop-at.at = omega arith in e)
+    ap (lines_steps c.args.once c.args.assigned.now names c.args.statements.now c.args.places.now) (let e : length c.args.statements.now ≡ c.loop-at.at = omega arith in e)
     ∙ c.loop-at.invariant names told

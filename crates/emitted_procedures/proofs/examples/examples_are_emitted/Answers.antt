@@ -1,5 +1,0 @@
-use Rattle.emitted_procedures.proofs.ExampleLaws.{main_is_emitted, function_is_emitted, other_is_emitted}
-use Rattle.emitted_procedures.proofs.examples.examples_are_emitted.Goals as goal
-
-pub returns : goal.returns
-returns c = record { main = main_is_emitted; function = function_is_emitted; other = other_is_emitted }

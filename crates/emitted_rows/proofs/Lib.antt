@@ -1,0 +1,2 @@
+mod ExampleLaws
+mod KeptExampleLaws

@@ -1,5 +1,0 @@
-use Rattle.lowering_laws.proofs.ExampleLemmas.{list_is_lowered, list_is_laid_out}
-use Rattle.lowering_laws.proofs.examples.transfers_are_laid_out.Goals as goal
-
-pub returns : goal.returns
-returns c = record { lowered = list_is_lowered; laid = list_is_laid_out }
