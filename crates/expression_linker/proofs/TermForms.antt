@@ -9,8 +9,8 @@ use Rattle.run_bytes.specs.declared.access.AccessType.{AccessType}
 use Rattle.run_bytes.specs.Accesses.{access_of}
 use Rattle.linked_terms.specs.declared.terms.LinkedTerm.{LinkedTerm}
 use Rattle.linked_terms.specs.declared.terms.LinkedTerm.TheVariants as made
-use Rattle.linked_terms.specs.declared.fields.FieldName.{FieldName}
-use Rattle.linked_terms.specs.ListFields.{name_in}
+use Rattle.linked_terms.specs.declared.field_names.FieldName.{FieldName}
+use Rattle.linked_terms.specs.FieldNames.{name_in}
 use Rattle.linked_terms.specs.LinkedTerms.{term_of, linked_opened}
 
 pub term-Constant : (n : ℤ) → term_of (made.Constant n) ≡ term.Constant n

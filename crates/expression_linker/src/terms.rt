@@ -3,7 +3,6 @@
 ghost use Rattle.std.specs.Prelude.{◌≡◌, ◌+◌, length, IfOk, OnOk};
 ghost use Rattle.c_tree.specs.LinkedExpressions.{linked};
 ghost use Rattle.linked_terms.specs.LinkedTerms.{term_of};
-ghost use Rattle.linked_terms.specs.ListFields.{name_in};
 ghost use Rattle.expression_linker.specs.LinkedParts.{Links, is_unknown};
 ghost use Rattle.expression_linker.specs.NamesInScope.{named_term, scope_of};
 
@@ -11,8 +10,8 @@ use crate::failure::LinkFail;
 use crate::scope::NameScope;
 use crate::things::NamedThing;
 use c_tree::expression::CExpr;
-use linked_terms::{FieldName, LinkedTerm, list_field};
-use plain_data::{Boxed, Items};
+use linked_terms::{LinkedTerm, field_name};
+use plain_data::Boxed;
 use run_bytes::AccessType;
 use std::alloc::{AllocError, Global};
 
@@ -45,16 +44,6 @@ fn next_number(next: &mut usize) -> Result<usize, AllocError>
     let number = *next;
     *next = number.checked_add(1).ok_or(AllocError)?;
     Ok(number)
-}
-
-/// The field of a name.
-fn field_name(alloc: Global, name: &[u8]) -> Result<FieldName, AllocError>
-    ensures { IfOk result (λ field. name_in field ≡ name.now) }
-{
-    match list_field(name) {
-        Some(field) => Ok(FieldName::Listed(field)),
-        None => Ok(FieldName::Other(Items::from_slice(alloc, name)?)),
-    }
 }
 
 /// An expression, whose strings have the numbers from `next` on.

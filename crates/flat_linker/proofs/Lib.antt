@@ -3,6 +3,7 @@ pub mod StatementForms
 pub mod ReturnForms
 pub mod SizeLaws
 pub mod CaseLaws
+pub mod NumberedCases
 pub mod MarkLaws
 pub mod PutLaws
 pub mod FormLaws

@@ -1,6 +1,6 @@
 //! Statements of one item (C89, 3.6.3 and 3.6.6).
 
-ghost use Rattle.std.specs.Prelude.{◌≡◌, [], ◌∷◌, pos, map, Some, IfOk};
+ghost use Rattle.std.specs.Prelude.{◌≡◌, [], ◌∷◌, pos, Some, IfOk};
 ghost use Rattle.c_tree.specs.Terms.{Constant, Between};
 ghost use Rattle.c_tree.specs.Flat as flat;
 ghost use Rattle.c_tree.specs.Drafts.{drafted, joined};
@@ -8,7 +8,7 @@ ghost use Rattle.c_tree.specs.LinkedExpressions.{linked, linked_call};
 ghost use Rattle.c_tree.specs.FlatForm as form;
 ghost use Rattle.c_tree.specs.declared.expression.BinaryOp.TheVariants.{Add};
 ghost use Rattle.linked_terms.specs.LinkedTerms.{term_of};
-ghost use Rattle.linked_terms.specs.LinkedItems.{flat_of, use_of, case_of};
+ghost use Rattle.linked_terms.specs.LinkedItems.{flat_of, use_of, cases_of};
 ghost use Rattle.expression_linker.specs.LinkedParts.{Links, is_unknown};
 ghost use Rattle.expression_linker.specs.NamesInScope.{scope_of};
 ghost use Rattle.flat_linker.specs.PutItems.{Puts, PutsOne};
@@ -17,8 +17,8 @@ use crate::written::Written;
 use c_tree::expression::{BinaryOp, CCall, CExpr};
 use c_tree::statement::CNext;
 use expression_linker::{LinkFail, LinkedCalling, NameScope, link_call, link_expression};
-use linked_terms::{LinkedCase, LinkedItem, LinkedTerm, LinkedUse};
-use plain_data::{Boxed, Items};
+use linked_terms::{LinkedCases, LinkedItem, LinkedTerm, LinkedUse};
+use plain_data::Boxed;
 use std::alloc::{AllocError, Global};
 
 /// Puts an item that has no strings.
@@ -211,10 +211,10 @@ pub(crate) fn put_select(
     scope: &NameScope<'_>,
     out: &mut Written,
     value: &CExpr,
-    cases: Items<LinkedCase>,
+    cases: LinkedCases,
     otherwise: usize,
 ) -> Result<(), LinkFail>
-    ensures { PutsOne result (drafted (λ term. flat.Select term (map case_of cases) otherwise) (linked value.now)) (scope_of scope.now) out.old out.new }
+    ensures { PutsOne result (drafted (λ term. flat.Select term (cases_of cases) otherwise) (linked value.now)) (scope_of scope.now) out.old out.new }
 {
     let value = link_expression(alloc, scope, &mut out.next, value)?;
     put(

@@ -1,3 +1,4 @@
 pub mod ArgumentLists
 pub mod FormLaws
 pub mod DeedLaws
+pub mod CaseLaws

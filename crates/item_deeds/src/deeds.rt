@@ -1,6 +1,6 @@
 //! What a flat item does in a function (C89, 3.6).
 
-ghost use Rattle.std.specs.Prelude.{◌≡◌, ◌≤◌, ◌<◌, IfOk, ◌+◌, ◌^◌, List, Option, map, length};
+ghost use Rattle.std.specs.Prelude.{◌≡◌, ◌≤◌, ◌<◌, IfOk, ◌+◌, ◌^◌, List, Option, length};
 ghost use Rattle.c_tree.specs.run_state.Units.{Units};
 ghost use Rattle.c_tree.specs.Linking as linking;
 ghost use Rattle.c_tree.specs.Objects as objects;
@@ -11,17 +11,18 @@ ghost use Rattle.c_tree.specs.World.{Transfer};
 ghost use Rattle.run_bytes.specs.Answers.{answered};
 ghost use Rattle.run_bytes.specs.Layout.{Stores};
 ghost use Rattle.linked_terms.specs.LinkedTerms.{term_of};
-ghost use Rattle.linked_terms.specs.LinkedItems.{case_of, flat_of};
+ghost use Rattle.linked_terms.specs.LinkedItems.{cases_of, flat_of};
 ghost use Rattle.term_values.specs.Finds.{place_of_numbers};
 ghost use Rattle.item_deeds.specs.Deeds.{IfDone, IfFound, view_of, world_of, IsTold, happening, happening_or, going, answering, branched, selected, returned, argument_count};
 ghost use Rattle.item_deeds.specs.Calls.{item_call, deed_call, deed_call_or, KeepsObjects};
 ghost use Rattle.item_deeds.specs.Forms.{SameForms};
 
 use crate::calls::invoked;
+use crate::cases::case_position;
 use crate::views::{CallView, CallWants};
 use c_tree::outcome::{CFault, CValue};
 use c_tree::types::ResultType;
-use linked_terms::{LinkedCase, LinkedItem, LinkedTerm};
+use linked_terms::{LinkedCases, LinkedItem, LinkedTerm};
 use run_bytes::RunBytes;
 use term_values::{NumberPlace, number_of, number_place, place_named, test_of, value_of};
 
@@ -112,29 +113,17 @@ fn branched(
     }
 }
 
-/// Where a `switch` goes on.
-fn case_position(number: i32, cases: &[LinkedCase], otherwise: usize) -> usize
-    ensures { result ≡ steps.case_position number (map case_of cases.now) otherwise }
-{
-    for case in cases {
-        if case.number == number {
-            return case.position;
-        }
-    }
-    otherwise
-}
-
 /// A `switch`.
 #[tactic(auto, unfolding(crate::specs::Deeds::selected))]
 fn selected(
     view: CallView,
     value: &LinkedTerm,
-    cases: &[LinkedCase],
+    cases: &LinkedCases,
     otherwise: usize,
     run: &RunBytes,
 ) -> Result<CallView, CFault>
     ensures { (units : Units) → (transfer : Option Transfer) →
-        selected (view_of view) (world_of run.now units transfer) (term_of value.now) (map case_of cases.now) otherwise ≡ going (world_of run.now units transfer) result }
+        selected (view_of view) (world_of run.now units transfer) (term_of value.now) (cases_of cases.now) otherwise ≡ going (world_of run.now units transfer) result }
 {
     let number = number_of(run, value)?;
     Ok(view.at(case_position(number, cases, otherwise)))
@@ -246,7 +235,7 @@ fn performed(
             value,
             cases,
             otherwise,
-        } => Ok(Deed::Goes(selected(view, value, cases.as_slice(), *otherwise, run)?)),
+        } => Ok(Deed::Goes(selected(view, value, cases, *otherwise, run)?)),
         LinkedItem::Jump(position) => Ok(Deed::Goes(view.at(*position))),
         LinkedItem::Invoke {
             answer,

@@ -4,6 +4,7 @@
 
 mod argument_values;
 mod calls;
+mod cases;
 mod deeds;
 mod views;
 

@@ -1,3 +1,4 @@
 pub mod ListFields
+pub mod FieldNames
 pub mod LinkedTerms
 pub mod LinkedItems

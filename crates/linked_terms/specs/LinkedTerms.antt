@@ -4,7 +4,7 @@ use Rattle.c_tree.specs.Objects.{Place}
 use Rattle.c_tree.specs.Terms as term
 use Rattle.c_tree.specs.Terms.{Term}
 use Rattle.run_bytes.specs.Accesses.{access_of}
-use Rattle.linked_terms.specs.ListFields.{name_in}
+use Rattle.linked_terms.specs.FieldNames.{name_in}
 use Rattle.linked_terms.specs.declared.terms.LinkedPlace.{LinkedPlace}
 use Rattle.linked_terms.specs.declared.terms.LinkedTerm.{LinkedTerm, Constant, Variable, Array, Routine, Prefixed', Cast', Between', Choice', Element', Field', Size, Most', Magnitude', end_of-LinkedTerm, more_of-LinkedTerm}
 

@@ -2,8 +2,6 @@
 use Rattle.std.specs.Prelude.{ℕ, List, [], ◌∷◌, Option, Some, None, codes, bytes_eq, if◌then◌else◌}
 use Rattle.linked_terms.specs.declared.fields.ListField.{ListField}
 use Rattle.linked_terms.specs.declared.fields.ListField.TheVariants as field
-use Rattle.linked_terms.specs.declared.fields.FieldName.{FieldName}
-use Rattle.linked_terms.specs.declared.fields.FieldName.TheVariants as named
 
 abbrev pub name_of_field : ListField → List ℕ
 name_of_field field.TransferError = codes "cierr"
@@ -66,8 +64,3 @@ all_fields =
 unfoldable pub first_named : List ℕ → List ListField → Option ListField
 first_named name [] = None
 first_named name (field ∷ later) = if bytes_eq name (name_of_field field) then Some field else first_named name later
-
--- the name of the field that an expression names
-abbrev pub name_in : FieldName → List ℕ
-name_in (named.Listed field) = name_of_field field
-name_in (named.Other text) = text

@@ -3,8 +3,6 @@
 ghost use Rattle.std.specs.Prelude.{◌≡◌, IfSome};
 ghost use Rattle.linked_terms.specs.ListFields.{name_of_field, all_fields, first_named};
 
-use c_tree::expression::Text;
-
 /// A field of a control list.
 #[derive(Clone, Copy, Debug, PartialEq, Eq)]
 pub enum ListField {
@@ -58,15 +56,6 @@ pub enum ListField {
     PositionError,
     /// The unit of BACKSPACE, REWIND or ENDFILE: `aunit`.
     PositionUnit,
-}
-
-/// The field that an expression names.
-#[derive(Drop)]
-pub enum FieldName {
-    /// A field of a control list.
-    Listed(ListField),
-    /// A name that the text gives, where it was found to be no field of a list.
-    Other(Text),
 }
 
 /// The fields of all control lists.

@@ -12,6 +12,23 @@ pub struct LinkedCase {
     pub position: usize,
 }
 
+/// The cases of a `switch`.
+#[derive(Drop)]
+pub enum LinkedCases {
+    /// Cases whose numbers grow by one from a first, and so do the positions of their jumps, as those of a computed GO TO and of a call with
+    /// alternate returns. The place of a number among them is had from the number alone.
+    Consecutive {
+        /// The first number.
+        first: i32,
+        /// Where the jump of the first stands.
+        position: u32,
+        /// How many there are.
+        count: u32,
+    },
+    /// Any cases, as those of a GO TO by a variable that ASSIGN defines, whose numbers are labels: a step goes over them in order.
+    Listed(Items<LinkedCase>),
+}
+
 /// The function that a call names.
 #[derive(Drop)]
 pub enum LinkedCallee {
@@ -56,7 +73,7 @@ pub enum LinkedItem {
         /// The number that chooses.
         value: LinkedTerm,
         /// The cases.
-        cases: Items<LinkedCase>,
+        cases: LinkedCases,
         /// Where it goes on if there is no case of that number.
         otherwise: usize,
     },

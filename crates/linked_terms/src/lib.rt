@@ -3,10 +3,14 @@
 //! reads off them.
 #![tactic(auto)]
 
+pub mod field_names;
 pub mod fields;
 pub mod items;
+pub mod naming;
 pub mod terms;
 
-pub use fields::{FieldName, ListField, list_field};
-pub use items::{LinkedCallee, LinkedCase, LinkedItem, LinkedUse};
+pub use field_names::{FieldName, UnlistedName};
+pub use fields::{ListField, list_field};
+pub use items::{LinkedCallee, LinkedCase, LinkedCases, LinkedItem, LinkedUse};
+pub use naming::field_name;
 pub use terms::{LinkedPlace, LinkedTerm};

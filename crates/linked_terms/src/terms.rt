@@ -1,6 +1,6 @@
 //! Expressions (C89, 3.3), and the places that they name.
 
-use crate::fields::FieldName;
+use crate::field_names::FieldName;
 use c_tree::expression::{BinaryOp, Extreme, UnaryOp};
 use c_tree::outcome::CValue;
 use c_tree::types::CastType;

@@ -7,8 +7,7 @@ use crate::sample::{
 use c_tree::expression::{BinaryOp, Extreme, UnaryOp};
 use c_tree::outcome::{CFault, CValue};
 use c_tree::types::{CastType, ListType};
-use linked_terms::{FieldName, LinkedPlace, LinkedTerm, ListField};
-use plain_data::Items;
+use linked_terms::{FieldName, LinkedPlace, LinkedTerm, ListField, field_name};
 use run_bytes::{AccessType, FieldType, PointedType, RunBytes};
 use std::alloc::AllocError;
 use std::process::Abort;
@@ -157,7 +156,7 @@ fn names_places(rt: HostRuntime) -> Result<(), Fail> {
     expect(&rt, &run, "an unset field", unset, Err(CFault::Unset))?;
     let foreign = field(alloc, FieldName::Listed(ListField::OpenUnit));
     expect(&rt, &run, "another list's", foreign, Err(CFault::Kind))?;
-    let unlisted = FieldName::Other(Items::from_slice(alloc, b"ciunits")?);
+    let unlisted = field_name(alloc, b"ciunits")?;
     let unlisted = field(alloc, unlisted);
     expect(&rt, &run, "no list's", unlisted, Err(CFault::Kind))?;
     let list = variable(LIST, AccessType::List(ListType::Transfer));

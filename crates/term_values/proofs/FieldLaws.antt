@@ -1,10 +1,11 @@
 -- A name that is no field of a control list is a field of none of them (f2c.h).
-use Rattle.std.specs.Prelude.{◌≡◌, ℕ, zero, suc, Bool, true, false, List, [], ◌∷◌, map, take, drop, Option, Some, None, option_map, bytes_eq, if◌then◌else◌}
+use Rattle.std.specs.Prelude.{◌≡◌, ℕ, zero, suc, Bool, true, false, List, [], ◌∷◌, map, take, drop, Option, Some, None, option_map, bytes_eq, is_none, IsTrue, if◌then◌else◌}
 use Rattle.std.proofs.Common.{refl, ap, ◌∙◌}
 use Rattle.c_tree.specs.declared.types.ListType.{ListType}
 use Rattle.c_tree.specs.declared.types.ListType.TheVariants as list
 use Rattle.c_tree.specs.Access.{FieldOf, one_later, field_among, field_named, fields_of}
 use Rattle.linked_terms.specs.declared.fields.ListField.{ListField}
+use Rattle.linked_terms.specs.declared.field_names.UnlistedName.{UnlistedName}
 use Rattle.linked_terms.specs.ListFields.{name_of_field, all_fields, first_named}
 
 -- a name is none of these
@@ -44,11 +45,18 @@ none-within first count name is =
     let from = apart-from first name (map name_of_field all_fields) (apart name all_fields is) in
     apart-to count name (drop first (map name_of_field all_fields)) from
 
-pub unlisted : (name : List ℕ) (list_type : ListType) → first_named name all_fields ≡ None → field_named name list_type ≡ None
-unlisted name list.Transfer is = none-among name (fields_of list.Transfer) (none-within 0 5 name is)
-unlisted name list.Internal is = none-among name (fields_of list.Internal) (none-within 5 6 name is)
-unlisted name list.Open is = none-among name (fields_of list.Open) (none-within 11 9 name is)
-unlisted name list.Close is = none-among name (fields_of list.Close) (none-within 20 3 name is)
-unlisted name list.Position is = none-among name (fields_of list.Position) (none-within 23 2 name is)
+listed-nowhere : (name : List ℕ) (list_type : ListType) → first_named name all_fields ≡ None → field_named name list_type ≡ None
+listed-nowhere name list.Transfer is = none-among name (fields_of list.Transfer) (none-within 0 5 name is)
+listed-nowhere name list.Internal is = none-among name (fields_of list.Internal) (none-within 5 6 name is)
+listed-nowhere name list.Open is = none-among name (fields_of list.Open) (none-within 11 9 name is)
+listed-nowhere name list.Close is = none-among name (fields_of list.Close) (none-within 20 3 name is)
+listed-nowhere name list.Position is = none-among name (fields_of list.Position) (none-within 23 2 name is)
+
+nothing-found : (found : Option ListField) → IsTrue (is_none found) → found ≡ None
+nothing-found None h = refl
+nothing-found (Some field) h = cc
+
+pub unlisted : (name : UnlistedName) (list_type : ListType) → field_named name.text list_type ≡ None
+unlisted name list_type = listed-nowhere name.text list_type (nothing-found (first_named name.text all_fields) name.unlisted)
 
 pub ruleset field_laws = (unlisted)

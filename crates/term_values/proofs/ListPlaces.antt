@@ -24,7 +24,7 @@ use Rattle.run_bytes.specs.declared.access.AccessType.TheVariants as access
 use Rattle.run_bytes.specs.declared.access.PointedType.TheVariants as pointed_type
 use Rattle.run_bytes.specs.Accesses.{access_of}
 use Rattle.linked_terms.specs.declared.terms.LinkedTerm.{LinkedTerm, Constant, Variable, Array, Routine, Prefixed', Cast', Between', Choice', Element', Field', Size, Most', Magnitude', end_of-LinkedTerm, more_of-LinkedTerm}
-use Rattle.linked_terms.specs.ListFields.{name_in}
+use Rattle.linked_terms.specs.FieldNames.{name_in}
 use Rattle.linked_terms.specs.LinkedTerms.{term_of}
 use Rattle.term_values.specs.Within.{extent_of, IsPointedTo, IsWithin, StandsWithin}
 

@@ -14,8 +14,8 @@ use Rattle.run_bytes.specs.declared.access.AccessType.{AccessType}
 use Rattle.run_bytes.specs.Accesses.{access_of}
 use Rattle.linked_terms.specs.declared.terms.LinkedTerm.{LinkedTerm}
 use Rattle.linked_terms.specs.declared.terms.LinkedTerm.TheVariants as tree
-use Rattle.linked_terms.specs.declared.fields.FieldName.{FieldName}
-use Rattle.linked_terms.specs.ListFields.{name_in}
+use Rattle.linked_terms.specs.declared.field_names.FieldName.{FieldName}
+use Rattle.linked_terms.specs.FieldNames.{name_in}
 use Rattle.linked_terms.specs.LinkedTerms.{term_of, linked_opened}
 
 pub value-Constant : (objects : List Object) (n : ℤ) → (seen objects (term_of (tree.Constant n))).value ≡ Ok (plain (Number n))

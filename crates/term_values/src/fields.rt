@@ -4,11 +4,12 @@ ghost use Rattle.std.specs.Prelude.{◌≡◌, ◌<◌, option_map, IfSome};
 ghost use Rattle.c_tree.specs.declared.types.ListType.TheVariants.{Transfer, Internal, Open, Close, Position};
 ghost use Rattle.c_tree.specs.Access as accesses;
 ghost use Rattle.run_bytes.specs.declared.access.FieldType.TheVariants as field;
-ghost use Rattle.linked_terms.specs.ListFields.{name_of_field, name_in};
+ghost use Rattle.linked_terms.specs.ListFields.{name_of_field};
+ghost use Rattle.linked_terms.specs.FieldNames.{name_in};
 ghost use Rattle.term_values.specs.FoundFields.{found_of};
 
 use c_tree::types::ListType;
-use linked_terms::{FieldName, ListField, list_field};
+use linked_terms::{FieldName, ListField};
 use run_bytes::FieldType;
 
 /// A field that was found: its number from 0, and what it holds.
@@ -127,7 +128,7 @@ fn field_of(list: ListType, field: ListField) -> Option<FoundField>
     }
 }
 
-/// The field of a name, where the list has one. A name that was linked as no field is looked up again: it is one of no list.
+/// The field of a name, where the list has one.
 #[tactic(auto, using(crate::proofs::FieldLaws::field_laws))]
 pub(crate) fn field_named(list: ListType, name: &FieldName) -> Option<FoundField>
     ensures named { option_map found_of result ≡ accesses.field_named (name_in name.now) list }
@@ -135,9 +136,6 @@ pub(crate) fn field_named(list: ListType, name: &FieldName) -> Option<FoundField
 {
     match name {
         FieldName::Listed(field) => field_of(list, *field),
-        FieldName::Other(text) => match list_field(text.as_slice()) {
-            Some(field) => field_of(list, field),
-            None => None,
-        },
+        FieldName::Unlisted(_) => None,
     }
 }

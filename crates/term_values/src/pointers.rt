@@ -5,7 +5,7 @@ ghost use Rattle.c_tree.specs.Access as accesses;
 ghost use Rattle.c_tree.specs.Values as values;
 ghost use Rattle.run_bytes.specs.Accesses.{access_of, typed_of};
 ghost use Rattle.run_bytes.specs.Answers.{answered};
-ghost use Rattle.linked_terms.specs.ListFields.{name_in};
+ghost use Rattle.linked_terms.specs.FieldNames.{name_in};
 ghost use Rattle.linked_terms.specs.LinkedTerms.{place_of};
 ghost use Rattle.term_values.specs.Within.{StandsWithin, extent_of};
 

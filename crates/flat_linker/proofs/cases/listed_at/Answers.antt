@@ -1,6 +1,6 @@
 use Rattle.std.proofs.Common.{rules}
 use Rattle.flat_linker.proofs.CaseLaws.{places-more, case-as}
-use Rattle.flat_linker.proofs.cases.cases_at.Goals as goal
+use Rattle.flat_linker.proofs.cases.listed_at.Goals as goal
 
 pub loop-case-preserved : goal.loop-case-preserved
 loop-case-preserved c =
