@@ -1,8 +1,8 @@
 //! A device over a real file. No clause tells what the file holds: it is the trusted edge.
 
-ghost use Rattle.std.specs.Prelude.{◌≡◌, ◌≤◌, ◌-◌, ◌^◌, min, false, IfOk, OnOk, IsSome, IsSomeAnd, IsTrue};
-ghost use Rattle.host_lines.specs.Lines.{lines_in, HasFirst, ReadsAt, WritesAt, record_text};
-ghost use Rattle.f2c_outside.specs.HostState.{untold_device, BothOpen};
+ghost use Rattle.std.specs.Prelude.{◌≡◌, ◌≤◌, ◌-◌, ◌^◌, min, false, is_some, IfOk, OnOk, IsSome, IsSomeAnd, IsTrue};
+ghost use Rattle.host_lines.specs.Lines.{lines_in, HasFirst, FoundBack, ReadsAt, WritesAt, record_text};
+ghost use Rattle.f2c_outside.specs.HostState.{untold_device, BothOpen, IsOver};
 ghost use Rattle.f2c_outside.specs.LineEnds.{behind_line};
 
 use crate::devices::{Device, DeviceFault, Got};
@@ -36,7 +36,8 @@ pub struct HostFile<R: Files + Drop> {
 impl<R: Files + Drop> HostFile<R> {
     /// A device over the file of this name, before its first record. No call has failed.
     pub fn new(alloc: Global, rt: R, name: Name) -> HostFile<R>
-        ensures { untold_device result.records result.finished result.tally.calls result.tally.faults ≡ untold_device 0 false 0 0 }
+        ensures over { IsOver name result }
+        ensures fresh { untold_device result.records result.finished result.tally.calls result.tally.faults ≡ untold_device 0 false 0 0 }
     {
         HostFile {
             rt,
@@ -123,9 +124,7 @@ impl<R: Files + Drop> Device for HostFile<R> {
     fn end_file(&mut self) -> Result<(), DeviceFault> {
         self.tally.call();
         self.finished = false;
-        if open_if_needed(&self.rt, &self.name, &mut self.file)
-            && cut(&mut self.file, self.offset)
-        {
+        if open_if_needed(&self.rt, &self.name, &mut self.file) && cut(&self.file, self.offset) {
             return Ok(());
         }
         Err(self.tally.fail())
@@ -156,8 +155,12 @@ fn after_line(offset: u64, length: usize, ended: bool) -> u64
         .saturating_add(u64::from(ended))
 }
 
-/// Opens the file where it is not open, to be read alone where it cannot be written, and says whether it is open.
-fn open_if_needed<R: Files>(rt: &R, name: &Name, file: &mut Option<R::File>) -> bool {
+/// Opens the file where it is not open, to be read alone where it cannot be written, and says whether it is open. A file that is
+/// open stays as it is.
+fn open_if_needed<R: Files>(rt: &R, name: &Name, file: &mut Option<R::File>) -> bool
+    ensures open { result ≡ is_some file.new }
+    ensures kept { IsSome file.old → file.new ≡ file.old }
+{
     if file.is_some() {
         return true;
     }
@@ -175,8 +178,8 @@ fn open_if_needed<R: Files>(rt: &R, name: &Name, file: &mut Option<R::File>) -> 
 }
 
 /// Cuts the file off at an offset, and says whether that succeeded. A file that is not open is a fault.
-fn cut<F: OpenFile>(file: &mut Option<F>, offset: u64) -> bool
-    ensures { IsTrue result → IsSome file.old }
+fn cut<F: OpenFile>(file: &Option<F>, offset: u64) -> bool
+    ensures { IsTrue result → IsSome file.now }
 {
     match file {
         Some(file) => file.set_len(offset).is_ok(),
@@ -224,14 +227,14 @@ fn write_line<F: Write + Seek + OpenFile>(
     bytes: &[u8],
 ) -> Result<(), DeviceFault>
     ensures { OnOk result (BothOpen file.old file.new
-        (λ before after. WritesAt F.stream_position F.contents offset before after (record_text lacks_end bytes.now))) }
+        (λ before after. WritesAt F.stream_position F.stream_bytes F.contents offset before after (record_text lacks_end bytes.now))) }
 {
+    if !cut(file, offset) {
+        return Err(DeviceFault::Failed);
+    }
     let Some(file) = file else {
         return Err(DeviceFault::Failed);
     };
-    if file.set_len(offset).is_err() {
-        return Err(DeviceFault::Failed);
-    }
     match record_at(file, offset, lacks_end, bytes) {
         Ok(()) => Ok(()),
         Err(_) => Err(DeviceFault::Failed),
@@ -240,7 +243,9 @@ fn write_line<F: Write + Seek + OpenFile>(
 
 /// Where the line before an offset begins. A file that is not open is a fault.
 fn line_start<F: Read + Seek>(file: &mut Option<F>, offset: u64) -> Result<u64, DeviceFault>
-    ensures { IfOk result (λ start. start ≤ offset) }
+    ensures found { IfOk result (λ start. BothOpen file.old file.new
+        (λ before after. FoundBack F.stream_position F.stream_bytes F.remaining offset before after start)) }
+    ensures within { IfOk result (λ start. start ≤ offset) }
 {
     let Some(file) = file else {
         return Err(DeviceFault::Failed);

@@ -3,10 +3,10 @@ use Rattle.std.proofs.Common.{◌≡◌, ℕ, zero, suc, min, ◌+◌, ◌-◌, 
 use Rattle.std.specs.Prelude.{Result, Ok, Err, OnErr, IfSome, if◌then◌else◌}
 use Rattle.std.specs.List.{list_any}
 use Rattle.std.proofs.lemmas.List.Folds.{list_any-append}
-use Rattle.std.specs.Io.KnownBytes.{Consumes, Appends}
-use Rattle.std.proofs.KnownBytes.{Consumes-trans, Appends-trans}
+use Rattle.std.specs.Io.KnownBytes.{Consumes, Appends, Keeps}
+use Rattle.std.proofs.KnownBytes.{Consumes-trans, Appends-nil, Appends-trans}
 use lib.Seq.{take-add}
-use Rattle.host_lines.specs.Lines.{is_end, HasNoEnd, ends_in, inside_after, LosesPart, HasFirst, AddsPart, PutFront, IsLastEnd, HasLastEnd}
+use Rattle.host_lines.specs.Lines.{is_end, HasNoEnd, ends_in, inside_after, LosesPart, HasFirst, AddsPart, PutFront, IsLastEnd, Moved, WritesFrontAt}
 use Rattle.host_lines.specs.declared.reading.Found.TheVariants.{Line}
 
 -- two texts without a line feed, joined
@@ -135,24 +135,36 @@ long-front (x ∷ bytes) (suc n) within = ap suc (long-front bytes n (omega arit
 pub capped-sum : (bound lines ends all more : ℕ) → lines ≡ min ends bound → all ≡ ends + more → min (lines + more) bound ≡ min all bound
 capped-sum bound lines ends all more is sum = omega arith
 
--- what was taken ends its last line where the last line feed stands in it
-pub last_end_taken :
-    (old new : Option (List ℕ)) (piece : List ℕ) (count : ℕ) (found : Option ℕ)
-    → Consumes old new piece
-    → length piece ≡ count
-    → IsLastEnd piece found
-    → IfSome old (HasLastEnd count found)
-last_end_taken None new piece count found taken long end = tt
-last_end_taken (Some xs) None piece count found taken long end = absurd taken
-last_end_taken (Some xs) (Some ys) piece count found taken long end =
-    record { piece = piece; rest = ys; is = taken; long = long; end = end }
-
 -- the last line feed of a piece stands in it
-pub last_end_within :
-    (piece : List ℕ) (count : ℕ) (found : Option ℕ) → length piece ≡ count → IsLastEnd piece found → IfSome found (λ number. number < count)
-last_end_within piece count None long end = tt
-last_end_within piece count (Some number) long end =
+pub last_end_within : (piece : List ℕ) (found : Option ℕ) → IsLastEnd piece found → IfSome found (λ number. number < length piece)
+last_end_within piece None end = tt
+last_end_within piece (Some number) end =
     let at : number ≡ length end.front = end.at
     in let sum : length piece ≡ length end.front + suc (length end.back) =
     ap length end.is ∙ length-joined end.front (10 ∷ end.back)
-    in omega (arith, at, sum, long)
+    in omega (arith, at, sum)
+
+module _ {F : Type 0} (position : F → Option ℕ) (bytes contents : F → Option (List ℕ)) (offset : ℕ) where
+  -- a file that did not move
+  pub nothing-written :
+      {T E : Type 0} (result : Result T E) (before after : F) (text : List ℕ)
+      → Keeps (bytes before) (bytes after)
+      → OnErr result (WritesFrontAt position bytes contents offset before after text)
+  nothing-written (Ok x) before after text kept = tt
+  nothing-written (Err e) before after text kept =
+      record {
+        there = after;
+        kept = kept;
+        put = record { count = 0; fits = omega arith; put = Appends-nil (contents after) };
+        moved = λ some. absurd (omega arith);
+      }
+
+  -- a file that moved, and took a front
+  pub front-written :
+      {T E : Type 0} (result : Result T E) (before there after : F) (text : List ℕ)
+      → Moved position bytes offset before there
+      → OnErr result (PutFront (contents there) (contents after) text)
+      → OnErr result (WritesFrontAt position bytes contents offset before after text)
+  front-written (Ok x) before there after text moved put = tt
+  front-written (Err e) before there after text moved put =
+      record { there = there; kept = moved.kept; put = put; moved = λ some. moved.moved }

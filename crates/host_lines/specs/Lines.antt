@@ -1,5 +1,5 @@
 -- The lines of a text: each ends with a line feed, which the last may lack.
-use Rattle.std.specs.Prelude.{◌≡◌, ℕ, suc, ◌+◌, ◌<◌, ◌≤◌, Bool, true, false, not, List, [], ◌∷◌, ◌++◌, length, take, Option, Some, None, IfSome, nat_eq, if◌then◌else◌}
+use Rattle.std.specs.Prelude.{◌≡◌, ℕ, suc, ◌+◌, ◌-◌, ◌<◌, ◌≤◌, Bool, true, false, not, List, [], ◌∷◌, ◌++◌, length, take, drop, Option, Some, None, IfSome, nat_eq, if◌then◌else◌}
 use Rattle.std.specs.List.{list_any}
 use Rattle.std.specs.Io.KnownBytes.{Consumes, Appends, IsAtEnd, Keeps}
 use Rattle.host_lines.specs.declared.reading.Found.{Found}
@@ -113,16 +113,56 @@ pub record ReadsAt {F : Type 0} (position : F → Option ℕ) (bytes remaining :
   pub kept : Keeps (bytes file) (bytes there)
   pub read : IfSome (remaining there) P
 
--- the first bytes of a text, so many, end their last line there, or have no line feed
-pub record HasLastEnd (count : ℕ) (found : Option ℕ) (text : List ℕ) : Type 0 where
-  pub piece : List ℕ
-  pub rest : List ℕ
-  pub is : text ≡ piece ++ rest
-  pub long : length piece ≡ count
-  pub end : IsLastEnd piece found
-
--- a file moved to an offset, where it tells its position, and bytes went behind what it held then, where it tells that
-pub record WritesAt {F : Type 0} (position : F → Option ℕ) (contents : F → Option (List ℕ)) (offset : ℕ) (before after : F) (bytes : List ℕ) : Type 0 where
-  pub there : F
+-- a file moved to an offset, where it tells its position, and holds what it held, where it tells that
+pub record Moved {F : Type 0} (position : F → Option ℕ) (bytes : F → Option (List ℕ)) (offset : ℕ) (before there : F) : Type 0 where
   pub moved : IfSome (position before) (λ was. position there ≡ Some offset)
-  pub put : Appends (contents there) (contents after) bytes
+  pub kept : Keeps (bytes before) (bytes there)
+
+-- a file moved to an offset, and a piece was read from there on
+pub record TakesAt {F : Type 0} (position : F → Option ℕ) (bytes remaining : F → Option (List ℕ)) (offset : ℕ) (before after : F) (piece : List ℕ) : Type 0 where
+  pub there : F
+  pub moved : Moved position bytes offset before there
+  pub taken : Consumes (remaining there) (remaining after) piece
+
+-- pieces of a file were read backwards from an offset, each right before the one that was read before it; `seen` is what stands
+-- from the last of them on up to that offset
+pub data ReadBack {F : Type 0} (position : F → Option ℕ) (bytes remaining : F → Option (List ℕ)) (upto : ℕ) (first : F) : (from : ℕ) (file : F) (seen : List ℕ) → Type 0 where
+  Nothing : ReadBack position bytes remaining upto first upto first []
+  Piece : (from end : ℕ) (before after : F) (piece seen : List ℕ)
+      → ReadBack position bytes remaining upto first end before seen
+      → TakesAt position bytes remaining from before after piece
+      → from + length piece ≡ end
+      → ReadBack position bytes remaining upto first from after (piece ++ seen)
+
+-- where the last line of a text begins: behind its last line feed, or at its first byte
+abbrev pub last_line : List ℕ → ℕ
+last_line [] = 0
+last_line (byte ∷ bytes) = if list_any is_end (byte ∷ bytes) then suc (last_line bytes) else 0
+
+-- where the line begins that ends right before an offset, with its line feed or without one
+abbrev pub line_start : List ℕ → ℕ → ℕ
+line_start text offset = last_line (take (offset - 1) text)
+
+-- a text has these bytes from an offset on
+abbrev pub HasAt : ℕ → List ℕ → List ℕ → Type 0
+HasAt from bytes text = take (length bytes) (drop from text) ≡ bytes
+
+-- the line before an offset begins there in each text that has what was read where it was read
+pub record FoundBack {F : Type 0} (position : F → Option ℕ) (bytes remaining : F → Option (List ℕ)) (offset : ℕ) (before after : F) (start : ℕ) : Type 0 where
+  pub from : ℕ
+  pub seen : List ℕ
+  pub read : ReadBack position bytes remaining (offset - 1) before from after seen
+  pub start_of : (text : List ℕ) → HasAt from seen text → start ≡ line_start text offset
+
+-- a file moved to an offset and kept what it held, and bytes went behind what it held then, where it tells that
+pub record WritesAt {F : Type 0} (position : F → Option ℕ) (bytes contents : F → Option (List ℕ)) (offset : ℕ) (before after : F) (text : List ℕ) : Type 0 where
+  pub there : F
+  pub moved : Moved position bytes offset before there
+  pub put : Appends (contents there) (contents after) text
+
+-- a file kept what it held, and a front of the bytes went behind what it held then: none where it had not moved to the offset
+pub record WritesFrontAt {F : Type 0} (position : F → Option ℕ) (bytes contents : F → Option (List ℕ)) (offset : ℕ) (before after : F) (text : List ℕ) : Type 0 where
+  pub there : F
+  pub kept : Keeps (bytes before) (bytes there)
+  pub put : PutFront (contents there) (contents after) text
+  pub moved : 0 < put.count → IfSome (position before) (λ was. position there ≡ Some offset)

@@ -1,8 +1,8 @@
 //! Lines that are read.
 
-ghost use Rattle.std.specs.Prelude.{◌≡◌, ◌<◌, ◌≤◌, [], length, min, ◌-◌, ◌^◌, IfOk, OnErr, IfSome, bytes_eq, if◌then◌else◌};
+ghost use Rattle.std.specs.Prelude.{◌≡◌, ◌<◌, ◌≤◌, [], length, min, ◌-◌, ◌^◌, IfOk, OnOk, OnErr, IfSome, bytes_eq, if◌then◌else◌};
 ghost use Rattle.std.specs.Io.KnownBytes.{Keeps};
-ghost use Rattle.host_lines.specs.Lines.{lines_in, AddsLine, HasRead, HasFirst, HasLastEnd, LosesPart, GaveByte, ReadsAt};
+ghost use Rattle.host_lines.specs.Lines.{lines_in, AddsLine, HasRead, HasFirst, LosesPart, GaveByte, ReadsAt, IsLastEnd, Moved, TakesAt, FoundBack};
 
 use crate::ends::{ends_in, first_end, inside_after, last_end};
 use std::io;
@@ -136,41 +136,50 @@ pub fn lines_from<F: Read + Seek>(file: &mut F, offset: u64) -> io::Result<u64>
     count_lines(file)
 }
 
-/// Fills a piece, and says where its last line feed stands. A reader that has fewer bytes left is an error.
-#[tactic(auto, using(crate::proofs::LineLaws::last_end_taken, crate::proofs::LineLaws::last_end_within))]
-fn last_end_in<F: Read>(reader: &mut F, piece: &mut [u8]) -> io::Result<Option<usize>>
-    ensures read { IfOk result (λ found. IfSome (F.remaining reader.old) (HasLastEnd (length piece.old) found)) }
-    ensures within { IfOk result (λ found. IfSome found (λ number. number < length piece.old)) }
+/// Moves to an offset.
+pub(crate) fn move_to<F: Seek>(file: &mut F, offset: u64) -> io::Result<()>
+    ensures ok { OnOk result (Moved F.stream_position F.stream_bytes offset file.old file.new) }
+    ensures err { OnErr result (Keeps (F.stream_bytes file.old) (F.stream_bytes file.new)) }
 {
-    reader.read_exact(piece)?;
-    Ok(last_end(piece))
+    file.seek(SeekFrom::Start(offset))?;
+    Ok(())
+}
+
+/// Moves to an offset, and fills a piece from there on. A file that has fewer bytes is an error.
+fn take_piece<F: Read + Seek>(file: &mut F, offset: u64, piece: &mut [u8]) -> io::Result<()>
+    ensures { OnOk result (TakesAt F.stream_position F.stream_bytes F.remaining offset file.old file.new piece.new) }
+{
+    move_to(file, offset)?;
+    file.read_exact(piece)?;
+    Ok(())
 }
 
 /// Moves to an offset, fills a piece from there on, and says where its last line feed stands. A file that has fewer bytes is
 /// an error.
-pub(crate) fn last_end_at<F: Read + Seek>(
+#[tactic(auto, using(crate::proofs::LineLaws::last_end_within))]
+fn last_end_at<F: Read + Seek>(
     file: &mut F,
     offset: u64,
     piece: &mut [u8],
 ) -> io::Result<Option<usize>>
-    ensures read { IfOk result (λ found. ReadsAt F.stream_position F.stream_bytes F.remaining offset file.old (HasLastEnd (length piece.old) found)) }
-    ensures within { IfOk result (λ found. IfSome found (λ number. number < length piece.old)) }
+    ensures taken { OnOk result (TakesAt F.stream_position F.stream_bytes F.remaining offset file.old file.new piece.new) }
+    ensures end { IfOk result (IsLastEnd piece.new) }
+    ensures within { IfOk result (λ found. IfSome found (λ number. number < length piece.new)) }
 {
-    file.seek(SeekFrom::Start(offset))?;
-    last_end_in(file, piece)
+    take_piece(file, offset, piece)?;
+    Ok(last_end(piece))
 }
 
 /// Where the line that ends right before an offset begins: behind the line feed of the line before it, or at 0. It is read
-/// backwards, in large pieces.
+/// backwards, in large pieces; before the first byte nothing is read.
 pub fn line_before<F: Read + Seek>(file: &mut F, offset: u64) -> io::Result<u64>
-    ensures { IfOk result (λ start. start ≤ offset) }
+    ensures found { IfOk result (FoundBack F.stream_position F.stream_bytes F.remaining offset file.old file.new) }
+    ensures within { IfOk result (λ start. start ≤ offset) }
+    ensures err { OnErr result (1 < offset) }
 {
     let mut end = offset.saturating_sub(1);
     let mut chunk = [0u8; CHUNK];
-    for _ in 0..MOST_TURNS {
-        if end == 0 {
-            return Ok(0);
-        }
+    while end > 0 {
         let length = end.min(CHUNK as u64);
         let start = end - length;
         if let Some(last) = last_end_at(file, start, &mut chunk[..length as usize])? {
@@ -178,7 +187,7 @@ pub fn line_before<F: Read + Seek>(file: &mut F, offset: u64) -> io::Result<u64>
         }
         end = start;
     }
-    Err(too_long())
+    Ok(0)
 }
 
 /// The error of a stream that goes on for more turns than a loop may have.

@@ -2,11 +2,11 @@
 
 ghost use Rattle.std.specs.Prelude.{◌≡◌, ◌≤◌, ◌++◌, ◌∷◌, [], length, take, IfOk, OnOk, OnErr};
 ghost use Rattle.std.specs.Io.KnownBytes.{Appends, Keeps};
-ghost use Rattle.host_lines.specs.Lines.{PutFront, WritesAt, end_before, record_text};
+ghost use Rattle.host_lines.specs.Lines.{PutFront, WritesAt, WritesFrontAt, end_before, record_text};
 
-use crate::reading::{MOST_TURNS, too_long};
+use crate::reading::{MOST_TURNS, move_to, too_long};
 use std::io;
-use std::io::{ErrorKind, Seek, SeekFrom, Write};
+use std::io::{ErrorKind, Seek, Write};
 
 /// Writes the first bytes and answers how many: at least one of bytes that are not none, but 0 where a signal came first.
 fn put_some<W: Write>(writer: &mut W, bytes: &[u8]) -> io::Result<usize>
@@ -62,16 +62,17 @@ pub(crate) fn put_record<W: Write>(writer: &mut W, lacks_end: bool, bytes: &[u8]
     put_line(writer, bytes)
 }
 
-/// Moves to an offset, and writes a record there as `put_record` does.
+/// Moves to an offset, and writes a record there as `put_record` does. After an error a front of it went out there, or nothing
+/// did.
 pub fn record_at<F: Write + Seek>(
     file: &mut F,
     offset: u64,
     lacks_end: bool,
     bytes: &[u8],
 ) -> io::Result<()>
-    ensures { OnOk result (WritesAt F.stream_position F.contents offset file.old file.new (record_text lacks_end bytes.now)) }
+    ensures ok { OnOk result (WritesAt F.stream_position F.stream_bytes F.contents offset file.old file.new (record_text lacks_end bytes.now)) }
+    ensures err { OnErr result (WritesFrontAt F.stream_position F.stream_bytes F.contents offset file.old file.new (record_text lacks_end bytes.now)) }
 {
-    file.seek(SeekFrom::Start(offset))?;
-    put_record(file, lacks_end, bytes)?;
-    Ok(())
+    move_to(file, offset)?;
+    put_record(file, lacks_end, bytes)
 }

@@ -82,43 +82,60 @@ fn lines_of(front: &[u8]) -> (usize, bool) {
     (ends, !front.is_empty() && !front.ends_with(b"\n"))
 }
 
+/// Whether the first line is taken as far as the reader came, in pieces of at most so many bytes, or the failure is answered.
+fn is_taken(line: &mut Vec<u8>, most: usize, place: usize) -> bool {
+    let failed = line_at(&mut text_from(most, place, Trouble::Fails), 0, line);
+    let ended = line_at(&mut text_from(most, place, Trouble::Ends), 0, line);
+    let wanted = match place {
+        0 => Found::End,
+        1 => Found::LastLine,
+        _ => Found::Line,
+    };
+    failed.is_err() == (place < 2)
+        && matches!(ended, Ok(found) if found == wanted)
+        && line.len() == place.min(1)
+}
+
+/// Whether it is so at each place.
+fn is_taken_in_pieces(line: &mut Vec<u8>, most: usize) -> bool {
+    let mut is_right = true;
+    for place in 0..=TEXT.len() {
+        is_right = is_right && is_taken(line, most, place);
+    }
+    is_right
+}
+
 #[test]
 fn a_line_is_taken_in_pieces_of_any_length(rt: HostRuntime) -> Result<(), Fail> {
     let mut line = Vec::new(rt.alloc());
     for most in 1..6usize {
-        for place in 0..=TEXT.len() {
-            let failed = line_at(&mut text_from(most, place, Trouble::Fails), 0, &mut line);
-            assert_eq!(rt; failed.is_err(), place < 2, "fails at {place}");
-            let ended = line_at(&mut text_from(most, place, Trouble::Ends), 0, &mut line);
-            let wanted = match place {
-                0 => Found::End,
-                1 => Found::LastLine,
-                _ => Found::Line,
-            };
-            assert!(rt;
-                matches!(ended, Ok(found) if found == wanted),
-                "ends at {place}"
-            );
-            assert_eq!(rt; line.len(), place.min(1), "line at {place}");
-        }
+        assert!(rt; is_taken_in_pieces(&mut line, most), "in pieces of {most}");
     }
     Ok(())
+}
+
+/// Whether the lines are counted as far as the reader came, and a failure is answered.
+fn is_counted(most: usize, place: usize) -> bool {
+    let failed = lines_from(&mut text_from(most, place, Trouble::Fails), 0);
+    let (ends, is_open) = lines_of(&TEXT[..place.min(TEXT.len())]);
+    let lines = ends.saturating_add(usize::from(is_open));
+    let ended = lines_from(&mut text_from(most, place, Trouble::Ends), 0);
+    failed.is_err() && matches!(ended, Ok(count) if count == lines as u64)
+}
+
+/// Whether it is so at each place.
+fn is_counted_in_pieces(most: usize) -> bool {
+    let mut is_right = true;
+    for place in 0..=TEXT.len() {
+        is_right = is_right && is_counted(most, place);
+    }
+    is_right
 }
 
 #[test]
 fn lines_are_counted_or_it_fails(rt: HostRuntime) -> Result<(), Fail> {
     for most in 1..6usize {
-        for place in 0..=TEXT.len() {
-            let failed = lines_from(&mut text_from(most, place, Trouble::Fails), 0);
-            assert!(rt; failed.is_err(), "fails at {place}");
-            let (ends, is_open) = lines_of(&TEXT[..place]);
-            let lines = ends.saturating_add(usize::from(is_open));
-            let ended = lines_from(&mut text_from(most, place, Trouble::Ends), 0);
-            assert!(rt;
-                matches!(ended, Ok(count) if count == lines as u64),
-                "ends at {place}"
-            );
-        }
+        assert!(rt; is_counted_in_pieces(most), "in pieces of {most}");
     }
     Ok(())
 }
@@ -137,32 +154,59 @@ fn start_before(bytes: &[u8], offset: usize) -> u64 {
     start
 }
 
-/// A search that answers the start of the file, or the byte before, answers other than where a line begins. One that takes the
-/// bytes that came for all that it asked for, or an end or a failure for the start of the file, succeeds where the bytes
-/// before the line feed were not all read.
+/// Whether the line before an offset is found where every byte before its end could be read, and the trouble is answered elsewhere.
+fn is_found_or_fails(most: usize, place: usize, offset: usize, trouble: Trouble) -> bool {
+    let found = line_before(&mut text_from(most, place, trouble), offset as u64);
+    let is_read = offset <= place.saturating_add(1);
+    let start = start_before(TEXT, offset);
+    found.is_ok() == is_read && (!is_read || matches!(found, Ok(at) if at == start))
+}
+
+/// Whether it is so before each offset.
+fn is_found_before_each(most: usize, place: usize) -> bool {
+    let mut is_right = true;
+    for offset in 0..=TEXT.len() {
+        is_right = is_right
+            && is_found_or_fails(most, place, offset, Trouble::Fails)
+            && is_found_or_fails(most, place, offset, Trouble::Ends);
+    }
+    is_right
+}
+
+/// Whether it is so with a trouble at each place.
+fn is_found_in_pieces(most: usize) -> bool {
+    let mut is_right = true;
+    for place in 0..=TEXT.len() {
+        is_right = is_right && is_found_before_each(most, place);
+    }
+    is_right
+}
+
+/// A search that takes the bytes that came for all that it asked for, or an end or a failure for the start of the file, succeeds
+/// where the bytes before the line feed were not all read.
 #[test]
 fn the_line_before_is_found_or_it_fails(rt: HostRuntime) -> Result<(), Fail> {
     for most in 1..6usize {
-        for place in 0..=TEXT.len() {
-            for offset in 0..=TEXT.len() {
-                for trouble in [Trouble::Fails, Trouble::Ends] {
-                    let found = line_before(&mut text_from(most, place, trouble), offset as u64);
-                    let is_read = offset <= place.saturating_add(1);
-                    let start = start_before(TEXT, offset);
-                    assert_eq!(rt; found.is_ok(), is_read, "before {offset}, {place}");
-                    assert!(rt;
-                        !is_read || matches!(found, Ok(at) if at == start),
-                        "before {offset}, {place}"
-                    );
-                }
-            }
-        }
+        assert!(rt; is_found_in_pieces(most), "in pieces of {most}");
     }
     Ok(())
 }
 
 /// Where a file of three pieces has its one line feed, about the ends of the pieces in which it is read backwards.
 const ENDS: [usize; 9] = [0, 1, 807, 808, 809, 4903, 4904, 4905, 8999];
+
+/// Whether the line before an offset is found in these bytes.
+fn is_found_in(bytes: &[u8], offset: usize) -> bool {
+    let mut file = Source {
+        bytes,
+        at: 0,
+        most: 1_000,
+        place: bytes.len(),
+        trouble: Trouble::Ends,
+    };
+    let start = start_before(bytes, offset);
+    matches!(line_before(&mut file, offset as u64), Ok(at) if at == start)
+}
 
 /// A search that leaves out a byte between two pieces misses a line feed there; one that forgets where its piece begins, or
 /// stops behind the first, answers another place.
@@ -173,20 +217,15 @@ fn the_line_before_is_found_in_each_piece(rt: HostRuntime) -> Result<(), Fail> {
         if let Some(byte) = bytes.get_mut(end) {
             *byte = b'\n';
         }
-        for offset in [9_001u64, 4_905, 809] {
-            let mut file = Source {
-                bytes: &bytes,
-                at: 0,
-                most: 1_000,
-                place: 9_001,
-                trouble: Trouble::Ends,
-            };
-            let start = start_before(&bytes, offset as usize);
-            assert!(rt;
-                matches!(line_before(&mut file, offset), Ok(at) if at == start),
-                "behind {end}, before {offset}"
-            );
-        }
+        assert!(rt; is_found_in(&bytes, 9_001), "behind {end}, from the end");
+        assert!(rt;
+            is_found_in(&bytes, 4_905),
+            "behind {end}, from the second piece"
+        );
+        assert!(rt;
+            is_found_in(&bytes, 809),
+            "behind {end}, from the first piece"
+        );
     }
     Ok(())
 }
@@ -276,19 +315,23 @@ fn is_whole_or_fails(is_file: bool, most: usize, place: usize, trouble: Trouble)
     is_whole == wanted && writer.count == front && writer.is_right
 }
 
+/// Whether it is so at each place, for each trouble.
+fn is_right_at_each(is_file: bool, most: usize) -> bool {
+    let mut is_right = true;
+    for place in 0..9usize {
+        is_right = is_right
+            && is_whole_or_fails(is_file, most, place, Trouble::Fails)
+            && is_whole_or_fails(is_file, most, place, Trouble::Ends)
+            && is_whole_or_fails(is_file, most, place, Trouble::Signal);
+    }
+    is_right
+}
+
 #[test]
 fn bytes_go_out_whole_or_a_front_and_a_failure(rt: HostRuntime) -> Result<(), Fail> {
-    for is_file in [false, true] {
-        for most in 1..9usize {
-            for place in 0..9usize {
-                for trouble in [Trouble::Fails, Trouble::Ends, Trouble::Signal] {
-                    assert!(rt;
-                        is_whole_or_fails(is_file, most, place, trouble),
-                        "at {place}"
-                    );
-                }
-            }
-        }
+    for most in 1..9usize {
+        assert!(rt; is_right_at_each(false, most), "a stream, {most} at once");
+        assert!(rt; is_right_at_each(true, most), "a file, {most} at once");
     }
     Ok(())
 }

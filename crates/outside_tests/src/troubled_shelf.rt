@@ -2,12 +2,13 @@
 //! or flushed. No clause says what these took. How often a call failed is a clause of each: the count rises exactly where
 //! it answers `Failed`.
 
+ghost use Rattle.std.specs.Prelude.{IfOk};
 ghost use Rattle.f2c_outside.specs.Shelf.{IsSource, IsTarget};
 
 use crate::troubled_host::{Host, Limits, Stream, TEXT};
 use f2c_outside::host_shelf::HostShelf;
 use f2c_outside::shelves::{Place, Shelf, ShelfFault};
-use f2c_outside::texts::Name;
+use f2c_outside::texts::{Name, NameFail};
 use std::alloc::Global;
 use std::cell::Cell;
 use std::io::ErrorKind;
@@ -104,76 +105,90 @@ fn takes_in_parts<S: Shelf>(shelf: &mut S, place: &Place, limits: Limits) -> boo
         && next.starts_with(left.get(..second).unwrap_or(b""))
 }
 
+/// So many bytes at once, so many together, and a failure behind them or none.
+fn limits_of(most: usize, room: usize, is_failing: bool) -> Limits {
+    Limits {
+        most,
+        room,
+        is_failing,
+        is_flushing: true,
+    }
+}
+
+/// The place of the file.
+fn file_place(alloc: Global) -> Result<Place, NameFail>
+    ensures source { IfOk result IsSource }
+    ensures target { IfOk result IsTarget }
+{
+    let name = Name::new(alloc, b"FILE")?;
+    Ok(Place::File(name))
+}
+
+/// Puts the text in parts on a file, on the standard output, and on Fault. Says whether each call answers what went out, and
+/// each place took what was put on it alone.
+fn puts_on_each_place(alloc: Global, limits: Limits) -> Result<bool, NameFail> {
+    let passed = Passed::new();
+    let mut shelf = shelf_over(alloc, &passed, limits, None);
+    let count = limits.most.saturating_mul(2).min(limits.room);
+    let file = file_place(alloc)?;
+    Ok(
+        puts_in_parts(&mut shelf, &file, limits)
+            && passed.counts() == (count, 0, 0)
+            && puts_in_parts(&mut shelf, &Place::Output, limits)
+            && passed.counts() == (count, count, 0)
+            && puts_in_parts(&mut shelf, &Place::Fault, limits)
+            && passed.counts() == (count, count, count),
+    )
+}
+
+/// Whether it is so with so many bytes together, failing behind them or not.
+fn puts_with_each_room(alloc: Global, most: usize) -> Result<bool, NameFail> {
+    let mut is_right = true;
+    for room in 0..=TEXT.len() {
+        let ends = puts_on_each_place(alloc, limits_of(most, room, false))?;
+        let fails = puts_on_each_place(alloc, limits_of(most, room, true))?;
+        is_right = is_right && ends && fails;
+    }
+    Ok(is_right)
+}
+
 /// A shelf that answers the length of the piece where the stream took less, or that answers success where it took none or
 /// failed, says more than what went out. One that goes on with the file when Fault or Output is started, or puts Fault on
 /// the standard output, leaves other numbers.
 #[test]
 fn a_put_answers_what_went_out(rt: HostRuntime) -> Result<(), Fail> {
-    let name = Name::new(rt.alloc(), b"FILE")?;
     for most in 1..=TEXT.len() {
-        for room in 0..=TEXT.len() {
-            for is_failing in [false, true] {
-                let limits = Limits {
-                    most,
-                    room,
-                    is_failing,
-                    is_flushing: true,
-                };
-                let passed = Passed::new();
-                let mut shelf = shelf_over(rt.alloc(), &passed, limits, None);
-                let count = most.saturating_mul(2).min(room);
-                let file = Place::File(name.copy(rt.alloc())?);
-                assert!(rt;
-                    puts_in_parts(&mut shelf, &file, limits),
-                    "file, {most}, {room}"
-                );
-                assert_eq!(rt; passed.counts(), (count, 0, 0), "file, {most}, {room}");
-                assert!(rt;
-                    puts_in_parts(&mut shelf, &Place::Output, limits),
-                    "output, {most}, {room}"
-                );
-                assert_eq!(rt;
-                    passed.counts(),
-                    (count, count, 0),
-                    "output, {most}, {room}"
-                );
-                assert!(rt;
-                    puts_in_parts(&mut shelf, &Place::Fault, limits),
-                    "fault, {most}, {room}"
-                );
-                assert_eq!(rt;
-                    passed.counts(),
-                    (count, count, count),
-                    "fault, {most}, {room}"
-                );
-            }
-        }
+        assert!(rt; puts_with_each_room(rt.alloc(), most)?, "{most} at once");
     }
     Ok(())
+}
+
+/// Takes from a file in parts. Says whether each call answers what came, and no more passed.
+fn takes_from_file(alloc: Global, limits: Limits) -> Result<bool, NameFail> {
+    let passed = Passed::new();
+    let mut shelf = shelf_over(alloc, &passed, limits, None);
+    let count = limits.most.saturating_mul(2).min(limits.room);
+    let file = file_place(alloc)?;
+    Ok(takes_in_parts(&mut shelf, &file, limits) && passed.counts() == (count, 0, 0))
+}
+
+/// Whether it is so with so many bytes together, failing behind them or not.
+fn takes_with_each_room(alloc: Global, most: usize) -> Result<bool, NameFail> {
+    let mut is_right = true;
+    for room in 0..=TEXT.len() {
+        let ends = takes_from_file(alloc, limits_of(most, room, false))?;
+        let fails = takes_from_file(alloc, limits_of(most, room, true))?;
+        is_right = is_right && ends && fails;
+    }
+    Ok(is_right)
 }
 
 /// A shelf that answers the length of the slice where the file gave less, or that answers an end where it failed, says other
 /// than what came.
 #[test]
 fn a_take_answers_what_came(rt: HostRuntime) -> Result<(), Fail> {
-    let name = Name::new(rt.alloc(), b"FILE")?;
     for most in 1..=TEXT.len() {
-        for room in 0..=TEXT.len() {
-            for is_failing in [false, true] {
-                let limits = Limits {
-                    most,
-                    room,
-                    is_failing,
-                    is_flushing: true,
-                };
-                let passed = Passed::new();
-                let mut shelf = shelf_over(rt.alloc(), &passed, limits, None);
-                let file = Place::File(name.copy(rt.alloc())?);
-                assert!(rt; takes_in_parts(&mut shelf, &file, limits), "{most}, {room}");
-                let count = most.saturating_mul(2).min(room);
-                assert_eq!(rt; passed.counts(), (count, 0, 0), "{most}, {room}");
-            }
-        }
+        assert!(rt; takes_with_each_room(rt.alloc(), most)?, "{most} at once");
     }
     Ok(())
 }
@@ -194,30 +209,38 @@ fn stops_with<S: Shelf>(
         && shelf.stop() == Ok(())
 }
 
+/// Puts so many bytes on a file that can be flushed or not. Says whether `stop` answers so, and these bytes alone went out.
+fn stops_as_it_flushes(alloc: Global, count: usize, is_flushing: bool) -> Result<bool, NameFail> {
+    let limits = Limits {
+        most: TEXT.len(),
+        room: TEXT.len(),
+        is_failing: true,
+        is_flushing,
+    };
+    let passed = Passed::new();
+    let mut shelf = shelf_over(alloc, &passed, limits, None);
+    let stopped = if is_flushing {
+        Ok(())
+    } else {
+        Err(ShelfFault::Failed)
+    };
+    let file = file_place(alloc)?;
+    let piece = TEXT.get(..count).unwrap_or(b"");
+    Ok(stops_with(&mut shelf, &file, piece, stopped) && passed.counts() == (count, 0, 0))
+}
+
 /// A shelf that answers success where the file cannot be flushed, or that does not flush it, loses the failure.
 #[test]
 fn a_flush_that_fails_is_told(rt: HostRuntime) -> Result<(), Fail> {
-    let name = Name::new(rt.alloc(), b"FILE")?;
     for count in 0..=TEXT.len() {
-        for is_flushing in [false, true] {
-            let limits = Limits {
-                most: TEXT.len(),
-                room: TEXT.len(),
-                is_failing: true,
-                is_flushing,
-            };
-            let passed = Passed::new();
-            let mut shelf = shelf_over(rt.alloc(), &passed, limits, None);
-            let stopped = if is_flushing {
-                Ok(())
-            } else {
-                Err(ShelfFault::Failed)
-            };
-            let file = Place::File(name.copy(rt.alloc())?);
-            let piece = TEXT.get(..count).unwrap_or(b"");
-            assert!(rt; stops_with(&mut shelf, &file, piece, stopped), "{count}");
-            assert_eq!(rt; passed.counts(), (count, 0, 0), "{count}");
-        }
+        assert!(rt;
+            stops_as_it_flushes(rt.alloc(), count, true)?,
+            "{count}, flushed"
+        );
+        assert!(rt;
+            stops_as_it_flushes(rt.alloc(), count, false)?,
+            "{count}, not flushed"
+        );
     }
     Ok(())
 }

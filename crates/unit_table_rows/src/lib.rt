@@ -4,3 +4,4 @@
 pub mod failures;
 pub mod placing;
 pub mod programs;
+pub mod records;

@@ -2,7 +2,7 @@
 
 ghost use Rattle.std.specs.Prelude.{◌≡◌, [], ◌∷◌, ◌++◌, true, false, Option, is_some, IfOk, IfErr, OnOk, OnErr, IsErr, IsOk};
 ghost use Rattle.f2c_outside.specs.Rows.{rows_of};
-ghost use Rattle.f2c_outside.specs.Table.{is_connected, Connects};
+ghost use Rattle.f2c_outside.specs.Table.{is_connected, Connects, Offers};
 ghost use Rattle.run_state.specs.Units.{UnitState, zero_blanks_of};
 ghost use Rattle.unit_table_rows.specs.Ends.{Has, the_unit, IsTaken, IsUnplaced};
 
@@ -32,6 +32,20 @@ pub fn connect_free(table: &mut UnitTable, device: Box<dyn Device>) -> Result<()
     ensures kept { OnErr result (rows_of (λ b. (⟦<dyn Device as Device>⟧ b.vtable).device_state b.value) table.new ≡ rows_of (λ b. (⟦<dyn Device as Device>⟧ b.vtable).device_state b.value) table.old) }
 {
     table.connect(3, device)
+}
+
+/// A device under a name goes into the drawer, behind the others; or it comes back for want of memory, and the table is as before.
+pub fn offer_one(
+    table: &mut UnitTable,
+    name: Name,
+    device: Box<dyn Device>,
+) -> Result<(), NotPlaced>
+    requires { Unit {0} }
+    ensures placed { OnOk result (rows_of (λ b. (⟦<dyn Device as Device>⟧ b.vtable).device_state b.value) table.new ≡ rows_of (λ b. (⟦<dyn Device as Device>⟧ b.vtable).device_state b.value) table.old ++ Offers name ((⟦<dyn Device as Device>⟧ device.vtable).device_state device.value) ∷ []) }
+    ensures back { IfErr result (IsUnplaced device) }
+    ensures kept { OnErr result (rows_of (λ b. (⟦<dyn Device as Device>⟧ b.vtable).device_state b.value) table.new ≡ rows_of (λ b. (⟦<dyn Device as Device>⟧ b.vtable).device_state b.value) table.old) }
+{
+    table.offer(name, device)
 }
 
 /// Whether unit 3 is connected, and whether blanks are zeros on it, as its state says.

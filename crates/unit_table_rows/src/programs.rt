@@ -1,6 +1,6 @@
 //! Each program calls a unit table, and its contract says how it ends.
 
-ghost use Rattle.std.specs.Prelude.{◌≡◌, ◌≤◌, ◌∷◌, [], true, false, length, None, IfOk, OnOk, IsOk, IsErrOf};
+ghost use Rattle.std.specs.Prelude.{◌≡◌, ◌≤◌, ◌∷◌, [], true, false, length, drop, None, IfOk, OnOk, IsOk, IsErrOf};
 ghost use Rattle.f2c_outside.specs.Rows.{rows_of};
 ghost use Rattle.f2c_outside.specs.Table.{is_connected};
 ghost use Rattle.unit_table_rows.specs.Ends.{Has, HasDrawer, the_unit, at_record, two_records, two_files, first_file, second_file};
@@ -51,6 +51,28 @@ pub fn read_both(table: &mut UnitTable, into: &mut [u8]) -> Result<Seen, UnitRef
         second,
         last,
     })
+}
+
+/// Reads the first record: its byte stands in the front of the slice, and what stood behind it stays.
+pub fn read_first(table: &mut UnitTable, into: &mut [u8]) -> Result<Got, UnitRefusal>
+    requires has { Has (rows_of (λ b. (⟦<dyn Device as Device>⟧ b.vtable).device_state b.value) table.old) the_unit (at_record two_records 0 false) }
+    requires room { 1 ≤ length into.old }
+    ensures line { IfOk result (λ got. got ≡ Got.Line 1) }
+    ensures bytes { OnOk result (into.new ≡ 65 ∷ drop 1 into.old) }
+    ensures has { OnOk result (Has (rows_of (λ b. (⟦<dyn Device as Device>⟧ b.vtable).device_state b.value) table.new) the_unit (at_record two_records 1 false)) }
+{
+    let line = table.read_from(3, into)?;
+    Ok(line)
+}
+
+/// Reads the second record where `ABC` stands in the slice: then `BCC` stands there.
+pub fn read_second(table: &mut UnitTable, into: &mut [u8]) -> Result<Got, UnitRefusal>
+    requires has { Has (rows_of (λ b. (⟦<dyn Device as Device>⟧ b.vtable).device_state b.value) table.old) the_unit (at_record two_records 1 false) }
+    requires stands { into.old ≡ 65 ∷ 66 ∷ 67 ∷ [] }
+    ensures { OnOk result (into.new ≡ 66 ∷ 67 ∷ 67 ∷ []) }
+{
+    let line = table.read_from(3, into)?;
+    Ok(line)
 }
 
 /// Reads the second record into a slice that it does not fit: its length is told, the slice stays, and the unit stands behind it.
