@@ -26,8 +26,8 @@ use Rattle.run_library.specs.Replies.{StandsIn}
 use Rattle.run_library.specs.Devices as devices_of
 use Rattle.run_library.specs.Devices.{NoFailure, one_more}
 use Rattle.run_library.specs.declared.library.RunBreak.TheVariants as reason
-use Rattle.program_runner.specs.Outcomes.{Stands, IsRunOf, UnlessFailed, UnlessRunFailed, ToldOfRun, ToldOfWholeRun, UncountedInRun, UncountedInWholeRun}
-use Rattle.program_runner.specs.UnitsLeft.{UnitsLeft, no_call, call_breaks, call_replied}
+use Rattle.program_runner.specs.Outcomes.{Stands, IsRunOf, UnlessFailed, UnlessRunFailed, ToldOfRun, ToldOfWholeRun}
+use Rattle.program_runner.specs.UnitsLeft.{UnitsLeft, FailedOnUnit, CallIsOn, no_call, call_breaks, call_replied}
 use Rattle.program_runner.specs.Taken.{IsLast, IsBroken, StandsBehind, TakenBy}
 use Rattle.program_runner.specs.declared.runs.RunTaken.{RunTaken}
 use Rattle.program_runner.specs.declared.runs.RunOutcome.{RunOutcome}
@@ -40,7 +40,7 @@ use Rattle.unit_library.specs.Transfers.{Standing}
 use Rattle.unit_library.specs.Uncounted.{IsFarBehind}
 use Rattle.loaded_runs.specs.declared.ends.RunEnd.{RunEnd}
 use Rattle.loaded_runs.specs.declared.ends.RunEnd.TheVariants as how
-use Rattle.loaded_runs.specs.RunEnds.{outcome_end, end_of, steps_of, units_in, EndsBy, IsGoingOn, IsOverBy, LeavesUnits, IsBrokenBy, CallsOn, IsReached, IsNoFailure, FailsInRun, DevicesInRun, DevicesOf, NoDeviceFailed, in_the_run, behind_it, Finishes, failed_before, finished, failed_now, IsUncounted, IsRun}
+use Rattle.loaded_runs.specs.RunEnds.{MakesCallOn, outcome_end, end_of, steps_of, units_in, EndsBy, IsGoingOn, IsOverBy, LeavesUnits, IsBrokenBy, CallsOn, IsReached, IsNoFailure, FailsInRun, DevicesInRun, DevicesOf, NoDeviceFailed, in_the_run, behind_it, Finishes, failed_before, finished, failed_now, IsUncounted, IsRun}
 
 -- ONE STATE
 goes-on : (state : State Ending sorts) (units : Units) (objects : List Object) (number : ℕ) (view : _) (frames : _) (world : World) → state ≡ Runs number view frames world → world.units ≡ units → EndsBy state units objects how.Running
@@ -110,22 +110,27 @@ over-by files units steps taken last = record {
   stays = last.same;
 }
 
-going-on : (files : List CFile) (units : Units) (steps taken : ℕ) (rows rows' : List Row) (held held' : Option TransferInProgress) (unit : ℤ) → taken < steps →
-    StandsBehind (program files) (run_of (program files) units) (Standing rows held) (Standing rows' held') taken unit → IsGoingOn files units steps taken (units_of rows)
+going-on : (files : List CFile) (units : Units) (steps taken : ℕ) (rows : List Row) (held : Option TransferInProgress) (Calls : Option LibraryCall → World → Type 0) → taken < steps →
+    StandsBehind (program files) (run_of (program files) units) (Standing rows held) Calls taken → IsGoingOn files units steps taken (units_of rows)
 unfolding meaning.meaning meaning.outcome
-going-on files units steps taken rows rows' held held' unit within stands = record {
+going-on files units steps taken rows held Calls within stands = record {
   within = within;
   outcome = ap meaning.outcome stands.goes.is;
   units_now = ap units_in stands.goes.is ∙ ap Some stands.stood.means;
 }
 
 calls-on : (files : List CFile) (units : Units) (taken : ℕ) (rows rows' : List Row) (held held' : Option TransferInProgress) (unit : ℤ) →
-    StandsBehind (program files) (run_of (program files) units) (Standing rows held) (Standing rows' held') taken unit → CallsOn files (meaning.meaning files units taken) unit (units_of rows')
+    StandsBehind (program files) (run_of (program files) units) (Standing rows held) (λ called world. FailedOnUnit called world (Standing rows' held') unit) taken → CallsOn files (meaning.meaning files units taken) unit (units_of rows')
 unfolding meaning.meaning
 calls-on files units taken rows rows' held held' unit stands =
-    let fails = stands.fails in
+    let fails = stands.calls in
     subst (λ state. CallsOn files state unit (units_of rows')) (sym stands.goes.is)
     (record { call = fails.call; makes = fails.makes; on = fails.on; after = fails.after; stood = fails.stood.means; others = fails.others })
+
+makes-call-on : (files : List CFile) (units : Units) (taken : ℕ) (rows : List Row) (held : Option TransferInProgress) (unit : ℤ) →
+    StandsBehind (program files) (run_of (program files) units) (Standing rows held) (λ called world. CallIsOn called world unit) taken → MakesCallOn files (meaning.meaning files units taken) unit
+unfolding meaning.meaning
+makes-call-on files units taken rows held unit stands = subst (λ state. MakesCallOn files state unit) (sym stands.goes.is) stands.calls
 
 left-by : (called : Option LibraryCall) (before : World) (rows : List Row) (held : Option TransferInProgress) → UnitsLeft called before (Standing rows held) → UnitsLeft called before (λ units transfer. units ≡ units_of rows)
 left-by called before rows held (no_call none stood) = no_call none stood.means
@@ -155,7 +160,7 @@ module _ {L : Type 0} (shown : L → List Row) (going : L → Option TransferInP
 
   abbrev Taken : Program → ℕ → RunOutcome RunEnding → Type 0
   Taken linked taken stood =
-      TakenBy linked Begun (run_of linked) (λ held. Standing (shown held) (going held)) (λ b a. NoneFailed (shown b) (shown a)) (λ unit b a. FailedOn unit (shown b) (shown a)) steps first last taken stood
+      TakenBy linked Begun (run_of linked) (λ held. Standing (shown held) (going held)) (λ b a. NoneFailed (shown b) (shown a)) (λ unit b a. FailedOn unit (shown b) (shown a)) (λ unit held. IsFarBehind unit (shown held)) steps first last taken stood
 
   begun : going first ≡ None → Tells (shown first) → Begun (units_of (shown first))
   begun none tells = subst (λ (one : Option TransferInProgress). Standing (shown first) one (units_of (shown first)) None) (sym none) (record { tells = tells; means = refl; in_progress = refl })
@@ -168,7 +173,7 @@ module _ {L : Type 0} (shown : L → List Row) (going : L → Option TransferInP
   reached-so files taken (ran.Stopped ended) begins told = over-by files (units_of (shown first)) steps taken (told (units_of (shown first)) begins)
   reached-so files taken (ran.Broken why number) begins told = broken-by files (units_of (shown first)) steps taken (shown last) (going last) (told (units_of (shown first)) begins)
   reached-so files taken (ran.Failed unit) begins told = tt
-  reached-so files taken ran.Uncounted begins told = let goes = told.1 (units_of (shown first)) begins in (told.0, ap meaning.outcome goes.1.is)
+  reached-so files taken ran.Uncounted begins told = tt
 
   devices-so : (files : List CFile) (taken : ℕ) (stood : RunOutcome RunEnding) → going first ≡ None → Taken (program files) taken stood →
       ToldOfRun (λ b a. NoneFailed (shown b) (shown a)) (λ unit b a. FailedOn unit (shown b) (shown a)) first last stood → DevicesInRun files steps taken (shown first) (shown last) (outcome_end stood)
@@ -181,7 +186,8 @@ module _ {L : Type 0} (shown : L → List Row) (going : L → Option TransferInP
     none = none-in shown NoneFailed first told.middle told.none;
     failed = told.failed;
     goes = λ tells.
-        going-on files (units_of (shown first)) steps taken (shown told.middle) (shown last) (going told.middle) (going last) unit told.within (told.stood (units_of (shown first)) (begun none tells));
+        going-on files (units_of (shown first)) steps taken (shown told.middle) (going told.middle) (λ called world. FailedOnUnit called world (Standing (shown last) (going last)) unit) told.within
+        (told.stood (units_of (shown first)) (begun none tells));
     calls = λ tells. calls-on files (units_of (shown first)) taken (shown told.middle) (shown last) (going told.middle) (going last) unit (told.stood (units_of (shown first)) (begun none tells));
   }
   devices-so files taken ran.Uncounted none told calls = none-in shown NoneFailed first last calls
@@ -202,18 +208,29 @@ module _ {L : Type 0} (shown : L → List Row) (going : L → Option TransferInP
   devices files linked (Ok taken) same none told whole = devices-so files taken.steps taken.outcome none (taken-in files linked taken.steps taken.outcome same told) whole
   devices files linked (Err fault) same none told whole = none-in shown NoneFailed first last whole
 
--- MORE THAN 64 BITS TELL
-uncounted-so : (rows : List Row) (stood : RunOutcome RunEnding) → UncountedInRun (IsFarBehind rows) stood → IsUncounted rows (outcome_end stood)
-uncounted-so rows ran.Running counted = tt
-uncounted-so rows ran.Returned counted = tt
-uncounted-so rows (ran.Stopped ended) counted = tt
-uncounted-so rows (ran.Broken why number) counted = tt
-uncounted-so rows (ran.Failed unit) counted = tt
-uncounted-so rows ran.Uncounted counted = counted
+  -- more to be counted than 64 bits tell
+  uncounted-so : (files : List CFile) (taken : ℕ) (stood : RunOutcome RunEnding) → going first ≡ None → Taken (program files) taken stood →
+      IsUncounted files steps taken (shown first) (shown last) (outcome_end stood)
+  uncounted-so files taken ran.Running none told = tt
+  uncounted-so files taken ran.Returned none told = tt
+  uncounted-so files taken (ran.Stopped ended) none told = tt
+  uncounted-so files taken (ran.Broken why number) none told = tt
+  uncounted-so files taken (ran.Failed unit) none told = tt
+  uncounted-so files taken ran.Uncounted none told = record {
+    unit = told.unit;
+    middle = shown told.middle;
+    none = none-in shown NoneFailed first told.middle told.none;
+    goes = λ tells.
+        going-on files (units_of (shown first)) steps taken (shown told.middle) (going told.middle) (λ called world. CallIsOn called world told.unit) told.within
+        (told.stood (units_of (shown first)) (begun none tells));
+    calls = λ tells. makes-call-on files (units_of (shown first)) taken (shown told.middle) (going told.middle) told.unit (told.stood (units_of (shown first)) (begun none tells));
+    far = told.far;
+  }
 
-pub uncounted : (rows : List Row) (result : Result (RunTaken RunEnding) CFault) → UncountedInWholeRun (IsFarBehind rows) result → IsUncounted rows (end_of result)
-uncounted rows (Ok taken) counted = uncounted-so rows taken.outcome counted
-uncounted rows (Err fault) counted = tt
+  pub uncounted : (files : List CFile) (linked : LinkedProgram) (result : Result (RunTaken RunEnding) CFault) → program_of linked ≡ program files → going first ≡ None →
+      IfOk result (λ taken. Taken (program_of linked) taken.steps taken.outcome) → IsUncounted files steps (steps_of result) (shown first) (shown last) (end_of result)
+  uncounted files linked (Ok taken) same none told = uncounted-so files taken.steps taken.outcome none (taken-in files linked taken.steps taken.outcome same told)
+  uncounted files linked (Err fault) same none told = tt
 
 -- FINISHING
 -- finishing the devices keeps what the meaning has
@@ -254,7 +271,7 @@ module _ (files : List CFile) (steps taken : ℕ) where
 
   finished-devices : (first rows rows' : List Row) (objects : List Object) (before after : RunEnd) → Finishes rows rows' before after → DevicesInRun files steps taken first rows before →
       (Tells first → EndsBy (meaning.meaning files (units_of first) steps) (units_of rows) objects before) → (Tells first → IsReached files (units_of first) steps (units_of rows) taken before) →
-      IsUncounted rows before → DevicesOf files steps taken objects first rows' after
+      IsUncounted files steps taken first rows before → DevicesOf files steps taken objects first rows' after
   finished-devices first rows rows' objects before after (failed_before unit was same) told meant so far =
       in_the_run (subst (λ last. FailsInRun files steps taken unit first last) (sym same) (subst (DevicesInRun files steps taken first rows) was told))
   finished-devices first rows rows' objects before after (finished other all same) told meant so far =
@@ -270,34 +287,43 @@ module _ (files : List CFile) (steps taken : ℕ) where
     uncounted = far;
   })
 
-far-kept : (rows rows' : List Row) (ended : RunEnd) → units_of rows' ≡ units_of rows → IsUncounted rows ended → IsUncounted rows' ended
-far-kept rows rows' how.Running same far = tt
-far-kept rows rows' (how.Ended ending) same far = tt
-far-kept rows rows' (how.Broken why number) same far = tt
-far-kept rows rows' (how.Unbegun fault) same far = tt
-far-kept rows rows' (how.Failed unit) same far = tt
-far-kept rows rows' how.Uncounted same far = (far.0, subst (λ (units : Units). 2 ^ 53 ≤ position_of far.0 units) (sym same) far.1)
+far-kept : (files : List CFile) (steps taken : ℕ) (first rows rows' : List Row) (ended : RunEnd) → units_of rows' ≡ units_of rows → IsUncounted files steps taken first rows ended →
+    IsUncounted files steps taken first rows' ended
+far-kept files steps taken first rows rows' how.Running same counts = tt
+far-kept files steps taken first rows rows' (how.Ended ending) same counts = tt
+far-kept files steps taken first rows rows' (how.Broken why number) same counts = tt
+far-kept files steps taken first rows rows' (how.Unbegun fault) same counts = tt
+far-kept files steps taken first rows rows' (how.Failed unit) same counts = tt
+far-kept files steps taken first rows rows' how.Uncounted same counts = record {
+  unit = counts.unit;
+  middle = counts.middle;
+  none = counts.none;
+  goes = counts.goes;
+  calls = counts.calls;
+  far = subst (λ (units : Units). 2 ^ 53 ≤ position_of counts.unit units) (sym same) counts.far;
+}
 
-pub finished-uncounted : (rows rows' : List Row) (before after : RunEnd) → Finishes rows rows' before after → IsUncounted rows before → IsUncounted rows' after
-finished-uncounted rows rows' before after (failed_before unit was same) far = tt
-finished-uncounted rows rows' before after (finished other all same) far = far-kept rows rows' before same far
-finished-uncounted rows rows' before after (failed_now unit other fault) far = tt
+finished-uncounted : (files : List CFile) (steps taken : ℕ) (first rows rows' : List Row) (before after : RunEnd) → Finishes rows rows' before after → IsUncounted files steps taken first rows before →
+    IsUncounted files steps taken first rows' after
+finished-uncounted files steps taken first rows rows' before after (failed_before unit was same) counts = tt
+finished-uncounted files steps taken first rows rows' before after (finished other all same) counts = far-kept files steps taken first rows rows' before same counts
+finished-uncounted files steps taken first rows rows' before after (failed_now unit other fault) counts = tt
 
 -- a run, where the rows that the library had are those before it and behind it
 run-of-rows : (files : List CFile) (steps taken : ℕ) (b m a : List Row) (made : LinkedProgram) (objects : List Object) (before after : RunEnd) → program_of made ≡ program files →
     (Tells b → EndsBy (meaning.meaning files (units_of b) steps) (units_of m) objects before) → (Tells b → IsReached files (units_of b) steps (units_of m) taken before) →
-    DevicesInRun files steps taken b m before → IsUncounted m before → Finishes m a before after → IsRun files steps b a made objects after taken
+    DevicesInRun files steps taken b m before → IsUncounted files steps taken b m before → Finishes m a before after → IsRun files steps b a made objects after taken
 run-of-rows files steps taken b m a made objects before after linked meant so told far finishes = record {
   linked = linked;
   meant = λ tells. finished-ends (meaning.meaning files (units_of b) steps) m a objects before after finishes (meant tells);
   reached = λ tells. finished-reached files (units_of b) steps taken m a before after finishes (so tells);
   devices = finished-devices files steps taken b m a objects before after finishes told meant so far;
-  uncounted = finished-uncounted m a before after finishes far;
+  uncounted = finished-uncounted files steps taken b m a before after finishes far;
 }
 
 pub whole-run : (files : List CFile) (steps taken : ℕ) (b b' m m' a : List Row) (made : LinkedProgram) (objects : List Object) (before after : RunEnd) → b' ≡ b → m' ≡ m → program_of made ≡ program files →
     (Tells b' → EndsBy (meaning.meaning files (units_of b') steps) (units_of m) objects before) → (Tells b' → IsReached files (units_of b') steps (units_of m) taken before) →
-    DevicesInRun files steps taken b' m before → IsUncounted m before → Finishes m' a before after → IsRun files steps b a made objects after taken
+    DevicesInRun files steps taken b' m before → IsUncounted files steps taken b' m before → Finishes m' a before after → IsRun files steps b a made objects after taken
 whole-run files steps taken b b' m m' a made objects before after eb em linked meant so told far finishes =
     subst (λ first. IsRun files steps first a made objects after taken) eb
     (run-of-rows files steps taken b' m a made objects before after linked meant so told far (subst (λ rows. Finishes rows a before after) em finishes))

@@ -19,7 +19,7 @@ use Rattle.unit_answers.specs.Failing.{NoneFailed, FailedOn}
 use Rattle.item_deeds.specs.Calls.{next_call}
 use Rattle.run_library.specs.Devices.{NoFailure}
 use Rattle.run_library.specs.declared.library.RunBreak.TheVariants as reason
-use Rattle.program_runner.specs.UnitsLeft.{UnitsLeft, FailedOnUnit}
+use Rattle.program_runner.specs.UnitsLeft.{UnitsLeft, FailedOnUnit, CallIsOn}
 use Rattle.program_runner.specs.declared.runs.RunTaken.{RunTaken}
 use Rattle.program_runner.specs.declared.runs.RunOutcome.{RunOutcome}
 use Rattle.program_runner.specs.declared.runs.RunOutcome.TheVariants as ran
@@ -83,7 +83,7 @@ pub record IsOverBy (files : List CFile) (units : Units) (steps taken : ℕ) : T
   pub stays : meaning.meaning files units taken ≡ meaning.meaning files units steps
 
 -- the step of a run that goes on so leaves these units: where it makes no call of the library, those that it found; where its call replies, those of the reply; and where its
--- call breaks, such as a call keeps that breaks: outside every transfer those that it found
+-- call breaks, such as this call keeps that breaks: those that it found, unless it is a call of the transfer in progress, and then all but the unit of that transfer stand so
 abbrev pub LeavesUnits : List CFile → State Ending sorts → Units → Type 0
 LeavesUnits files (Runs number view frames world) left = UnitsLeft (next_call (text_of (program files).functions number) view world) world (λ units transfer. units ≡ left)
 LeavesUnits files (Over ending frames world) left = ⊥
@@ -100,20 +100,36 @@ pub record IsBrokenBy (files : List CFile) (units : Units) (steps taken : ℕ) (
   pub over : IsOverBy files units steps taken
   pub leaves : LeavesUnits files (meaning.meaning files units over.before) left
 
--- a run that ends so has taken so many steps; where a call was to count more than 64 bits tell, those before the step that makes the call, and where a device failed
--- what is said of the device has it
+-- a run that ends so has taken so many steps; where a call was to count more than 64 bits tell, and where a device failed, what is said of that has them
 abbrev pub IsReached : List CFile → Units → ℕ → Units → ℕ → RunEnd → Type 0
 IsReached files units steps left taken Running = taken ≡ steps
 IsReached files units steps left taken (Ended how) = IsOverBy files units steps taken
 IsReached files units steps left taken (BrokenBy why number) = IsBrokenBy files units steps taken left
 IsReached files units steps left taken (Unbegun fault) = taken ≡ 0
 IsReached files units steps left taken (Failed unit) = Unit {0}
-IsReached files units steps left taken Uncounted = (taken < steps) × (meaning.outcome (meaning.meaning files units taken) ≡ meaning.Running)
+IsReached files units steps left taken Uncounted = Unit {0}
 
--- where a call was to count more than 64 bits tell, a unit stands behind 2^53 records or more
-abbrev pub IsUncounted : List Row → RunEnd → Type 0
-IsUncounted rows Uncounted = IsFarBehind rows
-IsUncounted rows how = Unit {0}
+-- ## More to be counted than 64 bits tell
+
+-- the step of a run that goes on so makes a call of the library on a unit
+abbrev pub MakesCallOn : List CFile → State Ending sorts → ℤ → Type 0
+MakesCallOn files (Runs number view frames world) unit = CallIsOn (next_call (text_of (program files).functions number) view world) world unit
+MakesCallOn files (Over ending frames world) unit = ⊥
+MakesCallOn files (Broken why numbers) unit = ⊥
+
+-- more was to be counted of a unit than 64 bits tell, in a call on that unit which the step behind so many makes: the run of the definitions goes on there, with the units as
+-- the call found them, no device having failed; and behind the call the unit stands behind 2^53 records or more
+pub record CountsInRun (files : List CFile) (steps taken : ℕ) (b a : List Row) : Type 0 where
+  pub unit : ℤ
+  pub middle : List Row
+  pub none : NoFailure NoneFailed b middle
+  pub goes : Tells b → IsGoingOn files (units_of b) steps taken (units_of middle)
+  pub calls : Tells b → MakesCallOn files (meaning.meaning files (units_of b) taken) unit
+  pub far : IsFarBehind unit a
+
+abbrev pub IsUncounted : List CFile → ℕ → ℕ → List Row → List Row → RunEnd → Type 0
+IsUncounted files steps taken b a Uncounted = CountsInRun files steps taken b a
+IsUncounted files steps taken b a how = Unit {0}
 
 -- ## Devices
 
@@ -149,7 +165,7 @@ pub record FailsBehindRun (files : List CFile) (steps taken : ℕ) (objects : Li
   pub no_failure : IsNoFailure end
   pub meant : Tells b → EndsBy (meaning.meaning files (units_of b) steps) (units_of middle) objects end
   pub reached : Tells b → IsReached files (units_of b) steps (units_of middle) taken end
-  pub uncounted : IsUncounted middle end
+  pub uncounted : IsUncounted files steps taken b middle end
 
 pub data DeviceFailed (files : List CFile) (steps taken : ℕ) (objects : List Object) (unit : ℤ) (b a : List Row) : Type 0 where
   in_the_run : FailsInRun files steps taken unit b a → DeviceFailed files steps taken objects unit b a
@@ -179,4 +195,4 @@ pub record IsRun (files : List CFile) (steps : ℕ) (b a : List Row) (made : Lin
   pub meant : Tells b → EndsBy (meaning.meaning files (units_of b) steps) (units_of a) objects how
   pub reached : Tells b → IsReached files (units_of b) steps (units_of a) taken how
   pub devices : DevicesOf files steps taken objects b a how
-  pub uncounted : IsUncounted a how
+  pub uncounted : IsUncounted files steps taken b a how

@@ -68,7 +68,7 @@ fn run_with(
     ensures reached { Tells (rows_in (λ b. (⟦<dyn Device as Device>⟧ b.vtable).device_state b.value) library.old) →
         IsReached _files.now (units_of (rows_in (λ b. (⟦<dyn Device as Device>⟧ b.vtable).device_state b.value) library.old)) steps (units_of (rows_in (λ b. (⟦<dyn Device as Device>⟧ b.vtable).device_state b.value) library.new)) result.steps result.end }
     ensures devices { DevicesInRun _files.now steps result.steps (rows_in (λ b. (⟦<dyn Device as Device>⟧ b.vtable).device_state b.value) library.old) (rows_in (λ b. (⟦<dyn Device as Device>⟧ b.vtable).device_state b.value) library.new) result.end }
-    ensures uncounted { IsUncounted (rows_in (λ b. (⟦<dyn Device as Device>⟧ b.vtable).device_state b.value) library.new) result.end }
+    ensures uncounted { IsUncounted _files.now steps result.steps (rows_in (λ b. (⟦<dyn Device as Device>⟧ b.vtable).device_state b.value) library.old) (rows_in (λ b. (⟦<dyn Device as Device>⟧ b.vtable).device_state b.value) library.new) result.end }
 {
     no_run_is_without_meaning();
     let ran = run_on_units(program, frames, buffer, objects, library, steps);
@@ -77,14 +77,16 @@ fn run_with(
 
 /// Runs a program that was loaded from files, so many steps, or until it is over, with no transfer in progress at first, and finishes the
 /// devices of the units. It takes no memory. For units whose devices tell their records the run is that of the definitions, unless a device
-/// fails, or a call is to count more than 64 bits tell, which is only where a unit stands behind 2^53 records or more.
+/// fails, or a call on a unit is to count more than 64 bits tell, which is only where that unit stands behind 2^53 records or more then.
 ///
 /// The run of the definitions has taken as many steps: all that it may where it is not over, else the least number by which it is over. At a
 /// fault the units are left by the last step: as it found them, where it calls no function of the library; as the function left them, where
-/// the one that it calls replies, so that the fault is in the store of what it gave; and such as a call keeps that breaks, where that call
-/// breaks, which is as the step found them where no transfer is in progress. Where a device fails in the run, the run of the definitions goes
-/// on behind the steps that were taken, with the units as the call of the library found them in which it fails; where one fails when the
-/// devices are finished, the run had ended as the definitions have it.
+/// the one that it calls replies, so that the fault is in the store of what it gave; and where that call breaks, as the step found them,
+/// unless it is of the items or the end of the transfer in progress. Of a fault there, in input on a unit or in formatted output on one, it is
+/// said that all other units stand as the step found them, and that its own is connected exactly if it was, and nothing of the records that it
+/// holds or where it stands. Where a device fails in the run, or a call is to count more than 64 bits tell, the run of the definitions goes on
+/// behind the steps that were taken, with the units as that call of the library found them, which is on the unit of this device, or on the one
+/// of which so much is to be counted; where a device fails when they are finished, the run had ended as the definitions have it.
 pub fn run_loaded(
     _files: &[CFile],
     loaded: LoadedProgram,

@@ -51,7 +51,8 @@ broken-left : {E : Type 0} (ending : List Object → E → Ending) (number : ℕ
     (call : IsCall number values) → may_give call.signature.gives wants ≡ true → Answers ending number values before stands after (Err why) →
     LeftByStep {E = E} (call_by wants values (slice_get signatures number)) before stands (broken_of why)
 broken-left ending number values before wants stands after (broken.Break why) call gives answers =
-    call_breaks (call_to call.signature values) (call-told number values wants call gives) (break_of why) (answers.holds.0 call.signature call.known) (world_of after answers.units answers.transfer) answers.stood answers.holds.1
+    call_breaks (call_to call.signature values) (call-told number values wants call gives) (break_of why) (answers.holds.0 call.signature call.known) (world_of after answers.units answers.transfer) answers.stood
+    (answers.holds.1 call.signature call.known)
 broken-left ending number values before wants stands after (broken.Device unit) call gives answers = record {
   call = call_to call.signature values;
   makes = call-told number values wants call gives;
@@ -87,7 +88,7 @@ left-going ending state stack world called before stands (outcome.Failed unit) r
 left-going ending state stack world called before stands outcome.Uncounted reached left = tt
 
 -- the call of the next step of a run is that of the active function
-call-of-next : (program : LinkedProgram) (own number : ℕ) (function : LinkedFunction) (view : View) (before : World) → Some function ≡ slice_get program.functions number → own ≡ length program.functions →
+pub call-of-next : (program : LinkedProgram) (own number : ℕ) (function : LinkedFunction) (view : View) (before : World) → Some function ≡ slice_get program.functions number → own ≡ length program.functions →
     next_call (function_of own function) view before ≡ next_call (text_of (program_of program).functions number) view before
 call-of-next program own number function view before is all =
     ap (λ (text : linking.Function). next_call text view before) (ap (λ (n : ℕ). function_of n function) all ∙ sym (function-known program number function (sym is)))

@@ -10,3 +10,4 @@ pub mod CallLaws
 pub mod RunLaws
 pub mod LeftLaws
 pub mod TakenLaws
+pub mod CallsMade

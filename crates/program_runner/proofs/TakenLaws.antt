@@ -17,9 +17,9 @@ use Rattle.run_library.specs.Devices.{NoFailure}
 use Rattle.program_runner.specs.declared.stack.CallStack.{CallStack}
 use Rattle.program_runner.specs.declared.runs.RunOutcome.{RunOutcome}
 use Rattle.program_runner.specs.declared.runs.RunOutcome.TheVariants as outcome
-use Rattle.program_runner.specs.Outcomes.{Reaches, UnlessFailed, ToldOfNext}
+use Rattle.program_runner.specs.Outcomes.{Reaches, UnlessFailed, ToldOfNext, UncountedInNext}
 use Rattle.program_runner.specs.Stacks.{frames_of, waiting, state_of}
-use Rattle.program_runner.specs.UnitsLeft.{LeftByNext}
+use Rattle.program_runner.specs.UnitsLeft.{LeftByNext, CountsIn}
 use Rattle.program_runner.specs.Taken.{GoesOn, IsLast, taken_with, TakenBy}
 use Rattle.program_runner.proofs.RunLaws.{next-same, run-from}
 
@@ -36,7 +36,7 @@ reached-at program begun first old objects stands taken start is reached = recor
 }
 
 pub over-taken : {L E : Type 0} (ending : List Object → E → Ending) (program : LinkedProgram) (begun stack after : CallStack) (first objects last : List Object) (stands : L → Units → Option Transfer → Type 0)
-    (none_failed : L → L → Type 0) (failed_on : ℤ → L → L → Type 0) (taken steps : ℕ) (old middle new : L) (how : RunOutcome E) →
+    (none_failed : L → L → Type 0) (failed_on : ℤ → L → L → Type 0) (uncounted : ℤ → L → Type 0) (taken steps : ℕ) (old middle new : L) (how : RunOutcome E) →
     ((units : Units) → (transfer : Option Transfer) → stands old units transfer →
     StandsIn (stands middle) objects (λ world. run language (machine (program_of program)) taken (state_of begun (world_of first units transfer)) ≡ state_of stack world)) →
     NoFailure none_failed old middle → ToldOfNext none_failed failed_on middle new how →
@@ -44,11 +44,12 @@ pub over-taken : {L E : Type 0} (ending : List Object → E → Ending) (program
     UnlessFailed how (StandsIn (stands new) last (λ world. Reaches ending (next language (machine (program_of program)) (state_of stack (world_of objects units transfer))) after world how))) →
     ((units : Units) → (transfer : Option Transfer) → stands middle units transfer →
     LeftByNext (next_call (text_of (program_of program).functions stack.top.number) (view_of stack.top.view) (world_of objects units transfer)) (world_of objects units transfer) (stands new) how) →
+    UncountedInNext (CountsIn (next_call (text_of (program_of program).functions stack.top.number) (view_of stack.top.view)) objects (stands middle) (λ unit. uncounted unit new)) how →
     ((how ≡ outcome.Running) → ⊥) → taken < steps →
     TakenBy (program_of program) (λ (before : World). (before.objects ≡ first) × stands old before.units before.transfer) (λ before count. run language (machine (program_of program)) count (state_of begun before))
-    stands none_failed failed_on steps old new (taken_with taken how) how
-over-taken ending program begun stack after first objects last stands none_failed failed_on taken steps old middle new outcome.Running reached quiet told goes left not less = absurd (not refl)
-over-taken ending program begun stack after first objects last stands none_failed failed_on taken steps old middle new outcome.Returned reached quiet told goes left not less = λ start begins.
+    stands none_failed failed_on uncounted steps old new (taken_with taken how) how
+over-taken ending program begun stack after first objects last stands none_failed failed_on uncounted taken steps old middle new outcome.Running reached quiet told goes left counted not less = absurd (not refl)
+over-taken ending program begun stack after first objects last stands none_failed failed_on uncounted taken steps old middle new outcome.Returned reached quiet told goes left counted not less = λ start begins.
     let at = reached-at (machine (program_of program)) begun stack first objects (stands middle) taken start begins.0 (reached start.units start.transfer begins.1) in
     let over = goes at.units at.transfer at.stood in
     record {
@@ -59,7 +60,7 @@ over-taken ending program begun stack after first objects last stands none_faile
       goes = record { number = stack.top.number; view = view_of stack.top.view; frames = frames_of (waiting stack); is = at.holds };
       same = next-same ending (machine (program_of program)) (state_of begun start) (state_of stack (world_of objects at.units at.transfer)) taken steps after (world_of last over.units over.transfer) outcome.Returned at.holds over.holds not less;
     }
-over-taken ending program begun stack after first objects last stands none_failed failed_on taken steps old middle new (outcome.Stopped stop) reached quiet told goes left not less = λ start begins.
+over-taken ending program begun stack after first objects last stands none_failed failed_on uncounted taken steps old middle new (outcome.Stopped stop) reached quiet told goes left counted not less = λ start begins.
     let at = reached-at (machine (program_of program)) begun stack first objects (stands middle) taken start begins.0 (reached start.units start.transfer begins.1) in
     let over = goes at.units at.transfer at.stood in
     record {
@@ -70,7 +71,7 @@ over-taken ending program begun stack after first objects last stands none_faile
       goes = record { number = stack.top.number; view = view_of stack.top.view; frames = frames_of (waiting stack); is = at.holds };
       same = next-same ending (machine (program_of program)) (state_of begun start) (state_of stack (world_of objects at.units at.transfer)) taken steps after (world_of last over.units over.transfer) (outcome.Stopped stop) at.holds over.holds not less;
     }
-over-taken ending program begun stack after first objects last stands none_failed failed_on taken steps old middle new (outcome.Broken why number) reached quiet told goes left not less = λ start begins.
+over-taken ending program begun stack after first objects last stands none_failed failed_on uncounted taken steps old middle new (outcome.Broken why number) reached quiet told goes left counted not less = λ start begins.
     let at = reached-at (machine (program_of program)) begun stack first objects (stands middle) taken start begins.0 (reached start.units start.transfer begins.1) in
     let over = goes at.units at.transfer at.stood in
     record {
@@ -84,7 +85,7 @@ over-taken ending program begun stack after first objects last stands none_faile
       };
       units = left at.units at.transfer at.stood;
     }
-over-taken ending program begun stack after first objects last stands none_failed failed_on taken steps old middle new (outcome.Failed unit) reached quiet told goes left not less = record {
+over-taken ending program begun stack after first objects last stands none_failed failed_on uncounted taken steps old middle new (outcome.Failed unit) reached quiet told goes left counted not less = record {
   within = less;
   middle = middle;
   none = quiet;
@@ -95,22 +96,32 @@ over-taken ending program begun stack after first objects last stands none_faile
         world = world_of objects at.units at.transfer;
         goes = record { number = stack.top.number; view = view_of stack.top.view; frames = frames_of (waiting stack); is = at.holds };
         stood = at.stood;
-        fails = left at.units at.transfer at.stood;
+        calls = left at.units at.transfer at.stood;
       };
 }
-over-taken ending program begun stack after first objects last stands none_failed failed_on taken steps old middle new outcome.Uncounted reached quiet told goes left not less = (
-  less,
-  λ start begins.
+over-taken ending program begun stack after first objects last stands none_failed failed_on uncounted taken steps old middle new outcome.Uncounted reached quiet told goes left counted not less = record {
+  within = less;
+  middle = middle;
+  none = quiet;
+  quiet = told;
+  unit = counted.unit;
+  far = counted.far;
+  stood = λ start begins.
       let at = reached-at (machine (program_of program)) begun stack first objects (stands middle) taken start begins.0 (reached start.units start.transfer begins.1) in
-      (world_of objects at.units at.transfer, record { number = stack.top.number; view = view_of stack.top.view; frames = frames_of (waiting stack); is = at.holds }),
-)
+      record {
+        world = world_of objects at.units at.transfer;
+        goes = record { number = stack.top.number; view = view_of stack.top.view; frames = frames_of (waiting stack); is = at.holds };
+        stood = at.stood;
+        calls = counted.on at.units at.transfer at.stood;
+      };
+}
 
 pub taken-so : {S L E : Type 0} (program : linking.Program) (begins : S → Type 0) (states : S → ℕ → State Ending sorts) (stands : L → Units → Option Transfer → Type 0) (none_failed : L → L → Type 0)
-    (failed_on : ℤ → L → L → Type 0) (steps : ℕ) (old new : L) (taken all : ℕ) (how result : RunOutcome E) → result ≡ how → all ≡ taken_with taken how →
-    TakenBy program begins states stands none_failed failed_on steps old new (taken_with taken how) how → TakenBy program begins states stands none_failed failed_on steps old new all result
-taken-so {E = E} program begins states stands none_failed failed_on steps old new taken all how result is counted by =
-    subst (λ (n : ℕ). TakenBy program begins states stands none_failed failed_on steps old new n result) (sym counted)
-    (subst (λ (r : RunOutcome E). TakenBy program begins states stands none_failed failed_on steps old new (taken_with taken how) r) (sym is) by)
+    (failed_on : ℤ → L → L → Type 0) (uncounted : ℤ → L → Type 0) (steps : ℕ) (old new : L) (taken all : ℕ) (how result : RunOutcome E) → result ≡ how → all ≡ taken_with taken how →
+    TakenBy program begins states stands none_failed failed_on uncounted steps old new (taken_with taken how) how → TakenBy program begins states stands none_failed failed_on uncounted steps old new all result
+taken-so {E = E} program begins states stands none_failed failed_on uncounted steps old new taken all how result is counted by =
+    subst (λ (n : ℕ). TakenBy program begins states stands none_failed failed_on uncounted steps old new n result) (sym counted)
+    (subst (λ (r : RunOutcome E). TakenBy program begins states stands none_failed failed_on uncounted steps old new (taken_with taken how) r) (sym is) by)
 
 -- THE SAME STATES, FROM OTHER BEGINNINGS
 abbrev goes-as : (states other : ℕ → State Ending sorts) (taken : ℕ) (world : World) → ((n : ℕ) → other n ≡ states n) → GoesOn states taken world → GoesOn other taken world
@@ -127,33 +138,38 @@ last-as states other steps taken same last = record {
 }
 
 pub taken-as : {S T L E : Type 0} (program : linking.Program) (begins : S → Type 0) (states : S → ℕ → State Ending sorts) (begins' : T → Type 0) (states' : T → ℕ → State Ending sorts)
-    (stands : L → Units → Option Transfer → Type 0) (none_failed : L → L → Type 0) (failed_on : ℤ → L → L → Type 0) (steps : ℕ) (old new : L) (taken : ℕ) (how : RunOutcome E) (at : T → S) →
+    (stands : L → Units → Option Transfer → Type 0) (none_failed : L → L → Type 0) (failed_on : ℤ → L → L → Type 0) (uncounted : ℤ → L → Type 0) (steps : ℕ) (old new : L) (taken : ℕ) (how : RunOutcome E) (at : T → S) →
     ((start : T) → begins' start → begins (at start)) → ((start : T) → begins' start → (n : ℕ) → states' start n ≡ states (at start) n) →
-    TakenBy program begins states stands none_failed failed_on steps old new taken how → TakenBy program begins' states' stands none_failed failed_on steps old new taken how
-taken-as program begins states begins' states' stands none_failed failed_on steps old new taken outcome.Running at from same by = by
-taken-as program begins states begins' states' stands none_failed failed_on steps old new taken outcome.Returned at from same by = λ start begun.
+    TakenBy program begins states stands none_failed failed_on uncounted steps old new taken how → TakenBy program begins' states' stands none_failed failed_on uncounted steps old new taken how
+taken-as program begins states begins' states' stands none_failed failed_on uncounted steps old new taken outcome.Running at from same by = by
+taken-as program begins states begins' states' stands none_failed failed_on uncounted steps old new taken outcome.Returned at from same by = λ start begun.
     last-as (states (at start)) (states' start) steps taken (same start begun) (by (at start) (from start begun))
-taken-as program begins states begins' states' stands none_failed failed_on steps old new taken (outcome.Stopped stop) at from same by = λ start begun.
+taken-as program begins states begins' states' stands none_failed failed_on uncounted steps old new taken (outcome.Stopped stop) at from same by = λ start begun.
     last-as (states (at start)) (states' start) steps taken (same start begun) (by (at start) (from start begun))
-taken-as program begins states begins' states' stands none_failed failed_on steps old new taken (outcome.Broken why number) at from same by = λ start begun. record {
+taken-as program begins states begins' states' stands none_failed failed_on uncounted steps old new taken (outcome.Broken why number) at from same by = λ start begun. record {
   last = last-as (states (at start)) (states' start) steps taken (same start begun) (by (at start) (from start begun)).last;
   units = (by (at start) (from start begun)).units;
 }
-taken-as program begins states begins' states' stands none_failed failed_on steps old new taken (outcome.Failed unit) at from same by = record {
+taken-as program begins states begins' states' stands none_failed failed_on uncounted steps old new taken (outcome.Failed unit) at from same by = record {
   within = by.within;
   middle = by.middle;
   none = by.none;
   failed = by.failed;
   stood = λ start begun.
       let behind = by.stood (at start) (from start begun) in
-      record { world = behind.world; goes = goes-as (states (at start)) (states' start) taken behind.world (same start begun) behind.goes; stood = behind.stood; fails = behind.fails };
+      record { world = behind.world; goes = goes-as (states (at start)) (states' start) taken behind.world (same start begun) behind.goes; stood = behind.stood; calls = behind.calls };
 }
-taken-as program begins states begins' states' stands none_failed failed_on steps old new taken outcome.Uncounted at from same by = (
-  by.0,
-  λ start begun.
-      let behind = by.1 (at start) (from start begun) in
-      (behind.0, goes-as (states (at start)) (states' start) taken behind.0 (same start begun) behind.1),
-)
+taken-as program begins states begins' states' stands none_failed failed_on uncounted steps old new taken outcome.Uncounted at from same by = record {
+  within = by.within;
+  middle = by.middle;
+  none = by.none;
+  quiet = by.quiet;
+  unit = by.unit;
+  far = by.far;
+  stood = λ start begun.
+      let behind = by.stood (at start) (from start begun) in
+      record { world = behind.world; goes = goes-as (states (at start)) (states' start) taken behind.world (same start begun) behind.goes; stood = behind.stood; calls = behind.calls };
+}
 
 -- the states of a whole run, by the one in which it begins
 pub whole-same : (program : linking.Program) (units : Units) (old new : List Object) (stack : CallStack) → old ≡ program.objects →

@@ -26,14 +26,14 @@ event_of ending world values (event.Calls waiting number count) = machine.Calls 
 event_of ending world values (event.Answers answer) = machine.Answers world answer
 event_of ending world values (event.Breaks why) = machine.Breaks (break_of why)
 
--- the event of a call of a function of the library that gives nothing, or why nothing is said of it
+-- the event of a call of a function of the library that gives nothing, or why there is none
 abbrev pub broken_of : {E : Type 0} → CallBreak → Result (StepEvent E) StepFailure
 broken_of (broken.Break why) = Ok (event.Breaks why)
 broken_of (broken.Device unit) = Err (failure.Device unit)
 broken_of broken.Uncounted = Err failure.Uncounted
 
 -- a step does this, and leaves objects and a library that stands for the units and the transfer of the world after it; where a device
--- failed, or its call was to count more than 64 bits tell, nothing is said of it
+-- failed, or its call was to count more than 64 bits tell, it has no event
 abbrev pub StepsBy : {E : Type 0} → (List Object → E → Ending) → Happening → (Units → Option Transfer → Type 0) → List Object → List CValue → Result (StepEvent E) StepFailure → Type 0
 StepsBy ending happens stands objects values (Ok done) = StandsIn stands objects (λ after. happens ≡ event_of ending after values done)
 StepsBy ending happens stands objects values (Err why) = Unit {0}

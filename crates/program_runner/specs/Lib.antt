@@ -5,3 +5,4 @@ pub mod Events
 pub mod Outcomes
 pub mod UnitsLeft
 pub mod Taken
+pub mod CallsMade

@@ -68,10 +68,10 @@ abbrev pub ToldOfRun : {L E : Type 0} → (L → L → Type 0) → (ℤ → L �
 ToldOfRun none_failed failed_on old new (outcome.Failed unit) = FailsAtLast none_failed failed_on unit old new
 ToldOfRun none_failed failed_on old new how = NoFailure none_failed old new
 
--- what holds where a call of the library in a run was to count more than 64 bits tell
-abbrev pub UncountedInRun : {E : Type 0} → Type 0 → RunOutcome E → Type 0
-UncountedInRun P outcome.Uncounted = P
-UncountedInRun P how = Unit {0}
+-- what holds where the call of the next step of a run was to count more than 64 bits tell
+abbrev pub UncountedInNext : {E : Type 0} → Type 0 → RunOutcome E → Type 0
+UncountedInNext P outcome.Uncounted = P
+UncountedInNext P how = Unit {0}
 
 -- the main program begins and is the only active function, or it does not begin by a fault
 abbrev pub Begins : State Ending sorts → World → Result CallStack CFault → Type 0
@@ -91,8 +91,3 @@ UnlessRunFailed (Err fault) Holds = Holds
 abbrev pub ToldOfWholeRun : {L E : Type 0} → (L → L → Type 0) → (ℤ → L → L → Type 0) → L → L → Result (RunTaken E) CFault → Type 0
 ToldOfWholeRun none_failed failed_on old new (Ok ran) = ToldOfRun none_failed failed_on old new ran.outcome
 ToldOfWholeRun none_failed failed_on old new (Err fault) = NoFailure none_failed old new
-
--- what holds where a call of the library in a whole run was to count more than 64 bits tell
-abbrev pub UncountedInWholeRun : {E : Type 0} → Type 0 → Result (RunTaken E) CFault → Type 0
-UncountedInWholeRun P (Ok ran) = UncountedInRun P ran.outcome
-UncountedInWholeRun P (Err fault) = Unit {0}

@@ -1,14 +1,15 @@
 -- The units that a step leaves (C89, 3.3.2.2; ANSI X3.9-1978, 12.3; CSTR 149, appendix on the run time library).
-use Rattle.std.specs.Prelude.{◌≡◌, ℤ, Option, Some, None, Result, Ok, Err}
+use Rattle.std.specs.Prelude.{◌≡◌, ℤ, List, Option, Some, None, Result, Ok, Err}
 use Rattle.c_tree.specs.run_state.Units.{Units}
 use Rattle.c_tree.specs.Faults.{Break}
+use Rattle.c_tree.specs.Objects.{Object}
 use Rattle.c_tree.specs.World as world
 use Rattle.c_tree.specs.World.{World, Transfer, Reply}
 use Rattle.c_tree.specs.Library.{library}
 use Rattle.item_deeds.specs.Calls.{LibraryCall}
 use Rattle.run_library.specs.Kept.{OthersStand}
 use Rattle.run_library.specs.UnitsCalled.{is_on}
-use Rattle.run_library.specs.Replies.{KeepsUnits}
+use Rattle.run_library.specs.Replies.{KeepsUnits, CountsOn}
 use Rattle.program_runner.specs.declared.events.StepEvent.{StepEvent}
 use Rattle.program_runner.specs.declared.events.StepFailure.{StepFailure}
 use Rattle.program_runner.specs.declared.events.StepFailure.TheVariants as failure
@@ -25,9 +26,9 @@ behind (world.Stops ending after) = after
 pub data UnitsLeft (called : Option LibraryCall) (before : World) (stands : Units → Option Transfer → Type 0) : Type 0 where
   -- it makes none: they are as the step found them
   no_call : called ≡ None → stands before.units before.transfer → UnitsLeft called before stands
-  -- its call breaks: they are such as a call keeps that breaks, the units outside every transfer as the step found them
+  -- its call breaks: they are such as this call keeps that breaks, the units as the step found them unless it is a call of the transfer in progress
   call_breaks : (call : LibraryCall) → called ≡ Some call → (why : Break) → library call.builtin before call.arguments ≡ Err why
-      → (after : World) → stands after.units after.transfer → KeepsUnits before after → UnitsLeft called before stands
+      → (after : World) → stands after.units after.transfer → KeepsUnits call.builtin before after → UnitsLeft called before stands
   -- its call replies: they are those of the reply; where the step has a fault then, it is by the store of what the call gave
   call_replied : (call : LibraryCall) → called ≡ Some call → (reply : Reply) → library call.builtin before call.arguments ≡ Ok reply
       → stands (behind reply).units (behind reply).transfer → UnitsLeft called before stands
@@ -40,6 +41,16 @@ pub record FailedOnUnit (called : Option LibraryCall) (before : World) (stands :
   pub after : World
   pub stood : stands after.units after.transfer
   pub others : OthersStand unit before.units after.units
+
+-- the call of the library that a step makes is on a unit
+pub record CallIsOn (called : Option LibraryCall) (before : World) (unit : ℤ) : Type 0 where
+  pub call : LibraryCall
+  pub makes : called ≡ Some call
+  pub on : is_on call.builtin before call.arguments unit
+
+-- more is to be counted than 64 bits tell, of the unit of the call that a step over some objects makes, and this holds of that unit
+abbrev pub CountsIn : (World → Option LibraryCall) → List Object → (Units → Option Transfer → Type 0) → (ℤ → Type 0) → Type 0
+CountsIn called objects stood IsFar = CountsOn (λ before unit. CallIsOn (called before) before unit) objects stood IsFar
 
 -- what holds of a step whose call was not to count more than 64 bits tell
 abbrev pub LeftByStep : {E : Type 0} → Option LibraryCall → World → (Units → Option Transfer → Type 0) → Result (StepEvent E) StepFailure → Type 0

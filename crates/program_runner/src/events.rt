@@ -17,7 +17,7 @@ ghost use Rattle.item_deeds.specs.Forms.{SameForms};
 ghost use Rattle.run_library.specs.Replies.{reply_of};
 ghost use Rattle.run_library.specs.Room as rooms;
 ghost use Rattle.program_runner.specs.Signatures.{Allows};
-ghost use Rattle.program_runner.specs.UnitsLeft.{LeftByStep};
+ghost use Rattle.program_runner.specs.UnitsLeft.{LeftByStep, CountsIn};
 ghost use Rattle.program_runner.specs.Events.{event_of, broken_of, StepsBy, ToldOfStep, UncountedInStep, IsCalled, HasRoom};
 
 use crate::signatures::allowed;
@@ -57,7 +57,7 @@ pub(crate) enum StepEvent<E: Drop> {
     Breaks(RunBreak),
 }
 
-/// Why nothing is said of a step.
+/// Why a step has no event.
 #[derive(Clone, Copy, Debug, PartialEq, Eq)]
 pub(crate) enum StepFailure {
     /// The device of this unit failed.
@@ -108,7 +108,7 @@ fn replied<E: Drop>(
 /// What the caller does with a call of the library that gives nothing.
 ///
 /// # Errors
-/// Why nothing is said of it.
+/// Why there is no event.
 fn broken<E: Drop>(reason: CallBreak) -> Result<StepEvent<E>, StepFailure>
     ensures is { result ≡ broken_of reason }
     ensures called { (position room : ℕ) → IfOk result (IsCalled position room) }
@@ -123,7 +123,7 @@ fn broken<E: Drop>(reason: CallBreak) -> Result<StepEvent<E>, StepFailure>
 /// A call of a function of the library that may be called so.
 ///
 /// # Errors
-/// Why nothing is said of it.
+/// Why it has no event.
 fn call_made<L: Library>(
     view: CallView,
     wants: CallWants,
@@ -140,7 +140,7 @@ fn call_made<L: Library>(
     ensures kept { (units : Units) → (transfer : Option Transfer) → L.stands library.old units transfer →
         LeftByStep (call_by (wants_of wants) values.now (slice_get signatures number)) (world_of run.old units transfer) (L.stands library.new) result }
     ensures devices { ToldOfStep L.none_failed L.failed_on library.old library.new result }
-    ensures counted { UncountedInStep (L.uncounted library.new) result }
+    ensures counted { UncountedInStep (CountsIn (λ before. call_by (wants_of wants) values.now (slice_get signatures number)) run.old (L.stands library.old) (λ unit. L.uncounted unit library.new)) result }
     ensures texts { L.room library.new ≡ L.room library.old }
     ensures called { (position room : ℕ) → IfOk result (IsCalled position room) }
     ensures forms { SameForms run.old run.new }
@@ -154,7 +154,7 @@ fn call_made<L: Library>(
 /// A call of a function of the library, which is one step of the caller.
 ///
 /// # Errors
-/// Why nothing is said of it.
+/// Why it has no event.
 fn library_called<L: Library>(
     view: CallView,
     wants: CallWants,
@@ -170,7 +170,7 @@ fn library_called<L: Library>(
     ensures kept { (units : Units) → (transfer : Option Transfer) → L.stands library.old units transfer →
         LeftByStep (call_by (wants_of wants) values.now (slice_get signatures number)) (world_of run.old units transfer) (L.stands library.new) result }
     ensures devices { ToldOfStep L.none_failed L.failed_on library.old library.new result }
-    ensures counted { UncountedInStep (L.uncounted library.new) result }
+    ensures counted { UncountedInStep (CountsIn (λ before. call_by (wants_of wants) values.now (slice_get signatures number)) run.old (L.stands library.old) (λ unit. L.uncounted unit library.new)) result }
     ensures texts { L.room library.new ≡ L.room library.old }
     ensures called { (position room : ℕ) → IfOk result (IsCalled position room) }
     ensures forms { SameForms run.old run.new }
@@ -192,7 +192,7 @@ pub(crate) fn first_values(buffer: &[CValue], count: usize) -> &[CValue]
 /// What an item does, in a function that gives its caller such a value.
 ///
 /// # Errors
-/// Why nothing is said of it.
+/// Why it has no event.
 fn item_step<L: Library>(
     own: usize,
     gives: ResultType,
@@ -211,7 +211,7 @@ fn item_step<L: Library>(
     ensures kept { (units : Units) → (transfer : Option Transfer) → L.stands library.old units transfer →
         LeftByStep (item_call own run.old (flat_of item.now)) (world_of run.old units transfer) (L.stands library.new) result }
     ensures devices { ToldOfStep L.none_failed L.failed_on library.old library.new result }
-    ensures counted { UncountedInStep (L.uncounted library.new) result }
+    ensures counted { UncountedInStep (CountsIn (λ before. item_call own run.old (flat_of item.now)) run.old (L.stands library.old) (λ unit. L.uncounted unit library.new)) result }
     ensures texts { L.room library.new ≡ L.room library.old }
     ensures called { IfOk result (IsCalled view.position (length buffer.new)) }
     ensures forms { SameForms run.old run.new }
@@ -248,7 +248,7 @@ fn item_step<L: Library>(
 /// The next step of a function of a program that has `own` functions. The buffer has room for the arguments of each call.
 ///
 /// # Errors
-/// Why nothing is said of it.
+/// Why it has no event.
 pub(crate) fn step<L: Library>(
     own: usize,
     function: &LinkedFunction,
@@ -264,7 +264,7 @@ pub(crate) fn step<L: Library>(
     ensures kept { (units : Units) → (transfer : Option Transfer) → L.stands library.old units transfer →
         LeftByStep (next_call (function_of own function.now) (view_of view) (world_of run.old units transfer)) (world_of run.old units transfer) (L.stands library.new) result }
     ensures devices { ToldOfStep L.none_failed L.failed_on library.old library.new result }
-    ensures counted { UncountedInStep (L.uncounted library.new) result }
+    ensures counted { UncountedInStep (CountsIn (next_call (function_of own function.now) (view_of view)) run.old (L.stands library.old) (λ unit. L.uncounted unit library.new)) result }
     ensures texts { L.room library.new ≡ L.room library.old }
     ensures called { IfOk result (IsCalled view.position (length buffer.new)) }
     ensures forms { SameForms run.old run.new }

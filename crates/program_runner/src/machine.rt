@@ -18,8 +18,8 @@ ghost use Rattle.run_library.specs.Replies.{StandsIn};
 ghost use Rattle.run_library.specs.Room.{HasRoom};
 ghost use Rattle.program_runner.specs.Stacks.{frames_of, waiting, state_of, IsStack};
 ghost use Rattle.program_runner.specs.Events.{event_of, IsCalled};
-ghost use Rattle.program_runner.specs.UnitsLeft.{LeftByNext};
-ghost use Rattle.program_runner.specs.Outcomes.{FramesStand, HasArgumentRoom, Reaches, KeepsStack, UnlessFailed, ToldOfNext, UncountedInRun};
+ghost use Rattle.program_runner.specs.UnitsLeft.{LeftByNext, CountsIn};
+ghost use Rattle.program_runner.specs.Outcomes.{FramesStand, HasArgumentRoom, Reaches, KeepsStack, UnlessFailed, ToldOfNext, UncountedInNext};
 
 use crate::events::{StepEvent, StepFailure, first_values, step};
 use crate::runs::RunOutcome;
@@ -240,7 +240,7 @@ fn next<L: Library>(
     ensures kept { (units : Units) → (transfer : Option Transfer) → L.stands library.old units transfer →
         LeftByNext (next_call (meaning.text_of (program_of program.now).functions stack.old.top.number) (view_of stack.old.top.view) (world_of run.old units transfer)) (world_of run.old units transfer) (L.stands library.new) result }
     ensures devices { ToldOfNext L.none_failed L.failed_on library.old library.new result }
-    ensures counted { UncountedInRun (L.uncounted library.new) result }
+    ensures counted { UncountedInNext (CountsIn (next_call (meaning.text_of (program_of program.now).functions stack.old.top.number) (view_of stack.old.top.view)) run.old (L.stands library.old) (λ unit. L.uncounted unit library.new)) result }
     ensures texts { L.room library.new ≡ L.room library.old }
     ensures stack { KeepsStack (length program.now.functions) stack.new result }
     ensures forms { SameForms run.old run.new }
@@ -281,7 +281,7 @@ pub(crate) fn advance<L: Library>(
     ensures kept { (units : Units) → (transfer : Option Transfer) → L.stands library.old units transfer →
         LeftByNext (next_call (meaning.text_of (program_of program.now).functions stack.old.top.number) (view_of stack.old.top.view) (world_of run.old units transfer)) (world_of run.old units transfer) (L.stands library.new) result }
     ensures devices { ToldOfNext L.none_failed L.failed_on library.old library.new result }
-    ensures counted { UncountedInRun (L.uncounted library.new) result }
+    ensures counted { UncountedInNext (CountsIn (next_call (meaning.text_of (program_of program.now).functions stack.old.top.number) (view_of stack.old.top.view)) run.old (L.stands library.old) (λ unit. L.uncounted unit library.new)) result }
     ensures texts { L.room library.new ≡ L.room library.old }
     ensures stack { KeepsStack (length program.now.functions) stack.new result }
     ensures forms { SameForms run.old run.new }

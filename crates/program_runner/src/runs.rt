@@ -15,7 +15,7 @@ ghost use Rattle.call_frames.specs.Frames.{HasFrame};
 ghost use Rattle.run_library.specs.Replies.{StandsIn};
 ghost use Rattle.run_library.specs.Room.{HasRoom};
 ghost use Rattle.program_runner.specs.Stacks.{state_of, IsStack};
-ghost use Rattle.program_runner.specs.Outcomes.{FramesStand, HasArgumentRoom, Reaches, KeepsStack, UnlessFailed, ToldOfRun, Begins, IsRunOf, UnlessRunFailed, ToldOfWholeRun, UncountedInRun, UncountedInWholeRun};
+ghost use Rattle.program_runner.specs.Outcomes.{FramesStand, HasArgumentRoom, Reaches, KeepsStack, UnlessFailed, ToldOfRun, Begins, IsRunOf, UnlessRunFailed, ToldOfWholeRun};
 ghost use Rattle.program_runner.specs.Taken.{taken_with, TakenBy};
 
 use crate::machine::advance;
@@ -157,9 +157,8 @@ pub fn run<L: Library>(
         UnlessFailed result.outcome (StandsIn (L.stands library.new) run.new (λ after.
         Reaches L.ending (machine.run language (meaning.machine (program_of program.now)) steps (state_of stack.old (world_of run.old units transfer))) stack.new after result.outcome)) }
     ensures taken { TakenBy (program_of program.now) (λ (before : World). (before.objects ≡ run.old) × L.stands library.old before.units before.transfer)
-        (λ before count. machine.run language (meaning.machine (program_of program.now)) count (state_of stack.old before)) L.stands L.none_failed L.failed_on steps library.old library.new result.steps result.outcome }
+        (λ before count. machine.run language (meaning.machine (program_of program.now)) count (state_of stack.old before)) L.stands L.none_failed L.failed_on L.uncounted steps library.old library.new result.steps result.outcome }
     ensures devices { ToldOfRun L.none_failed L.failed_on library.old library.new result.outcome }
-    ensures counted { UncountedInRun (L.uncounted library.new) result.outcome }
     ensures texts { L.room library.new ≡ L.room library.old }
     ensures stack { KeepsStack (length program.now.functions) stack.new result.outcome }
     ensures forms { SameForms run.old run.new }
@@ -199,9 +198,8 @@ pub fn run_program<L: Library>(
     requires texts { HasRoom (L.room library.old) objects.old }
     ensures meaning { (units : Units) → L.stands library.old units None →
         UnlessRunFailed result (StandsIn (L.stands library.new) objects.new (λ after. IsRunOf L.ending (meaning.run_of (program_of program.now) units steps) after result)) }
-    ensures taken { IfOk result (λ ran. TakenBy (program_of program.now) (λ units. L.stands library.old units None) (meaning.run_of (program_of program.now)) L.stands L.none_failed L.failed_on steps library.old library.new ran.steps ran.outcome) }
+    ensures taken { IfOk result (λ ran. TakenBy (program_of program.now) (λ units. L.stands library.old units None) (meaning.run_of (program_of program.now)) L.stands L.none_failed L.failed_on L.uncounted steps library.old library.new ran.steps ran.outcome) }
     ensures devices { ToldOfWholeRun L.none_failed L.failed_on library.old library.new result }
-    ensures counted { UncountedInWholeRun (L.uncounted library.new) result }
     ensures texts { L.room library.new ≡ L.room library.old }
     ensures unbegun { OnErr result (library.new ≡ library.old) }
 {

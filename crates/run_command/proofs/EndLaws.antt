@@ -84,7 +84,7 @@ run-said words request files rows rows' b m a made objects (how.Broken reason.Me
 run-said words request files rows rows' b m a made objects (how.Unbegun fault) taken runs run said =
     faulty request files (fault_name fault) 0 m runs (λ tells. absurd (run.meant tells)) run.devices (fault-said files made 0 (fault_name fault) m a run.linked said)
 run-said words request files rows rows' b m a made objects (how.Failed unit) taken runs run said = device request files unit taken objects m runs run.devices said
-run-said words request files rows rows' b m a made objects how.Uncounted taken runs run said = uncounted request files m runs run.uncounted run.devices said
+run-said words request files rows rows' b m a made objects how.Uncounted taken runs run said = uncounted request files taken m runs run.uncounted run.devices said
 
 pub ran : {words : List (List ℕ)} {request : RunRequest} {files : List CFile} {rows rows' : List Row} {b m a : ShelfState} {made : LinkedProgram} {objects : List Object} {end : RunEnd} {taken : ℕ} {status : ℕ} →
     Runs words request files b m → IsRun files request.steps rows rows' made objects end taken → SaysRun (program_of made).functions objects end m a → status ≡ run_status objects end → RunEnded words rows rows' b a status

@@ -23,8 +23,7 @@ use Rattle.run_reports.specs.Reports.{SaysEnding, ending_status, name_shown}
 use Rattle.run_words.specs.declared.request.RunRequest.{RunRequest}
 use Rattle.run_words.specs.RunWords.{run_of}
 use Rattle.c_sources.specs.CFiles.{AreTreesRead, IsRefusedAmong}
-use Rattle.unit_library.specs.Uncounted.{IsFarBehind}
-use Rattle.loaded_runs.specs.RunEnds.{units_in, LeavesUnits, NoDeviceFailed, DeviceFailed}
+use Rattle.loaded_runs.specs.RunEnds.{units_in, LeavesUnits, CountsInRun, NoDeviceFailed, DeviceFailed}
 
 -- the places that are read
 abbrev pub c_places : RunRequest → List Place
@@ -88,6 +87,6 @@ pub data RunEnded (words : List (List ℕ)) (rows rows' : List Row) (b a : Shelf
   -- 9: the device of a unit failed, the first in the run, which goes on behind so many steps, or when the devices were finished behind it
   device : (request : RunRequest) (files : List CFile) (unit : ℤ) (taken : ℕ) (objects : List Object) (middle : ShelfState) → Runs words request files b middle
       → DeviceFailed files request.steps taken objects unit rows rows' → Said (device_line unit) middle a → RunEnded words rows rows' b a 9
-  -- 15: a call of the library was to count more than 64 bits tell, and a unit stands behind 2^53 records or more; nothing is said of what such a run means
-  uncounted : (request : RunRequest) (files : List CFile) (middle : ShelfState) → Runs words request files b middle
-      → IsFarBehind rows' → NoDeviceFailed rows rows' → Said uncounted_line middle a → RunEnded words rows rows' b a 15
+  -- 15: more was to be counted of a unit than 64 bits tell, in a call on that unit which the run makes behind so many steps, and the unit stands behind 2^53 records or more
+  uncounted : (request : RunRequest) (files : List CFile) (taken : ℕ) (middle : ShelfState) → Runs words request files b middle
+      → CountsInRun files request.steps taken rows rows' → NoDeviceFailed rows rows' → Said uncounted_line middle a → RunEnded words rows rows' b a 15

@@ -137,15 +137,17 @@ fn run_request<H: Shelf>(
 /// and the devices of the connected units are finished. How it ended is said on Fault.
 ///
 /// Where the devices tell their records, the run is that of the definitions, step by step, and the units are left as it leaves them. At a fault they are left by the
-/// step that has it, also within an input or output statement: as the step found them, where it calls no function of the library; as the function left them, where the
-/// one that it calls replies, so that the fault is in the store of what it gave; and such as a call keeps that breaks, where that call breaks, which is as the step found
-/// them outside such a statement. Where a device fails in the run, the run of the definitions goes on at that step, with the units as the call found them that failed;
-/// where one fails when the devices are finished, the run had ended as the definitions have it. From the first step on no memory is taken.
+/// step that has it: as the step found them, where it calls no function of the library; as the function left them, where the one that it calls replies, so that the fault
+/// is in the store of what it gave; and where that call breaks, as the step found them, unless it is of the items or the end of an input or output statement in progress. Of
+/// a fault there, in input on a unit or in formatted output on one, it is said that all other units stand as the step found them, and that its own is connected exactly if it
+/// was, and nothing of the records that it holds or where it stands. Where a device fails in the run, the run of the definitions goes on at that step, with the units as
+/// the call found them that failed; where one fails when the devices are finished, the run had ended as the definitions have it. From the first step on no memory is taken.
 ///
 /// The status is 0 where the run ended at the end of the main program or by STOP; 2 where the words ask for no run; 3 where a file is not there or the shelf failed; 5 where
 /// memory was wanting, and no run began; 6 where a file is not in the C subset or a rule of linking is broken; 7 at a fault; 8 where the run did not end within its
 /// steps; 9 where the device of a unit failed; 10 where it ended by an error of input or output; 12 at a place outside its declared bounds; 15 where a
-/// call of the library was to count more than 64 bits tell, which is only where a unit stands behind 2^53 records or more.
+/// call of the library on a unit was to count more than 64 bits tell, which is only where that unit stands behind 2^53 records or more then. The run of the definitions goes
+/// on at the step that makes this call, with the units as the call found them.
 pub fn run_c_files<H: Shelf>(
     alloc: Global,
     words: &Words,

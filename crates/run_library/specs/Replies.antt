@@ -1,5 +1,5 @@
 -- What a call of the library answers, as the meaning of C texts has it (CSTR 149, appendix on the run time library).
-use Rattle.std.specs.Prelude.{◌≡◌, ℕ, ℤ, false, List, Option, Some, Result, Ok, Err, slice_get}
+use Rattle.std.specs.Prelude.{◌≡◌, ℕ, ℤ, List, Option, Some, Result, Ok, Err, slice_get}
 use Rattle.c_tree.specs.run_state.Endings.{Ending}
 use Rattle.c_tree.specs.run_state.Units.{Units}
 use Rattle.c_tree.specs.declared.outcome.CValue.{CValue}
@@ -8,7 +8,7 @@ use Rattle.c_tree.specs.Faults.{Or, Break}
 use Rattle.c_tree.specs.Objects.{Object}
 use Rattle.c_tree.specs.World as world
 use Rattle.c_tree.specs.World.{World, Transfer, Reply}
-use Rattle.c_tree.specs.Builtins.{Signature, signatures}
+use Rattle.c_tree.specs.Builtins.{Builtin, Signature, signatures}
 use Rattle.c_tree.specs.Library.{library}
 use Rattle.item_deeds.specs.Deeds.{world_of}
 use Rattle.run_library.specs.declared.library.RunBreak.{RunBreak}
@@ -18,7 +18,7 @@ use Rattle.run_library.specs.declared.library.LibraryReply.TheVariants as reply
 use Rattle.run_library.specs.declared.library.CallBreak.{CallBreak}
 use Rattle.run_library.specs.declared.library.CallBreak.TheVariants as broken
 use Rattle.run_library.specs.Kept.{OthersStand, KeepsIn}
-use Rattle.run_library.specs.UnitsCalled.{is_on, is_of_one}
+use Rattle.run_library.specs.UnitsCalled.{is_on, transfer_of_call}
 
 abbrev pub break_of : RunBreak → Break
 break_of (reason.Fault fault) = faults.Faults fault
@@ -45,33 +45,27 @@ pub record StandsIn (stands : Units → Option Transfer → Type 0) (objects : L
   pub stood : stands units transfer
   pub holds : Holds (world_of objects units transfer)
 
--- behind a call that breaks the units are as they were, but that of the transfer that was in progress
-abbrev pub KeepsUnits : World → World → Type 0
-KeepsUnits before after = KeepsIn before.transfer before.units after.units
+-- behind a call of a function that breaks the units are as they were; where it is a call of the transfer in progress, all but its unit, unless that transfer
+-- keeps it too
+abbrev pub KeepsUnits : Builtin → World → World → Type 0
+KeepsUnits builtin before after = KeepsIn (transfer_of_call builtin before.transfer) before.units after.units
+
+-- the same of a call of the function of a number
+abbrev pub Keeps : ℕ → World → World → Type 0
+Keeps number before after = (signature : Signature) → slice_get signatures number ≡ Some signature → KeepsUnits signature.builtin before after
 
 -- the function of a number is called on this unit
 abbrev pub IsOn : ℕ → List CValue → World → ℤ → Type 0
 IsOn number values before unit = (signature : Signature) → slice_get signatures number ≡ Some signature → is_on signature.builtin before values unit
 
--- a call in a world replies what its function gives, and leaves objects and a library that stands for such units and such a transfer;
--- where it breaks, all units but that of the transfer are as they were; where a device failed, it is that of the unit of the call, and all
--- other units are as they were; where 64 bits do not tell what is to be counted, nothing is said of it
+-- a call in a world replies what its function gives, and leaves objects and a library that stands for such units and such a transfer; where it breaks, the
+-- units are kept as such a call keeps them; where a device failed, it is that of the unit of the call, and all other units are as they were; where 64 bits do
+-- not tell what is to be counted, nothing is said of the reply
 abbrev pub Answers : {E : Type 0} → (List Object → E → Ending) → ℕ → List CValue → World → (Units → Option Transfer → Type 0) → List Object → Result (LibraryReply E) CallBreak → Type 0
 Answers ending number values before stands objects (Ok given) = StandsIn stands objects (λ after. Replies ending number values before after (Ok given))
-Answers ending number values before stands objects (Err (broken.Break why)) = StandsIn stands objects (λ after. Replies ending number values before after (Err why) × KeepsUnits before after)
+Answers ending number values before stands objects (Err (broken.Break why)) = StandsIn stands objects (λ after. Replies ending number values before after (Err why) × Keeps number before after)
 Answers ending number values before stands objects (Err (broken.Device unit)) = StandsIn stands objects (λ after. IsOn number values before unit × OthersStand unit before.units after.units)
 Answers ending number values before stands objects (Err broken.Uncounted) = Unit {0}
-
--- the function of a number is called with neither the items nor the end of the transfer in progress
-abbrev pub IsNoneOf : ℕ → Option Transfer → Type 0
-IsNoneOf number transfer = (signature : Signature) → slice_get signatures number ≡ Some signature → is_of_one signature.builtin transfer ≡ false
-
--- a call that breaks and is none of the transfer in progress leaves a library that stands for all units as they were
-abbrev pub StandsStill : {E : Type 0} → ℕ → Option Transfer → (Option Transfer → Type 0) → Result (LibraryReply E) CallBreak → Type 0
-StandsStill number transfer Stands (Ok given) = Unit {0}
-StandsStill number transfer Stands (Err (broken.Break why)) = IsNoneOf number transfer → (behind : Option Transfer) × Stands behind
-StandsStill number transfer Stands (Err (broken.Device unit)) = Unit {0}
-StandsStill number transfer Stands (Err broken.Uncounted) = Unit {0}
 
 -- what holds where more is to be counted than 64 bits tell
 abbrev pub UncountedIf : {E : Type 0} → Result (LibraryReply E) CallBreak → Type 0 → Type 0
@@ -79,3 +73,9 @@ UncountedIf (Ok given) P = Unit {0}
 UncountedIf (Err (broken.Break why)) P = Unit {0}
 UncountedIf (Err (broken.Device unit)) P = Unit {0}
 UncountedIf (Err broken.Uncounted) P = P
+
+-- a unit, of which this holds, is that of a call over some objects, whichever the units and the transfer are of those for which a library stood before it
+pub record CountsOn (On : World → ℤ → Type 0) (objects : List Object) (stood : Units → Option Transfer → Type 0) (IsFar : ℤ → Type 0) : Type 0 where
+  pub unit : ℤ
+  pub on : (units : Units) → (transfer : Option Transfer) → stood units transfer → On (world_of objects units transfer) unit
+  pub far : IsFar unit

@@ -1,5 +1,5 @@
 -- Which unit a call of the library is on, and which calls are those of a transfer (ANSI X3.9-1978, 12.8, 12.9 and 12.10).
-use Rattle.std.specs.Prelude.{◌≡◌, ℕ, ℤ, Bool, false, List, ◌∷◌, [], Option, Some, None, Ok, Err, codes}
+use Rattle.std.specs.Prelude.{◌≡◌, ℕ, ℤ, Bool, false, List, ◌∷◌, [], Option, Some, None, Ok, Err, codes, if◌then◌else◌}
 use Rattle.c_tree.specs.declared.outcome.CValue.{CValue}
 use Rattle.c_tree.specs.declared.types.ListType.{ListType}
 use Rattle.c_tree.specs.declared.types.ListType.TheVariants as list_type
@@ -52,6 +52,7 @@ is_of_transfer do_lio transfer = is_style ByList transfer.layout
 is_of_transfer (Finish kind) transfer = is_kind kind transfer
 is_of_transfer builtin transfer = false
 
-abbrev pub is_of_one : Builtin → Option Transfer → Bool
-is_of_one builtin None = false
-is_of_one builtin (Some transfer) = is_of_transfer builtin transfer
+-- the transfer in progress, for a call that is one of it: no call is one of none
+abbrev pub transfer_of_call : Builtin → Option Transfer → Option Transfer
+transfer_of_call builtin None = None
+transfer_of_call builtin (Some transfer) = if is_of_transfer builtin transfer then Some transfer else None

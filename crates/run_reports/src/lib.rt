@@ -6,4 +6,5 @@ mod endings;
 mod names;
 mod reports;
 
+pub use names::function_name;
 pub use reports::say_run;

@@ -9,8 +9,8 @@ use linked_programs::LinkedProgram;
 use run_library::RunBreak;
 use run_messages::fault_text;
 
-/// The name of the function of a number, as a message gives it.
-pub(crate) fn function_name(program: &LinkedProgram, number: usize) -> &[u8]
+/// The name of the function of a number in a program, as a message gives it: a question mark where the program has no function of that number.
+pub fn function_name(program: &LinkedProgram, number: usize) -> &[u8]
     ensures { result.now ≡ name_shown (option_map (λ function. function.name) (slice_get (program_of program.now).functions number)) }
 {
     match program.functions.get(number) {

@@ -31,7 +31,7 @@ use Rattle.outcomes.specs.Lines.{no_memory_line, shelf_fault_line}
 use Rattle.run_words.specs.declared.request.RunRequest.{RunRequest}
 use Rattle.run_words.specs.RunWords.{run_of}
 use Rattle.loaded_runs.specs.RunEnds as run_ends
-use Rattle.loaded_runs.specs.RunEnds.{NoDeviceFailed, DeviceFailed}
+use Rattle.loaded_runs.specs.RunEnds.{CountsInRun, NoDeviceFailed, DeviceFailed}
 use Rattle.run_messages.specs.RunLines.{link_line, io_line, range_line, stop_line, device_line, uncounted_line}
 use Rattle.run_reports.specs.Reports.{SaysEnding, ending_status}
 use Rattle.run_command.specs.RunRows as rows_of_runs
@@ -131,6 +131,13 @@ module _ {words : List (List ℕ)} {request : RunRequest} {texts : List (List �
       subst (λ (one : RunRequest). DeviceFailed trees one.steps taken objects unit rows rows') (asked_once other runs.asked)
       (subst (λ (those : List CFile). DeviceFailed those other.steps taken objects unit rows rows') (read_are other runs.asked files m runs.trees) failed)
 
+  -- and so did a call that was to count more than 64 bits tell
+  counts_alike : (other : RunRequest) (files : List CFile) (m : ShelfState) → Runs words other files b m → (taken : ℕ)
+      → CountsInRun files other.steps taken rows rows' → CountsInRun trees request.steps taken rows rows'
+  counts_alike other files m runs taken counts =
+      subst (λ (one : RunRequest). CountsInRun trees one.steps taken rows rows') (asked_once other runs.asked)
+      (subst (λ (those : List CFile). CountsInRun those other.steps taken rows rows') (read_are other runs.asked files m runs.trees) counts)
+
   -- the end of a run that ended
   ends_alike : (other : RunRequest) (files : List CFile) (how : Ending) (m : ShelfState) → Runs words other files b m
       → StandsAt files other.steps rows rows' (meaning.Ended how) → NoDeviceFailed rows rows' → SaysEnding how m a
@@ -183,9 +190,9 @@ module _ {words : List (List ℕ)} {request : RunRequest} {texts : List (List �
     ends = law.device unit taken objects (failed_alike other files m runs unit taken objects failed);
     said = line_said (device_line unit) contents b m a given.told given.quiet runs.trees.kept said;
   }
-  ends _ (rows_of_runs.uncounted other files m runs far devices said) = record {
+  ends _ (rows_of_runs.uncounted other files taken m runs counts devices said) = record {
     line = uncounted_line;
-    ends = law.uncounted far devices;
+    ends = law.uncounted taken (counts_alike other files m runs taken counts) devices;
     said = line_said uncounted_line contents b m a given.told given.quiet runs.trees.kept said;
   }
 

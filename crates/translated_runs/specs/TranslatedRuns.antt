@@ -27,8 +27,7 @@ use Rattle.outcomes.specs.Lines.{no_memory_line}
 use Rattle.run_messages.specs.RunLines.{link_line, io_line, range_line, stop_line, device_line, uncounted_line}
 use Rattle.run_words.specs.declared.request.RunRequest.{RunRequest}
 use Rattle.run_words.specs.RunWords.{run_of}
-use Rattle.unit_library.specs.Uncounted.{IsFarBehind}
-use Rattle.loaded_runs.specs.RunEnds.{NoDeviceFailed, DeviceFailed}
+use Rattle.loaded_runs.specs.RunEnds.{CountsInRun, NoDeviceFailed, DeviceFailed}
 use Rattle.run_reports.specs.Reports.{ending_status}
 use Rattle.run_command.specs.RunRows.{c_places, RunEnded}
 
@@ -70,8 +69,8 @@ pub data EndsWith (trees : List CFile) (steps : ℕ) (ending : Ending) (left : U
   -- the device of a unit failed, in the run of the files or when the devices were finished behind it
   device : (unit : ℤ) (taken : ℕ) (objects : List Object) → DeviceFailed trees steps taken objects unit rows rows'
       → EndsWith trees steps ending left rows rows' (device_line unit) 9
-  -- a call of the library was to count more than 64 bits tell, and a unit stands behind 2^53 records or more
-  uncounted : IsFarBehind rows' → NoDeviceFailed rows rows' → EndsWith trees steps ending left rows rows' uncounted_line 15
+  -- more was to be counted of a unit than 64 bits tell, in a call on it in the run of the files, and it stands behind 2^53 records or more
+  uncounted : (taken : ℕ) → CountsInRun trees steps taken rows rows' → NoDeviceFailed rows rows' → EndsWith trees steps ending left rows rows' uncounted_line 15
 
 -- it ended so, and the shelf holds what it held, with what was said on Fault besides
 pub record RunEndsAlike (trees : List CFile) (steps : ℕ) (ending : Ending) (left : Units) (rows rows' : List Row) (contents : Contents) (after : ShelfState) (status : ℕ)

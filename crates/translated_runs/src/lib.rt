@@ -6,7 +6,8 @@ ghost use Rattle.translated_runs.specs.TranslatedRuns.{RunsOfTranslationsEndAlik
 
 /// Where a closed set of FORTRAN files was translated and its run ends, the command that runs the texts ends the same way, if it may go far enough: with the
 /// same external units, the exit status of that ending, and the line of that ending on Fault. Or there was no memory, the objects of the texts have more
-/// bytes than a program may have, the device of a unit failed, or a unit stands behind 2^53 records or more.
+/// bytes than a program may have, the device of a unit failed, or more was to be counted than 64 bits tell in a call on a unit that stands behind 2^53 records
+/// or more.
 pub fn runs_of_translations_end_alike()
     ensures { RunsOfTranslationsEndAlike }
 {}

@@ -1,6 +1,6 @@
 -- What a call does, by what its meaning gives: in a transfer, outside every one, and whichever is in progress.
-use Rattle.std.proofs.Common.{◌≡◌, ℤ, true, false, List, Option, Some, None, refl, ap, ◌∙◌, sym, subst}
-use Rattle.std.specs.Prelude.{Result, Ok, Err}
+use Rattle.std.proofs.Common.{◌≡◌, ℤ, Bool, true, List, Option, Some, None, refl, ap, ◌∙◌, sym, subst}
+use Rattle.std.specs.Prelude.{if◌then◌else◌, Result, Ok, Err}
 use Rattle.c_tree.specs.run_state.Units.{Units}
 use Rattle.c_tree.specs.declared.outcome.CValue.{CValue}
 use Rattle.c_tree.specs.declared.outcome.CFault.{CFault}
@@ -23,8 +23,8 @@ use Rattle.listed_output.proofs.RowLaws.{stays-quietly}
 use Rattle.unit_answers.proofs.FailureLaws.{none-failed}
 use Rattle.run_library.specs.declared.library.CallBreak.TheVariants as broken
 use Rattle.run_library.specs.Kept.{OthersStand, KeepsIn}
-use Rattle.run_library.specs.UnitsCalled.{unit_of_call, unit_in_progress, unit_of_medium, is_of_transfer, is_of_one}
-use Rattle.run_library.specs.Replies.{break_of, reply_of}
+use Rattle.run_library.specs.UnitsCalled.{unit_of_call, unit_in_progress, unit_of_medium, is_on, is_of_transfer, transfer_of_call}
+use Rattle.run_library.specs.Replies.{CountsOn, break_of, reply_of}
 use Rattle.run_library.proofs.KeptLaws.{same-kept}
 use Rattle.unit_library.specs.declared.transfers.TransferInProgress.{TransferInProgress}
 use Rattle.unit_library.specs.declared.transfers.TransferInProgress.TheVariants as going
@@ -32,25 +32,28 @@ use Rattle.unit_library.specs.Endings.{ending_of}
 use Rattle.unit_library.specs.Replies.{CallResult, broken_by, ended_by}
 use Rattle.unit_library.specs.Transfers.{InProgress, Standing}
 use Rattle.unit_library.specs.Uncounted.{IsFarBehind}
-use Rattle.unit_library.specs.Calls.{Calls, AnswersCall, StandsStill}
+use Rattle.unit_library.specs.Calls.{Calls, AnswersCall}
 use Rattle.unit_library.proofs.KeptUnits.{IsMoved, keeps-moved, others-stayed, others-failed}
 
--- what a call tells besides its meaning: the device of a unit failed, and no other, or none did; a unit stands far behind
-abbrev pub Told : Builtin → List Row → List Row → CallResult → Type 0
-Told builtin old new (Ok given) = NoneFailed old new
-Told builtin old new (Err (broken.Break why)) = NoneFailed old new
-Told builtin old new (Err (broken.Device unit)) = FailedOn unit old new
-Told builtin old new (Err broken.Uncounted) = NoneFailed old new × IsFarBehind new
+-- more is to be counted than 64 bits tell of the unit of a call, which stands far behind
+abbrev pub Counts : Builtin → List CValue → List Object → Option TransferInProgress → List Row → List Row → Type 0
+Counts builtin arguments objects held old new = CountsOn (λ world unit. is_on builtin world arguments unit) objects (Standing old held) (λ unit. IsFarBehind unit new)
+
+-- what a call tells besides its meaning: the device of a unit failed, and no other, or none did; its unit stands far behind
+abbrev pub Told : Builtin → List CValue → List Object → Option TransferInProgress → List Row → List Row → CallResult → Type 0
+Told builtin arguments objects held old new (Ok given) = NoneFailed old new
+Told builtin arguments objects held old new (Err (broken.Break why)) = NoneFailed old new
+Told builtin arguments objects held old new (Err (broken.Device unit)) = FailedOn unit old new
+Told builtin arguments objects held old new (Err broken.Uncounted) = NoneFailed old new × Counts builtin arguments objects held old new
 
 pub called : {builtin : Builtin} {arguments : List CValue} {objects objects' : List Object} {held held' : Option TransferInProgress} {rows rows' : List Row} (result : CallResult) →
     ((units : Units) → (transfer : Option Transfer) → Standing rows held units transfer →
     AnswersCall builtin arguments (world_of objects units transfer) (Standing rows' held') objects' result) →
-    ((units : Units) → (transfer : Option Transfer) → Standing rows held units transfer → StandsStill builtin transfer (Standing rows' held' units) result) →
-    Told builtin rows rows' result → SameForms objects objects' → Calls builtin arguments objects objects' held held' rows rows' result
-called (Ok given) meaning still told kept = record { meaning = meaning; still = still; counted = tt; devices = told; forms = kept }
-called (Err (broken.Break why)) meaning still told kept = record { meaning = meaning; still = still; counted = tt; devices = told; forms = kept }
-called (Err (broken.Device unit)) meaning still told kept = record { meaning = meaning; still = still; counted = tt; devices = told; forms = kept }
-called (Err broken.Uncounted) meaning still told kept = record { meaning = meaning; still = still; counted = told.1; devices = told.0; forms = kept }
+    Told builtin arguments objects held rows rows' result → SameForms objects objects' → Calls builtin arguments objects objects' held held' rows rows' result
+called (Ok given) meaning told kept = record { meaning = meaning; counted = tt; devices = told; forms = kept }
+called (Err (broken.Break why)) meaning told kept = record { meaning = meaning; counted = tt; devices = told; forms = kept }
+called (Err (broken.Device unit)) meaning told kept = record { meaning = meaning; counted = tt; devices = told; forms = kept }
+called (Err broken.Uncounted) meaning told kept = record { meaning = meaning; counted = told.1; devices = told.0; forms = kept }
 
 -- a transfer for which stands what is held of it behind a call, and what holds of the world with it
 pub record Left (objects : List Object) (units : Units) (held : Option TransferInProgress) (Holds : World → Type 0) : Type 0 where
@@ -68,7 +71,7 @@ Leaves meaning objects units held (Err broken.Uncounted) = Unit {0}
 -- which units are as they were behind a call that breaks, and where a device failed
 abbrev KeptBy : Builtin → List CValue → List Object → Option Transfer → List Row → List Row → CallResult → Type 0
 KeptBy builtin arguments objects transfer old new (Ok given) = Unit {0}
-KeptBy builtin arguments objects transfer old new (Err (broken.Break why)) = KeepsIn transfer (units_of old) (units_of new)
+KeptBy builtin arguments objects transfer old new (Err (broken.Break why)) = KeepsIn (transfer_of_call builtin transfer) (units_of old) (units_of new)
 KeptBy builtin arguments objects transfer old new (Err (broken.Device unit)) =
     (unit_of_call builtin objects transfer arguments ≡ Some unit) × OthersStand unit (units_of old) (units_of new)
 KeptBy builtin arguments objects transfer old new (Err broken.Uncounted) = Unit {0}
@@ -88,7 +91,7 @@ answered builtin arguments objects objects' units transfer held' rows rows' (Err
   stood = record { tells = tells; means = refl; in_progress = leaves.in_progress };
   holds = (
     ap (λ (u : Units). library builtin (world_of objects u transfer) arguments) means ∙ leaves.holds,
-    subst (λ (u : Units). KeepsIn transfer u (units_of rows')) (sym means) kept,
+    subst (λ (u : Units). KeepsIn (transfer_of_call builtin transfer) u (units_of rows')) (sym means) kept,
   );
 }
 answered builtin arguments objects objects' units transfer held' rows rows' (Err (broken.Device unit)) tells means leaves kept = record {
@@ -98,22 +101,6 @@ answered builtin arguments objects objects' units transfer held' rows rows' (Err
   holds = (kept.0, subst (λ (u : Units). OthersStand unit u (units_of rows')) (sym means) kept.1);
 }
 answered builtin arguments objects objects' units transfer held' rows rows' (Err broken.Uncounted) tells means leaves kept = tt
-
--- the rows behind a call that breaks are as they were, but by the items or the end of the transfer in progress
-abbrev StillBy : Builtin → Option Transfer → List Row → List Row → CallResult → Type 0
-StillBy builtin transfer old new (Ok given) = Unit {0}
-StillBy builtin transfer old new (Err (broken.Break why)) = is_of_one builtin transfer ≡ false → new ≡ old
-StillBy builtin transfer old new (Err (broken.Device unit)) = Unit {0}
-StillBy builtin transfer old new (Err broken.Uncounted) = Unit {0}
-
-stands-still : (builtin : Builtin) (meaning : Or Reply) (objects' : List Object) (units : Units) (transfer : Option Transfer) (held' : Option TransferInProgress) (rows rows' : List Row) (result : CallResult) →
-    Tells rows' → units ≡ units_of rows → Leaves meaning objects' (units_of rows') held' result → StillBy builtin transfer rows rows' result →
-    StandsStill builtin transfer (Standing rows' held' units) result
-stands-still builtin meaning objects' units transfer held' rows rows' (Ok given) tells means leaves still = tt
-stands-still builtin meaning objects' units transfer held' rows rows' (Err (broken.Break why)) tells means leaves still =
-    λ none. (leaves.transfer, record { tells = tells; means = means ∙ ap units_of (sym (still none)); in_progress = leaves.in_progress })
-stands-still builtin meaning objects' units transfer held' rows rows' (Err (broken.Device unit)) tells means leaves still = tt
-stands-still builtin meaning objects' units transfer held' rows rows' (Err broken.Uncounted) tells means leaves still = tt
 
 -- what is held of a transfer stands for one
 pub never-none : (held : TransferInProgress) → InProgress (Some held) None → ⊥
@@ -169,24 +156,41 @@ pub record FailsOn (builtin : Builtin) (arguments : List CValue) (objects : List
   pub failed : FailedOn unit old new
   pub called_on : (transfer : Transfer) → unit_of_call builtin objects (Some transfer) arguments ≡ unit_in_progress (Some transfer)
 
+-- more is to be counted than 64 bits tell of the unit of the transfer, in a call that is on it
+pub record CountsInside (builtin : Builtin) (arguments : List CValue) (objects : List Object) (held : TransferInProgress) (old new : List Row) : Type 0 where
+  pub unit : ℤ
+  pub own : IsOwn held unit
+  pub called_on : (transfer : Transfer) → unit_of_call builtin objects (Some transfer) arguments ≡ unit_in_progress (Some transfer)
+  pub far : IsFarBehind unit new
+
+counts-inside : (builtin : Builtin) (arguments : List CValue) (objects : List Object) (held : TransferInProgress) (old new : List Row) → CountsInside builtin arguments objects held old new →
+    Counts builtin arguments objects (Some held) old new
+counts-inside builtin arguments objects held old new counts = record { unit = counts.unit; on = on; far = counts.far }
+  where
+    on : (units : Units) → (transfer : Option Transfer) → Standing old (Some held) units transfer → is_on builtin (world_of objects units transfer) arguments counts.unit
+    on units None standing = absurd (never-none held standing.in_progress)
+    on units (Some transfer) standing = counts.called_on transfer ∙ its-own held transfer counts.unit counts.own standing.in_progress
+
 -- what a call in a transfer tells
 abbrev pub ToldInside : Builtin → List CValue → List Object → TransferInProgress → List Row → List Row → CallResult → Type 0
 ToldInside builtin arguments objects held old new (Ok given) = NoneFailed old new
 ToldInside builtin arguments objects held old new (Err (broken.Break why)) = Breaks builtin held old new
 ToldInside builtin arguments objects held old new (Err (broken.Device unit)) = FailsOn builtin arguments objects held unit old new
-ToldInside builtin arguments objects held old new (Err broken.Uncounted) = NoneFailed old new × IsFarBehind new
+ToldInside builtin arguments objects held old new (Err broken.Uncounted) = NoneFailed old new × CountsInside builtin arguments objects held old new
 
 inside-told : (builtin : Builtin) (arguments : List CValue) (objects : List Object) (held : TransferInProgress) (old new : List Row) (result : CallResult) →
-    ToldInside builtin arguments objects held old new result → Told builtin old new result
+    ToldInside builtin arguments objects held old new result → Told builtin arguments objects (Some held) old new result
 inside-told builtin arguments objects held old new (Ok given) told = told
 inside-told builtin arguments objects held old new (Err (broken.Break why)) told = told.none
 inside-told builtin arguments objects held old new (Err (broken.Device unit)) told = told.failed
-inside-told builtin arguments objects held old new (Err broken.Uncounted) told = told
+inside-told builtin arguments objects held old new (Err broken.Uncounted) told = (told.0, counts-inside builtin arguments objects held old new told.1)
 
 broke-kept : (builtin : Builtin) (held : TransferInProgress) (transfer : Transfer) (old new : List Row) → InProgress (Some held) (Some transfer) → Broke builtin held transfer old new →
-    KeepsIn (Some transfer) (units_of old) (units_of new)
-broke-kept builtin held transfer old new stands (all_stood same) = same-kept (Some transfer) (units_of old) (units_of new) (ap units_of same)
-broke-kept builtin held transfer old new stands (moved unit own is stays) = keeps-moved held transfer unit (units_of old) (units_of new) own stands (others-stayed unit old new stays)
+    KeepsIn (transfer_of_call builtin (Some transfer)) (units_of old) (units_of new)
+broke-kept builtin held transfer old new stands (all_stood same) = same-kept (transfer_of_call builtin (Some transfer)) (units_of old) (units_of new) (ap units_of same)
+broke-kept builtin held transfer old new stands (moved unit own is stays) =
+    subst (λ (b : Bool). KeepsIn (if b then Some transfer else None) (units_of old) (units_of new)) (sym is)
+    (keeps-moved held transfer unit (units_of old) (units_of new) own stands (others-stayed unit old new stays))
 
 inside-kept : (builtin : Builtin) (arguments : List CValue) (objects : List Object) (held : TransferInProgress) (transfer : Transfer) (old new : List Row) (result : CallResult) → Tells old →
     InProgress (Some held) (Some transfer) → ToldInside builtin arguments objects held old new result → KeptBy builtin arguments objects (Some transfer) old new result
@@ -196,17 +200,6 @@ inside-kept builtin arguments objects held transfer old new (Err (broken.Device 
     (told.called_on transfer ∙ its-own held transfer unit told.own stands, others-failed unit old new told.failed)
 inside-kept builtin arguments objects held transfer old new (Err broken.Uncounted) tells stands told = tt
 
-broke-still : (builtin : Builtin) (held : TransferInProgress) (transfer : Transfer) (old new : List Row) → Broke builtin held transfer old new → is_of_transfer builtin transfer ≡ false → new ≡ old
-broke-still builtin held transfer old new (all_stood same) none = same
-broke-still builtin held transfer old new (moved unit own is stays) none = absurd (cc)
-
-inside-still : (builtin : Builtin) (arguments : List CValue) (objects : List Object) (held : TransferInProgress) (transfer : Transfer) (old new : List Row) (result : CallResult) → Tells old →
-    InProgress (Some held) (Some transfer) → ToldInside builtin arguments objects held old new result → StillBy builtin (Some transfer) old new result
-inside-still builtin arguments objects held transfer old new (Ok given) tells stands told = tt
-inside-still builtin arguments objects held transfer old new (Err (broken.Break why)) tells stands told = λ none. broke-still builtin held transfer old new (told.rows tells transfer stands) none
-inside-still builtin arguments objects held transfer old new (Err (broken.Device unit)) tells stands told = tt
-inside-still builtin arguments objects held transfer old new (Err broken.Uncounted) tells stands told = tt
-
 -- a call in a transfer
 pub inside : {builtin : Builtin} {arguments : List CValue} {objects objects' : List Object} {held : TransferInProgress} {held' : Option TransferInProgress} {rows rows' : List Row} (result : CallResult) →
     (Tells rows → Tells rows') →
@@ -214,7 +207,7 @@ pub inside : {builtin : Builtin} {arguments : List CValue} {objects objects' : L
     Leaves (library builtin (world_of objects (units_of rows) (Some transfer)) arguments) objects' (units_of rows') held' result) →
     ToldInside builtin arguments objects held rows rows' result → SameForms objects objects' → Calls builtin arguments objects objects' (Some held) held' rows rows' result
 inside {builtin} {arguments} {objects} {objects'} {held} {held'} {rows} {rows'} result tells gives told kept =
-    called result by still (inside-told builtin arguments objects held rows rows' result told) kept
+    called result by (inside-told builtin arguments objects held rows rows' result told) kept
   where
     by : (units : Units) → (transfer : Option Transfer) → Standing rows (Some held) units transfer →
         AnswersCall builtin arguments (world_of objects units transfer) (Standing rows' held') objects' result
@@ -223,46 +216,34 @@ inside {builtin} {arguments} {objects} {objects'} {held} {held'} {rows} {rows'} 
         answered builtin arguments objects objects' units (Some transfer) held' rows rows' result (tells standing.tells) standing.means (gives standing.tells transfer standing.in_progress)
         (inside-kept builtin arguments objects held transfer rows rows' result standing.tells standing.in_progress told)
 
-    still : (units : Units) → (transfer : Option Transfer) → Standing rows (Some held) units transfer → StandsStill builtin transfer (Standing rows' held' units) result
-    still units None standing = absurd (never-none held standing.in_progress)
-    still units (Some transfer) standing =
-        stands-still builtin (library builtin (world_of objects (units_of rows) (Some transfer)) arguments) objects' units (Some transfer) held' rows rows' result (tells standing.tells) standing.means
-        (gives standing.tells transfer standing.in_progress) (inside-still builtin arguments objects held transfer rows rows' result standing.tells standing.in_progress told)
-
 -- what a call outside every transfer tells: besides, that the rows are as they were where it breaks, and that it is on the unit whose device
 -- failed
 abbrev pub ToldOutside : Builtin → List CValue → List Object → List Row → List Row → CallResult → Type 0
 ToldOutside builtin arguments objects old new (Ok given) = NoneFailed old new
 ToldOutside builtin arguments objects old new (Err (broken.Break why)) = new ≡ old
 ToldOutside builtin arguments objects old new (Err (broken.Device unit)) = (unit_of_call builtin objects None arguments ≡ Some unit) × FailedOn unit old new
-ToldOutside builtin arguments objects old new (Err broken.Uncounted) = NoneFailed old new × IsFarBehind new
+ToldOutside builtin arguments objects old new (Err broken.Uncounted) = ⊥
 
-outside-told : (builtin : Builtin) (arguments : List CValue) (objects : List Object) (old new : List Row) (result : CallResult) → ToldOutside builtin arguments objects old new result → Told builtin old new result
+outside-told : (builtin : Builtin) (arguments : List CValue) (objects : List Object) (old new : List Row) (result : CallResult) → ToldOutside builtin arguments objects old new result →
+    Told builtin arguments objects None old new result
 outside-told builtin arguments objects old new (Ok given) told = told
 outside-told builtin arguments objects old new (Err (broken.Break why)) told = subst (NoneFailed old) (sym told) (none-failed old)
 outside-told builtin arguments objects old new (Err (broken.Device unit)) told = told.1
-outside-told builtin arguments objects old new (Err broken.Uncounted) told = told
+outside-told builtin arguments objects old new (Err broken.Uncounted) told = absurd told
 
 outside-kept : (builtin : Builtin) (arguments : List CValue) (objects : List Object) (old new : List Row) (result : CallResult) → ToldOutside builtin arguments objects old new result →
     KeptBy builtin arguments objects None old new result
 outside-kept builtin arguments objects old new (Ok given) told = tt
 outside-kept builtin arguments objects old new (Err (broken.Break why)) told = ap units_of told
 outside-kept builtin arguments objects old new (Err (broken.Device unit)) told = (told.0, others-failed unit old new told.1)
-outside-kept builtin arguments objects old new (Err broken.Uncounted) told = tt
-
-outside-still : (builtin : Builtin) (arguments : List CValue) (objects : List Object) (old new : List Row) (result : CallResult) → ToldOutside builtin arguments objects old new result →
-    StillBy builtin None old new result
-outside-still builtin arguments objects old new (Ok given) told = tt
-outside-still builtin arguments objects old new (Err (broken.Break why)) told = λ none. told
-outside-still builtin arguments objects old new (Err (broken.Device unit)) told = tt
-outside-still builtin arguments objects old new (Err broken.Uncounted) told = tt
+outside-kept builtin arguments objects old new (Err broken.Uncounted) told = absurd told
 
 -- a call outside every transfer
 pub outside : {builtin : Builtin} {arguments : List CValue} {objects objects' : List Object} {held' : Option TransferInProgress} {rows rows' : List Row} (result : CallResult) →
     (Tells rows → Tells rows') → (Tells rows → Leaves (library builtin (world_of objects (units_of rows) None) arguments) objects' (units_of rows') held' result) →
     ToldOutside builtin arguments objects rows rows' result → SameForms objects objects' → Calls builtin arguments objects objects' None held' rows rows' result
 outside {builtin} {arguments} {objects} {objects'} {held'} {rows} {rows'} result tells gives told kept =
-    called result by still (outside-told builtin arguments objects rows rows' result told) kept
+    called result by (outside-told builtin arguments objects rows rows' result told) kept
   where
     by : (units : Units) → (transfer : Option Transfer) → Standing rows None units transfer →
         AnswersCall builtin arguments (world_of objects units transfer) (Standing rows' held') objects' result
@@ -270,12 +251,6 @@ outside {builtin} {arguments} {objects} {objects'} {held'} {rows} {rows'} result
         subst (λ (t : Option Transfer). AnswersCall builtin arguments (world_of objects units t) (Standing rows' held') objects' result) (sym standing.in_progress)
         (answered builtin arguments objects objects' units None held' rows rows' result (tells standing.tells) standing.means (gives standing.tells)
         (outside-kept builtin arguments objects rows rows' result told))
-
-    still : (units : Units) → (transfer : Option Transfer) → Standing rows None units transfer → StandsStill builtin transfer (Standing rows' held' units) result
-    still units transfer standing =
-        subst (λ (t : Option Transfer). StandsStill builtin t (Standing rows' held' units) result) (sym standing.in_progress)
-        (stands-still builtin (library builtin (world_of objects (units_of rows) None) arguments) objects' units None held' rows rows' result (tells standing.tells) standing.means (gives standing.tells)
-        (outside-still builtin arguments objects rows rows' result told))
 
 -- the meaning of a call gives what it replied with this world, whatever its units and its transfer
 abbrev pub Gives : Or Reply → World → CallResult → Type 0
@@ -290,24 +265,16 @@ given-any : (builtin : Builtin) (arguments : List CValue) (objects objects' : Li
 given-any builtin arguments objects objects' held rows units transfer (Ok given) standing gives =
     record { units = units; transfer = transfer; stood = standing; holds = gives }
 given-any builtin arguments objects objects' held rows units transfer (Err (broken.Break why)) standing gives =
-    record { units = units; transfer = transfer; stood = standing; holds = (gives, same-kept transfer units units refl) }
+    record { units = units; transfer = transfer; stood = standing; holds = (gives, same-kept (transfer_of_call builtin transfer) units units refl) }
 given-any builtin arguments objects objects' held rows units transfer (Err (broken.Device unit)) standing gives = absurd gives
 given-any builtin arguments objects objects' held rows units transfer (Err broken.Uncounted) standing gives = tt
-
-still-any : (builtin : Builtin) (held : Option TransferInProgress) (rows : List Row) (units : Units) (transfer : Option Transfer) (result : CallResult) → Standing rows held units transfer →
-    StandsStill builtin transfer (Standing rows held units) result
-still-any builtin held rows units transfer (Ok given) standing = tt
-still-any builtin held rows units transfer (Err (broken.Break why)) standing = λ none. (transfer, standing)
-still-any builtin held rows units transfer (Err (broken.Device unit)) standing = tt
-still-any builtin held rows units transfer (Err broken.Uncounted) standing = tt
 
 -- a call that leaves the units and the transfer, whichever is in progress
 pub anywhere : {builtin : Builtin} {arguments : List CValue} {objects objects' : List Object} {held : Option TransferInProgress} {rows : List Row} (result : CallResult) →
     ((units : Units) → (transfer : Option Transfer) → Gives (library builtin (world_of objects units transfer) arguments) (world_of objects' units transfer) result) →
-    Told builtin rows rows result → SameForms objects objects' → Calls builtin arguments objects objects' held held rows rows result
+    Told builtin arguments objects held rows rows result → SameForms objects objects' → Calls builtin arguments objects objects' held held rows rows result
 anywhere {builtin} {arguments} {objects} {objects'} {held} {rows} result gives told kept =
-    called result (λ units transfer standing. given-any builtin arguments objects objects' held rows units transfer result standing (gives units transfer))
-    (λ units transfer standing. still-any builtin held rows units transfer result standing) told kept
+    called result (λ units transfer standing. given-any builtin arguments objects objects' held rows units transfer result standing (gives units transfer)) told kept
 
 -- CALLS THAT HAVE A FAULT
 pub fault-inside : (builtin : Builtin) (arguments : List CValue) (objects : List Object) (held : TransferInProgress) (rows : List Row) (why : CFault) →

@@ -63,7 +63,8 @@ items-called arguments input input' objects objects' old new (Err (Call (Fault w
 items-called arguments input input' objects objects' old new (Err (Call (Ended number))) on = ended-inside (Err (Ended number)) on.tells on.replies on.devices on.forms
 items-called arguments input input' objects objects' old new (Err (Call (Device unit))) on =
     ended-inside (Err (Device unit)) on.tells (λ tells transfer stands. tt) (record { own = on.devices.0; failed = on.devices.1; called_on = λ transfer. refl }) on.forms
-items-called arguments input input' objects objects' old new (Err Uncounted) on = inside (passed_by (Err Uncounted)) on.tells (λ tells transfer stands. tt) (on.devices, (input.unit, on.uncounted)) on.forms
+items-called arguments input input' objects objects' old new (Err Uncounted) on = inside (passed_by (Err Uncounted)) on.tells (λ tells transfer stands. tt)
+    (on.devices, record { unit = input.unit; own = refl; called_on = λ transfer. refl; far = on.uncounted }) on.forms
 
 pub items-read : (arguments arguments' : List CValue) (input input' : ListedInput) (objects objects' : List Object) (old new : List Row) (passage : Result Passage InputEnd)
     (held held' : Option TransferInProgress) (result : CallResult) → arguments ≡ arguments' → held ≡ Some (going.ListedInput input) → held' ≡ behind_items passage input input' →

@@ -1,5 +1,5 @@
 -- A call by the number of its function (CSTR 149, appendix on the run time library).
-use Rattle.std.proofs.Common.{◌≡◌, ℕ, ℤ, List, Option, Some, None, refl, ap, sym, ◌∙◌}
+use Rattle.std.proofs.Common.{◌≡◌, ℕ, ℤ, List, Option, Some, None, refl, ap, sym, ◌∙◌, subst}
 use Rattle.std.specs.Prelude.{slice_get, option_map, Ok, Err}
 use Rattle.c_tree.specs.run_state.Units.{Units}
 use Rattle.c_tree.specs.declared.outcome.CValue.{CValue}
@@ -13,8 +13,8 @@ use Rattle.f2c_outside.specs.Table.{Row}
 use Rattle.run_library.specs.declared.library.CallBreak.TheVariants as broken
 use Rattle.run_library.specs.Signatures.{IsCall}
 use Rattle.run_library.specs.Replies as replies
-use Rattle.run_library.specs.UnitsCalled.{unit_of_call, is_on, is_of_one}
-use Rattle.run_library.proofs.KeptLaws.{same-kept}
+use Rattle.run_library.specs.UnitsCalled.{unit_of_call, is_on}
+use Rattle.run_library.proofs.CountLaws.{counts-as}
 use Rattle.unit_library.specs.declared.functions.LibraryFunction.{LibraryFunction}
 use Rattle.unit_library.specs.declared.transfers.TransferInProgress.{TransferInProgress}
 use Rattle.unit_library.specs.Endings.{ending_of}
@@ -22,7 +22,7 @@ use Rattle.unit_library.specs.Functions.{form_of, listed_form, builtin_of, argum
 use Rattle.unit_library.specs.Arguments.{front}
 use Rattle.unit_library.specs.Transfers.{Standing}
 use Rattle.unit_library.specs.Replies.{CallResult, broken_by}
-use Rattle.unit_library.specs.Calls.{AnswersCall, StandsStill}
+use Rattle.unit_library.specs.Calls.{AnswersCall}
 use Rattle.unit_library.proofs.ArgumentLaws.{same-call, none-known}
 
 same-library : (builtin builtin' : Builtin) (arguments arguments' : List CValue) (world : World) → (builtin ≡ builtin') × (arguments ≡ arguments') →
@@ -58,7 +58,8 @@ answered number values function call is before stands objects (Err (broken.Break
   holds = (
     λ signature known.
         same-library (builtin_of function) signature.builtin (front (argument_count function) 0 values) values before (same-call number values function call is signature known) ∙ answers.holds.0,
-    answers.holds.1,
+    λ signature known.
+        subst (λ (b : Builtin). replies.KeepsUnits b before (world_of objects answers.units answers.transfer)) (same-call number values function call is signature known).0 answers.holds.1,
   );
 }
 answered number values function call is before stands objects (Err (broken.Device unit)) answers = record {
@@ -77,14 +78,16 @@ none-answered number values why is rows held objects units transfer standing = r
   units = units;
   transfer = transfer;
   stood = standing;
-  holds = (λ signature known. absurd (none-known number is signature known), same-kept transfer units units refl);
+  holds = (λ signature known. absurd (none-known number is signature known), λ signature known. absurd (none-known number is signature known));
 }
 
--- and what breaks leaves the units of which its signature says so
-pub still-answered : (number : ℕ) (values : List CValue) (function : LibraryFunction) → IsCall number values → Some (form_of function) ≡ option_map listed_form (slice_get signatures number) →
-    (transfer : Option Transfer) (Stands : Option Transfer → Type 0) (result : CallResult) → StandsStill (builtin_of function) transfer Stands result → replies.StandsStill number transfer Stands result
-still-answered number values function call is transfer Stands (Ok given) still = tt
-still-answered number values function call is transfer Stands (Err (broken.Break why)) still = λ none.
-    still (ap (λ (b : Builtin). is_of_one b transfer) (same-call number values function call is call.signature call.known).0 ∙ none call.signature call.known)
-still-answered number values function call is transfer Stands (Err (broken.Device unit)) still = tt
-still-answered number values function call is transfer Stands (Err broken.Uncounted) still = tt
+-- and counts on the same unit
+pub counted-so : (number : ℕ) (values : List CValue) (function : LibraryFunction) → IsCall number values → Some (form_of function) ≡ option_map listed_form (slice_get signatures number) →
+    (objects : List Object) (stood : Units → Option Transfer → Type 0) (IsFar : ℤ → Type 0) (result : CallResult) →
+    replies.UncountedIf result (replies.CountsOn (λ world unit. is_on (builtin_of function) world (front (argument_count function) 0 values) unit) objects stood IsFar) →
+    replies.UncountedIf result (replies.CountsOn (replies.IsOn number values) objects stood IsFar)
+counted-so number values function call is objects stood IsFar (Ok given) counted = tt
+counted-so number values function call is objects stood IsFar (Err (broken.Break why)) counted = tt
+counted-so number values function call is objects stood IsFar (Err (broken.Device unit)) counted = tt
+counted-so number values function call is objects stood IsFar (Err broken.Uncounted) counted =
+    counts-as objects objects refl (λ units transfer unit on signature known. same-unit number values function call is (world_of objects units transfer) unit signature known on) counted

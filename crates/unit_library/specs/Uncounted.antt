@@ -4,6 +4,6 @@ use Rattle.f2c_outside.specs.Table.{Row}
 use Rattle.f2c_outside.specs.Meaning.{units_of}
 use Rattle.listed_input.specs.Fetching.{position_of}
 
--- a unit stands behind at least 2^53 records
-abbrev pub IsFarBehind : List Row → Type 0
-IsFarBehind rows = (unit : ℤ) × (2 ^ 53 ≤ position_of unit (units_of rows))
+-- a unit stands behind 2^53 records or more
+abbrev pub IsFarBehind : ℤ → List Row → Type 0
+IsFarBehind unit rows = 2 ^ 53 ≤ position_of unit (units_of rows)

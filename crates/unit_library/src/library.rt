@@ -7,7 +7,7 @@ ghost use Rattle.item_deeds.specs.Deeds.{world_of};
 ghost use Rattle.item_deeds.specs.Forms.{SameForms};
 ghost use Rattle.f2c_outside.specs.Rows.{rows_of};
 ghost use Rattle.run_library.specs.Signatures.{IsCall};
-ghost use Rattle.run_library.specs.Replies.{Answers, StandsStill, UncountedIf};
+ghost use Rattle.run_library.specs.Replies.{Answers, IsOn, UncountedIf, CountsOn};
 ghost use Rattle.run_library.specs.Room.{HasRoom};
 ghost use Rattle.unit_library.specs.Calls.{DevicesTold};
 ghost use Rattle.unit_answers.specs.Failing.{FailedOn, NoneFailed};
@@ -74,7 +74,7 @@ impl Library for UnitLibrary {
 
     ghost ending = { ending_of };
 
-    ghost uncounted = { λ library. IsFarBehind (rows_in (λ b. (Device-box b).device_state b.value) library) };
+    ghost uncounted = { λ unit library. IsFarBehind unit (rows_in (λ b. (Device-box b).device_state b.value) library) };
 
     ghost room = { room_in };
 
@@ -90,9 +90,8 @@ impl Library for UnitLibrary {
         requires room { HasRoom (room_in self.old) run.old }
         ensures meaning { (units : Units) → (transfer : Option Transfer) → Standing (rows_in (λ b. (⟦<dyn Device as Device>⟧ b.vtable).device_state b.value) self.old) (transfer_in self.old) units transfer →
             Answers ending_of number values.now (world_of run.old units transfer) (Standing (rows_in (λ b. (⟦<dyn Device as Device>⟧ b.vtable).device_state b.value) self.new) (transfer_in self.new)) run.new result }
-        ensures still { (units : Units) → (transfer : Option Transfer) → Standing (rows_in (λ b. (⟦<dyn Device as Device>⟧ b.vtable).device_state b.value) self.old) (transfer_in self.old) units transfer →
-            StandsStill number transfer (Standing (rows_in (λ b. (⟦<dyn Device as Device>⟧ b.vtable).device_state b.value) self.new) (transfer_in self.new) units) result }
-        ensures counted { UncountedIf result (IsFarBehind (rows_in (λ b. (⟦<dyn Device as Device>⟧ b.vtable).device_state b.value) self.new)) }
+        ensures counted { UncountedIf result (CountsOn (IsOn number values.now) run.old (Standing (rows_in (λ b. (⟦<dyn Device as Device>⟧ b.vtable).device_state b.value) self.old) (transfer_in self.old))
+            (λ unit. IsFarBehind unit (rows_in (λ b. (⟦<dyn Device as Device>⟧ b.vtable).device_state b.value) self.new))) }
         ensures room { room_in self.new ≡ room_in self.old }
         ensures devices { DevicesTold (rows_in (λ b. (⟦<dyn Device as Device>⟧ b.vtable).device_state b.value) self.old) (rows_in (λ b. (⟦<dyn Device as Device>⟧ b.vtable).device_state b.value) self.new) result }
         ensures forms { SameForms run.old run.new }

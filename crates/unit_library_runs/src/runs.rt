@@ -7,7 +7,7 @@ ghost use Rattle.linked_programs.specs.LinkedPrograms.{program_of};
 ghost use Rattle.unit_answers.specs.Failing.{NoneFailed, FailedOn};
 ghost use Rattle.run_library.specs.Replies.{StandsIn};
 ghost use Rattle.run_library.specs.Room.{HasRoom};
-ghost use Rattle.program_runner.specs.Outcomes.{FramesStand, HasArgumentRoom, IsRunOf, UnlessRunFailed, ToldOfWholeRun, UncountedInWholeRun};
+ghost use Rattle.program_runner.specs.Outcomes.{FramesStand, HasArgumentRoom, IsRunOf, UnlessRunFailed, ToldOfWholeRun};
 ghost use Rattle.program_runner.specs.Taken.{TakenBy};
 ghost use Rattle.unit_library.specs.Endings.{ending_of};
 ghost use Rattle.unit_library.specs.Held.{rows_in, transfer_in, room_in};
@@ -25,7 +25,8 @@ use unit_library::{RunEnding, UnitLibrary};
 /// units, and answers how many steps it went. Its objects hold what they start with, and no text among them is longer than the library has
 /// room for. There is a frame of room for each function, and the buffer has room for the arguments of each call. The run is that of the
 /// definitions for the units that the table stands for, where the devices tell their records and no transfer is in progress, unless the
-/// device of a unit fails, or a call is to count more than 64 bits tell, which is only where a unit stands behind 2^53 records or more.
+/// device of a unit fails, or a call on a unit is to count more than 64 bits tell, which is only where that unit stands behind 2^53 records or
+/// more.
 ///
 /// # Errors
 /// Where the main program does not begin, that is where there is none or it has parameters: why.
@@ -49,12 +50,12 @@ pub fn run_on_units(
         (λ held. Standing (rows_in (λ b. (⟦<dyn Device as Device>⟧ b.vtable).device_state b.value) held) (transfer_in held))
         (λ before after. NoneFailed (rows_in (λ b. (⟦<dyn Device as Device>⟧ b.vtable).device_state b.value) before) (rows_in (λ b. (⟦<dyn Device as Device>⟧ b.vtable).device_state b.value) after))
         (λ unit before after. FailedOn unit (rows_in (λ b. (⟦<dyn Device as Device>⟧ b.vtable).device_state b.value) before) (rows_in (λ b. (⟦<dyn Device as Device>⟧ b.vtable).device_state b.value) after))
+        (λ unit held. IsFarBehind unit (rows_in (λ b. (⟦<dyn Device as Device>⟧ b.vtable).device_state b.value) held))
         steps library.old library.new ran.steps ran.outcome) }
     ensures devices { ToldOfWholeRun
         (λ before after. NoneFailed (rows_in (λ b. (⟦<dyn Device as Device>⟧ b.vtable).device_state b.value) before) (rows_in (λ b. (⟦<dyn Device as Device>⟧ b.vtable).device_state b.value) after))
         (λ unit before after. FailedOn unit (rows_in (λ b. (⟦<dyn Device as Device>⟧ b.vtable).device_state b.value) before) (rows_in (λ b. (⟦<dyn Device as Device>⟧ b.vtable).device_state b.value) after))
         library.old library.new result }
-    ensures counted { UncountedInWholeRun (IsFarBehind (rows_in (λ b. (⟦<dyn Device as Device>⟧ b.vtable).device_state b.value) library.new)) result }
     ensures texts { room_in library.new ≡ room_in library.old }
     ensures unbegun { OnErr result (library.new ≡ library.old) }
 {

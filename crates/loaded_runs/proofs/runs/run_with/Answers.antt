@@ -37,4 +37,8 @@ returns-clause-devices g c =
 pub returns-clause-uncounted : goal.returns-clause-uncounted
 returns-clause-uncounted g c =
     let rows = rows_in {V = g.dyn-1.0.I} {H = λ x. (g.dyn-1.0.entry x).0.Denot} (λ b. (g.dyn-1.0.entry b.vtable).1.device_state b.value) in
-    subst (IsUncounted (rows c.run_on_units-ran.new.library)) (sym c.end_of.ensures.end) (uncounted (rows c.run_on_units-ran.new.library) c.run_on_units-ran.result c.run_on_units-ran.ensures.counted)
+    let first = rows c.args.library.now in
+    let last = rows c.run_on_units-ran.new.library in
+    subst (λ steps. IsUncounted c.args._files.now c.args.steps steps first last c.end_of.result.end) (sym c.end_of.ensures.steps)
+    (subst (IsUncounted c.args._files.now c.args.steps (steps_of c.run_on_units-ran.result) first last) (sym c.end_of.ensures.end)
+    (uncounted rows transfer_in c.args.steps c.args.library.now c.run_on_units-ran.new.library c.args._files.now c.args.program.now c.run_on_units-ran.result c.requires.linked c.requires.transfer c.run_on_units-ran.ensures.taken))

@@ -28,4 +28,6 @@ returns-in-Err-clause-devices g c =
     told-broken g.L.Library.none_failed g.L.Library.failed_on c.args.library.now c.call.new.self c.in-Err.reason c.broken.result c.broken.ensures.is c.in-Err.ensures.devices
 
 pub returns-in-Err-clause-counted : goal.returns-in-Err-clause-counted
-returns-in-Err-clause-counted g c = counts-broken (g.L.Library.uncounted c.call.new.self) c.in-Err.reason c.broken.result c.broken.ensures.is c.in-Err.ensures.counted
+returns-in-Err-clause-counted g c =
+    counts-broken c.args.number c.args.values.now (wants_of c.args.wants) c.args.run.now (g.L.Library.stands c.args.library.now) (λ unit. g.L.Library.uncounted unit c.call.new.self) c.in-Err.reason c.broken.result
+    c.broken.ensures.is c.requires.allowed.0 c.requires.allowed.1 c.in-Err.ensures.counted

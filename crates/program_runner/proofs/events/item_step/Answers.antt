@@ -8,6 +8,7 @@ use Rattle.run_library.specs.Devices as devices
 use Rattle.linked_terms.specs.LinkedItems.{flat_of}
 use Rattle.program_runner.specs.Events.{StepsBy}
 use Rattle.program_runner.specs.UnitsLeft.{no_call}
+use Rattle.program_runner.proofs.CountLaws.{counted-as}
 use Rattle.program_runner.proofs.LeftLaws.{left-as}
 use Rattle.program_runner.proofs.RoomLaws.{room-kept}
 use Rattle.program_runner.proofs.events.item_step.Goals as goal
@@ -57,3 +58,10 @@ returns-in-Library-clause-kept g c = λ units transfer stood.
     (g.L.Library.stands c.library_called.new.library) c.library_called.result
     (c.in-Library.ensures.calls ∙ ap (λ values. call_by (wants_of c.in-Library.wants) values (slice_get signatures c.in-Library.number)) (sym c.first_values.ensures))
     c.in-Library.ensures.objects (c.library_called.ensures.kept units transfer stood)
+
+pub returns-in-Library-clause-counted : goal.returns-in-Library-clause-counted
+returns-in-Library-clause-counted g c =
+    counted-as (λ before. item_call c.args.own c.args.run.now (flat_of c.args.item.now)) (λ before. call_by (wants_of c.in-Library.wants) c.first_values.result.now (slice_get signatures c.in-Library.number)) c.args.run.now c.perform.new.run
+    (g.L.Library.stands c.args.library.now) (λ unit. g.L.Library.uncounted unit c.library_called.new.library) c.library_called.result c.in-Library.ensures.objects
+    (λ units transfer. c.in-Library.ensures.calls ∙ ap (λ values. call_by (wants_of c.in-Library.wants) values (slice_get signatures c.in-Library.number)) (sym c.first_values.ensures))
+    c.library_called.ensures.counted

@@ -38,7 +38,7 @@ returns-in-Ok-clause-devices g c =
 
 pub returns-in-Ok-clause-counted : goal.returns-in-Ok-clause-counted
 returns-in-Ok-clause-counted g c =
-    counts-none (g.L.Library.uncounted c.step.new.library) g.L.Library.ending
+    counts-none _ g.L.Library.ending
     (machine.act language (meaning.machine (program_of c.args.program.now)) (event_of g.L.Library.ending (world_of c.step.new.run no_units None) c.step.new.buffer c.in-Ok.event)
     c.args.stack.now.top.number (frames_of (waiting c.args.stack.now)))
     c.happened.new.stack (world_of c.happened.new.run no_units None) c.happened.result (c.happened.ensures.meaning g.L.Library.ending no_units None)

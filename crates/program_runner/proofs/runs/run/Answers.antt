@@ -10,7 +10,7 @@ use Rattle.call_frames.proofs.FrameLists.{forms-after}
 use Rattle.run_library.specs.Devices.{no_call}
 use Rattle.run_library.specs.Replies.{StandsIn}
 use Rattle.program_runner.specs.declared.runs.RunOutcome.{RunOutcome}
-use Rattle.program_runner.specs.Outcomes.{Reaches, UnlessFailed, ToldOfRun, UncountedInRun, KeepsStack}
+use Rattle.program_runner.specs.Outcomes.{Reaches, UnlessFailed, ToldOfRun, KeepsStack}
 use Rattle.program_runner.specs.Stacks.{state_of}
 use Rattle.program_runner.proofs.DeviceLaws.{joined, told-further}
 use Rattle.program_runner.proofs.RoomLaws.{room-further}
@@ -80,14 +80,13 @@ returns-in_default g c =
           (g.L.Library.stands c.loop-taken.library) (g.L.Library.stands c.advance.new.library) c.loop-taken.run c.advance.new.run c.advance.result (c.loop-taken.invariant.reached units transfer stood) c.advance.ensures.meaning
           c.in_default.not-Running (omega arith));
       taken = taken-so (program_of c.args.program.now) (λ (before : World). (before.objects ≡ c.args.run.now) × g.L.Library.stands c.args.library.now before.units before.transfer)
-          (λ before count. machine.run language (meaning.machine (program_of c.args.program.now)) count (state_of c.args.stack.now before)) g.L.Library.stands g.L.Library.none_failed g.L.Library.failed_on c.args.steps
+          (λ before count. machine.run language (meaning.machine (program_of c.args.program.now)) count (state_of c.args.stack.now before)) g.L.Library.stands g.L.Library.none_failed g.L.Library.failed_on g.L.Library.uncounted c.args.steps
           c.args.library.now c.advance.new.library c.loop-taken.taken c.ended_behind.result.steps c.advance.result c.ended_behind.result.outcome how c.ended_behind.ensures.steps
           (over-taken g.L.Library.ending c.args.program.now c.args.stack.now c.loop-taken.stack c.advance.new.stack c.args.run.now c.loop-taken.run c.advance.new.run g.L.Library.stands g.L.Library.none_failed
-          g.L.Library.failed_on c.loop-taken.taken c.args.steps c.args.library.now c.loop-taken.library c.advance.new.library c.advance.result c.loop-taken.invariant.reached c.loop-taken.invariant.quiet
-          c.advance.ensures.devices c.advance.ensures.meaning c.advance.ensures.kept c.in_default.not-Running (omega arith));
+          g.L.Library.failed_on g.L.Library.uncounted c.loop-taken.taken c.args.steps c.args.library.now c.loop-taken.library c.advance.new.library c.advance.result c.loop-taken.invariant.reached c.loop-taken.invariant.quiet
+          c.advance.ensures.devices c.advance.ensures.meaning c.advance.ensures.kept c.advance.ensures.counted c.in_default.not-Running (omega arith));
       devices = subst (λ (how : RunOutcome g.row.L-Ending.Denot). ToldOfRun g.L.Library.none_failed g.L.Library.failed_on c.args.library.now c.advance.new.library how) (sym how)
           (told-further g.L.Library.none_failed g.L.Library.failed_on c.args.library.now c.loop-taken.library c.advance.new.library c.advance.result c.loop-taken.invariant.quiet c.advance.ensures.devices);
-      counted = subst (λ (how : RunOutcome g.row.L-Ending.Denot). UncountedInRun (g.L.Library.uncounted c.advance.new.library) how) (sym how) c.advance.ensures.counted;
       texts = c.advance.ensures.texts ∙ c.loop-taken.invariant.texts;
       stack = subst (λ (how : RunOutcome g.row.L-Ending.Denot). KeepsStack (length c.args.program.now.functions) c.advance.new.stack how) (sym how) c.advance.ensures.stack;
       forms = forms-after c.args.run.now c.loop-taken.run c.advance.new.run c.loop-taken.invariant.kept c.advance.ensures.forms;

@@ -29,7 +29,7 @@ pub returns-in-Ok-clause-taken : goal.returns-in-Ok-clause-taken
 returns-in-Ok-clause-taken g c =
     taken-as (program_of c.args.program.now) (λ (before : World). (before.objects ≡ c.begin.new.run) × g.L.Library.stands c.args.library.now before.units before.transfer)
     (λ before count. machine.run language (meaning.machine (program_of c.args.program.now)) count (state_of c.in-Ok.stack before))
-    (λ units. g.L.Library.stands c.args.library.now units None) (meaning.run_of (program_of c.args.program.now)) g.L.Library.stands g.L.Library.none_failed g.L.Library.failed_on c.args.steps c.args.library.now c.run.new.library
+    (λ units. g.L.Library.stands c.args.library.now units None) (meaning.run_of (program_of c.args.program.now)) g.L.Library.stands g.L.Library.none_failed g.L.Library.failed_on g.L.Library.uncounted c.args.steps c.args.library.now c.run.new.library
     c.run.result.steps c.run.result.outcome (λ units. world_of c.begin.new.run units None) (λ units stood. (refl, stood))
     (λ units stood. whole-same (program_of c.args.program.now) units c.args.objects.now c.begin.new.run c.in-Ok.stack c.requires.objects (c.in-Ok.ensures.meaning units None))
     c.run.ensures.taken
