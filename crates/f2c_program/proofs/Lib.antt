@@ -5,3 +5,4 @@ mod CheckRowLemmas
 mod SplitRowLemmas
 mod TranslateRowLemmas
 mod HostRowLemmas
+mod UsageLemmas

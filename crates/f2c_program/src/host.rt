@@ -1,6 +1,7 @@
 //! The top call on the real files and streams.
 
 ghost use Rattle.std.specs.Prelude.{◌≡◌, IfOk};
+ghost use Rattle.f2c_outside.specs.HostState.{IsOver};
 ghost use Rattle.f2c_outside.specs.Rows.{rows_of};
 ghost use Rattle.run_words.specs.RunWords.{drawer_of};
 ghost use Rattle.f2c_program.specs.HostRows.{fresh_device, host_rows, rows_over};
@@ -34,13 +35,25 @@ fn status_over(rt: &HostRuntime, words: &Words, units: UnitTable) -> u8
     status_of_call(rt.alloc(), words, &mut shelf, units)
 }
 
-/// A device over the file of this name.
-fn file_device(rt: &HostRuntime, name: &Name) -> Result<Box<HostFile<HostRuntime>>, NoMemory>
-    ensures { IfOk result (λ file. ⟦<HostFile<HostRuntime> as Device>⟧.device_state file.value ≡ fresh_device) }
+/// A file under its name, as OPEN may take it.
+#[derive(Drop)]
+struct NamedFile {
+    name: Name,
+    file: Box<HostFile<HostRuntime>>,
+}
+
+/// A device over the file of this name, and the name.
+fn named_file(rt: &HostRuntime, name: &Name) -> Result<NamedFile, NoMemory>
+    ensures named { IfOk result (λ named. named.name ≡ name.now) }
+    ensures over { IfOk result (λ named. IsOver name.now named.file.value) }
+    ensures fresh { IfOk result (λ named. ⟦<HostFile<HostRuntime> as Device>⟧.device_state named.file.value ≡ fresh_device) }
 {
     let alloc = rt.alloc();
     let file = HostFile::new(alloc, *rt, name.copy(alloc)?);
-    Ok(Box::new(alloc, file)?)
+    Ok(NamedFile {
+        name: name.copy(alloc)?,
+        file: Box::new(alloc, file)?,
+    })
 }
 
 /// Calls the top call on the real files, and gives its status: the device of standard input is unit 5 and that of standard output unit 6, and the files
@@ -62,8 +75,8 @@ fn call_over_streams(
     }
     let names = drawer_names(alloc, words)?;
     for name in names.as_slice() {
-        let file = file_device(rt, name)?;
-        if units.offer(name.copy(alloc)?, file).is_err() {
+        let named = named_file(rt, name)?;
+        if units.offer(named.name, named.file).is_err() {
             return Err(NoMemory);
         }
     }

@@ -11,5 +11,6 @@ mod usage;
 
 pub use host::call_on_host;
 pub use outcomes::Outcome;
-pub use program::run;
+pub use program::{NoWords, command_words, run};
 pub use top_call::{Ended, f2c};
+pub use usage::usage_names_each_option;

@@ -3,16 +3,18 @@
 ghost use Rattle.std.specs.Prelude.{◌≡◌, ◌++◌, drop, map, IfOk, OnOk};
 ghost use Rattle.std.specs.Process.{exit_status};
 ghost use Rattle.std.specs.String.{string_bytes};
+ghost use Rattle.std.specs.Vec.Iter.{into_iter_items};
 ghost use Rattle.f2c_program.specs.declared.program.NoWords.TheVariants as no_words;
-ghost use Rattle.f2c_program.specs.Program.{IsStatusFor, IsStatusOfProgram};
+ghost use Rattle.f2c_program.specs.Program.{IsStatusFor, IsStatusOfProgram, IsWordsOf};
 
 use crate::host::call_on_host;
 use f2c_outside::texts::{NoMemory, Words};
-use std::alloc::{AllocGlobal, Global};
-use std::env;
+use std::alloc::{AllocError, AllocGlobal, Global};
+use std::env::Args;
 use std::io::ErrorKind;
 use std::process::ExitCode;
 use std::rt::{Env, HostRuntime};
+use std::{env, io};
 
 /// The status of a command line that is not in the grammar.
 const BAD_WORDS: u8 = 2;
@@ -22,7 +24,7 @@ const NO_MEMORY: u8 = 5;
 
 /// Why there are no words.
 #[derive(Clone, Copy, Debug, PartialEq, Eq)]
-pub(crate) enum NoWords {
+pub enum NoWords {
     /// Memory ran out.
     NoMemory,
     /// A word is not UTF-8.
@@ -58,17 +60,31 @@ fn words_of(alloc: Global, arguments: &[String]) -> Result<Words, NoMemory>
     Ok(words)
 }
 
-/// The words of the command line, without the program's name.
-pub(crate) fn command_words<R: Env + AllocGlobal>(rt: &R) -> Result<Words, NoWords> {
-    let arguments = match env::args(rt) {
+/// The texts that the environment gave.
+fn texts_of(alloc: Global, arguments: Args) -> Result<Vec<String>, AllocError>
+    ensures { IfOk result (λ texts. texts.items ≡ into_iter_items arguments) }
+{
+    arguments.collect(alloc)
+}
+
+/// The words behind the program's own name, out of what the environment gave.
+fn words_from(alloc: Global, given: io::Result<Args>) -> Result<Words, NoWords>
+    ensures { IsWordsOf given result }
+{
+    let arguments = match given {
         Ok(arguments) => arguments,
         Err(error) if error.kind() == ErrorKind::InvalidData => return Err(NoWords::NotText),
         Err(_) => return Err(NoWords::NoMemory),
     };
-    match arguments.collect::<Vec<String>>(rt.alloc()) {
-        Ok(arguments) => Ok(words_of(rt.alloc(), &arguments)?),
+    match texts_of(alloc, arguments) {
+        Ok(texts) => Ok(words_of(alloc, &texts)?),
         Err(_) => Err(NoWords::NoMemory),
     }
+}
+
+/// The words of the command line, without the program's name.
+pub fn command_words<R: Env + AllocGlobal>(rt: &R) -> Result<Words, NoWords> {
+    words_from(rt.alloc(), env::args(rt))
 }
 
 /// Says that memory ran out.

@@ -1,6 +1,8 @@
 //! The usage of the program.
 
+ghost use Rattle.std.specs.Prelude.{◌≡◌, ℕ, List, true};
 ghost use Rattle.f2c_program.specs.TopCall.{WroteUsage};
+ghost use Rattle.f2c_program.specs.Usage.{is_option_word, IsNamed};
 
 use f2c_outside::shelves::{Place, Shelf};
 use outcomes::Outcome;
@@ -18,7 +20,7 @@ pub(crate) fn write_usage<H: Shelf>(shelf: &mut H) -> Outcome
         b"  -P          writes the prototypes of the functions of each FILE.f to FILE.P in the current folder, too\n  -Ps         likewise, and compares them with those that were there\n  -A -w -!bs  change nothing\n",
         b"  -split      writes each program unit of FILE.f, or of standard input, to a new file of its own,\n              and the names of these files on standard output\n",
         b"  -check      lists each call of the FILE.f that disagrees with what it calls, among them or else in a FILE.P,\n              on standard output; a FILE.P is a file of prototypes\n",
-        b"  -run        runs the program of the FILE.c with standard input as unit 5 and standard output as unit 6, at most N steps of it\n              (1000000000 without -steps); OPEN takes the files that -file names, one each\n",
+        b"  -run        runs the program of the FILE.c with standard input as unit 5 and standard output as unit 6\n  -file NAME  lets OPEN of the run take the file NAME; each file has a -file of its own\n  -steps N    ends the run after N steps at most, 1000000000 without it\n",
         b"  -h, --help  puts this on standard output, and reads nothing\n",
         b"\n",
         b"Status 0: it is done. 1: the source is refused, and a line says in which file, at which card and why,\nor a FILE.P is none, and a line says where; nothing is written.\n",
@@ -30,3 +32,9 @@ pub(crate) fn write_usage<H: Shelf>(shelf: &mut H) -> Outcome
         Ok(()) => Outcome::Done,
     }
 }
+
+/// Each word by which a command or a run tells what is to be done stands in the usage.
+#[tactic(auto, using(crate::proofs::UsageLemmas::options_named))]
+pub fn usage_names_each_option()
+    ensures { (word : List ℕ) → is_option_word word ≡ true → IsNamed word }
+{}

@@ -12,8 +12,8 @@ loop-name-preserved c =
     one_more _ _ _ _ _ _ _ _ c.loop-name.invariant c.loop-name-test.true c.name-item.is
     (without_error c.offer.result c.if-is_err-3.ensures.value c.offer.ensures.ok)
     (search rules)
-    (read_made own-1 _ at-1-3 refl DeviceState (λ e d. e.1.device_state d) _ _ c.in_ok-file.file.value c.into_dyn_box-in-loop-name.ensures.1
-    ∙ c.in_ok-file.ensures)
+    (read_made own-1 _ at-1-3 refl DeviceState (λ e d. e.1.device_state d) _ _ c.in_ok-named.named.file.value c.into_dyn_box-in-loop-name.ensures.1
+    ∙ c.in_ok-named.ensures.fresh)
 
 pub returns : goal.returns
 returns c =

@@ -1,7 +1,0 @@
-      PROGRAM P
-      END
-C     NOTE
-      SUBROUTINE S
-      END
-      I=1
-      END
