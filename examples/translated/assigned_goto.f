@@ -24,6 +24,7 @@ C     in a loop, with labels that are written more than once
         IF (MOD(I, 2) .EQ. 0) ASSIGN 30 TO NEXT
    60 CONTINUE
       CALL STEPS(4)
+      CALL ROUNDS(5)
 C     a variable that held a label holds a number again
       NEXT = 7
       PRINT *, NEXT
@@ -46,4 +47,25 @@ C     without the comma behind the variable
       GO TO WAY (200, 210)
       PRINT *, -1
   210 PRINT *, 0
+      END
+C     without a list of labels: to those that ASSIGN statements of the unit name, before and behind, in a loop and under a condition
+      SUBROUTINE ROUNDS(N)
+      INTEGER N, WAY, BACK, I
+      ASSIGN 330 TO BACK
+      GO TO 340
+  300 DO 320 I = 1, N
+        ASSIGN 310 TO WAY
+        IF (MOD(I, 2) .EQ. 0) ASSIGN 320 TO WAY
+        GO TO WAY
+  310   PRINT *, I
+  320 CONTINUE
+      IF (N .GT. 0) GO TO BACK
+      PRINT *, -2
+  330 ASSIGN 350 TO BACK
+      PRINT *, N
+      IF (N .GT. 4) GO TO BACK
+      PRINT *, -3
+      RETURN
+  340 GO TO 300
+  350 PRINT *, 2 * N
       END
