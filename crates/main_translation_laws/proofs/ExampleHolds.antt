@@ -14,7 +14,7 @@ use Rattle.main_programs.specs.l_core.Steps.{Step, Halt}
 use Rattle.main_programs.specs.lowering.Units.{lowered_unit}
 use Rattle.main_programs.specs.lowering_laws.Layer.{others_opened}
 use Rattle.main_programs.specs.lowering_laws.Layout.{are_direct, has_end, LoopsFit, with_loops, layout_opened}
-use Rattle.main_programs.specs.lowering_laws.Examples.{letter, an_integer, example_opened}
+use Rattle.lowered_rows.specs.Examples.{letter, an_integer, example_opened}
 use Rattle.main_programs.specs.c_tree.Opened.{trees_opened}
 use Rattle.main_programs.specs.c_emit.Numbers.{is_numeric, is_variable, numbers_opened}
 use Rattle.main_programs.specs.c_emit.Types.{types_opened}

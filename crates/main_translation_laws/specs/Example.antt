@@ -11,7 +11,7 @@ use Rattle.main_programs.specs.f_tree.Places.{place_of_label}
 use Rattle.main_programs.specs.l_core.Pures.{Constant, Temporary, Load, Operated, NoPure, AndPure}
 use Rattle.main_programs.specs.l_core.Steps.{Starts, Takes, Finishes, Text, Step, Keep, Put, Unless, Skip, Again, Jump, Pass, Back, Acts}
 use Rattle.main_programs.specs.lowering.Units.{start_of, lines_marks}
-use Rattle.main_programs.specs.lowering_laws.Examples.{letter, variable, an_integer, line, name, printing}
+use Rattle.lowered_rows.specs.Examples.{letter, variable, an_integer, line, name, printing}
 use Rattle.main_programs.specs.c_tree.declared.expression.BinaryOp.TheVariants as op
 use Rattle.main_programs.specs.c_tree.declared.expression.UnaryOp.TheVariants as prefix
 use Rattle.main_programs.specs.c_tree.declared.expression.CExpr.{CExpr}

@@ -12,6 +12,7 @@ pub use Rattle.main_programs.specs.l_core
 pub use Rattle.main_programs.specs.linking_laws
 pub use Rattle.main_programs.specs.lowering
 pub use Rattle.main_programs.specs.lowering_laws
+pub use Rattle.lowered_rows.specs as lowered_rows
 pub use Rattle.main_programs.specs.main_file
 pub use Rattle.main_programs.specs.main_file_laws
 pub use Rattle.main_programs.specs as main_programs
